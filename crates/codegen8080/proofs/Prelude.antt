@@ -1,15 +1,15 @@
 -- The names that the proofs of this crate cite, passed on from one place. Declares nothing.
-pub use Rattle.mem80.proofs.Lists.{take_found, take_whole}
-pub use Rattle.trees.proofs.Lists.{drop_found}
 pub use Rattle.std.proofs.{Common.{Bool, Err, List, None, Ok, OnOk, Option, Result, Some, [], add-one, ap, append-nil, append_assoc, arith, cond, drop, false, find, if◌then◌else◌, inl, inr, length, map, nat_le, nat_lt, not, option_and_then, option_map, refl, replicate, rules, slice_get, slice_index, slice_index_or, subst, suc, sym, take, true, unwrap_or, zero, ℕ, ◌&&◌, ◌++◌, ◌+◌, ◌-◌, ◌<◌, ◌==◌, ◌||◌, ◌∙◌, ◌∷◌, ◌≡◌, ◌≤◌, ◌⊎◌}, lemmas.Bool.{and_from, and_parts, eq-eqb, le-leb, lt-ltb, or_from, or_parts}, lemmas.List.{drop_all, drop_at, map-append}, lemmas.Option.{none-some, same_Some, slice_get_within}}
 pub use Rattle.std.specs.{List.{list_all, slice_range}, Option.{option_flatten, option_map_or}, Prelude.{All, IfOk, IfSome, IsTrue, min}, Str.{bytes_eq}}
+pub use Rattle.mem80.proofs.Lists.{take_found, take_whole}
 pub use Rattle.symbols.specs.Names.{is_name}
+pub use Rattle.trees.proofs.Lists.{drop_found}
 pub use Rattle.object_modules.specs.{Module.{Fixup, ObjectModule, Places, Public, SetByte, are_new, begins_word, is_among, is_both, is_movable, is_plain, is_target, is_valid_public, is_valid_segment, words_are_whole}, Rules.{fix_end}, Runs.{fixup_at, with_run}, Stored.{IsStored, are_longest, fixes_ascend, is_in_a_run, places_stored}, Text.{Run, before_runs, runs_from}, Views.{AreKept, owned_public_view}, declared.object.ModuleParts.{ModuleParts}, declared.segment.Fix.{Fix}, declared.segment.FixKind.{FixKind}, declared.segment.Segment.{Segment}, declared.segment.Segment.TheVariants.{Absolute, Code, Data, Stack}, declared.segment.Target.{Target}, declared.segment.Target.TheVariants.{External, InSegment}, declared.segment.TheConstants.{SEGMENT_LIMIT}, internal.Joining.{run_at, with_runs}}
-pub use Rattle.isa8080.specs.{Code.{bytes_of}, State.{high_byte, low_byte, wrap}, declared.instr.Instr.{Instr}, declared.instr.Instr.TheVariants.{Hlt}, declared.instr.Pair.TheVariants.{Sp}}
+pub use Rattle.isa8080.specs.{Code.{bytes_of}, State.{high_byte, low_byte, wrap}, declared.instr.Instr.{Instr, TheVariants.{Hlt}}, declared.instr.Pair.TheVariants.{Sp}}
 pub use Rattle.asm8080.proofs.{Parts.{stands_in_parts}, Segments.{places_length, runs_longest, segment_places_in, set_length, set_well, valid_bytes}}
-pub use Rattle.asm8080.specs.{Assembled.{Assembled, Assembles, FitsSegment, IsFinished, fixed_bytes, places_of, segment_of, set_bytes}, Items.{Assembly, Layout, Stands, instruction_with, size_of_items, word_of}, Standing.{BytesStand}, declared.fault.Fault.{Fault as CodeFault}, declared.item.Item.{Item}, declared.item.Item.TheVariants.{Address, Byte, Gap, Mark, Plain, WithWord}, declared.item.Reference.{Reference}, declared.item.Reference.TheVariants.{AtLabel, AtNumber, AtTarget}, declared.item.WordForm.TheVariants.{LoadPair}}
-pub use Rattle.runtime8080.specs.{Routines.{IsRoutine, size_of_routine}, declared.routine.Routine.{Routine}, declared.routine.Routine.TheVariants.{Divide, Move, Multiply, RotateLeft, RotateRight, ShiftLeftAddress, ShiftLeftByte, ShiftRightAddress, ShiftRightByte}}
-pub use Rattle.treecode.specs.{declared.lists.Range.{Range}, declared.module.Content.{Content}, declared.module.ExternalName.{ExternalName}, declared.module.PublicName.{PublicName}, declared.module.PublicPlace.{PublicPlace}, declared.module.PublicPlace.TheVariants.{Object, Procedure}, declared.module.TreeModule.{TreeModule}, declared.procedure.Parameter.{Parameter}, declared.procedure.ProcedureKind.{ProcedureKind}, declared.procedure.TreeProcedure.{TreeProcedure}, declared.statement.Statement.{Statement, Statement as TreeStatement}, declared.statement.StatementNumber.{StatementNumber}}
+pub use Rattle.asm8080.specs.{Assembled.{Assembled, Assembles, FitsSegment, IsFinished, fixed_bytes, places_of, segment_of, set_bytes}, Items.{Assembly, Layout, Stands, instruction_with, size_of_items, word_of}, Standing.{BytesStand}, declared.fault.Fault.{Fault as CodeFault}, declared.item.Item.{Item, TheVariants.{Address, Byte, Gap, Mark, Plain, WithWord}}, declared.item.Reference.{Reference, TheVariants.{AtLabel, AtNumber, AtTarget}}, declared.item.WordForm.TheVariants.{LoadPair}}
+pub use Rattle.runtime8080.specs.{Routines.{IsRoutine, size_of_routine}, declared.routine.Routine.{Routine, TheVariants.{Divide, Move, Multiply, RotateLeft, RotateRight, ShiftLeftAddress, ShiftLeftByte, ShiftRightAddress, ShiftRightByte}}}
+pub use Rattle.treecode.specs.{declared.lists.Range.{Range}, declared.module.Content.{Content}, declared.module.ExternalName.{ExternalName}, declared.module.PublicName.{PublicName}, declared.module.PublicPlace.{PublicPlace, TheVariants.{Object, Procedure}}, declared.module.TreeModule.{TreeModule}, declared.procedure.Parameter.{Parameter}, declared.procedure.ProcedureKind.{ProcedureKind}, declared.procedure.TreeProcedure.{TreeProcedure}, declared.statement.Statement.{Statement, Statement as TreeStatement}, declared.statement.StatementNumber.{StatementNumber}}
 pub use Rattle.frames.specs.{Frames.{HasFrame, HasNothing, IsPlanOf, LiesApart}, declared.frame_plan.FramePlan.{FramePlan}}
 pub use Rattle.steps8080.proofs.Numbered.{items_stay, use_either, writes_nothing, writes_then}
 pub use Rattle.steps8080.specs.{Externals.{Extends, entry}, Facts.{no_facts}, Step.{label_after, label_of}, Writer.{Finishes, NumbersNames, Writes, Written, in_front, known_label, numbered, numbered_item, numbered_reference, place_of_known, place_of_label, stack_end_item}, declared.facts.Facts.{Facts}, declared.sites.site.Site.{Site}, declared.step.LabelNumber.{LabelNumber}, declared.step.Step.{Step}, declared.step.Step.TheVariants.{Holds}}
@@ -17,5 +17,19 @@ pub use Rattle.exprgen8080.proofs.{CodeLaws.{found_deeper, found_map, found_then
 pub use Rattle.exprgen8080.specs.{Code.{IsFoundDeep}, Emission.{AreWritten, MarkWritten, NoneWritten, PlainWritten, call_routine, has_routine, index_of_routine, knowing, module_label_of_routine, module_routine_label}, Emitted.{EmitsSteps, HasAll, IsEmpty, NotesCalled}, Labelled.{AreLabelled}, declared.emission.Emission.{Emission}}
 unfoldable pub use Rattle.exprgen8080.specs.Code.{code_of_part, code_of_steps}
 pub use Rattle.statements8080.specs.{Plans.{PlanAdds, PlanAddsWithLabels}, declared.body.Body.{Body}, declared.plan.Plan.{Plan}, declared.plan.Planned.{Planned}, internal.Adding.{IsAdding}}
-pub use Rattle.codegen8080.specs.{Driven.{AddsCode, AddsList, AddsPlanned, AddsStatement, AddsStep, here_of}, Generated.{AreAllCarriedOut, AreCarriedOut, HoldsNoStatement, IsCarriedOut, IsListCarriedOut, ListCarriedOut, ListPlanned, MoreStatements, NoStatements, NoneCarriedOut, StatementCarriedOut, StatementPlanned, StepCarriedOut, arriving, site_of}, Labelled.{AreAllLabelled, AreStepsLabelled, IsListLabelled, IsStatementLabelled, LabelledList, LabelledStatement, LabelledStatements, LabelledSteps}, Modules.{ArePublicsOf, AreRoutines, AreTargets, IsCodeOfRoutine, IsCodeWritten, IsEndCode, IsEndLabelled, IsFrameOf, IsGenerated, IsMainCode, IsMainLabelled, IsOwnCode, IsProcedureCode, IsProcedureLabelled, IsPublicOf, all_routines, content_items, contents_items, has_main, used_names}, Procedures.{entry_labels, entry_steps}, Targets.{retargeted, with_targets}, declared.generator.Generator.{Generator}, declared.meeting.Here.{Here}, internal.Bodies.{AddsCalled, AddsCodeOfMain, AddsEnd, AddsEntry, AddsMain, AddsOwn, AddsOwnCode, AddsProcedure, AddsProcedures, AddsRoutineIf, AddsRoutines, LabelledCode, LabelledCodeOfMain, LabelledEnd, LabelledProcedure, LabelledProcedures, first_routines, last_routines, next_routines}, internal.Carrying.{CarriesOut}, internal.Listing.{AreListed, ArePublicsIn, HavePlaces, IsMadeOf, IsPlaceAfter, IsPublicIn, used_name}, internal.Names.{IsLinkage, Linkage, names_of}, internal.Segments.{IsKept, KeepsFixes, listed_target, retarget}}
-unfoldable pub use Rattle.codegen8080.specs.{Generated.{carried_steps, here_after, waiting_after}, Procedures.{end_steps, known_at, known_from, popped_at, popped_from}, Statements.{statement_labels, statement_steps}}
+pub use Rattle.codegen8080.specs.Driven.{AddsCode, AddsList, AddsPlanned, AddsStatement, AddsStep, here_of}
+pub use Rattle.codegen8080.specs.Generated.{AreAllCarriedOut, AreCarriedOut, HoldsNoStatement, IsCarriedOut, IsListCarriedOut, ListCarriedOut, ListPlanned, MoreStatements, NoStatements, NoneCarriedOut, StatementCarriedOut, StatementPlanned, StepCarriedOut, arriving, site_of}
+unfoldable pub use Rattle.codegen8080.specs.Generated.{carried_steps, here_after, waiting_after}
+pub use Rattle.codegen8080.specs.Labelled.{AreAllLabelled, AreStepsLabelled, IsListLabelled, IsStatementLabelled, LabelledList, LabelledStatement, LabelledStatements, LabelledSteps}
+pub use Rattle.codegen8080.specs.Modules.{ArePublicsOf, AreRoutines, AreTargets, IsCodeOfRoutine, IsCodeWritten, IsEndCode, IsEndLabelled, IsFrameOf, IsGenerated, IsMainCode, IsMainLabelled, IsOwnCode, IsProcedureCode, IsProcedureLabelled, IsPublicOf, all_routines, content_items, contents_items, has_main, used_names}
+pub use Rattle.codegen8080.specs.Procedures.{entry_labels, entry_steps}
+unfoldable pub use Rattle.codegen8080.specs.Procedures.{end_steps, known_at, known_from, popped_at, popped_from}
+unfoldable pub use Rattle.codegen8080.specs.Statements.{statement_labels, statement_steps}
+pub use Rattle.codegen8080.specs.Targets.{retargeted, with_targets}
+pub use Rattle.codegen8080.specs.declared.generator.Generator.{Generator}
+pub use Rattle.codegen8080.specs.declared.meeting.Here.{Here}
+pub use Rattle.codegen8080.specs.internal.Bodies.{AddsCalled, AddsCodeOfMain, AddsEnd, AddsEntry, AddsMain, AddsOwn, AddsOwnCode, AddsProcedure, AddsProcedures, AddsRoutineIf, AddsRoutines, LabelledCode, LabelledCodeOfMain, LabelledEnd, LabelledProcedure, LabelledProcedures, first_routines, last_routines, next_routines}
+pub use Rattle.codegen8080.specs.internal.Carrying.{CarriesOut}
+pub use Rattle.codegen8080.specs.internal.Listing.{AreListed, ArePublicsIn, HavePlaces, IsMadeOf, IsPlaceAfter, IsPublicIn, used_name}
+pub use Rattle.codegen8080.specs.internal.Names.{IsLinkage, Linkage, names_of}
+pub use Rattle.codegen8080.specs.internal.Segments.{IsKept, KeepsFixes, listed_target, retarget}

@@ -46,12 +46,12 @@ addition_steps place = elim (place_number place) [
 ]
 
 -- notes that HL holds the address of a location
-abbrev pub hold_address_steps : Location → List Step
-hold_address_steps location = Holds (record no_facts { address_in_hl = Some location }) ∷ []
+abbrev pub note_address_steps : Location → List Step
+note_address_steps location = Holds (record no_facts { address_in_hl = Some location }) ∷ []
 
 -- notes that HL holds the word at a location
-abbrev pub hold_word_steps : Location → List Step
-hold_word_steps location = Holds (record no_facts { word_in_hl = Some location }) ∷ []
+abbrev pub note_word_steps : Location → List Step
+note_word_steps location = Holds (record no_facts { word_in_hl = Some location }) ∷ []
 
 -- puts the address of a location into HL, whatever the registers hold
 abbrev pub new_address_steps : Site → Location → (pushed : ℕ) → List Step
@@ -63,10 +63,10 @@ new_address_steps site (locations.Frame variable offset) pushed =
 abbrev pub location_address_steps : Site → Location → (pushed : ℕ) → List Step
 location_address_steps site location pushed =
     if is_at site.facts.address_in_hl location then []
-    else if is_at site.facts.address_in_hl (before location) then Plain (Inx Hl) ∷ hold_address_steps location
+    else if is_at site.facts.address_in_hl (before location) then Plain (Inx Hl) ∷ note_address_steps location
     else if is_at site.facts.address_in_hl (location_after location 1)
-    then Plain (Dcx Hl) ∷ hold_address_steps location
-    else new_address_steps site location pushed ++ hold_address_steps location
+    then Plain (Dcx Hl) ∷ note_address_steps location
+    else new_address_steps site location pushed ++ note_address_steps location
 
 -- loads HL with the word at the address that it holds; DE is kept
 abbrev pub word_at_hl_steps : List Step
@@ -76,10 +76,10 @@ word_at_hl_steps = plain (load A ∷ Inx Hl ∷ load H ∷ copy L A ∷ [])
 -- pointer is popped and pushed back; DE is kept
 abbrev pub frame_word_steps : Site → Location → (away pushed : ℕ) → List Step
 frame_word_steps site location away pushed =
-    if away == 0 then plain (Pop StackHl ∷ Push StackHl ∷ []) ++ hold_word_steps location
+    if away == 0 then plain (Pop StackHl ∷ Push StackHl ∷ []) ++ note_word_steps location
     else if away == 2
-    then plain (Pop StackBc ∷ Pop StackHl ∷ Push StackHl ∷ Push StackBc ∷ []) ++ hold_word_steps location
-    else location_address_steps site location pushed ++ word_at_hl_steps ++ hold_word_steps location
+    then plain (Pop StackBc ∷ Pop StackHl ∷ Push StackHl ∷ Push StackBc ∷ []) ++ note_word_steps location
+    else location_address_steps site location pushed ++ word_at_hl_steps ++ note_word_steps location
 
 -- puts the word at a location into HL, if these steps come first; DE is kept, and A if the location is static
 abbrev pub location_word_steps : Site → Location → (pushed : ℕ) → List Step

@@ -16,7 +16,7 @@ use Rattle.steps8080.specs.Step.{part, plain}
 use Rattle.steps8080.specs.declared.sites.site.Site.{Site}
 use Rattle.steps8080.specs.Queries.{location_of}
 use Rattle.steps8080.specs.Site.{distance}
-use Rattle.operands8080.specs.Addresses.{hold_word_steps, location_address_steps, location_word_steps, word_at_hl_steps}
+use Rattle.operands8080.specs.Addresses.{note_word_steps, location_address_steps, location_word_steps, word_at_hl_steps}
 
 -- puts the word at the stack pointer into HL
 abbrev pub top_word_steps : List Step
@@ -25,9 +25,9 @@ top_word_steps = plain (Pop StackHl ∷ Push StackHl ∷ [])
 -- puts the byte at a location of the frame into A, if these steps come first
 abbrev pub frame_byte_steps : Site → Location → (away pushed : ℕ) → List Step
 frame_byte_steps site location away pushed =
-    if away == 0 then top_word_steps ++ hold_word_steps location ++ (Plain (copy A L) ∷ [])
+    if away == 0 then top_word_steps ++ note_word_steps location ++ (Plain (copy A L) ∷ [])
     else if away == 1
-    then top_word_steps ++ hold_word_steps (before location) ++ (Plain (copy A H) ∷ [])
+    then top_word_steps ++ note_word_steps (before location) ++ (Plain (copy A H) ∷ [])
     else location_address_steps site location pushed ++ (Plain (load A) ∷ [])
 
 -- puts the byte at a location into A, if these steps come first; for a static location, only A changes

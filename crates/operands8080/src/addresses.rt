@@ -2,7 +2,7 @@
 
 ghost use Rattle.std.specs.Prelude.{◌≡◌, OnOk};
 ghost use Rattle.steps8080.specs.Step.{Adds};
-ghost use Rattle.operands8080.specs.Addresses.{addition_steps, address_steps, base_added_steps, base_steps, frame_word_steps, hold_address_steps, hold_word_steps, location_address_steps, location_word_steps, new_address_steps, number_added_steps, second_steps, word_at_hl_steps};
+ghost use Rattle.operands8080.specs.Addresses.{addition_steps, address_steps, base_added_steps, base_steps, frame_word_steps, note_address_steps, note_word_steps, location_address_steps, location_word_steps, new_address_steps, number_added_steps, second_steps, word_at_hl_steps};
 
 use crate::products::plan_product;
 use asm8080::WordForm;
@@ -39,8 +39,8 @@ pub fn plan_addition(place: Place, steps: &mut Steps) -> Result<(), AllocError>
 }
 
 // Notes that HL holds the address of a location.
-fn hold_address(location: Location, steps: &mut Steps) -> Result<(), AllocError>
-    ensures { OnOk result (Adds steps.old steps.new (hold_address_steps location)) }
+fn note_address(location: Location, steps: &mut Steps) -> Result<(), AllocError>
+    ensures { OnOk result (Adds steps.old steps.new (note_address_steps location)) }
 {
     steps.push(Step::Holds(Facts {
         address_in_hl: Some(location),
@@ -49,8 +49,8 @@ fn hold_address(location: Location, steps: &mut Steps) -> Result<(), AllocError>
 }
 
 /// Notes that HL holds the word at a location.
-pub fn hold_word(location: Location, steps: &mut Steps) -> Result<(), AllocError>
-    ensures { OnOk result (Adds steps.old steps.new (hold_word_steps location)) }
+pub fn note_word(location: Location, steps: &mut Steps) -> Result<(), AllocError>
+    ensures { OnOk result (Adds steps.old steps.new (note_word_steps location)) }
 {
     steps.push(Step::Holds(Facts {
         word_in_hl: Some(location),
@@ -96,7 +96,7 @@ pub fn plan_location_address(
     } else {
         plan_new_address(site, location, pushed, steps)?;
     }
-    hold_address(location, steps)
+    note_address(location, steps)
 }
 
 /// Loads HL with the word at the address that it holds. DE is kept.
@@ -125,17 +125,17 @@ fn plan_frame_word(
     let give = Instr::Push(StackPair::StackHl);
     if distance == 0 {
         steps.all(&[take, give])?;
-        return hold_word(location, steps);
+        return note_word(location, steps);
     }
     if distance == 2 {
         let lift = Instr::Pop(StackPair::StackBc);
         let lower = Instr::Push(StackPair::StackBc);
         steps.all(&[lift, take, give, lower])?;
-        return hold_word(location, steps);
+        return note_word(location, steps);
     }
     plan_location_address(site, location, pushed, steps)?;
     plan_word_at_hl(steps)?;
-    hold_word(location, steps)
+    note_word(location, steps)
 }
 
 /// Puts the word at a location into HL, if these steps come first. DE is kept; so is A, if the location is static.

@@ -13,7 +13,7 @@ mod stores;
 mod word_relations;
 
 pub use addresses::{
-    hold_word, plan_addition, plan_address, plan_location_address, plan_location_word,
+    note_word, plan_addition, plan_address, plan_location_address, plan_location_word,
     plan_word_at_hl,
 };
 pub use answers::{Answer, Purpose, Setting, plan_known};

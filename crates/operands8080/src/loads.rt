@@ -4,7 +4,7 @@ ghost use Rattle.std.specs.Prelude.{◌≡◌, OnOk};
 ghost use Rattle.steps8080.specs.Step.{Adds};
 ghost use Rattle.operands8080.specs.Loads.{byte_in_memory_steps, byte_to_l_steps, extended_byte_in_memory_steps, frame_byte_steps, frame_byte_to_l_steps, location_byte_steps, top_word_steps, word_in_memory_steps};
 
-use crate::addresses::{hold_word, plan_location_address, plan_location_word, plan_word_at_hl};
+use crate::addresses::{note_word, plan_location_address, plan_location_word, plan_word_at_hl};
 use asm8080::WordForm;
 use isa8080::{Instr, Register, StackPair};
 use std::alloc::AllocError;
@@ -34,12 +34,12 @@ fn plan_frame_byte(
     match distance {
         0 => {
             plan_top_word(steps)?;
-            hold_word(location, steps)?;
+            note_word(location, steps)?;
             steps.plain(copy(Register::A, Register::L))
         }
         1 => {
             plan_top_word(steps)?;
-            hold_word(before(location), steps)?;
+            note_word(before(location), steps)?;
             steps.plain(copy(Register::A, Register::H))
         }
         _ => {

@@ -6,9 +6,7 @@ use Rattle.locate.specs.Locating as of_locating
 use Rattle.placing.specs.Views as of_placement
 use Rattle.sources.specs.declared.read.ReadFault.TheVariants as read_faults
 use Rattle.sources.specs.declared.fault.ProgramFault.TheVariants as program_faults
-use Rattle.tool.specs.Construction.{Construction, IsConstruction, IsTyped}
-use Rattle.tool.specs.Refusals.{IsRefusal}
-use Rattle.tool.specs.internal.Inside.{construction_with}
+use Rattle.tool.specs.{Construction.{Construction, IsConstruction, IsTyped}, Refusals.{IsRefusal}, internal.Inside.{construction_with}}
 use Rattle.tool.proofs.Headline.{declared_bytes_start, does_what_it_says}
 
 length_mapped : {A B : Type 0} (f : A → B) (items : List A) → length (map f items) ≡ length items

@@ -1,10 +1,7 @@
 -- The code of a module takes at most its code bound, and its data take as many bytes as its storage has. So a
 -- module is refused for its size only if that bound exceeds the limit of a segment.
 use Rattle.measure_laws.proofs.Prelude.{◌≡◌, ℕ, ◌+◌, ◌≤◌, Some, ap, sym, subst, arith, Code, SEGMENT_LIMIT, ObjectModule, length_of, TypedModule, code_bound, Storage, data_bytes, size_of_items, TreeModule, IsLowered, Written, numbered, TooLong, IsCodeWritten, IsGenerated, contents_items, CodeIsNone, DataAreNone, MayRefuse, IsSound}
-use Rattle.measure_laws.proofs.Sizes.PartSizes.{part_size}
-use Rattle.measure_laws.proofs.Bounds.Constants.{variables_fit}
-use Rattle.measure_laws.proofs.Bounds.Modules.{code_segment_fits, module_fits}
-use Rattle.measure_laws.proofs.Bounds.Numbering.{numbered_size}
+use Rattle.measure_laws.proofs.{Sizes.PartSizes.{part_size}, Bounds.Constants.{variables_fit}, Bounds.Modules.{code_segment_fits, module_fits}, Bounds.Numbering.{numbered_size}}
 
 -- the code as it was written
 pub code_is_within_its_bound :

@@ -1,7 +1,6 @@
 -- IF and DO WHILE.
 use Rattle.measure_laws.proofs.Prelude.{ℕ, ◌+◌, ◌%◌, Bool, true, false, if◌then◌else◌, nat_eq, nat_lt, List, [], ◌∷◌, Option, Some, None, refl, arith, Nop, Jump, ExpressionNumber, Range, StatementNumber, LabelNumber, label_of, Site, number, Body, Planned, Jumped, JumpOn, ListOf, Meet, Reaches, Statement, Turn, both_steps, branch, computed_if_steps, forever_steps, goto_label, has_one_jump, if_steps, statement_if_any, tested_if_steps, tested_while_steps, then_steps, while_steps, jump, mark, nth_label, plain, StepsFit}
-use Rattle.measure_laws.proofs.Bounds.Fitting.{both_fit, less_fits, none_fit, then_fit}
-use Rattle.measure_laws.proofs.Bounds.Pieces.{plain_fits, plains_fit}
+use Rattle.measure_laws.proofs.{Bounds.Fitting.{both_fit, less_fits, none_fit, then_fit}, Bounds.Pieces.{plain_fits, plains_fit}}
 
 -- a statement that may be absent
 abbrev pub AnyFits : (body : Body) (called : List Bool) → Option StatementNumber → (most : ℕ) → Type 0

@@ -1,9 +1,8 @@
 -- Known values take few bytes, whatever their weight.
-use Rattle.measure_laws.proofs.Prelude.{◌≡◌, ℕ, ◌≤◌, ◌==◌, Bool, true, false, List, [], ◌∷◌, Option, Some, None, if◌then◌else◌, refl, ◌∙◌, arith, Item, LoadPair, size_of_items, Hl, A, clear_a, low, set, Dcx, Inx, ExpressionNumber, Static, Place, location_after, place_number, Facts, before, is_at, Site, known, number, expression, hold_address_steps, byte_steps, known_byte_steps, AreWritten, IsWritten, PartPlanned, knowing, steps_of, task_steps, byte_number_steps, word_steps, Body, part, site_of, StepsFit}
+use Rattle.measure_laws.proofs.Prelude.{◌≡◌, ℕ, ◌≤◌, ◌==◌, Bool, true, false, List, [], ◌∷◌, Option, Some, None, if◌then◌else◌, refl, ◌∙◌, arith, Item, LoadPair, size_of_items, Hl, A, clear_a, low, set, Dcx, Inx, ExpressionNumber, Static, Place, location_after, place_number, Facts, before, is_at, Site, known, number, expression, note_address_steps, byte_steps, known_byte_steps, AreWritten, IsWritten, PartPlanned, knowing, steps_of, task_steps, byte_number_steps, word_steps, Body, part, site_of, StepsFit}
 use Rattle.steps8080.specs.declared.step.Step.TheVariants as steps
 use Rattle.steps8080.specs.declared.step.Task.TheVariants as tasks
-use Rattle.measure_laws.proofs.Bounds.Parts.{task_fits}
-use Rattle.measure_laws.proofs.Bounds.Pieces.{steps_within}
+use Rattle.measure_laws.proofs.{Bounds.Parts.{task_fits}, Bounds.Pieces.{steps_within}}
 
 -- if an expression is known as a number, its value is that number
 pub record IsKnown (site : Site) (value : ExpressionNumber) (number : ℕ) : Type 0 where
@@ -29,19 +28,19 @@ address_if_within :
     (here earlier later : Bool)
     → AreWritten site called facts
     (if here then []
-    else if earlier then steps.Plain (Inx Hl) ∷ hold_address_steps (Static place)
-    else if later then steps.Plain (Dcx Hl) ∷ hold_address_steps (Static place)
-    else steps.Word (LoadPair Hl) place ∷ hold_address_steps (Static place)) list last
+    else if earlier then steps.Plain (Inx Hl) ∷ note_address_steps (Static place)
+    else if later then steps.Plain (Dcx Hl) ∷ note_address_steps (Static place)
+    else steps.Word (LoadPair Hl) place ∷ note_address_steps (Static place)) list last
     → size_of_items list ≤ 3
 address_if_within place pushed true earlier later written = let small = steps_within [] tt written in omega (arith, small)
 address_if_within place pushed false true later written =
-    let small = steps_within (steps.Plain (Inx Hl) ∷ hold_address_steps (Static place)) (tt, (tt, tt)) written in
+    let small = steps_within (steps.Plain (Inx Hl) ∷ note_address_steps (Static place)) (tt, (tt, tt)) written in
     omega (arith, small)
 address_if_within place pushed false false true written =
-    let small = steps_within (steps.Plain (Dcx Hl) ∷ hold_address_steps (Static place)) (tt, (tt, tt)) written in
+    let small = steps_within (steps.Plain (Dcx Hl) ∷ note_address_steps (Static place)) (tt, (tt, tt)) written in
     omega (arith, small)
 address_if_within place pushed false false false written =
-    let small = steps_within (steps.Word (LoadPair Hl) place ∷ hold_address_steps (Static place)) (tt, (tt, tt)) written in
+    let small = steps_within (steps.Word (LoadPair Hl) place ∷ note_address_steps (Static place)) (tt, (tt, tt)) written in
     omega (arith, small)
 
 -- a known word

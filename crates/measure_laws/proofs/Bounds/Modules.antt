@@ -3,11 +3,7 @@ use Rattle.measure_laws.proofs.Prelude.{◌≡◌, ℕ, suc, ◌+◌, ◌*◌, �
 use Rattle.typed_trees.specs.Weight.{weight_of_procedure}
 use Rattle.asm8080.specs.declared.item.Item.TheVariants as items
 use Rattle.treecode.specs.declared.procedure.ProcedureKind.TheVariants as kinds
-use Rattle.measure_laws.proofs.Bounds.Constants.{constants_fit}
-use Rattle.measure_laws.proofs.Bounds.Entries.{entry_fits}
-use Rattle.measure_laws.proofs.Bounds.Numbering.{numbered_size}
-use Rattle.measure_laws.proofs.Bounds.Returns.{end_fits}
-use Rattle.measure_laws.proofs.Bounds.Statements.{whole_list_fits}
+use Rattle.measure_laws.proofs.{Bounds.Constants.{constants_fit}, Bounds.Entries.{entry_fits}, Bounds.Numbering.{numbered_size}, Bounds.Returns.{end_fits}, Bounds.Statements.{whole_list_fits}}
 
 -- the routines that are called
 bytes_of_routines : List Routine → ℕ

@@ -3,8 +3,7 @@ use Rattle.measure_laws.proofs.Prelude.{◌≡◌, ℕ, zero, suc, ◌+◌, ◌*
 use Rattle.treecode.specs.declared.procedure.ProcedureKind.TheVariants as kinds
 use Rattle.steps8080.specs.declared.step.Step.TheVariants as steps
 use Rattle.statements8080.specs.declared.plan.Planned.TheVariants as planned
-use Rattle.measure_laws.proofs.Bounds.Fitting.{less_fits, no_size, none_fit, then_fit}
-use Rattle.measure_laws.proofs.Sizes.Addresses.{instruction_small}
+use Rattle.measure_laws.proofs.{Bounds.Fitting.{less_fits, no_size, none_fit, then_fit}, Sizes.Addresses.{instruction_small}}
 
 -- the greatest size of steps without parts in bytes
 abbrev pub bytes_of_step : Step → ℕ

@@ -1,8 +1,7 @@
 -- The returns of procedures.
 use Rattle.measure_laws.proofs.Prelude.{◌≡◌, ℕ, ◌+◌, ◌-◌, ◌*◌, ◌/◌, ◌%◌, Bool, true, false, min, if◌then◌else◌, nat_eq, nat_le, List, [], ◌∷◌, ◌++◌, replicate, Option, Some, None, refl, arith, leb-true, Instr, Dad, Inx, Lxi, Pchl, Pop, Push, Ret, Sphl, Xchg, Hl, Sp, StackBc, StackDe, StackHl, ScalarType, Byte, Address, ProcedureKind, clear_a, Body, plain, drop_steps, end_steps, kept_steps, pops_steps, return_of_frame_steps, return_over_any_steps, return_over_steps, return_steps, return_steps_by, zero_result_steps, StepsFit}
 use Rattle.treecode.specs.declared.procedure.ProcedureKind.TheVariants as kinds
-use Rattle.measure_laws.proofs.Bounds.Fitting.{both_fit, less_fits, none_fit, then_fit}
-use Rattle.measure_laws.proofs.Bounds.Pieces.{plain_fits, plains_fit, repeated_fit}
+use Rattle.measure_laws.proofs.{Bounds.Fitting.{both_fit, less_fits, none_fit, then_fit}, Bounds.Pieces.{plain_fits, plains_fit, repeated_fit}}
 
 -- drops words from the stack
 pops_fit : {body : Body} {called : List Bool} (words : ℕ) → StepsFit body called (pops_steps words) (3 * words)

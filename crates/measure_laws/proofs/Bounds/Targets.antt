@@ -1,7 +1,6 @@
 -- Targets that get a value, one after another.
 use Rattle.measure_laws.proofs.Prelude.{◌≡◌, ℕ, suc, ◌+◌, ◌<◌, Bool, List, sum_by, Some, arith, sum_by-cons, ScalarType, TypedModule, TypedTarget, TypesHoldInTarget, TypesHoldInTargets, Within, weight_of_target, Storage, Range, Target, AreTargets, IsTarget, MoreTargets, NoTargets, nodes_of, target_at, Body, Planned, steps_from, bytes_for, StepsFit}
-use Rattle.measure_laws.proofs.Bounds.Ranges.{item_there}
-use Rattle.measure_laws.proofs.Bounds.Fitting.{both_fit, less_fits, none_fit}
+use Rattle.measure_laws.proofs.{Bounds.Ranges.{item_there}, Bounds.Fitting.{both_fit, less_fits, none_fit}}
 
 -- the condition on the steps of the target at each index
 abbrev pub EachFits :

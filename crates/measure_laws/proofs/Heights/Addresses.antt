@@ -6,10 +6,7 @@ use Rattle.treecode.specs.declared.expression.ExpressionForm.TheVariants as form
 use Rattle.treecode.specs.declared.place.Location.TheVariants as locations
 use Rattle.steps8080.specs.declared.step.Step.TheVariants as steps
 use Rattle.steps8080.specs.declared.sites.queries.Base.TheVariants as bases
-use Rattle.measure_laws.proofs.Sizes.Found.{of_found}
-use Rattle.measure_laws.proofs.Heights.Chains.{product_runs}
-use Rattle.measure_laws.proofs.Heights.Joining.{after_plain, by_finding, by_test, joined, lowered, repeated, restored, runs, two_free, weak}
-use Rattle.measure_laws.proofs.Heights.Trees.{IndexIs, has_parts, subscripts_are}
+use Rattle.measure_laws.proofs.{Sizes.Found.{of_found}, Heights.Chains.{product_runs}, Heights.Joining.{after_plain, by_finding, by_test, joined, lowered, repeated, restored, runs, two_free, weak}, Heights.Trees.{IndexIs, has_parts, subscripts_are}}
 
 -- an instruction that copies a byte that the facts give keeps the stack pointer
 copied_keeps :

@@ -5,13 +5,7 @@ use Rattle.trees.specs.declared.expression.BinaryOperator.TheVariants as operato
 use Rattle.steps8080.specs.declared.step.Step.TheVariants as steps
 use Rattle.steps8080.specs.declared.step.Task.TheVariants as tasks
 use Rattle.steps8080.specs.Step.{part}
-use Rattle.measure_laws.proofs.Sizes.Found.{of_found}
-use Rattle.measure_laws.proofs.Heights.Addresses.{byte_in_memory_runs}
-use Rattle.measure_laws.proofs.Heights.Chains.{byte_product_runs}
-use Rattle.measure_laws.proofs.Heights.Found.{high_is_in_memory, operand_is_in_memory}
-use Rattle.measure_laws.proofs.Heights.Joining.{after_part, after_plain, by_finding, by_test, joined, lowered, repeated, restored, runs, two_free, weak}
-use Rattle.measure_laws.proofs.Heights.Pairs.{pair_runs}
-use Rattle.measure_laws.proofs.Heights.Relations.{relation_value_runs}
+use Rattle.measure_laws.proofs.{Sizes.Found.{of_found}, Heights.Addresses.{byte_in_memory_runs}, Heights.Chains.{byte_product_runs}, Heights.Found.{high_is_in_memory, operand_is_in_memory}, Heights.Joining.{after_part, after_plain, by_finding, by_test, joined, lowered, repeated, restored, runs, two_free, weak}, Heights.Pairs.{pair_runs}, Heights.Relations.{relation_value_runs}}
 
 pub byte_number_runs :
     {site : Site} {source : Source site.tree.now} {level free : ℕ} (number : ℕ)

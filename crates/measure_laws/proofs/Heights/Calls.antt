@@ -2,9 +2,7 @@
 use Rattle.measure_laws.proofs.Prelude.{◌≡◌, ℕ, zero, suc, ◌+◌, ◌-◌, ◌*◌, ◌%◌, ◌≤◌, Bool, false, List, [], ◌∷◌, ◌++◌, Option, Some, None, refl, sym, subst, arith, ScalarType, Byte, Address, height_of_arguments, TypedArguments, TypesHoldInArguments, ExpressionForm, ExpressionNumber, Range, Reference, Subscript, Target, AreArguments, AreMore, AreNone, nodes_of, source_of, Step, Site, expression, scalar, embedded_steps, argument_steps, arguments_steps, call_steps, last_argument_steps, push_of, pushed_argument_steps, value_task, both_effects_steps, effects_steps, form_effects_steps, reference_effects_steps, subscript_effects_steps, TreeModule, AreGiven, HasParts, IsAimed, IsBelow, IsOfTree, IsOperand, IsPlaced, Runs, Source}
 use Rattle.treecode.specs.declared.expression.ExpressionForm.TheVariants as forms
 use Rattle.steps8080.specs.declared.step.Step.TheVariants as steps
-use Rattle.measure_laws.proofs.Bounds.Ranges.{item_there}
-use Rattle.measure_laws.proofs.Heights.Joining.{by_finding, by_test, joined, runs, weak}
-use Rattle.measure_laws.proofs.Heights.Trees.{IndexIs, has_parts, subscripts_are}
+use Rattle.measure_laws.proofs.{Bounds.Ranges.{item_there}, Heights.Joining.{by_finding, by_test, joined, runs, weak}, Heights.Trees.{IndexIs, has_parts, subscripts_are}}
 
 -- a value of a type
 value_is :

@@ -2,8 +2,7 @@
 use Rattle.measure_laws.proofs.Prelude.{◌≡◌, ℕ, ◌+◌, ◌*◌, ◌%◌, ◌≤◌, Bool, true, false, IfSome, Option, Some, None, option_and_then, option_map, if◌then◌else◌, refl, ScalarType, height_of_reference, Low, High, Double, PartOf, TypedReference, TypesHoldInReference, Expression, ExpressionForm, ExpressionNumber, TreeModule, Reference, IsPart, IsReference, nodes_of, inside, Site, expression, form_in_memory, high_in_memory, high_of, keeps_of_address, memory, plain_in_memory, reference_after, same_low_byte, high_byte_in_memory, operand_in_memory, word_in_memory, word_of, HasParts, IsOperand, IsPlaced, Source}
 use Rattle.trees.specs.declared.declaration.ScalarType.TheVariants as scalars
 use Rattle.treecode.specs.declared.expression.ExpressionForm.TheVariants as forms
-use Rattle.measure_laws.proofs.Heights.Joining.{weak}
-use Rattle.measure_laws.proofs.Heights.Trees.{has_parts}
+use Rattle.measure_laws.proofs.{Heights.Joining.{weak}, Heights.Trees.{has_parts}}
 
 inside_form :
     (site : Site) (source : Source site.tree.now) (free : ℕ) (number : ExpressionNumber) (form : ExpressionForm)

@@ -2,8 +2,7 @@
 use Rattle.measure_laws.proofs.Prelude.{◌≡◌, ℕ, suc, Bool, List, [], ◌∷◌, slice_get, Option, Some, sym, subst, ◌∙◌, same_Some, Item, Range, StatementNumber, Facts, Body, Here, AreAllCarriedOut, AreCarriedOut, IsCarriedOut, IsListCarriedOut, ListCarriedOut, ListPlanned, StatementCarriedOut, StepCarriedOut, FindsRoom, NothingThere, PushesAtMost, ListRuns, StatementRuns, StepsRun}
 use Rattle.statements8080.specs.declared.plan.Planned.TheVariants as planned
 use Rattle.codegen8080.specs.Generated.{MoreStatements, NoStatements}
-use Rattle.measure_laws.proofs.Heights.Planning.{none_room}
-use Rattle.measure_laws.proofs.Heights.Rooms.{room_joined}
+use Rattle.measure_laws.proofs.{Heights.Planning.{none_room}, Heights.Rooms.{room_joined}}
 
 -- as many statements of the table of lists as `count` find room, from an entry on
 pub data AllRun (body : Body) (called : List Bool) (level : ℕ) : (first count : ℕ) → Type 0 where

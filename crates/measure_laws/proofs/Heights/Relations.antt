@@ -9,11 +9,7 @@ use Rattle.steps8080.specs.declared.step.Step.TheVariants as steps
 use Rattle.steps8080.specs.Queries as queries
 use Rattle.operands8080.specs.declared.branches.Branch.{Branch}
 use Rattle.operands8080.specs.declared.relations.Outcome.TheVariants as outcomes
-use Rattle.measure_laws.proofs.Sizes.Found.{of_found}
-use Rattle.measure_laws.proofs.Heights.ByteRelations.{byte_number_runs, byte_relation_runs}
-use Rattle.measure_laws.proofs.Heights.Joining.{after_part, by_finding, by_test, joined, runs, weak}
-use Rattle.measure_laws.proofs.Heights.Trees.{has_parts}
-use Rattle.measure_laws.proofs.Heights.WordRelations.{word_number_runs, word_relation_runs, words_run}
+use Rattle.measure_laws.proofs.{Sizes.Found.{of_found}, Heights.ByteRelations.{byte_number_runs, byte_relation_runs}, Heights.Joining.{after_part, by_finding, by_test, joined, runs, weak}, Heights.Trees.{has_parts}, Heights.WordRelations.{word_number_runs, word_relation_runs, words_run}}
 
 -- a question about operands that allow a pushed word before them
 abbrev pub IsAsked : (tree : TreeModule) → Source tree → (free : ℕ) → Inquiry → Type 0

@@ -2,14 +2,7 @@
 use Rattle.measure_laws.proofs.Prelude.{ℕ, true, refl, ScalarType, Not, Negate, Low, High, Double, Expression, ExpressionForm, ExpressionNumber, Range, Static, Place, Reference, place_number, source_of, low, Site, expression, scalar, known, memory, byte_form_steps, byte_function_steps, byte_of_two_steps, byte_steps, byte_unary_steps, called_byte_steps, known_byte_steps, low_of_value_steps, computed_word_steps, extended_byte_steps, word_form_steps, word_function_steps, word_of_two_steps, word_steps, byte_in_memory_steps, extended_byte_in_memory_steps, AreGiven, HasParts, IsOperand, IsPlaced, Runs, Source}
 use Rattle.trees.specs.declared.declaration.ScalarType.TheVariants as scalars
 use Rattle.treecode.specs.declared.expression.ExpressionForm.TheVariants as forms
-use Rattle.measure_laws.proofs.Sizes.Found.{of_found}
-use Rattle.measure_laws.proofs.Heights.Addresses.{byte_in_memory_runs, extended_byte_in_memory_runs, location_address_runs, word_in_memory_runs}
-use Rattle.measure_laws.proofs.Heights.Bytes.{byte_binary_runs, byte_number_runs, byte_shift_runs, high_byte_runs, low_of_word_runs}
-use Rattle.measure_laws.proofs.Heights.Calls.{call_runs, embedded_runs}
-use Rattle.measure_laws.proofs.Heights.Found.{is_in_memory}
-use Rattle.measure_laws.proofs.Heights.Joining.{after_part, by_finding, joined, runs, weak}
-use Rattle.measure_laws.proofs.Heights.Trees.{has_parts}
-use Rattle.measure_laws.proofs.Heights.Words.{word_binary_runs, word_shift_runs, word_unary_runs}
+use Rattle.measure_laws.proofs.{Sizes.Found.{of_found}, Heights.Addresses.{byte_in_memory_runs, extended_byte_in_memory_runs, location_address_runs, word_in_memory_runs}, Heights.Bytes.{byte_binary_runs, byte_number_runs, byte_shift_runs, high_byte_runs, low_of_word_runs}, Heights.Calls.{call_runs, embedded_runs}, Heights.Found.{is_in_memory}, Heights.Joining.{after_part, by_finding, joined, runs, weak}, Heights.Trees.{has_parts}, Heights.Words.{word_binary_runs, word_shift_runs, word_unary_runs}}
 
 known_byte_runs :
     {site : Site} {source : Source site.tree.now} {level free : ℕ} (place : Place)

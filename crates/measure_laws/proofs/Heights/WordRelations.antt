@@ -8,12 +8,7 @@ use Rattle.steps8080.specs.declared.step.Step.TheVariants as steps
 use Rattle.steps8080.specs.declared.step.Task.TheVariants as tasks
 use Rattle.steps8080.specs.Step.{part}
 use Rattle.operands8080.specs.WordRelations.{difference_steps, high_byte_steps, with_pair_steps}
-use Rattle.measure_laws.proofs.Sizes.Found.{of_found}
-use Rattle.measure_laws.proofs.Heights.ByteRelations.{byte_number_runs, byte_relation_runs, number_in_a_runs}
-use Rattle.measure_laws.proofs.Heights.Found.{high_is_in_memory}
-use Rattle.measure_laws.proofs.Heights.Joining.{after_part, after_plain, by_finding, by_test, joined, repeated, runs, weak}
-use Rattle.measure_laws.proofs.Heights.Pairs.{pair_runs}
-use Rattle.measure_laws.proofs.Heights.Trees.{has_parts}
+use Rattle.measure_laws.proofs.{Sizes.Found.{of_found}, Heights.ByteRelations.{byte_number_runs, byte_relation_runs, number_in_a_runs}, Heights.Found.{high_is_in_memory}, Heights.Joining.{after_part, after_plain, by_finding, by_test, joined, repeated, runs, weak}, Heights.Pairs.{pair_runs}, Heights.Trees.{has_parts}}
 
 -- the high byte of an ADDRESS
 high_byte_runs :

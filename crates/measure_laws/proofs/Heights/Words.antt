@@ -5,12 +5,7 @@ use Rattle.exprgen8080.specs.declared.word_operators.Simple.TheVariants as simpl
 use Rattle.exprgen8080.specs.WordShifts.{shifted_left_steps, zero_steps}
 use Rattle.steps8080.specs.declared.step.Step.TheVariants as steps
 use Rattle.steps8080.specs.Step.{plain}
-use Rattle.measure_laws.proofs.Sizes.Found.{of_found}
-use Rattle.measure_laws.proofs.Heights.Addresses.{addition_runs}
-use Rattle.measure_laws.proofs.Heights.Bytes.{byte_operation_runs, byte_shifted_right_runs, high_byte_runs, right_shift_runs, with_number_runs}
-use Rattle.measure_laws.proofs.Heights.Chains.{product_runs}
-use Rattle.measure_laws.proofs.Heights.Joining.{after_part, after_plain, by_finding, by_test, joined, lowered, repeated, restored, runs, two_free, weak}
-use Rattle.measure_laws.proofs.Heights.Pairs.{pair_runs, pair_in_order_runs}
+use Rattle.measure_laws.proofs.{Sizes.Found.{of_found}, Heights.Addresses.{addition_runs}, Heights.Bytes.{byte_operation_runs, byte_shifted_right_runs, high_byte_runs, right_shift_runs, with_number_runs}, Heights.Chains.{product_runs}, Heights.Joining.{after_part, after_plain, by_finding, by_test, joined, lowered, repeated, restored, runs, two_free, weak}, Heights.Pairs.{pair_runs, pair_in_order_runs}}
 
 zero_runs :
     {site : Site} {source : Source site.tree.now} {level free : ℕ} (value : ExpressionNumber) (pushed : ℕ)

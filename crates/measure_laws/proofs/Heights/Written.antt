@@ -5,12 +5,7 @@ use Rattle.asm8080.specs.declared.item.Item.TheVariants as items
 use Rattle.asm8080.specs.declared.item.WordForm.TheVariants as word_forms
 use Rattle.steps8080.specs.declared.step.Task.TheVariants as tasks
 use Rattle.exprgen8080.specs.Emission.{Planned}
-use Rattle.measure_laws.proofs.Heights.Addresses.{address_runs}
-use Rattle.measure_laws.proofs.Heights.Calls.{call_runs, effects_run}
-use Rattle.measure_laws.proofs.Heights.Relations.{branch_runs}
-use Rattle.measure_laws.proofs.Heights.Rooms.{room_joined}
-use Rattle.measure_laws.proofs.Heights.Stores.{store_runs}
-use Rattle.measure_laws.proofs.Heights.Values.{byte_runs, word_runs}
+use Rattle.measure_laws.proofs.{Heights.Addresses.{address_runs}, Heights.Calls.{call_runs, effects_run}, Heights.Relations.{branch_runs}, Heights.Rooms.{room_joined}, Heights.Stores.{store_runs}, Heights.Values.{byte_runs, word_runs}}
 
 -- an instruction
 plain_room :

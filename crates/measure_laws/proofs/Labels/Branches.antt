@@ -4,9 +4,7 @@ use Rattle.asm8080.specs.declared.item.WordForm.TheVariants as forms
 use Rattle.steps8080.specs.declared.step.Step.TheVariants as steps
 use Rattle.operands8080.specs.declared.branches.Branch.{Branch}
 use Rattle.operands8080.specs.declared.relations.Outcome.TheVariants as outcomes
-use Rattle.measure_laws.proofs.Labels.Joining.{joined}
-use Rattle.measure_laws.proofs.Labels.Going.{Go, bound_later, either_go, free_go, go, then_go}
-use Rattle.measure_laws.proofs.Labels.Relations.{high_difference_free, low_difference_free, relation_free, words_free}
+use Rattle.measure_laws.proofs.{Labels.Joining.{joined}, Labels.Going.{Go, bound_later, either_go, free_go, go, then_go}, Labels.Relations.{high_difference_free, low_difference_free, relation_free, words_free}}
 
 known_go :
     (ok : ℕ → Type 0) (branch : Branch) (answer : Bool) → ok branch.label.index → Go ok (known_branch_steps branch answer)

@@ -3,9 +3,7 @@ use Rattle.measure_laws.proofs.Prelude.{ℕ, ◌+◌, ◌-◌, ◌%◌, ◌==◌
 use Rattle.trees.specs.declared.declaration.ScalarType.TheVariants as scalars
 use Rattle.trees.specs.declared.expression.BinaryOperator.TheVariants as operators
 use Rattle.steps8080.specs.declared.step.Step.TheVariants as steps
-use Rattle.measure_laws.proofs.Labels.Joining.{AreFree, after_byte, after_effects, after_plain, after_word, by_finding, by_test, free, joined, repeated}
-use Rattle.measure_laws.proofs.Labels.Operands.{byte_in_memory_free, byte_product_free, pair_free}
-use Rattle.measure_laws.proofs.Labels.Relations.{relation_value_free}
+use Rattle.measure_laws.proofs.{Labels.Joining.{AreFree, after_byte, after_effects, after_plain, after_word, by_finding, by_test, free, joined, repeated}, Labels.Operands.{byte_in_memory_free, byte_product_free, pair_free}, Labels.Relations.{relation_value_free}}
 
 pub byte_number_free : (number : ℕ) → AreFree (byte_number_steps number)
 unfolding byte_number_steps

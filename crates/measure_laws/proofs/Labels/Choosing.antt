@@ -2,8 +2,7 @@
 use Rattle.measure_laws.proofs.Prelude.{◌≡◌, inl, inr, refl, sym, ap, ◌∙◌, subst, ℕ, ◌-◌, ◌%◌, ◌<◌, nat_eq, nat_lt, Bool, true, false, if◌then◌else◌, List, [], ◌∷◌, Option, Some, None, arith, option_and_then, eq-eqb, ltb-true, none-some, Jump, ScalarType, Byte, Address, ExpressionNumber, Range, TreeStatement, StatementNumber, item, statement, LabelNumber, label_of, Site, scalar, number, Body, Planned, JumpOn, Statement, body_label, both_steps, branch, computed_if_steps, forever_steps, goto_label, goto_label_of, if_steps, statement_if_any, tested_if_steps, tested_while_steps, then_steps, while_steps, byte_bound_steps, case_steps, cases_end_steps, choice_at_steps, choice_steps, computed_case_steps, entry_of, entry_of_statement, into_table_steps, known_case_steps, number_in_de_steps, statement_at, statements_steps, table_at, table_steps, word_bound_steps, jump, label_at, mark, nth_label, part, ListGoes, PlanBinds, StatementGoes}
 use Rattle.treecode.specs.declared.statement.Statement.TheVariants as statements
 use Rattle.steps8080.specs.declared.step.Task.TheVariants as tasks
-use Rattle.measure_laws.proofs.Labels.Planning.{PlanGo, after_byte, after_word, each_go, either_go, plan_at, plan_first, plan_later, planned_go, plans_then}
-use Rattle.measure_laws.proofs.Labels.Assigning.{less_go}
+use Rattle.measure_laws.proofs.{Labels.Planning.{PlanGo, after_byte, after_word, each_go, either_go, plan_at, plan_first, plan_later, planned_go, plans_then}, Labels.Assigning.{less_go}}
 
 -- planned steps of a body with statements and lists that refer to labels with a property
 abbrev pub BodyGo : (ok : ℕ → Type 0) → Body → (called : List Bool) → List Planned → Type 0

@@ -1,7 +1,6 @@
 -- Iterative DO refers to labels that it binds.
 use Rattle.measure_laws.proofs.Prelude.{◌≡◌, ◌⊎◌, inl, inr, refl, ℕ, ◌+◌, nat_le, Bool, true, false, ◌&&◌, not, if◌then◌else◌, List, [], ◌∷◌, ◌++◌, Option, Some, None, ScalarType, Byte, Address, ExpressionNumber, Range, Place, Stored, Iteration, StatementNumber, LabelNumber, label_of, Site, scalar, known, number, Body, Counter, Test, Planned, Again, ListOf, Meet, Reaches, counter_of, counter_place, counts_by_one, has_a_turn, add_de_steps, add_steps, add_word_to_byte_steps, asked_jump, asked_mark, asked_test_steps, below_steps, count_at_hl_steps, count_steps, counts_in_place, facts_of_turn, first_steps, first_test_steps, general_begin_steps, general_end_steps, general_steps, is_byte, is_byte_type, iteration_steps, loop_labels, next_byte_steps, next_steps, next_turn_steps, step_in_de_steps, step_steps, sum_of_byte_steps, sum_of_word_steps, test_label_steps, to_known_steps, turns_if_any, mark, nth_label, test_of, test_steps, PlanBinds}
-use Rattle.measure_laws.proofs.Labels.Planning.{PlanGo, after_address, after_load, asking_go, either_go, finding_go, plan_first, plan_later, planned_go, plans_then}
-use Rattle.measure_laws.proofs.Labels.Assigning.{less_go, single_go, test_go}
+use Rattle.measure_laws.proofs.{Labels.Planning.{PlanGo, after_address, after_load, asking_go, either_go, finding_go, plan_first, plan_later, planned_go, plans_then}, Labels.Assigning.{less_go, single_go, test_go}}
 
 -- the place of the test is bound if it is asked for, or if an ADDRESS is counted by 1
 label_bound_by :

@@ -1,8 +1,7 @@
 -- The labels that the code of a soundly typed module refers to have their places.
 use Rattle.measure_laws.proofs.Prelude.{◌≡◌, ℕ, Bool, List, Some, slice_get, BodyIsSound, TypedModule, TypedProcedure, Storage, Item, TreeModule, IsLowered, labels_numbered_in_list, IsOwnCode, IsSound, LabelsHavePlaces, holds_for_item}
 use Rattle.treecode_laws.proofs.Labels.{main_label_has_one_number, procedure_label_has_one_number}
-use Rattle.measure_laws.proofs.Labels.Modules.{own_code_goes}
-use Rattle.measure_laws.proofs.Labels.Statements.{LabelsDiffer}
+use Rattle.measure_laws.proofs.{Labels.Modules.{own_code_goes}, Labels.Statements.{LabelsDiffer}}
 
 -- no label of a body has two numbers
 body_differs :

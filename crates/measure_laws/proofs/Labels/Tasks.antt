@@ -3,10 +3,7 @@ use Rattle.measure_laws.proofs.Prelude.{ℕ, zero, suc, ◌+◌, ◌-◌, ◌%�
 use Rattle.trees.specs.declared.declaration.ScalarType.TheVariants as scalars
 use Rattle.treecode.specs.declared.expression.ExpressionForm.TheVariants as forms
 use Rattle.steps8080.specs.Step.{part}
-use Rattle.measure_laws.proofs.Labels.Joining.{AreFree, after_word, by_finding, by_test, free, joined}
-use Rattle.measure_laws.proofs.Labels.Operands.{byte_in_memory_free, extended_byte_in_memory_free, location_address_free, word_in_memory_free}
-use Rattle.measure_laws.proofs.Labels.Bytes.{byte_binary_free, byte_number_free, byte_shift_free, high_byte_free, low_of_word_free}
-use Rattle.measure_laws.proofs.Labels.Words.{word_binary_free, word_shift_free, word_unary_free}
+use Rattle.measure_laws.proofs.{Labels.Joining.{AreFree, after_word, by_finding, by_test, free, joined}, Labels.Operands.{byte_in_memory_free, extended_byte_in_memory_free, location_address_free, word_in_memory_free}, Labels.Bytes.{byte_binary_free, byte_number_free, byte_shift_free, high_byte_free, low_of_word_free}, Labels.Words.{word_binary_free, word_shift_free, word_unary_free}}
 
 -- a value of a type
 value_free :

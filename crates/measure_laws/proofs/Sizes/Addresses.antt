@@ -7,10 +7,7 @@ use Rattle.treecode.specs.declared.place.Location.TheVariants as locations
 use Rattle.steps8080.specs.declared.step.Step.TheVariants as steps
 use Rattle.steps8080.specs.declared.sites.queries.Base.TheVariants as bases
 use Rattle.measure_laws.specs.internal.Parts.{HasParts, IsOperand, IsPlaced}
-use Rattle.measure_laws.proofs.Sizes.Chains.{product_fits}
-use Rattle.measure_laws.proofs.Sizes.Found.{of_found}
-use Rattle.measure_laws.proofs.Sizes.Joining.{after_part, after_plain, by_asking, by_finding, by_test, fits, joined, repeated, within}
-use Rattle.measure_laws.proofs.Sizes.Trees.{has_parts, operand}
+use Rattle.measure_laws.proofs.{Sizes.Chains.{product_fits}, Sizes.Found.{of_found}, Sizes.Joining.{after_part, after_plain, by_asking, by_finding, by_test, fits, joined, repeated, within}, Sizes.Trees.{has_parts, operand}}
 
 pub instruction_small : (i : Instr) → size_of_instruction i ≤ 3
 instruction_small (Lxi pair word) = omega arith

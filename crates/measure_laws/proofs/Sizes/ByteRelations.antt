@@ -5,8 +5,7 @@ use Rattle.steps8080.specs.Step.{part}
 use Rattle.steps8080.specs.declared.step.Step.TheVariants as steps
 use Rattle.operands8080.specs.{declared.byte_relations.Form.TheVariants.{Pushed}, ByteRelations.{byte_number_steps, form_of, with_e_steps, with_memory_steps}}
 use Rattle.measure_laws.specs.internal.Parts.{IsOperand}
-use Rattle.measure_laws.proofs.Sizes.Found.{IsInMemory, operand_is_in_memory}
-use Rattle.measure_laws.proofs.Sizes.Joining.{after_part, after_plain, by_finding, by_test, fits, joined, within}
+use Rattle.measure_laws.proofs.{Sizes.Found.{IsInMemory, operand_is_in_memory}, Sizes.Joining.{after_part, after_plain, by_finding, by_test, fits, joined, within}}
 
 byte_is_fits :
     {site : Site} {storage : Storage} (number : ℕ) (setting : Setting) → Fit site storage (byte_is_steps number setting) 2

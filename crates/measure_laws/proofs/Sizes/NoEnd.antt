@@ -7,8 +7,7 @@ use Rattle.steps8080.specs.declared.step.Step.TheVariants as steps
 use Rattle.steps8080.specs.declared.step.Task.TheVariants as tasks
 use Rattle.steps8080.specs.Step.{part}
 use Rattle.exprgen8080.specs.Emission.{Planned}
-use Rattle.measure_laws.proofs.Sizes.Trees.{type_found}
-use Rattle.measure_laws.proofs.Sizes.Values.{HasNoEnd, ListTurns, LocationTurns, NumberTurns, ProductTurns, QuotientTurns, Turns, ValueTurns}
+use Rattle.measure_laws.proofs.{Sizes.Trees.{type_found}, Sizes.Values.{HasNoEnd, ListTurns, LocationTurns, NumberTurns, ProductTurns, QuotientTurns, Turns, ValueTurns}}
 
 -- the queries about the tree do not depend on the facts about the registers
 known_same : (site : Site) (facts other : Facts) (of : ExpressionNumber)

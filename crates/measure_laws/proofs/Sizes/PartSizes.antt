@@ -3,14 +3,7 @@ use Rattle.measure_laws.proofs.Prelude.{◌≡◌, ℕ, ◌+◌, ◌*◌, ◌≤
 use Rattle.steps8080.specs.declared.step.Step.TheVariants as steps
 use Rattle.steps8080.specs.declared.step.Task.TheVariants as tasks
 use Rattle.measure_laws.specs.internal.Parts.{AreGiven, IsAimed, IsOfTree, IsOperand, IsPlaced}
-use Rattle.measure_laws.proofs.Sizes.Addresses.{address_fits}
-use Rattle.measure_laws.proofs.Sizes.Calls.{call_fits, effects_fit}
-use Rattle.measure_laws.proofs.Sizes.NoEnd.{ends_if_written}
-use Rattle.measure_laws.proofs.Sizes.Relations.{branch_fits}
-use Rattle.measure_laws.proofs.Sizes.Stores.{store_fits}
-use Rattle.measure_laws.proofs.Sizes.Trees.{arguments_weigh, operand, reference_weighs, target_weighs, weighs_at}
-use Rattle.measure_laws.proofs.Sizes.Values.{byte_fits, word_fits}
-use Rattle.measure_laws.proofs.Sizes.Written.{TasksFit, part_written}
+use Rattle.measure_laws.proofs.{Sizes.Addresses.{address_fits}, Sizes.Calls.{call_fits, effects_fit}, Sizes.NoEnd.{ends_if_written}, Sizes.Relations.{branch_fits}, Sizes.Stores.{store_fits}, Sizes.Trees.{arguments_weigh, operand, reference_weighs, target_weighs, weighs_at}, Sizes.Values.{byte_fits, word_fits}, Sizes.Written.{TasksFit, part_written}}
 
 -- The facts about the registers do not matter for trees.
 tree_known : (site : Site) (storage : Storage) (facts : Facts) (task : Task)

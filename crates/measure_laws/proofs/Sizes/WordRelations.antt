@@ -9,11 +9,7 @@ use Rattle.steps8080.specs.declared.step.Task.TheVariants as tasks
 use Rattle.steps8080.specs.Step.{part}
 use Rattle.operands8080.specs.WordRelations.{difference_steps, high_byte_steps, with_pair_steps}
 use Rattle.measure_laws.specs.internal.Parts.{HasParts, IsOperand}
-use Rattle.measure_laws.proofs.Sizes.ByteRelations.{byte_number_fits, byte_relation_fits, number_in_a_fits}
-use Rattle.measure_laws.proofs.Sizes.Found.{IsInMemory, high_is_in_memory, of_found}
-use Rattle.measure_laws.proofs.Sizes.Joining.{after_part, after_plain, by_asking, by_finding, by_test, fits, joined, repeated, within}
-use Rattle.measure_laws.proofs.Sizes.Pairs.{pair_fits}
-use Rattle.measure_laws.proofs.Sizes.Trees.{has_parts}
+use Rattle.measure_laws.proofs.{Sizes.ByteRelations.{byte_number_fits, byte_relation_fits, number_in_a_fits}, Sizes.Found.{IsInMemory, high_is_in_memory, of_found}, Sizes.Joining.{after_part, after_plain, by_asking, by_finding, by_test, fits, joined, repeated, within}, Sizes.Pairs.{pair_fits}, Sizes.Trees.{has_parts}}
 
 -- the high byte of an ADDRESS
 high_byte_fits :

@@ -6,12 +6,7 @@ use Rattle.exprgen8080.specs.WordShifts.{shifted_left_steps, zero_steps}
 use Rattle.steps8080.specs.declared.step.Step.TheVariants as steps
 use Rattle.steps8080.specs.Step.{plain}
 use Rattle.measure_laws.specs.internal.Parts.{IsOperand}
-use Rattle.measure_laws.proofs.Sizes.Addresses.{addition_fits}
-use Rattle.measure_laws.proofs.Sizes.Bytes.{byte_operation_fits, byte_shifted_right_fits, high_byte_fits, right_shift_fits, with_number_fits}
-use Rattle.measure_laws.proofs.Sizes.Chains.{product_fits}
-use Rattle.measure_laws.proofs.Sizes.Found.{of_found}
-use Rattle.measure_laws.proofs.Sizes.Joining.{after_part, after_plain, by_asking, by_finding, by_test, fits, joined, repeated, within}
-use Rattle.measure_laws.proofs.Sizes.Pairs.{pair_fits, pair_in_order_fits}
+use Rattle.measure_laws.proofs.{Sizes.Addresses.{addition_fits}, Sizes.Bytes.{byte_operation_fits, byte_shifted_right_fits, high_byte_fits, right_shift_fits, with_number_fits}, Sizes.Chains.{product_fits}, Sizes.Found.{of_found}, Sizes.Joining.{after_part, after_plain, by_asking, by_finding, by_test, fits, joined, repeated, within}, Sizes.Pairs.{pair_fits, pair_in_order_fits}}
 
 zero_fits :
     {site : Site} {storage : Storage} (value : ExpressionNumber) (pushed : ℕ)

@@ -1,8 +1,7 @@
 -- The weight and the code bound of tree code are those of its module.
 use Rattle.measure_laws.proofs.Prelude.{◌≡◌, ℕ, suc, List, [], ◌∷◌, length, slice_get, Some, Ok, refl, ap, ◌∙◌, arith, sum_by, sum_by-cons, ParametersFit, IsStorable, TypedModule, TypedProcedure, code_bound, constant_bytes, weight_of, Storage, storage_of, Content, TreeModule, TreeProcedure, IsLowered, labels_numbered_in_list, nodes_of, stored, parameter_count, has_parameters, bound_of_tree, size_of_contents, weight_of_procedure, weight_of_tree}
 use Rattle.typed_trees.specs.Weight as typed_weight
-use Rattle.measure_laws.proofs.Trees.Constants.{constants_take}
-use Rattle.measure_laws.proofs.Trees.Statements.{body_weighs}
+use Rattle.measure_laws.proofs.{Trees.Constants.{constants_take}, Trees.Statements.{body_weighs}}
 
 module _
     (typed : TypedModule) (storage : Storage) (tree : TreeModule) (parameters : ParametersFit typed)

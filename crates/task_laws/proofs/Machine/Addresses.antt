@@ -1,5 +1,5 @@
 -- The code that puts addresses of locations, and words there, into HL; other registers are kept.
-use Rattle.task_laws.proofs.Prelude.{◌≡◌, ℕ, zero, suc, ◌+◌, ◌*◌, ◌%◌, ◌<◌, Bool, true, false, if◌then◌else◌, nat_le, List, [], ◌∷◌, ◌++◌, Some, refl, sym, ap, subst, append-nil, ◌∙◌, arith, Event, SourceState, Outcome, Instr, Dad, Dcx, Inx, Lxi, Bc, Hl, Sp, Registers, State, high_byte, low_byte, word, wrap, LoadPair, Place, Number, Code, Data, External, Location, location_after, Does, at_place, HasRoom, location_at, place_at, after_before, location_after_is, address_in_hl_is, Facts, Part, Step, Plain, Word, before, is_at, no_facts, plain, repeat_steps, distance, addition_steps, hold_address_steps, location_address_steps, negated, new_address_steps, number_added_steps, knowing, Context, IsSound, distances_in, StepsStand, NoneThere, WordThere, HoldsThere, Know}
+use Rattle.task_laws.proofs.Prelude.{◌≡◌, ℕ, zero, suc, ◌+◌, ◌*◌, ◌%◌, ◌<◌, Bool, true, false, if◌then◌else◌, nat_le, List, [], ◌∷◌, ◌++◌, Some, refl, sym, ap, subst, append-nil, ◌∙◌, arith, Event, SourceState, Outcome, Instr, Dad, Dcx, Inx, Lxi, Bc, Hl, Sp, Registers, State, high_byte, low_byte, word, wrap, LoadPair, Place, Number, Code, Data, External, Location, location_after, Does, at_place, HasRoom, location_at, place_at, after_before, location_after_is, address_in_hl_is, Facts, Part, Step, Plain, Word, before, is_at, no_facts, plain, repeat_steps, distance, addition_steps, note_address_steps, location_address_steps, negated, new_address_steps, number_added_steps, knowing, Context, IsSound, distances_in, StepsStand, NoneThere, WordThere, HoldsThere, Know}
 use Rattle.treecode.specs.declared.place.Location.TheVariants as locations
 use Rattle.task_laws.proofs.Machine.Rules.{GoesOn, holds_go, ready_with_registers, word_goes}
 use Rattle.task_laws.proofs.Machine.RegisterCode.{AreOnRegisters, effect, registers_then}
@@ -226,18 +226,18 @@ address_known :
 address_known context r memory location is = record { byte_holds = tt; word_holds = tt; address_holds = is; zero_holds = tt }
 
 -- a fact that the plan makes up of HL as an address, at the end
-hold_address_goes :
+note_address_goes :
     {A : Type 0} {outcome : Outcome A} {Good : A → SourceState → State → Type 0}
     {context : Context} {PartIs : (before : Facts) → Part → (from : ℕ) → (after : Facts) → (to : ℕ) → Type 0}
     {last : Facts} {to top budget more : ℕ} {base source memory : List ℕ} {frame : List (List ℕ)}
     {events : List Event} {facts : Facts} {from : ℕ} (location : Location) (r : Registers)
-    → StepsStand context PartIs facts from (hold_address_steps location) last to
+    → StepsStand context PartIs facts from (note_address_steps location) last to
     → GoesOn context facts top base source frame r memory
     → word r.h r.l ≡ location_at context.activation (distances_in context) location
     → (GoesOn context last top base source frame r memory
     → Does context.activation.around.program.script budget more (at_place to r memory events) outcome Good)
     → Does context.activation.around.program.script budget more (at_place from r memory events) outcome Good
-hold_address_goes {context = context} {memory = memory} location r (HoldsThere NoneThere) on is rest =
+note_address_goes {context = context} {memory = memory} location r (HoldsThere NoneThere) on is rest =
     rest (holds_go on (address_known context r memory location is))
 
 wrapped_back : (address : ℕ) → address < 65536 → wrap (wrap (address + 1) + 65535) ≡ address
@@ -260,7 +260,7 @@ new_address_goes :
     → HasRoom context.activation top pushed need
     → location_at context.activation (distances_in context) location < 65536
     → StepsStand context PartIs facts from
-    (new_address_steps (knowing context.site used) location pushed ++ hold_address_steps location) last to
+    (new_address_steps (knowing context.site used) location pushed ++ note_address_steps location) last to
     → GoesOn context facts top base source frame r memory
     → ((now : Registers)
     → AddressBeside (location_at context.activation (distances_in context) location) r now
@@ -274,7 +274,7 @@ new_address_goes {context = context} {memory = memory} used (locations.Static pl
     let now : Registers = record r { h = high_byte number; l = low_byte number } in
     word_goes (LoadPair Hl) place r now memory sound there on tt refl
     (λ known.
-    hold_address_goes (locations.Static place) now stand
+    note_address_goes (locations.Static place) now stand
     (record {
       ready =
           ready_with_registers refl
@@ -292,9 +292,9 @@ new_address_goes {context = context} {top = top} {pushed = pushed} used (locatio
     ∙ ap (λ (sp : ℕ). wrap (word (high_byte away) (low_byte away) + sp)) on.ready.pointer
     ∙ ap (λ (n : ℕ). wrap (n + wrap top)) (small_again away (omega arith))
     ∙ frame_address context.activation.level (distances_in context variable) offset top pushed room.depth in
-    registers_then (Lxi Hl away ∷ Dad Sp ∷ []) (hold_address_steps (locations.Frame variable offset)) r sound (tt, (tt, tt)) stand on
+    registers_then (Lxi Hl away ∷ Dad Sp ∷ []) (note_address_steps (locations.Frame variable offset)) r sound (tt, (tt, tt)) stand on
     (λ middle found stand on.
-    hold_address_goes (locations.Frame variable offset) _ stand on is
+    note_address_goes (locations.Frame variable offset) _ stand on is
     (λ on. rest _ (record { hl = is; a = refl; d = refl; e = refl }) on))
 
 -- the address of a location
@@ -324,9 +324,9 @@ location_address_goes {outcome = outcome} {Good = Good} {context = context} {Par
         → is_at used.address_in_hl (location_after location 1) ≡ last_one
         → StepsStand context PartIs facts from
         (if here then []
-        else if next then Plain (Inx Hl) ∷ hold_address_steps location
-        else if last_one then Plain (Dcx Hl) ∷ hold_address_steps location
-        else new_address_steps (knowing context.site used) location pushed ++ hold_address_steps location) last to
+        else if next then Plain (Inx Hl) ∷ note_address_steps location
+        else if last_one then Plain (Dcx Hl) ∷ note_address_steps location
+        else new_address_steps (knowing context.site used) location pushed ++ note_address_steps location) last to
         → Does context.activation.around.program.script budget more (at_place from r memory events) outcome Good
     by_test true next last_one here_is next_is last_is stand =
         nothing_goes r stand on
@@ -343,9 +343,9 @@ location_address_goes {outcome = outcome} {Good = Good} {context = context} {Par
         ∙ ap (λ (n : ℕ). wrap (n + 1))
         (address_in_hl_is context.activation (distances_in context) used.address_in_hl (before location) r.h r.l next_is known.address_holds)
         ∙ after_before context.activation (distances_in context) location small in
-        registers_then (Inx Hl ∷ []) (hold_address_steps location) r sound (tt, tt) stand on
+        registers_then (Inx Hl ∷ []) (note_address_steps location) r sound (tt, tt) stand on
         (λ middle found stand on.
-        hold_address_goes location _ stand on is
+        note_address_goes location _ stand on is
         (λ on. rest _ (record { hl = is; a = refl; d = refl; e = refl }) on))
     by_test false false true here_is next_is last_is stand =
         let is : word (high_byte (wrap (word r.h r.l + 65535))) (low_byte (wrap (word r.h r.l + 65535)))
@@ -355,9 +355,9 @@ location_address_goes {outcome = outcome} {Good = Good} {context = context} {Par
         (address_in_hl_is context.activation (distances_in context) used.address_in_hl (location_after location 1) r.h r.l last_is known.address_holds
         ∙ location_after_is context.activation (distances_in context) location 1)
         ∙ wrapped_back (location_at context.activation (distances_in context) location) small in
-        registers_then (Dcx Hl ∷ []) (hold_address_steps location) r sound (tt, tt) stand on
+        registers_then (Dcx Hl ∷ []) (note_address_steps location) r sound (tt, tt) stand on
         (λ middle found stand on.
-        hold_address_goes location _ stand on is
+        note_address_goes location _ stand on is
         (λ on. rest _ (record { hl = is; a = refl; d = refl; e = refl }) on))
     by_test false false false here_is next_is last_is stand =
         new_address_goes used location r sound room small stand on rest

@@ -1,5 +1,5 @@
 -- The code that puts the byte at a location into A.
-use Rattle.task_laws.proofs.Prelude.{◌≡◌, ℕ, ◌+◌, ◌<◌, ◌≤◌, ◌⊎◌, inl, inr, ◌==◌, Bool, true, false, if◌then◌else◌, List, [], ◌∷◌, ◌++◌, Option, Some, None, refl, sym, ap, subst, ◌∙◌, arith, cases_lt, eqb-true, MEMORY_SIZE, byte_at, word_at, byte_small, Event, SourceState, Outcome, Instr, A, H, L, Registers, State, high_byte, low_byte, word, wrap, LoadA, Place, Location, is_static_location, Does, at_place, Item, Activation, HasRoom, IsThere, LiesWell, IsSteady, location_at, place_at, after_before, location_after_is, address_asks, address_in_hl_is, byte_in_a_is, byte_in_h_is, word_in_hl_is, Facts, Part, Step, Plain, Word, before, is_at, no_facts, copy, load, distance, hold_word_steps, location_address_steps, frame_byte_steps, location_byte_steps, top_word_steps, knowing, Context, IsSound, distances_in, StepsStand, PlainThere, WordThere, HoldsThere, ChangesAOnly, Know}
+use Rattle.task_laws.proofs.Prelude.{◌≡◌, ℕ, ◌+◌, ◌<◌, ◌≤◌, ◌⊎◌, inl, inr, ◌==◌, Bool, true, false, if◌then◌else◌, List, [], ◌∷◌, ◌++◌, Option, Some, None, refl, sym, ap, subst, ◌∙◌, arith, cases_lt, eqb-true, MEMORY_SIZE, byte_at, word_at, byte_small, Event, SourceState, Outcome, Instr, A, H, L, Registers, State, high_byte, low_byte, word, wrap, LoadA, Place, Location, is_static_location, Does, at_place, Item, Activation, HasRoom, IsThere, LiesWell, IsSteady, location_at, place_at, after_before, location_after_is, address_asks, address_in_hl_is, byte_in_a_is, byte_in_h_is, word_in_hl_is, Facts, Part, Step, Plain, Word, before, is_at, no_facts, copy, load, distance, note_word_steps, location_address_steps, frame_byte_steps, location_byte_steps, top_word_steps, knowing, Context, IsSound, distances_in, StepsStand, PlainThere, WordThere, HoldsThere, ChangesAOnly, Know}
 use Rattle.treecode.specs.declared.place.Location.TheVariants as locations
 use Rattle.task_laws.proofs.Machine.Rules.{GoesOn, holds_go, ready_with_registers, registers_go, split, word_goes}
 use Rattle.task_laws.proofs.Machine.Addresses.{location_address_goes, nothing_goes}
@@ -188,7 +188,7 @@ held_goes :
     {context : Context} {PartIs : (before : Facts) → Part → (from : ℕ) → (after : Facts) → (to : ℕ) → Type 0}
     {last : Facts} {to top budget more : ℕ} {base source memory : List ℕ} {frame : List (List ℕ)}
     {events : List Event} {facts : Facts} {from : ℕ} (location : Location) (others : List Step) (r : Registers)
-    → StepsStand context PartIs facts from (hold_word_steps location ++ others) last to
+    → StepsStand context PartIs facts from (note_word_steps location ++ others) last to
     → GoesOn context facts top base source frame r memory
     → Know context (record no_facts { word_in_hl = Some location }) r memory
     → ((found : Facts) → StepsStand context PartIs found from others last to
@@ -223,8 +223,8 @@ frame_byte_goes {outcome = outcome} {Good = Good} {context = context} {PartIs = 
         → (distance context.site variable offset pushed == 0) ≡ none
         → (distance context.site variable offset pushed == 1) ≡ one
         → StepsStand context PartIs facts from
-        (if none then top_word_steps ++ hold_word_steps (locations.Frame variable offset) ++ (Plain (copy A L) ∷ [])
-        else if one then top_word_steps ++ hold_word_steps (before (locations.Frame variable offset)) ++ (Plain (copy A H) ∷ [])
+        (if none then top_word_steps ++ note_word_steps (locations.Frame variable offset) ++ (Plain (copy A L) ∷ [])
+        else if one then top_word_steps ++ note_word_steps (before (locations.Frame variable offset)) ++ (Plain (copy A H) ∷ [])
         else location_address_steps (knowing context.site used) (locations.Frame variable offset) pushed ++ (Plain (load A) ∷ [])) last to
         → Does context.activation.around.program.script budget more (at_place from r memory events) outcome Good
     by_test true one none_is one_is (PlainThere there (PlainThere again stand)) =
@@ -240,7 +240,7 @@ frame_byte_goes {outcome = outcome} {Good = Good} {context = context} {PartIs = 
         let high : high_byte (word_at memory r.sp) ≡ byte_at memory (wrap (address + 1))
         = high_there memory r.sp mem ∙ ap (λ (n : ℕ). byte_at memory (wrap (n + 1))) here in
         let now : Registers = record r { h = high_byte (word_at memory r.sp); l = low_byte (word_at memory r.sp) } in
-        top_word_goes (hold_word_steps location ++ (Plain (copy A L) ∷ [])) r sound (PlainThere there (PlainThere again stand)) on
+        top_word_goes (note_word_steps location ++ (Plain (copy A L) ∷ [])) r sound (PlainThere there (PlainThere again stand)) on
         (λ middle found stand on.
         held_goes location (Plain (copy A L) ∷ []) now stand on
         (word_known context now memory location steady
@@ -267,7 +267,7 @@ frame_byte_goes {outcome = outcome} {Good = Good} {context = context} {PartIs = 
         = high_there memory r.sp mem ∙ ap (byte_at memory) next in
         let after_is : wrap (earlier + 1) ≡ address = after_before context.activation (distances_in context) location (omega arith) in
         let now : Registers = record r { h = high_byte (word_at memory r.sp); l = low_byte (word_at memory r.sp) } in
-        top_word_goes (hold_word_steps (before location) ++ (Plain (copy A H) ∷ [])) r sound stand on
+        top_word_goes (note_word_steps (before location) ++ (Plain (copy A H) ∷ [])) r sound stand on
         (λ middle found stand on.
         held_goes (before location) (Plain (copy A H) ∷ []) now stand on
         (word_known context now memory (before location)

@@ -1,5 +1,5 @@
 -- The code that puts the word at a location into HL.
-use Rattle.task_laws.proofs.Prelude.{◌≡◌, ℕ, zero, suc, ◌+◌, ◌*◌, ◌<◌, ◌==◌, Bool, true, false, if◌then◌else◌, List, [], ◌∷◌, ◌++◌, Some, slice_set, slice_index, refl, sym, ap, subst, ◌∙◌, arith, eqb-true, MEMORY_SIZE, IsMemory, byte_at, word_at, byte_small, Event, SourceState, Outcome, Mov, Pop, Push, Of, A, L, StackPair, StackBc, StackHl, Registers, State, high_byte, low_byte, one_less, pushed_of, two_less, word, wrap, act, LoadHl, Place, Location, is_static_location, Does, at_place, HasRoom, plain_first, IsSteady, location_at, place_at, without_hl_holds, address_asks, word_in_hl_is, Facts, Part, Step, Word, is_at, no_facts, plain, distance, frame_word_steps, hold_word_steps, location_address_steps, location_word_steps, word_at_hl_steps, knowing, Context, IsSound, distances_in, StepsStand, NoneThere, PlainThere, WordThere, HoldsThere, Know, next_word}
+use Rattle.task_laws.proofs.Prelude.{◌≡◌, ℕ, zero, suc, ◌+◌, ◌*◌, ◌<◌, ◌==◌, Bool, true, false, if◌then◌else◌, List, [], ◌∷◌, ◌++◌, Some, slice_set, slice_index, refl, sym, ap, subst, ◌∙◌, arith, eqb-true, MEMORY_SIZE, IsMemory, byte_at, word_at, byte_small, Event, SourceState, Outcome, Mov, Pop, Push, Of, A, L, StackPair, StackBc, StackHl, Registers, State, high_byte, low_byte, one_less, pushed_of, two_less, word, wrap, act, LoadHl, Place, Location, is_static_location, Does, at_place, HasRoom, plain_first, IsSteady, location_at, place_at, without_hl_holds, address_asks, word_in_hl_is, Facts, Part, Step, Word, is_at, no_facts, plain, distance, frame_word_steps, note_word_steps, location_address_steps, location_word_steps, word_at_hl_steps, knowing, Context, IsSound, distances_in, StepsStand, NoneThere, PlainThere, WordThere, HoldsThere, Know, next_word}
 use Rattle.treecode.specs.declared.place.Location.TheVariants as locations
 use Rattle.task_laws.proofs.Machine.Rules.{GoesOn, holds_go, pushed_anywhere, ready_with_registers, registers_go, split, word_goes}
 use Rattle.task_laws.proofs.Machine.Addresses.{frame_address, location_address_goes, nothing_goes, registers_end}
@@ -210,18 +210,18 @@ word_known context r memory location one two low high = record {
   zero_holds = tt;
 }
 
-hold_word_goes :
+note_word_goes :
     {A : Type 0} {outcome : Outcome A} {Good : A → SourceState → State → Type 0}
     {context : Context} {PartIs : (before : Facts) → Part → (from : ℕ) → (after : Facts) → (to : ℕ) → Type 0}
     {last : Facts} {to top budget more : ℕ} {base source memory : List ℕ} {frame : List (List ℕ)}
     {events : List Event} {facts : Facts} {from : ℕ} (location : Location) (r : Registers)
-    → StepsStand context PartIs facts from (hold_word_steps location) last to
+    → StepsStand context PartIs facts from (note_word_steps location) last to
     → GoesOn context facts top base source frame r memory
     → Know context (record no_facts { word_in_hl = Some location }) r memory
     → (GoesOn context last top base source frame r memory
     → Does context.activation.around.program.script budget more (at_place to r memory events) outcome Good)
     → Does context.activation.around.program.script budget more (at_place from r memory events) outcome Good
-hold_word_goes location r (HoldsThere NoneThere) on known rest = rest (holds_go on known)
+note_word_goes location r (HoldsThere NoneThere) on known rest = rest (holds_go on known)
 
 -- the distance from the stack pointer up to a location of the frame
 pub frame_away :
@@ -268,10 +268,10 @@ frame_word_goes {outcome = outcome} {Good = Good} {context = context} {PartIs = 
         → (distance context.site variable offset pushed == 0) ≡ none
         → (distance context.site variable offset pushed == 2) ≡ two
         → StepsStand context PartIs facts from
-        (if none then plain (Pop StackHl ∷ Push StackHl ∷ []) ++ hold_word_steps (locations.Frame variable offset)
-        else if two then plain (Pop StackBc ∷ Pop StackHl ∷ Push StackHl ∷ Push StackBc ∷ []) ++ hold_word_steps (locations.Frame variable offset)
+        (if none then plain (Pop StackHl ∷ Push StackHl ∷ []) ++ note_word_steps (locations.Frame variable offset)
+        else if two then plain (Pop StackBc ∷ Pop StackHl ∷ Push StackHl ∷ Push StackBc ∷ []) ++ note_word_steps (locations.Frame variable offset)
         else location_address_steps (knowing context.site used) (locations.Frame variable offset) pushed ++ word_at_hl_steps
-        ++ hold_word_steps (locations.Frame variable offset)) last to
+        ++ note_word_steps (locations.Frame variable offset)) last to
         → Does context.activation.around.program.script budget more (at_place from r memory events) outcome Good
     by_test true two none_is two_is stand =
         let mem = on.ready.shares.is_memory in
@@ -285,9 +285,9 @@ frame_word_goes {outcome = outcome} {Good = Good} {context = context} {PartIs = 
         let high : high_byte (word_at memory r.sp) ≡ byte_at memory (wrap (address + 1))
         = high_there memory r.sp mem ∙ ap (λ (n : ℕ). byte_at memory (wrap (n + 1))) here in
         let now : Registers = record r { h = high_byte (word_at memory r.sp); l = low_byte (word_at memory r.sp) } in
-        top_word_goes (hold_word_steps (locations.Frame variable offset)) r sound stand on
+        top_word_goes (note_word_steps (locations.Frame variable offset)) r sound stand on
         (λ middle found stand on.
-        hold_word_goes (locations.Frame variable offset) now stand on
+        note_word_goes (locations.Frame variable offset) now stand on
         (word_known context now memory (locations.Frame variable offset) steady next low high)
         (λ on. rest now (record { low = low; high = high; a = λ never. absurd cc; d = refl; e = refl }) on))
     by_test false true none_is two_is stand =
@@ -302,11 +302,11 @@ frame_word_goes {outcome = outcome} {Good = Good} {context = context} {PartIs = 
         = low_there memory (wrap (r.sp + 2)) mem ∙ ap (byte_at memory) here in
         let high : high_byte (word_at memory (wrap (r.sp + 2))) ≡ byte_at memory (wrap (address + 1))
         = high_there memory (wrap (r.sp + 2)) mem ∙ ap (λ (n : ℕ). byte_at memory (wrap (n + 1))) here in
-        second_word_goes (hold_word_steps (locations.Frame variable offset)) r sound stand on
+        second_word_goes (note_word_steps (locations.Frame variable offset)) r sound stand on
         (λ middle found now is stand on.
         let low_now : now.l ≡ byte_at memory address = ap (λ (r : Registers). r.l) is ∙ low in
         let high_now : now.h ≡ byte_at memory (wrap (address + 1)) = ap (λ (r : Registers). r.h) is ∙ high in
-        hold_word_goes (locations.Frame variable offset) now stand on
+        note_word_goes (locations.Frame variable offset) now stand on
         (word_known context now memory (locations.Frame variable offset) steady next low_now high_now)
         (λ on. rest now (record {
           low = low_now;
@@ -318,14 +318,14 @@ frame_word_goes {outcome = outcome} {Good = Good} {context = context} {PartIs = 
     by_test false false none_is two_is stand =
         let address : ℕ = location_at context.activation (distances_in context) (locations.Frame variable offset) in
         let later = split (location_address_steps (knowing context.site used) (locations.Frame variable offset) pushed ++ word_at_hl_steps)
-        (hold_word_steps (locations.Frame variable offset)) stand in
+        (note_word_steps (locations.Frame variable offset)) stand in
         let parts = split (location_address_steps (knowing context.site used) (locations.Frame variable offset) pushed)
         word_at_hl_steps later.first in
         location_address_goes used (locations.Frame variable offset) r sound room (omega arith) known parts.first on
         (λ there beside on_there.
         word_at_hl_goes address there sound steady beside.hl parts.second on_there
         (λ now word on_now.
-        hold_word_goes (locations.Frame variable offset) now later.second on_now
+        note_word_goes (locations.Frame variable offset) now later.second on_now
         (word_known context now memory (locations.Frame variable offset) steady next word.low word.high)
         (λ on. rest now (record {
           low = word.low;

@@ -1,6 +1,5 @@
 use Rattle.tool.proofs.Prelude.{program_modules, texts_of}
-use Rattle.tool.proofs.CompiledLemmas.{within_texts}
-use Rattle.tool.proofs.SourcesLemmas.{no_program}
+use Rattle.tool.proofs.{CompiledLemmas.{within_texts}, SourcesLemmas.{no_program}}
 use Rattle.tool.proofs.building.build.Goals as goal
 
 pub returns-clause-too_long : goal.returns-clause-too_long

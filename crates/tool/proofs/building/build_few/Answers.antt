@@ -1,6 +1,5 @@
 use Rattle.tool.proofs.Prelude.{length, map, rules, length-map, module_view, texts_of, ToolFault, AreWithoutFault, HasCause, IsInOrder, HasBuildCause}
-use Rattle.tool.proofs.CompiledLemmas.{handed_on, passed}
-use Rattle.tool.proofs.SourcesLemmas.{build_cause, build_order, lengths_fit, made_all, program_built, storages_fit}
+use Rattle.tool.proofs.{CompiledLemmas.{handed_on, passed}, SourcesLemmas.{build_cause, build_order, lengths_fit, made_all, program_built, storages_fit}}
 use Rattle.tool.proofs.building.build_few.Goals as goal
 
 pub build_program-requires-clause-storages : goal.build_program-requires-clause-storages
