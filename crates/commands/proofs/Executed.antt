@@ -1,10 +1,11 @@
 -- Merges of objects that were run, or not.
-use Rattle.commands.proofs.Prelude.{◌≡◌, ℕ, List, [], Ok, Option, inl, inr, refl, sym, ap, subst, ◌∙◌, ◌++◌, Event, Session, Directory, KeepsFiles, TellsRefusal, RefusesFor, RunsOut, started, IsStart, Values}
+use Rattle.commands.proofs.Prelude.{◌≡◌, ℕ, List, [], Ok, Option, inl, inr, refl, sym, ap, subst, ◌∙◌, ◌++◌, Event, Session, Directory, KeepsFiles, Tells, TellsRefusal, memory_line, RefusesFor, RunsOut, started, IsStart, Values}
 use Rattle.printing.specs.Printing.{BeginsRun, PrintsRun}
 use Rattle.cpu8080.specs.{Machine.{Machine}, declared.machine.End.{End}}
 use Rattle.locate.specs.Locating.{Absolute}
 use Rattle.command_line.specs.{Command.{ExecuteWanted}, Settings.{execute_read}}
-use Rattle.object_commands.specs.Merging.{PlacesMerge, RefusesPlacing}
+use Rattle.object_commands.specs.Merging.{PlacesMerge}
+unfoldable use Rattle.object_commands.specs.Merging.{RefusesPlacing}
 use Rattle.commands.specs.Executing.{PrintsExecution, PrintsImage, PrintsMerge, PrintsRead, StopsImage, StopsRead}
 use Rattle.commands.specs.InputFiles.{HasInput, input_names, quiet_ports}
 use Rattle.commands.specs.OutputFiles.{outputs_of}
@@ -102,6 +103,12 @@ pub not_placed : (wanted : ExecuteWanted) (values : Values) (files : Option Dire
     → RefusesPlacing files wanted.objects values.plan before after old new → RefusesObjects wanted values files before after old new out out
 unfolding RefusesObjects
 not_placed wanted values files before after old new out refused = inl (stays_written out, refused)
+
+-- memory ran out before they were read
+pub memory_first : (wanted : ExecuteWanted) (values : Values) (files : Option Directory) (before after : ℕ) (old new out : Option (List ℕ)) → after ≡ before → Tells memory_line old new
+    → RefusesObjects wanted values files before after old new out out
+unfolding RefusesObjects RefusesPlacing
+memory_first wanted values files before after old new out same told = inl (stays_written out, inr (same, inl told))
 
 pub prints_execution : (wanted : ExecuteWanted) (values : Values) (files : Option Directory) (status : ℕ) (outputs : List (List ℕ)) (old new : Option (List ℕ)) → execute_read wanted ≡ Ok values
     → PrintsMerge wanted values files status outputs old new → PrintsExecution wanted files status outputs old new

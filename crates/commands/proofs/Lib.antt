@@ -10,6 +10,7 @@ pub mod Interpreted
 pub mod MapLines
 pub mod InputFiles
 pub mod OutputFiles
+pub mod RefusedRuns
 pub mod Delivered
 pub mod Names
 pub mod Refused

@@ -2,13 +2,14 @@
 use Rattle.commands.proofs.Prelude.{◌≡◌, ℕ, ◌<◌, ◌≤◌, Bool, true, false, List, [], ◌∷◌, ◌++◌, length, get_or, drop, map, append-nil, append_assoc, arith, Option, None, Some, OnOk, Result, Ok, Err, refl, sym, ap, subst, ◌∙◌, Appends, AppendsBeginning, Event, ChangesFiles, Directory, KeepsFiles, with_file, stays, kept_others, kept_then_stopped, written_others, StopsWriting, CountsFailure, Tells, file_line, inl, inr, ◌⊎◌, Bor}
 use Rattle.std.specs.Prelude.{OnErr, ◌||◌, if◌then◌else◌}
 use Rattle.std.specs.Str.{bytes_eq}
-use Rattle.std.proofs.Common.{take, ◌-◌}
+use Rattle.std.proofs.Common.{length-append, take, ◌-◌}
 use Rattle.std.proofs.Math.Seq.{take-length}
 use Rattle.std.proofs.lemmas.Slice.Eq.{bytes_eq-Decides}
 use Rattle.object_commands.specs.Linking.{KeepsOthers}
 use Rattle.command_line.specs.Settings.{NamedPort, file_names}
 use Rattle.commands.specs.Converting.{TellsOutput}
 use Rattle.commands.specs.OutputFiles.{KeepsAllBut, byte_written, bytes_written, dash_bytes, is_dash, is_output, with_output, with_outputs}
+use Rattle.commands.specs.RefusedRuns.{LeavesOutputs, StopsOutput, StopsOutputs}
 use Rattle.commands.proofs.InputFiles.{seen_put}
 use Rattle.commands.proofs.Printed.{whole_begins}
 pub use Rattle.commands.proofs.InputFiles.{all_put}
@@ -131,6 +132,11 @@ pub written_as_output : {T E : Type 0} (result : Result T E) (old new : Option D
 written_as_output (Ok done) old new name bytes file written = file_written old new name bytes file written
 written_as_output (Err failure) old new name bytes file written = tt
 
+pub stopped_as_output : {T E : Type 0} (result : Result T E) (old new : Option Directory) (name bytes : List ℕ) → is_dash name ≡ false → OnErr result (StopsWriting old new name bytes)
+    → OnErr result (StopsOutput name bytes old new)
+stopped_as_output (Ok done) old new name bytes file stopped = tt
+stopped_as_output (Err failure) old new name bytes file stopped = record { file = file; stopped = stopped }
+
 pub no_others : (files : Option Directory) (name : List ℕ) → KeepsOthers files files name
 no_others files name = kept_others files files name (stays files)
 
@@ -151,14 +157,63 @@ first_any : {A : Type 0} (xs : List A) (x none : A) → 1 ≤ length xs → x �
 first_any [] x none some is = absurd (omega arith)
 first_any (one ∷ xs) x none some is = is
 
+-- one file more
+with_one_more : (earlier whole : List (List ℕ)) (name bytes : List ℕ) (files : Directory) → length earlier ≡ length whole
+    → with_outputs (earlier ++ name ∷ []) (whole ++ bytes ∷ []) files ≡ with_output name bytes (with_outputs earlier whole files)
+with_one_more [] [] name bytes files same = refl
+with_one_more [] (w ∷ whole) name bytes files same = absurd (omega arith)
+with_one_more (n ∷ earlier) [] name bytes files same = absurd (omega arith)
+with_one_more (n ∷ earlier) (w ∷ whole) name bytes files same =
+    let fewer : length earlier ≡ length whole = omega arith in
+    with_one_more earlier whole name bytes (with_output n w files) fewer
+
+changes_more : (start now next : Option Directory) (earlier whole : List (List ℕ)) (name bytes : List ℕ) → length earlier ≡ length whole → ChangesFiles start now (with_outputs earlier whole)
+    → ChangesFiles now next (with_output name bytes) → ChangesFiles start next (with_outputs (earlier ++ name ∷ []) (whole ++ bytes ∷ []))
+changes_more None now next earlier whole name bytes same before after = tt
+changes_more (Some start) None next earlier whole name bytes same before after = absurd before
+changes_more (Some start) (Some now) None earlier whole name bytes same before after = absurd after
+changes_more (Some start) (Some now) (Some next) earlier whole name bytes same before after =
+    λ other. after other ∙ same_output name bytes now (with_outputs earlier whole start) before other
+    ∙ ap (λ (files : Directory). files other) (sym (with_one_more earlier whole name bytes start same))
+
+both_longer : (xs ys : List (List ℕ)) (x y : List ℕ) → length xs ≡ length ys → length (xs ++ x ∷ []) ≡ length (ys ++ y ∷ [])
+both_longer xs ys x y same = omega (arith, length-append xs (x ∷ []), length-append ys (y ∷ []))
+
+-- the files before those that are left were written whole, and nothing else
+pub record WrittenBefore (start now : Option Directory) (names outputs rest_names rest_outputs : List (List ℕ)) : Type 0 where
+  pub earlier : List (List ℕ)
+  pub whole : List (List ℕ)
+  pub names_are : names ≡ earlier ++ rest_names
+  pub outputs_are : outputs ≡ whole ++ rest_outputs
+  pub as_many : length earlier ≡ length whole
+  pub written : ChangesFiles start now (with_outputs earlier whole)
+
+before_more : (start now next : Option Directory) (names outputs rest_names rest_outputs : List (List ℕ)) (name bytes : List ℕ)
+    → WrittenBefore start now names outputs (name ∷ rest_names) (bytes ∷ rest_outputs) → ChangesFiles now next (with_output name bytes)
+    → WrittenBefore start next names outputs rest_names rest_outputs
+before_more start now next names outputs rest_names rest_outputs name bytes done changes = record {
+  earlier = done.earlier ++ name ∷ [];
+  whole = done.whole ++ bytes ∷ [];
+  names_are = done.names_are ∙ sym (append_assoc done.earlier (name ∷ []) rest_names);
+  outputs_are = done.outputs_are ∙ sym (append_assoc done.whole (bytes ∷ []) rest_outputs);
+  as_many = both_longer done.earlier done.whole name bytes done.as_many;
+  written = changes_more start now next done.earlier done.whole name bytes done.as_many done.written changes;
+}
+
 -- The files of the names before those that are left were written: what writing the rest makes is what writing all does.
 pub record WrittenSoFar (start now : Option Directory) (names outputs rest_names rest_outputs : List (List ℕ)) : Type 0 where
   pub goes_on : (new : Option Directory) → ChangesFiles now new (with_outputs rest_names rest_outputs) → ChangesFiles start new (with_outputs names outputs)
   pub others : KeepsAllBut names start now
   pub among : (name : List ℕ) → is_output rest_names name ≡ true → is_output names name ≡ true
+  pub done : WrittenBefore start now names outputs rest_names rest_outputs
 
 pub none_written : (files : Option Directory) (names outputs : List (List ℕ)) → WrittenSoFar files files names outputs names outputs
-none_written files names outputs = record { goes_on = λ new changes. changes; others = kept_but names files files (stays files); among = λ name there. there }
+none_written files names outputs = record {
+  goes_on = λ new changes. changes;
+  others = kept_but names files files (stays files);
+  among = λ name there. there;
+  done = record { earlier = []; whole = []; names_are = refl; outputs_are = refl; as_many = refl; written = no_names files [] };
+}
 
 module _ {A B : Type 0} (see : A → NamedPort) (look : B → List ℕ) (start now : Option Directory) (names outputs : List (List ℕ)) where
   -- the next name is one of all
@@ -193,7 +248,44 @@ module _ {A B : Type 0} (see : A → NamedPort) (look : B → List ℕ) (start n
         goes_on = λ new after. so_far.goes_on new (changes_then now next new (see a).name (look b) (file_names (map see xs)) (map look ys) written after);
         others = others_kept next (a ∷ xs) (b ∷ ys) x some is others so_far;
         among = λ name there. so_far.among name (later_there (file_names (map see xs)) (see a).name name there);
+        done = before_more start now next names outputs (file_names (map see xs)) (map look ys) (see a).name (look b) so_far.done written;
       }
+
+  -- its file was not written whole
+  stops_there : (next : Option Directory) (xs : List A) (ys : List B) (x : A) (y : B) → 1 ≤ length xs → 1 ≤ length ys → x ≡ get_or xs 0 x → y ≡ get_or ys 0 y
+      → StopsOutput (see x).name (look y) now next → WrittenSoFar start now names outputs (file_names (map see xs)) (map look ys)
+      → StopsOutputs names outputs (see x).name start next
+  stops_there next [] ys x y some more is also stopped so_far = absurd (omega arith)
+  stops_there next (a ∷ xs) [] x y some more is also stopped so_far = absurd (omega arith)
+  stops_there next (a ∷ xs) (b ∷ ys) x y some more is also stopped so_far =
+      let here : StopsOutput (see a).name (look b) now next =
+      subst (λ (v : A). StopsOutput (see v).name (look b) now next) is
+      (subst (λ (w : B). StopsOutput (see x).name (look w) now next) also stopped) in
+      let of_all : StopsOutputs names outputs (see a).name start next = record {
+        earlier = so_far.done.earlier;
+        later = file_names (map see xs);
+        names_are = so_far.done.names_are;
+        whole = so_far.done.whole;
+        bytes = look b;
+        left = map look ys;
+        outputs_are = so_far.done.outputs_are;
+        as_many = so_far.done.as_many;
+        between = now;
+        written = so_far.done.written;
+        stopped = here;
+      } in
+      subst (λ (v : A). StopsOutputs names outputs (see v).name start next) (sym is) of_all
+
+  pub output_stops : (next : Option Directory) (xs : List A) (ys : List B) (x no_x : A) (y no_y : B) → 1 ≤ length xs → 1 ≤ length ys → x ≡ get_or xs 0 no_x → y ≡ get_or ys 0 no_y
+      → StopsOutput (see x).name (look y) now next → WrittenSoFar start now names outputs (file_names (map see xs)) (map look ys)
+      → StopsOutputs names outputs (see x).name start next
+  output_stops next xs ys x no_x y no_y some more is also stopped so_far =
+      stops_there next xs ys x y some more (first_any xs x no_x some is) (first_any ys y no_y more also) stopped so_far
+
+  pub output_left : (next : Option Directory) (xs : List A) (ys : List B) (x no_x : A) (y no_y : B) → 1 ≤ length xs → 1 ≤ length ys → x ≡ get_or xs 0 no_x → y ≡ get_or ys 0 no_y
+      → StopsOutput (see x).name (look y) now next → WrittenSoFar start now names outputs (file_names (map see xs)) (map look ys) → LeavesOutputs names outputs start next
+  output_left next xs ys x no_x y no_y some more is also stopped so_far =
+      record { name = (see x).name; stopped = output_stops next xs ys x no_x y no_y some more is also stopped so_far }
 
   pub written_on : (next : Option Directory) (xs : List A) (ys : List B) (x no_x : A) (y no_y : B) → 1 ≤ length xs → 1 ≤ length ys → x ≡ get_or xs 0 no_x → y ≡ get_or ys 0 no_y
       → ChangesFiles now next (with_output (see x).name (look y)) → KeepsOthers now next (see x).name

@@ -1,5 +1,5 @@
 -- What was printed of programs, and why not.
-use Rattle.commands.proofs.Prelude.{◌≡◌, ℕ, List, [], ◌∷◌, Ok, None, Option, Some, inl, inr, sym, subst, ◌∙◌, Directory, status_of, TellsRefusal, Ending, Refused, WrongLine, CompileWanted, PlaceWanted, ProgramWanted, Wanted, wants_compile, wants_convert, wants_execute, wants_explain, wants_link, wants_need, wants_place, wants_program, Values, jump_read, only_file, plan_read, values_read, Plan, RefusesCompiling, RunsOut, PrintsFiles, PrintsProgram, RefusesAsWanted, RefusesByWords, RefusesPlaced, RunsAsWanted, RunsByWords, StopsPlaced}
+use Rattle.commands.proofs.Prelude.{◌≡◌, ℕ, List, [], ◌∷◌, Ok, None, Option, Some, inl, inr, sym, subst, ◌∙◌, Directory, KeepsFiles, status_of, TellsRefusal, Ending, Refused, WrongLine, CompileWanted, PlaceWanted, ProgramWanted, Wanted, wants_compile, wants_convert, wants_execute, wants_explain, wants_link, wants_need, wants_place, wants_program, Values, jump_read, only_file, plan_read, values_read, Plan, RefusesCompiling, RunsOut, PrintsFiles, PrintsProgram, RefusesAsWanted, RefusesByWords, RefusesPlaced, RunsAsWanted, RunsByWords, StopsPlaced}
 use Rattle.commands.proofs.Printed.{stays_written}
 use Rattle.commands.proofs.OrdersKept.{not_refused, not_wrong}
 use Rattle.commands.proofs.Delivered.{by_any}
@@ -18,9 +18,9 @@ refuses_placed place name plan jump files before after old new out now only plan
     record { name = name; plan = plan; jump = jump; only = only; planned = planned; jumping = jumping; told = told; printed = printed }
 
 -- compiling prints nothing
-pub refuses_compile : (compile : CompileWanted) (files : Option Directory) (before after : ℕ) (old new out : Option (List ℕ)) → RefusesCompiling compile files before after old new
-    → RefusesAsWanted (wants_compile compile) files before after old new out out
-refuses_compile compile files before after old new out refused = (refused, stays_written out)
+pub refuses_compile : (compile : CompileWanted) (files changed : Option Directory) (before after : ℕ) (old new out : Option (List ℕ)) → RefusesCompiling compile files before after old new
+    → RefusesAsWanted (wants_compile compile) files changed before after old new out out
+refuses_compile compile files changed before after old new out refused = (refused, stays_written out)
 
 -- the words give the order that was carried out
 pub runs_by_words : (found : Option Wanted) (wanted : Wanted) (files changed : Option Directory) (status : ℕ) (old new out now : Option (List ℕ)) → found ≡ Some wanted
@@ -45,17 +45,17 @@ pub quiet_by_any : (found : Option Wanted) (old new : Option (List ℕ)) → new
 quiet_by_any None old new same = same
 quiet_by_any (Some wanted) old new same = quiet_as_wanted wanted old new same
 
-pub refuses_by_words : (found : Option Wanted) (wanted : Wanted) (files : Option Directory) (before after : ℕ) (old new out now : Option (List ℕ)) → found ≡ Some wanted
-    → RefusesAsWanted wanted files before after old new out now → RefusesByWords found files before after old new out now
+pub refuses_by_words : (found : Option Wanted) (wanted : Wanted) (files changed : Option Directory) (before after : ℕ) (old new out now : Option (List ℕ)) → found ≡ Some wanted
+    → RefusesAsWanted wanted files changed before after old new out now → RefusesByWords found files changed before after old new out now
 unfolding RefusesByWords
-refuses_by_words found wanted files before after old new out now e refuses = rw e (inr refuses)
+refuses_by_words found wanted files changed before after old new out now e refuses = rw e (inr refuses)
 
 -- memory ran out before an order was known
-pub memory_by_words : (found : Option Wanted) (files : Option Directory) (before after : ℕ) (old new out now : Option (List ℕ)) → RunsOut before after old new out now
-    → RefusesByWords found files before after old new out now
+pub memory_by_words : (found : Option Wanted) (files changed : Option Directory) (before after : ℕ) (old new out now : Option (List ℕ)) → KeepsFiles files changed
+    → RunsOut before after old new out now → RefusesByWords found files changed before after old new out now
 unfolding RefusesByWords
-memory_by_words None files before after old new out now out_of = out_of
-memory_by_words (Some wanted) files before after old new out now out_of = inl out_of
+memory_by_words None files changed before after old new out now kept out_of = out_of
+memory_by_words (Some wanted) files changed before after old new out now kept out_of = inl (kept, out_of)
 
 -- the status is that of the ending
 pub runs_by_status : (found : Option Wanted) (files changed : Option Directory) (ending : Ending) (status : ℕ) (old new out now : Option (List ℕ)) → status ≡ status_of ending → (status ≡ 1 → ⊥) → (status ≡ 2 → ⊥)

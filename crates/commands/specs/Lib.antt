@@ -19,6 +19,7 @@ pub use Rattle.printing.specs.Printing as PrintedRuns
 pub mod Compiling
 pub mod InputFiles
 pub mod OutputFiles
+pub mod RefusedRuns
 pub mod Map
 pub mod Starting
 pub mod Running

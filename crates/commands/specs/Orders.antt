@@ -19,6 +19,7 @@ use Rattle.commands.specs.Compiling.{CompilesFile, StopsCompiling}
 use Rattle.commands.specs.Executing.{PrintsExecution, RefusesExecution}
 use Rattle.commands.specs.Explaining.{PrintsPage, RefusesPage}
 use Rattle.commands.specs.OutputFiles.{ByOutputs, ChangesOutputs, DeliversRun}
+use Rattle.commands.specs.RefusedRuns.{RefusesRun}
 use Rattle.commands.specs.Refusing.{RefusesCompiling, RefusesFor, RefusesProgram, RunsOut}
 use Rattle.commands.specs.Running.{PrintsProgram}
 use Rattle.commands.specs.Needing.{PrintsNeedOf, RefusesNeedOf}
@@ -164,27 +165,32 @@ pub record RefusesNeed (need : NeedWanted) (files : Option Directory) (before af
   pub refused : RefusesFor (RefusesNeedOf files need.files err_old err_new out_old out_new)
       files need.files before after err_old err_new out_old out_new
 
--- why an order is refused, what was told of it, and what was printed by then; of an order to link it is only
--- said that nothing was printed, of a run with files of ports nothing, and of one to convert Converting says all
+-- why an order is refused, what was told of it, and what was printed by then, and of a run with files of ports also
+-- what these have; of an order to link it is only said that nothing was printed, and of one to convert Converting says
+-- all
 abbrev pub RefusesAsWanted :
-    Wanted → Option Directory → (before after : ℕ)
+    Wanted → (files new : Option Directory) → (before after : ℕ)
     → (err_old err_new out_old out_new : Option (List ℕ)) → Type 0
-RefusesAsWanted (wants_program program) files before after err_old err_new out_old out_new =
+RefusesAsWanted (wants_program program) files new before after err_old err_new out_old out_new =
     ByOutputs program.output_files
-    (RefusesProgram program files before after err_old err_new out_old out_new) (Unit {0})
-RefusesAsWanted (wants_compile compile) files before after err_old err_new out_old out_new =
+    (RefusesProgram program files before after err_old err_new out_old out_new)
+    (RefusesRun (RefusesProgram program files before after err_old err_new) (PrintsProgram program files)
+    (outputs_in program.output_files) files new before after err_old err_new out_old out_new)
+RefusesAsWanted (wants_compile compile) files new before after err_old err_new out_old out_new =
     RefusesCompiling compile files before after err_old err_new × Keeps out_old out_new
-RefusesAsWanted (wants_link link) files before after err_old err_new out_old out_new = Keeps out_old out_new
-RefusesAsWanted (wants_place place) files before after err_old err_new out_old out_new =
+RefusesAsWanted (wants_link link) files new before after err_old err_new out_old out_new = Keeps out_old out_new
+RefusesAsWanted (wants_place place) files new before after err_old err_new out_old out_new =
     RefusesPlaced place files before after err_old err_new out_old out_new
-RefusesAsWanted (wants_need need) files before after err_old err_new out_old out_new =
+RefusesAsWanted (wants_need need) files new before after err_old err_new out_old out_new =
     RefusesNeed need files before after err_old err_new out_old out_new
-RefusesAsWanted (wants_execute execute) files before after err_old err_new out_old out_new =
+RefusesAsWanted (wants_execute execute) files new before after err_old err_new out_old out_new =
     ByOutputs execute.output_files
-    (RefusesExecution execute files before after err_old err_new out_old out_new) (Unit {0})
-RefusesAsWanted (wants_explain explain) files before after err_old err_new out_old out_new =
+    (RefusesExecution execute files before after err_old err_new out_old out_new)
+    (RefusesRun (RefusesExecution execute files before after err_old err_new) (PrintsExecution execute files)
+    (outputs_in execute.output_files) files new before after err_old err_new out_old out_new)
+RefusesAsWanted (wants_explain explain) files new before after err_old err_new out_old out_new =
     (after ≡ before) × RefusesPage explain err_old err_new out_old out_new
-RefusesAsWanted (wants_convert convert) files before after err_old err_new out_old out_new = Unit {0}
+RefusesAsWanted (wants_convert convert) files new before after err_old err_new out_old out_new = Unit {0}
 
 -- the files that an order reads, in their order, and then the one that it writes
 abbrev pub names_of : Wanted → List (List ℕ)
@@ -230,15 +236,16 @@ abbrev pub QuietByWords : Option Wanted → (err_old err_new : Option (List ℕ)
 QuietByWords None err_old err_new = err_new ≡ err_old
 QuietByWords (Some wanted) err_old err_new = QuietAsWanted wanted err_old err_new
 
--- why words without a fault are refused: memory ran out before their order was known, or the order is refused
+-- why words without a fault are refused: memory ran out before their order was known, with no file changed, or the order
+-- is refused
 unfoldable pub RefusesByWords :
-    Option Wanted → Option Directory → (before after : ℕ)
+    Option Wanted → (files new : Option Directory) → (before after : ℕ)
     → (err_old err_new out_old out_new : Option (List ℕ)) → Type 0
-RefusesByWords None files before after err_old err_new out_old out_new =
+RefusesByWords None files new before after err_old err_new out_old out_new =
     RunsOut before after err_old err_new out_old out_new
-RefusesByWords (Some wanted) files before after err_old err_new out_old out_new =
-    RunsOut before after err_old err_new out_old out_new
-    ⊎ RefusesAsWanted wanted files before after err_old err_new out_old out_new
+RefusesByWords (Some wanted) files new before after err_old err_new out_old out_new =
+    (KeepsFiles files new × RunsOut before after err_old err_new out_old out_new)
+    ⊎ RefusesAsWanted wanted files new before after err_old err_new out_old out_new
 
 -- the one file of an order on an object, or the first text that is refused: the texts of the plan come first,
 -- then that of a jump, then the name of a second file

@@ -39,6 +39,9 @@ use std::io::Write;
 /// at its greatest value, and a wrong value of the command line. Where no such file is reported, sources that are refused
 /// with status 1 have a fault that is told, with nothing printed, or memory ran out, or standard output could not be
 /// written: then a beginning of what is printed of them may be there.
+/// A run with files of ports that is refused has begun none of them, and printed nothing, unless it had ended. Once it had,
+/// the files before one that could not be written are whole, and those after it as they were; standard output comes last.
+/// With status 2 no file changes.
 #[tactic(auto, using(crate::proofs::OrdersKept::status_bound, crate::proofs::OrdersKept::done_is, crate::proofs::OrdersKept::not_done, crate::proofs::OrdersKept::not_refused, crate::proofs::OrdersKept::not_wrong, crate::proofs::OrdersKept::refused_is, crate::proofs::TextsTold::wrong_is))]
 pub fn run_command<F: Files, O: Write, E: Write>(
     alloc: Global,
@@ -61,6 +64,7 @@ pub fn run_command<F: Files, O: Write, E: Write>(
         (E.contents err.old) (E.contents err.new) (O.contents out.old) (O.contents out.new) }
     ensures stopped { (result ≡ 0 → ⊥) →
         StopsByWords (wanted_by (texts words.now)) (F.files files.old) (F.files files.new) }
+    ensures untouched { result ≡ 2 → KeepsFiles (F.files files.old) (F.files files.new) }
     ensures refused_text { fault_of plm_app (texts words.now) ≡ [] → result ≡ 2 → TellsTextByWords
         (wanted_by (texts words.now)) (E.contents err.old) (E.contents err.new) }
     ensures not_wrong { AsksHelpAtMost (fault_of plm_app (texts words.now)) →
@@ -74,7 +78,8 @@ pub fn run_command<F: Files, O: Write, E: Write>(
         (wanted_by (texts words.now)) (F.files files.old) result (F.failures files.old) (F.failures files.new)
         (E.contents err.old) (E.contents err.new) (O.contents out.old) (O.contents out.new) }
     ensures refused { fault_of plm_app (texts words.now) ≡ [] → result ≡ 1 → RefusesByWords
-        (wanted_by (texts words.now)) (F.files files.old) (F.failures files.old) (F.failures files.new)
+        (wanted_by (texts words.now)) (F.files files.old) (F.files files.new)
+        (F.failures files.old) (F.failures files.new)
         (E.contents err.old) (E.contents err.new) (O.contents out.old) (O.contents out.new) }
     ensures silent { fault_of plm_app (texts words.now) ≡ [] → result ≡ 2 →
         O.contents out.new ≡ O.contents out.old }
@@ -109,6 +114,7 @@ fn end_words<F: Files, O: Write, E: Write>(
         (E.contents err.old) (E.contents err.new) (O.contents out.old) (O.contents out.new) }
     ensures stopped { (result ≡ Ending.Done → ⊥) →
         StopsByWords (wanted_by (texts words.now)) (F.files files.old) (F.files files.new) }
+    ensures untouched { result ≡ Ending.WrongLine → KeepsFiles (F.files files.old) (F.files files.new) }
     ensures refused_text { fault_of plm_app (texts words.now) ≡ [] → result ≡ Ending.WrongLine →
         TellsTextByWords (wanted_by (texts words.now)) (E.contents err.old) (E.contents err.new) }
     ensures not_wrong { AsksHelpAtMost (fault_of plm_app (texts words.now)) →
@@ -123,7 +129,8 @@ fn end_words<F: Files, O: Write, E: Write>(
         (F.failures files.old) (F.failures files.new)
         (E.contents err.old) (E.contents err.new) (O.contents out.old) (O.contents out.new) }
     ensures refused { fault_of plm_app (texts words.now) ≡ [] → result ≡ Ending.Refused → RefusesByWords
-        (wanted_by (texts words.now)) (F.files files.old) (F.failures files.old) (F.failures files.new)
+        (wanted_by (texts words.now)) (F.files files.old) (F.files files.new)
+        (F.failures files.old) (F.failures files.new)
         (E.contents err.old) (E.contents err.new) (O.contents out.old) (O.contents out.new) }
     ensures silent { fault_of plm_app (texts words.now) ≡ [] → result ≡ Ending.WrongLine →
         O.contents out.new ≡ O.contents out.old }
@@ -179,6 +186,7 @@ fn carry_out<F: Files, O: Write, E: Write>(
         (E.contents err.old) (E.contents err.new) (O.contents out.old) (O.contents out.new) }
     ensures stopped { (result ≡ Ending.Done → ⊥) →
         StopsAsWanted (wanted_in order.now) (F.files files.old) (F.files files.new) }
+    ensures untouched { result ≡ Ending.WrongLine → KeepsFiles (F.files files.old) (F.files files.new) }
     ensures refused_text { result ≡ Ending.WrongLine → TellsText (wanted_in order.now)
         (E.contents err.old) (E.contents err.new) }
     ensures told { result ≡ Ending.Refused → TellsAsWanted (wanted_in order.now)
@@ -188,8 +196,8 @@ fn carry_out<F: Files, O: Write, E: Write>(
     ensures converted { ConvertsAsWanted (wanted_in order.now) (F.files files.old)
         (status_of result) (F.failures files.old) (F.failures files.new)
         (E.contents err.old) (E.contents err.new) (O.contents out.old) (O.contents out.new) }
-    ensures refused { result ≡ Ending.Refused → RefusesAsWanted (wanted_in order.now) (F.files files.old)
-        (F.failures files.old) (F.failures files.new)
+    ensures refused { result ≡ Ending.Refused → RefusesAsWanted (wanted_in order.now)
+        (F.files files.old) (F.files files.new) (F.failures files.old) (F.failures files.new)
         (E.contents err.old) (E.contents err.new) (O.contents out.old) (O.contents out.new) }
     ensures silent { result ≡ Ending.WrongLine → O.contents out.new ≡ O.contents out.old }
     ensures count { (result ≡ Ending.Refused → ⊥) → F.failures files.new ≡ F.failures files.old }
@@ -264,6 +272,7 @@ fn carry_out_program<F: Files, O: Write, E: Write>(
 ) -> Ending
     ensures unchanged { ChangesOutputs (outputs_in (program_in order.now).output_files)
         (F.files files.old) (F.files files.new) }
+    ensures untouched { result ≡ Ending.WrongLine → KeepsFiles (F.files files.old) (F.files files.new) }
     ensures refused_text { result ≡ Ending.WrongLine → TellsText (wants_program (program_in order.now))
         (E.contents err.old) (E.contents err.new) }
     ensures silent { result ≡ Ending.WrongLine → O.contents out.new ≡ O.contents out.old }
@@ -272,7 +281,7 @@ fn carry_out_program<F: Files, O: Write, E: Write>(
         (TellsRefusal (F.files files.old) (names_of (wants_program (program_in order.now)))
         (F.failures files.old) (F.failures files.new) (E.contents err.old) (E.contents err.new)) }
     ensures refused { result ≡ Ending.Refused → RefusesAsWanted (wants_program (program_in order.now))
-        (F.files files.old) (F.failures files.old) (F.failures files.new)
+        (F.files files.old) (F.files files.new) (F.failures files.old) (F.failures files.new)
         (E.contents err.old) (E.contents err.new) (O.contents out.old) (O.contents out.new) }
     ensures count { (result ≡ Ending.Refused → ⊥) → F.failures files.new ≡ F.failures files.old }
     ensures quiet { (result ≡ Ending.Refused → ⊥) → (result ≡ Ending.WrongLine → ⊥) →

@@ -11,6 +11,7 @@ ghost use Rattle.tool.specs.Execution.{started};
 ghost use Rattle.commands.specs.Executing.{PrintsExecution, PrintsImage, PrintsMerge, PrintsRead, RefusesExecution, RefusesObjects, StopsImage, StopsRead};
 ghost use Rattle.commands.specs.InputFiles.{input_names};
 ghost use Rattle.commands.specs.OutputFiles.{ChangesOutputs, DeliversRun, KeepsAllBut, output_names};
+ghost use Rattle.commands.specs.RefusedRuns.{RefusesRun};
 ghost use Rattle.commands.specs.Refusing.{RefusesFor, TellsUnwritten};
 ghost use Rattle.commands.specs.Orders.{QuietAsWanted, RefusesAsWanted, RunsAsWanted, TellsText, names_of};
 ghost use Rattle.commands.specs.Running.{end_status};
@@ -42,6 +43,7 @@ pub(crate) fn execute_objects<F: Files, O: Write, E: Write>(
 ) -> Ending
     ensures unchanged { ChangesOutputs (outputs_in (execute_in order.now).output_files)
         (F.files files.old) (F.files files.new) }
+    ensures untouched { result ≡ Ending.WrongLine → KeepsFiles (F.files files.old) (F.files files.new) }
     ensures refused_text { result ≡ Ending.WrongLine → TellsText (wants_execute (execute_in order.now))
         (E.contents err.old) (E.contents err.new) }
     ensures silent { result ≡ Ending.WrongLine → O.contents out.new ≡ O.contents out.old }
@@ -50,7 +52,7 @@ pub(crate) fn execute_objects<F: Files, O: Write, E: Write>(
         (TellsRefusal (F.files files.old) (names_of (wants_execute (execute_in order.now)))
         (F.failures files.old) (F.failures files.new) (E.contents err.old) (E.contents err.new)) }
     ensures refused { result ≡ Ending.Refused → RefusesAsWanted (wants_execute (execute_in order.now))
-        (F.files files.old) (F.failures files.old) (F.failures files.new)
+        (F.files files.old) (F.files files.new) (F.failures files.old) (F.failures files.new)
         (E.contents err.old) (E.contents err.new) (O.contents out.old) (O.contents out.new) }
     ensures count { (result ≡ Ending.Refused → ⊥) → F.failures files.new ≡ F.failures files.old }
     ensures quiet { (result ≡ Ending.Refused → ⊥) → (result ≡ Ending.WrongLine → ⊥) →
@@ -102,7 +104,7 @@ fn execute_plainly<F: Files, O: Write, E: Write>(
 }
 
 // The same with files of ports: first the run, whose lines and bytes are kept, and then all that is written.
-#[tactic(auto, using(crate::proofs::Delivered::same_but, crate::proofs::Delivered::other_told))]
+#[tactic(auto, using(host::proofs::FilesRead::stays, crate::proofs::Delivered::same_but, crate::proofs::Delivered::other_told))]
 fn execute_to_files<F: Files, O: Write, E: Write>(
     alloc: Global,
     order: &ExecuteOrder,
@@ -112,6 +114,7 @@ fn execute_to_files<F: Files, O: Write, E: Write>(
 ) -> Ending
     ensures unchanged { KeepsAllBut (outputs_in (execute_in order.now).output_files)
         (F.files files.old) (F.files files.new) }
+    ensures untouched { result ≡ Ending.WrongLine → KeepsFiles (F.files files.old) (F.files files.new) }
     ensures refused_text { result ≡ Ending.WrongLine → TellsText (wants_execute (execute_in order.now))
         (E.contents err.old) (E.contents err.new) }
     ensures silent { result ≡ Ending.WrongLine → O.contents out.new ≡ O.contents out.old }
@@ -120,6 +123,13 @@ fn execute_to_files<F: Files, O: Write, E: Write>(
         (F.failures files.old) (F.failures files.new) (E.contents err.old) (E.contents err.new)
         ⊎ TellsOutput (F.failures files.old) (F.failures files.new) (E.contents err.old) (E.contents err.new)
         (outputs_in (execute_in order.now).output_files) }
+    ensures refused { result ≡ Ending.Refused → RefusesRun
+        (RefusesExecution (execute_in order.now) (F.files files.old) (F.failures files.old)
+        (F.failures files.new) (E.contents err.old) (E.contents err.new))
+        (PrintsExecution (execute_in order.now) (F.files files.old))
+        (outputs_in (execute_in order.now).output_files) (F.files files.old) (F.files files.new)
+        (F.failures files.old) (F.failures files.new)
+        (E.contents err.old) (E.contents err.new) (O.contents out.old) (O.contents out.new) }
     ensures count { (result ≡ Ending.Refused → ⊥) → F.failures files.new ≡ F.failures files.old }
     ensures ran { (result ≡ Ending.Refused → ⊥) → (result ≡ Ending.WrongLine → ⊥) →
         DeliversRun (PrintsExecution (execute_in order.now) (F.files files.old) (status_of result))
@@ -151,6 +161,13 @@ fn deliver_objects<F: Files, O: Write, E: Write>(
         (F.failures files.old) (F.failures files.new) (E.contents err.old) (E.contents err.new)
         ⊎ TellsOutput (F.failures files.old) (F.failures files.new) (E.contents err.old) (E.contents err.new)
         (output_names (values_in values.old)) }
+    ensures refused { result ≡ Ending.Refused → RefusesRun
+        (RefusesObjects (execute_in order.now) (values_in values.old) (F.files files.old)
+        (F.failures files.old) (F.failures files.new) (E.contents err.old) (E.contents err.new))
+        (PrintsMerge (execute_in order.now) (values_in values.old) (F.files files.old))
+        (output_names (values_in values.old)) (F.files files.old) (F.files files.new)
+        (F.failures files.old) (F.failures files.new)
+        (E.contents err.old) (E.contents err.new) (O.contents out.old) (O.contents out.new) }
     ensures count { (result ≡ Ending.Refused → ⊥) → F.failures files.new ≡ F.failures files.old }
     ensures ran { (result ≡ Ending.Refused → ⊥) → DeliversRun
         (PrintsMerge (execute_in order.now) (values_in values.old) (F.files files.old) (status_of result))

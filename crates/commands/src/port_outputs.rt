@@ -1,6 +1,6 @@
 //! The bytes that go from ports to files.
 
-ghost use Rattle.std.specs.Prelude.{◌≡◌, ◌⊎◌, ◌++◌, true, IfErr, IfOk, OnErr, OnOk, map, option_map};
+ghost use Rattle.std.specs.Prelude.{◌≡◌, ◌⊎◌, ◌++◌, true, IfErr, IfOk, OnErr, OnOk, map, option_map, unwrap_or};
 ghost use Rattle.failure.specs.Failure.{IfFault};
 ghost use Rattle.failure.specs.Writing.{AppendsBeginning};
 ghost use Rattle.host.specs.Files.{ChangesFiles, Counts};
@@ -9,6 +9,7 @@ ghost use Rattle.object_commands.specs.Linking.{KeepsOthers};
 ghost use Rattle.command_line.specs.Settings.{file_names, port_file_in, values_in};
 ghost use Rattle.commands.specs.Converting.{TellsOutput};
 ghost use Rattle.commands.specs.OutputFiles.{Delivers, KeepsAllBut, Shows, byte_written, bytes_written, dash_bytes, is_output, outputs_for, outputs_of, with_output, with_outputs};
+ghost use Rattle.commands.specs.RefusedRuns.{LeavesOutputs, StopsOutput, StopsOutputs, StopsShowing, Undelivered};
 
 use command_line::{PortFile, Settings};
 use failure::{Failure, WriteFault, write_bytes};
@@ -74,10 +75,12 @@ pub(crate) fn put_outputs(
 }
 
 // Writes a file whole, but for standard output, which is left.
-#[tactic(auto, using(crate::proofs::OutputFiles::dash_left, crate::proofs::OutputFiles::no_others, crate::proofs::OutputFiles::written_as_output, crate::proofs::OutputFiles::others_of))]
+#[tactic(auto, using(crate::proofs::OutputFiles::dash_left, crate::proofs::OutputFiles::no_others, crate::proofs::OutputFiles::written_as_output, crate::proofs::OutputFiles::others_of, crate::proofs::OutputFiles::stopped_as_output))]
 fn write_output<F: Files>(name: &str, bytes: &[u8], files: &mut F) -> Result<(), Failure<FileFault>>
     ensures ok { OnOk result
         (ChangesFiles (F.files files.old) (F.files files.new) (with_output name.now bytes.now)) }
+    ensures stopped { OnErr result
+        (StopsOutput name.now bytes.now (F.files files.old) (F.files files.new)) }
     ensures others { KeepsOthers (F.files files.old) (F.files files.new) name.now }
     ensures count { OnOk result (F.failures files.new ≡ F.failures files.old) }
     ensures failed { IfErr result (λ failure. Counts failure (F.failures files.old) (F.failures files.new)) }
@@ -103,6 +106,12 @@ fn write_outputs<'a, F: Files>(
     ensures count { OnOk result (F.failures files.new ≡ F.failures files.old) }
     ensures named { IfFault result (λ fault.
         is_output (file_names (map port_file_in ports.now)) fault.1.now ≡ true) }
+    ensures stopped { IfFault result (λ fault. StopsOutputs
+        (file_names (map port_file_in ports.now)) (map (λ output. output.items) outputs.now)
+        fault.1.now (F.files files.old) (F.files files.new)) }
+    ensures left { OnErr result (LeavesOutputs
+        (file_names (map port_file_in ports.now)) (map (λ output. output.items) outputs.now)
+        (F.files files.old) (F.files files.new)) }
     ensures failed { IfErr result (λ failure. Counts failure (F.failures files.old) (F.failures files.new)) }
 {
     let mut rest = ports;
@@ -161,6 +170,8 @@ fn show<O: Write, E: Write>(
     ensures shown { OnOk result (Shows (option_map (λ bytes. bytes.now) bytes.entry) lines.now
         (E.contents err.old) (E.contents err.new) (O.contents out.old) (O.contents out.new)) }
     ensures silent { OnErr result (E.contents err.new ≡ E.contents err.old) }
+    ensures begun { OnErr result (AppendsBeginning (O.contents out.old) (O.contents out.new)
+        (unwrap_or (option_map (λ bytes. bytes.now) bytes.entry) lines.now)) }
 {
     match bytes {
         Some(bytes) => {
@@ -192,6 +203,10 @@ pub(crate) fn deliver<F: Files, O: Write, E: Write>(
     ensures told { result ≡ ending ⊎ (TellsOutput (F.failures files.old) (F.failures files.new)
         (E.contents err.old) (E.contents err.new) (file_names (map port_file_in ports.now))
         ⊎ ((F.failures files.new ≡ F.failures files.old) × TellsOther (E.contents err.old) (E.contents err.new))) }
+    ensures undelivered { result ≡ ending ⊎ Undelivered
+        (file_names (map port_file_in ports.now)) (map (λ output. output.items) outputs.now)
+        (F.files files.old) (F.files files.new) (F.failures files.old) (F.failures files.new)
+        (E.contents err.old) (E.contents err.new) (O.contents out.old) (O.contents out.new) lines.now }
     ensures count { (result ≡ Ending.Refused → ⊥) → F.failures files.new ≡ F.failures files.old }
     ensures delivered { (result ≡ Ending.Refused → ⊥) → Delivers
         (file_names (map port_file_in ports.now)) (map (λ output. output.items) outputs.now) lines.now
@@ -215,6 +230,9 @@ fn show_run<O: Write, E: Write>(
 ) -> Ending
     ensures same { (result ≡ Ending.Refused → ⊥) → result ≡ ending }
     ensures told { result ≡ ending ⊎ TellsOther (E.contents err.old) (E.contents err.new) }
+    ensures stopped { result ≡ ending
+        ⊎ StopsShowing (option_map (λ bytes. bytes.now) bytes.entry) lines.now
+        (E.contents err.old) (E.contents err.new) (O.contents out.old) (O.contents out.new) }
     ensures shown { (result ≡ Ending.Refused → ⊥)
         → Shows (option_map (λ bytes. bytes.now) bytes.entry) lines.now
         (E.contents err.old) (E.contents err.new) (O.contents out.old) (O.contents out.new) }

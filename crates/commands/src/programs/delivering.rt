@@ -2,6 +2,7 @@
 
 ghost use Rattle.std.specs.Prelude.{◌≡◌, ◌⊎◌, ◌++◌};
 ghost use Rattle.host.specs.Endings.{status_of};
+ghost use Rattle.host.specs.Files.{KeepsFiles};
 ghost use Rattle.host.specs.Refusals.{TellsRefusal};
 ghost use Rattle.command_line.specs.Command.{program_in, wants_program};
 ghost use Rattle.command_line.specs.Settings.{outputs_in, values_in};
@@ -9,6 +10,8 @@ ghost use Rattle.commands.specs.Converting.{TellsOutput};
 ghost use Rattle.commands.specs.InputFiles.{input_names};
 ghost use Rattle.commands.specs.Orders.{TellsText, names_of};
 ghost use Rattle.commands.specs.OutputFiles.{DeliversRun, KeepsAllBut, output_names};
+ghost use Rattle.commands.specs.RefusedRuns.{RefusesRun};
+ghost use Rattle.commands.specs.Refusing.{RefusesFiles, RefusesFor, RefusesProgram};
 ghost use Rattle.commands.specs.Running.{PrintsFiles, PrintsProgram};
 
 use crate::port_outputs::deliver;
@@ -21,8 +24,10 @@ use std::alloc::Global;
 use std::io::Write;
 
 /// Carries out an order on sources with files of ports, once the values of its options are known: first the run, whose lines
-/// and bytes are kept, and then all that is written.
-#[tactic(auto, using(crate::proofs::Delivered::same_but, crate::proofs::Delivered::other_told))]
+/// and bytes are kept, and then all that is written. Where it is refused, no file was begun, for a reason as without such
+/// files; or the run ended, and a file, standard output or memory failed: the files before it are whole, and those after it
+/// as they were.
+#[tactic(auto, using(host::proofs::FilesRead::stays, crate::proofs::Delivered::same_but, crate::proofs::Delivered::other_told))]
 pub fn carry_out_to_files<F: Files, O: Write, E: Write>(
     alloc: Global,
     order: &ProgramOrder,
@@ -32,6 +37,7 @@ pub fn carry_out_to_files<F: Files, O: Write, E: Write>(
 ) -> Ending
     ensures unchanged { KeepsAllBut (outputs_in (program_in order.now).output_files)
         (F.files files.old) (F.files files.new) }
+    ensures untouched { result ≡ Ending.WrongLine → KeepsFiles (F.files files.old) (F.files files.new) }
     ensures refused_text { result ≡ Ending.WrongLine → TellsText (wants_program (program_in order.now))
         (E.contents err.old) (E.contents err.new) }
     ensures silent { result ≡ Ending.WrongLine → O.contents out.new ≡ O.contents out.old }
@@ -40,6 +46,13 @@ pub fn carry_out_to_files<F: Files, O: Write, E: Write>(
         (F.failures files.old) (F.failures files.new) (E.contents err.old) (E.contents err.new)
         ⊎ TellsOutput (F.failures files.old) (F.failures files.new) (E.contents err.old) (E.contents err.new)
         (outputs_in (program_in order.now).output_files) }
+    ensures refused { result ≡ Ending.Refused → RefusesRun
+        (RefusesProgram (program_in order.now) (F.files files.old) (F.failures files.old) (F.failures files.new)
+        (E.contents err.old) (E.contents err.new))
+        (PrintsProgram (program_in order.now) (F.files files.old))
+        (outputs_in (program_in order.now).output_files) (F.files files.old) (F.files files.new)
+        (F.failures files.old) (F.failures files.new)
+        (E.contents err.old) (E.contents err.new) (O.contents out.old) (O.contents out.new) }
     ensures count { (result ≡ Ending.Refused → ⊥) → F.failures files.new ≡ F.failures files.old }
     ensures ran { (result ≡ Ending.Refused → ⊥) → (result ≡ Ending.WrongLine → ⊥) →
         DeliversRun (PrintsProgram (program_in order.now) (F.files files.old) (status_of result))
@@ -71,6 +84,16 @@ fn deliver_program<F: Files, O: Write, E: Write>(
         (F.failures files.old) (F.failures files.new) (E.contents err.old) (E.contents err.new)
         ⊎ TellsOutput (F.failures files.old) (F.failures files.new) (E.contents err.old) (E.contents err.new)
         (output_names (values_in values.old)) }
+    ensures refused { result ≡ Ending.Refused → RefusesRun
+        (λ kept_old kept_new. RefusesFor (RefusesFiles (program_in order.now) (values_in values.old)
+        (F.files files.old) (E.contents err.old) (E.contents err.new) kept_old kept_new)
+        (F.files files.old) ((program_in order.now).files ++ input_names (values_in values.old))
+        (F.failures files.old) (F.failures files.new)
+        (E.contents err.old) (E.contents err.new) kept_old kept_new)
+        (PrintsFiles (program_in order.now) (values_in values.old) (F.files files.old))
+        (output_names (values_in values.old)) (F.files files.old) (F.files files.new)
+        (F.failures files.old) (F.failures files.new)
+        (E.contents err.old) (E.contents err.new) (O.contents out.old) (O.contents out.new) }
     ensures count { (result ≡ Ending.Refused → ⊥) → F.failures files.new ≡ F.failures files.old }
     ensures ran { (result ≡ Ending.Refused → ⊥) → DeliversRun
         (PrintsFiles (program_in order.now) (values_in values.old) (F.files files.old) (status_of result))

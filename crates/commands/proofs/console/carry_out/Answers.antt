@@ -14,3 +14,6 @@ returns-in-Explain-clause-told g c = λ refused. rw c.in-Explain.is (tells_no_fi
 
 pub returns-in-Explain-clause-refused : goal.returns-in-Explain-clause-refused
 returns-in-Explain-clause-refused g c = λ refused. rw c.in-Explain.is (refl, c.explain_number.ensures.refused refused)
+
+pub returns-in-Explain-clause-untouched : goal.returns-in-Explain-clause-untouched
+returns-in-Explain-clause-untouched g c = λ wrong. stays (g.F.Files.files c.args.files.now)

@@ -26,7 +26,7 @@ pub returns-else-is_empty-clause-told : goal.returns-else-is_empty-clause-told
 returns-else-is_empty-clause-told g c = λ refused. with_words _ c.args.order.now.output_files.items _ _ c.as_slice.ensures.value (sym c.is_empty.ensures ∙ c.if-is_empty.false) (c.carry_out_to_files.ensures.told refused)
 
 pub returns-else-is_empty-clause-refused : goal.returns-else-is_empty-clause-refused
-returns-else-is_empty-clause-refused g c = λ refused. with_words _ c.args.order.now.output_files.items _ _ c.as_slice.ensures.value (sym c.is_empty.ensures ∙ c.if-is_empty.false) tt
+returns-else-is_empty-clause-refused g c = λ refused. with_words _ c.args.order.now.output_files.items _ _ c.as_slice.ensures.value (sym c.is_empty.ensures ∙ c.if-is_empty.false) (c.carry_out_to_files.ensures.refused refused)
 
 pub returns-else-is_empty-clause-quiet : goal.returns-else-is_empty-clause-quiet
 returns-else-is_empty-clause-quiet g c = λ refused wrong. with_words _ c.args.order.now.output_files.items _ _ c.as_slice.ensures.value (sym c.is_empty.ensures ∙ c.if-is_empty.false) tt

@@ -41,10 +41,10 @@ pub returns-in-Err-Fault-clause-quiet : goal.returns-in-Err-Fault-clause-quiet
 returns-in-Err-Fault-clause-quiet g c = λ refused wrong. quiet_by_any _ _ _ (c.end_line.ensures.quiet refused wrong)
 
 pub returns-in-Ok-clause-refused : goal.returns-in-Ok-clause-refused
-returns-in-Ok-clause-refused g c = λ clean refused. refuses_by_words _ _ _ _ _ _ _ _ _ c.in-Ok.ensures.order (c.carry_out.ensures.refused refused)
+returns-in-Ok-clause-refused g c = λ clean refused. refuses_by_words _ _ _ _ _ _ _ _ _ _ c.in-Ok.ensures.order (c.carry_out.ensures.refused refused)
 
 pub returns-in-Err-Memory-clause-refused : goal.returns-in-Err-Memory-clause-refused
-returns-in-Err-Memory-clause-refused g c = λ clean refused. memory_by_words _ _ _ _ _ _ _ _ (runs_out _ _ _ _ _ refl c.refuse_memory.ensures.line)
+returns-in-Err-Memory-clause-refused g c = λ clean refused. memory_by_words _ _ _ _ _ _ _ _ _ (stays (g.F.Files.files c.args.files.now)) (runs_out _ _ _ _ _ refl c.refuse_memory.ensures.line)
 
 pub returns-in-Ok-clause-told : goal.returns-in-Ok-clause-told
 returns-in-Ok-clause-told g c = λ refused. tells_by_words _ _ _ _ _ _ _ c.in-Ok.ensures.order (c.carry_out.ensures.told refused)
@@ -54,3 +54,9 @@ returns-in-Ok-clause-converted g c = λ clean. converts_by_words _ _ _ _ _ _ _ _
 
 pub returns-in-Err-Memory-clause-converted : goal.returns-in-Err-Memory-clause-converted
 returns-in-Err-Memory-clause-converted g c = λ clean. memory_converts _ _ _ _ _ _ _ _ _ (ap status_of c.refuse_memory.ensures.ending) (runs_out _ _ _ _ _ refl c.refuse_memory.ensures.line)
+
+pub returns-in-Err-Fault-clause-untouched : goal.returns-in-Err-Fault-clause-untouched
+returns-in-Err-Fault-clause-untouched g c = λ wrong. stays (g.F.Files.files c.args.files.now)
+
+pub returns-in-Err-Memory-clause-untouched : goal.returns-in-Err-Memory-clause-untouched
+returns-in-Err-Memory-clause-untouched g c = λ wrong. stays (g.F.Files.files c.args.files.now)

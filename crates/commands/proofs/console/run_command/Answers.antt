@@ -24,3 +24,6 @@ returns-clause-converted g c = λ clean. converts_with_status _ _ _ _ _ _ _ _ _ 
 
 pub returns-clause-told : goal.returns-clause-told
 returns-clause-told g c = λ one. c.end_words-ending.ensures.told (refused_is _ (sym c.status.ensures ∙ one))
+
+pub returns-clause-untouched : goal.returns-clause-untouched
+returns-clause-untouched g c = λ two. c.end_words-ending.ensures.untouched (wrong_is _ (sym c.status.ensures ∙ two))

@@ -1,6 +1,8 @@
-use Rattle.commands.proofs.Prelude.{◌∙◌, ap, inl, map, values_in}
+use Rattle.commands.proofs.Prelude.{◌∙◌, Some, [], ap, inl, map, refl, stays, values_in}
 use Rattle.command_line.specs.{Command.{execute_in}, Settings.{file_names, port_file_in}}
 use Rattle.commands.specs.Executing.{PrintsMerge}
+use Rattle.commands.proofs.RefusedRuns.{refused_ended, refused_unended}
+use Rattle.commands.proofs.Executed.{memory_first}
 use Rattle.commands.proofs.Delivered.{kept_but, kept_then_but, kept_then_delivered, not_wrong_after, told_instead}
 use Rattle.commands.proofs.executing.deliver_objects.Goals as goal
 
@@ -33,3 +35,16 @@ returns-clause-ran g c = λ other.
     c.execute_with.ensures.unchanged (c.execute_with.ensures.quiet c.in_default-execute_with.not-Refused)
     (rw c.new-lines.ensures.items at (c.execute_with.ensures.ran c.in_default-execute_with.not-Refused))
     (rw c.as_slice-in_default-execute_with-2.ensures.value at (rw c.as_slice-in_default-execute_with-3.ensures.value at (c.deliver.ensures.delivered other)))
+
+pub returns-in-Refused-clause-refused : goal.returns-in-Refused-clause-refused
+returns-in-Refused-clause-refused g c = λ refused. refused_unended _ _ _ _ _ _ _ _ _ _ _ (rw c.new-lines.ensures.items at (c.execute_with.ensures.refused c.in-Refused.is)) c.execute_with.ensures.unchanged
+
+pub returns-clause-refused : goal.returns-clause-refused
+returns-clause-refused g c = λ refused. refused_ended _ _ _ _ _ _ _ _ _ _ _ _ _ _ _ _ _ _ _ c.in_default-execute_with.not-Refused refused
+    (ap (λ ports. file_names (map port_file_in ports)) (c.as_slice-in_default-execute_with.ensures.value ∙ c.in-Ok.ensures.items ∙ c.as_slice.ensures.value))
+    c.execute_with.ensures.unchanged (c.execute_with.ensures.count c.in_default-execute_with.not-Refused) (c.execute_with.ensures.quiet c.in_default-execute_with.not-Refused)
+    (rw c.new-lines.ensures.items at (c.execute_with.ensures.ran c.in_default-execute_with.not-Refused))
+    (rw c.as_slice-in_default-execute_with-2.ensures.value at (rw c.as_slice-in_default-execute_with-3.ensures.value at c.deliver.ensures.undelivered))
+
+pub returns-in_default-clause-refused : goal.returns-in_default-clause-refused
+returns-in_default-clause-refused g c = λ refused. refused_unended _ _ _ _ _ _ _ _ _ _ [] (memory_first _ _ _ _ _ _ _ (Some []) refl c.refuse_memory.ensures.line) (stays (g.F.Files.files c.args.files.now))

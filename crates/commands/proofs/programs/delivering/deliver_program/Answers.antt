@@ -1,6 +1,8 @@
-use Rattle.commands.proofs.Prelude.{◌∙◌, ap, inl, map, values_in}
+use Rattle.commands.proofs.Prelude.{◌∙◌, Some, [], ap, inl, map, refl, stays, values_in}
 use Rattle.command_line.specs.{Command.{program_in}, Settings.{file_names, port_file_in}}
 use Rattle.commands.specs.Running.{PrintsFiles}
+use Rattle.commands.proofs.RefusedRuns.{refused_ended, refused_unended}
+use Rattle.commands.proofs.Untold.{for_memory}
 use Rattle.commands.proofs.Delivered.{kept_but, kept_then_but, kept_then_delivered, not_wrong_after, told_instead}
 use Rattle.commands.proofs.programs.delivering.deliver_program.Goals as goal
 
@@ -33,3 +35,16 @@ returns-clause-ran g c = λ other.
     c.carry_out_sources.ensures.unchanged (c.carry_out_sources.ensures.quiet c.in_default-carry_out_sources.not-Refused)
     (rw c.new-lines.ensures.items at (c.carry_out_sources.ensures.ran c.in_default-carry_out_sources.not-Refused))
     (rw c.as_slice-in_default-carry_out_sources-2.ensures.value at (rw c.as_slice-in_default-carry_out_sources-3.ensures.value at (c.deliver.ensures.delivered other)))
+
+pub returns-in-Refused-clause-refused : goal.returns-in-Refused-clause-refused
+returns-in-Refused-clause-refused g c = λ refused. refused_unended _ _ _ _ _ _ _ _ _ _ _ (rw c.new-lines.ensures.items at (c.carry_out_sources.ensures.refused c.in-Refused.is)) c.carry_out_sources.ensures.unchanged
+
+pub returns-clause-refused : goal.returns-clause-refused
+returns-clause-refused g c = λ refused. refused_ended _ _ _ _ _ _ _ _ _ _ _ _ _ _ _ _ _ _ _ c.in_default-carry_out_sources.not-Refused refused
+    (ap (λ ports. file_names (map port_file_in ports)) (c.as_slice-in_default-carry_out_sources.ensures.value ∙ c.in-Ok.ensures.items ∙ c.as_slice.ensures.value))
+    c.carry_out_sources.ensures.unchanged (c.carry_out_sources.ensures.count c.in_default-carry_out_sources.not-Refused) (c.carry_out_sources.ensures.quiet c.in_default-carry_out_sources.not-Refused)
+    (rw c.new-lines.ensures.items at (c.carry_out_sources.ensures.ran c.in_default-carry_out_sources.not-Refused))
+    (rw c.as_slice-in_default-carry_out_sources-2.ensures.value at (rw c.as_slice-in_default-carry_out_sources-3.ensures.value at c.deliver.ensures.undelivered))
+
+pub returns-in_default-clause-refused : goal.returns-in_default-clause-refused
+returns-in_default-clause-refused g c = λ refused. refused_unended _ _ _ _ _ _ _ _ _ _ [] (for_memory _ _ _ _ _ _ _ (Some []) refl c.refuse_memory.ensures.line) (stays (g.F.Files.files c.args.files.now))
