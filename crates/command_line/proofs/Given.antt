@@ -1,5 +1,5 @@
 -- Command lines of one option at most: they have no fault, and give what is wanted.
-use Rattle.command_line.proofs.Prelude.{◌≡◌, ◌∙◌, List, [], ◌∷◌, ◌++◌, Some, Ok, Err, codes, sym, arith, true, HasKind, Text, fault_of, Error, Failure, Action, Order, PlaceAction, Hex, Locate, LineFault, IsFailureFor, Gives, IsBare, Orders, OrdersCompile, OrdersConvert, OrdersExecute, OrdersExecuteText, OrdersExplain, OrdersFiles, OrdersJump, OrdersLink, OrdersMap, OrdersNeed, OrdersPlace, OrdersPlaceText, OrdersText, PlanOption, ValueOption, usual_execute, wants_execute, with_execute_text, Wanted, name_of_action, name_of_place_action, option_name, option_words, plan_option_name, plm_app, usual, usual_place, usual_plan, wanted_by, wanted_in, wants_compile, wants_convert, wants_explain, wants_link, wants_need, wants_place, wants_program, with_plan_text, with_text}
+use Rattle.command_line.proofs.Prelude.{◌≡◌, ◌∙◌, List, [], ◌∷◌, ◌++◌, Some, Ok, Err, codes, sym, arith, Bool, true, HasKind, Text, fault_of, Error, Failure, Action, Order, PlaceAction, Hex, Locate, LineFault, IsFailureFor, Gives, IsBare, Orders, OrdersCompile, OrdersConvert, OrdersExecute, OrdersExecuteText, OrdersExplain, OrdersFiles, OrdersJump, OrdersLink, OrdersMap, OrdersNeed, OrdersPlace, OrdersPlaceText, OrdersText, PlanOption, ValueOption, usual_execute, wants_execute, with_execute_text, Wanted, name_of_action, name_of_place_action, option_name, option_words, plan_option_name, plm_app, usual, usual_convert, usual_place, usual_plan, medium_words, wanted_by, wanted_in, wants_compile, wants_convert, wants_explain, wants_link, wants_need, wants_place, wants_program, with_plan_text, with_text}
 use Rattle.command_line.proofs.Begins.{ends_by, flag_begins, jump, map_flag, need_flag, of_execute, of_place, of_program, option_begins, option_row, out, plain_begins, rows_of_flag}
 use Rattle.command_line.proofs.Lines.{Line, execute_line, execute_option_line, jump_line, link_line, map_line, need_line, option_line, place_line, place_option_line, plain_line}
 use Rattle.command_line.proofs.Verbs.{Executed, Located, Objects, Placed, Sources, Verb, compile, convert, execute, explain, form_of, link, name_of, place, program}
@@ -49,8 +49,11 @@ compile_wanted words name source object bare g =
 explain_wanted : (words : List Text) (name number : Text) → Gives words name (codes "explain") [] (number ∷ []) → Wants words (wants_explain (record { number = number }))
 explain_wanted words name number g = wants_by words (number ∷ []) name explain (wants_explain (record { number = number })) g.words_are (explain_line number g.bare.0)
 
-convert_wanted : (words : List Text) (name file : Text) → Gives words name (codes "convert") [] (file ∷ []) → Wants words (wants_convert (record { file = file }))
-convert_wanted words name file g = wants_by words (file ∷ []) name convert (wants_convert (record { file = file })) g.words_are (convert_line file g.bare.0)
+convert_wanted : (words : List Text) (name file : Text) (listing cards : Bool) → Gives words name (codes "convert") (medium_words listing cards) (file ∷ [])
+    → Wants words (wants_convert (usual_convert file listing cards))
+convert_wanted words name file listing cards g =
+    wants_by words (medium_words listing cards ++ file ∷ []) name convert (wants_convert (usual_convert file listing cards)) g.words_are
+    (convert_line listing cards file g.bare.0)
 
 link_wanted : (words : List Text) (name : Text) (target : Text) (files : List Text) → IsBare target
     → Gives words name (codes "link") (option_words (codes "out") target) files → Wants words (wants_link (record { out = target; objects = files }))
@@ -148,7 +151,8 @@ pub explain_ordered : (words : List Text) (order : Order) → Orders words order
 explain_ordered words order found = λ name number g. order_is words order (wants_explain (record { number = number })) found (explain_wanted words name number g)
 
 pub convert_ordered : (words : List Text) (order : Order) → Orders words order → OrdersConvert words (Ok order)
-convert_ordered words order found = λ name file g. order_is words order (wants_convert (record { file = file })) found (convert_wanted words name file g)
+convert_ordered words order found = λ name file listing cards g.
+    order_is words order (wants_convert (usual_convert file listing cards)) found (convert_wanted words name file listing cards g)
 
 -- where they have none, only memory can fail
 pub files_failed : (words : List Text) (error : Error) (failure : Failure LineFault) → HasKind (fault_of plm_app words) error → IsFailureFor error failure
@@ -201,4 +205,5 @@ explain_failed words error failure has is = λ name number g. only_memory error 
 
 pub convert_failed : (words : List Text) (error : Error) (failure : Failure LineFault) → HasKind (fault_of plm_app words) error → IsFailureFor error failure
     → OrdersConvert words (Err failure)
-convert_failed words error failure has is = λ name file g. only_memory error failure (fault_of plm_app words) (convert_wanted words name file g).fine has is
+convert_failed words error failure has is = λ name file listing cards g.
+    only_memory error failure (fault_of plm_app words) (convert_wanted words name file listing cards g).fine has is

@@ -124,9 +124,15 @@ execute_app name =
 abbrev pub explain_app : Text → App
 explain_app name = with_rule (new_app name) (file_rule (codes "NUMBER"))
 
--- the command `name FILE`
+-- the command `name [--listing] [--cards] [--folder DIR]... [--set NAME]... FILE`
 abbrev pub convert_app : Text → App
-convert_app name = with_rule (new_app name) (file_rule (codes "FILE"))
+convert_app name =
+    with_rule (with_rule (with_rule (with_rule (with_rule (new_app name)
+    (flag_rule (codes "listing")))
+    (flag_rule (codes "cards")))
+    (many_rule (codes "folder")))
+    (many_rule (codes "set")))
+    (file_rule (codes "FILE"))
 
 -- the program, which has to have a command, and which knows its version
 abbrev pub bare_app : App
@@ -211,9 +217,14 @@ pub record NeedWanted : Type 0 where
 pub record ExplainWanted : Type 0 where
   pub number : Text
 
--- the source that is converted
+-- the source that is converted; whether it is a listing, and on cards; the folders of the files that it includes; and the
+-- switches that are set
 pub record ConvertWanted : Type 0 where
   pub file : Text
+  pub listing : Bool
+  pub cards : Bool
+  pub folders : List Text
+  pub sets : List Text
 
 -- what the words want, as texts
 pub data Wanted : Type 0 where
@@ -310,7 +321,13 @@ abbrev pub explain_of : List Row → ExplainWanted
 explain_of rows = record { number = text_of (codes "NUMBER") rows }
 
 abbrev pub convert_of : List Row → ConvertWanted
-convert_of rows = record { file = text_of (codes "FILE") rows }
+convert_of rows = record {
+  file = text_of (codes "FILE") rows;
+  listing = is_set (codes "listing") rows;
+  cards = is_set (codes "cards") rows;
+  folders = texts_of (codes "folder") rows;
+  sets = texts_of (codes "set") rows;
+}
 
 -- what `locate` wants: the places of an object or, with its flag, the need of sources
 abbrev pub located_of : List Row → Wanted
@@ -391,7 +408,13 @@ abbrev pub explain_in : ExplainOrder → ExplainWanted
 explain_in order = record { number = order.number.now }
 
 abbrev pub convert_in : ConvertOrder → ConvertWanted
-convert_in order = record { file = order.file.now }
+convert_in order = record {
+  file = order.file.now;
+  listing = order.listing;
+  cards = order.cards;
+  folders = texts order.folders.items;
+  sets = texts order.sets.items;
+}
 
 abbrev pub wanted_in : Order → Wanted
 wanted_in (Compile order) = wants_compile (compile_in order)
@@ -615,11 +638,21 @@ OrdersExplain words answer = (name number : Text)
     → Gives words name (codes "explain") [] (number ∷ [])
     → IsOrderOf (wants_explain (record { number = number })) answer
 
--- `convert` with a bare word wants that file converted
+-- the flags of a listing and of cards
+abbrev pub medium_words : (listing cards : Bool) → List Text
+medium_words listing cards =
+    (if listing then codes "--listing" ∷ [] else []) ++ (if cards then codes "--cards" ∷ [] else [])
+
+-- what `convert` wants with this file and these flags, where no other option is given
+abbrev pub usual_convert : Text → (listing cards : Bool) → ConvertWanted
+usual_convert file listing cards =
+    record { file = file; listing = listing; cards = cards; folders = []; sets = [] }
+
+-- `convert` with a bare word, after these flags or none, wants that file converted
 abbrev pub OrdersConvert : List Text → Result Order (Failure LineFault) → Type 0
-OrdersConvert words answer = (name file : Text)
-    → Gives words name (codes "convert") [] (file ∷ [])
-    → IsOrderOf (wants_convert (record { file = file })) answer
+OrdersConvert words answer = (name file : Text) (listing cards : Bool)
+    → Gives words name (codes "convert") (medium_words listing cards) (file ∷ [])
+    → IsOrderOf (wants_convert (usual_convert file listing cards)) answer
 
 -- a fault has one of the kinds that `clap` finds in the words, where Help stands for that of help alone, and Version for
 -- that of the version

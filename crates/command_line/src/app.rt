@@ -366,10 +366,24 @@ fn explain<'a>(alloc: Global) -> Built<'a>
 fn convert<'a>(alloc: Global) -> Built<'a>
     ensures { Builds (convert_app (codes "convert")) result }
 {
-    add(
-        named(alloc, "convert", CONVERT),
-        file(alloc, "FILE", "The source to convert"),
-    )
+    let listing = flag(
+        alloc,
+        "listing",
+        "Take the source out of a listing that a compiler printed",
+    );
+    let cards = flag(alloc, "cards", "Take away what comes after column 72");
+    let folder = option_again(
+        alloc,
+        "folder",
+        "DIR",
+        "A folder in which files of INCLUDE are looked for",
+    );
+    let set = option_again(alloc, "set", "NAME", "A switch of IF that is set");
+    let with_listing = add(named(alloc, "convert", CONVERT), listing);
+    let with_cards = add(with_listing, cards);
+    let with_folder = add(with_cards, folder);
+    let with_set = add(with_folder, set);
+    add(with_set, file(alloc, "FILE", "The source to convert"))
 }
 
 // The program `plm`, which has to have a command.

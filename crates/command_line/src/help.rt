@@ -509,7 +509,12 @@ Read more in the folder docs: faults.md (all numbers), commands.md");
 const PRINTED_BY_CONVERT: &str = text_of!([] "\
 Prints the source, which was written for a compiler of the time, in this language. Lines that begin
 with $ become empty, form feeds are taken away, words such as GO TO and LABEL are changed; all else
-stays as it is. A source that is a module of this language already is printed as it is.
+stays as it is. A source that is a module of this language already is printed as it is. The source is
+the whole file, or with --listing what a listing holds, or with --cards the columns 1 to 72.
+
+The file of an INCLUDE is put in, but not into a listing: it is looked for in each DIR and then beside
+FILE, as written, in capital and in small letters. Lines of an IF that do not apply become empty;
+switches are set by --set and by SET.
 
 What has no cure is left, and told on standard error, a line each:
   FILE LINE: what, and what to write
@@ -522,6 +527,9 @@ Exit status:
 Example: convert a source of the time, and run what comes out
   plm convert old.src > new.plm
   plm run new.plm
+
+Example: the same of a listing that such a compiler printed
+  plm convert --listing old.lst > new.plm
 
 Numbers that can occur here, where X is the name that is printed with one:
 " WORDS LENGTHS FILES MEMORY "\n\

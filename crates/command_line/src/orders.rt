@@ -127,10 +127,18 @@ pub struct ExplainOrder<'a> {
 }
 
 /// An order to convert an old source.
-#[derive(Clone, Copy)]
+#[derive(Drop)]
 pub struct ConvertOrder<'a> {
     /// The name of its file.
     pub file: &'a str,
+    /// Whether the file is a listing, which a compiler printed.
+    pub listing: bool,
+    /// Whether the source is on cards.
+    pub cards: bool,
+    /// The folders in which files that it includes are looked for, in their order.
+    pub folders: Vec<&'a str>,
+    /// The switches that are set.
+    pub sets: Vec<&'a str>,
 }
 
 /// What the command line asks for.

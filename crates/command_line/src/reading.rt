@@ -220,12 +220,18 @@ fn explain<'a>(matches: &ArgMatches<'a>) -> Result<Option<Order<'a>>, AllocError
 }
 
 // The order to convert an old source, from the matches of its arguments. It is there in each answer, as that of `program`.
-fn convert<'a>(matches: &ArgMatches<'a>) -> Result<Option<Order<'a>>, AllocError>
+fn convert<'a>(alloc: Global, matches: &ArgMatches<'a>) -> Result<Option<Order<'a>>, AllocError>
     ensures { IfOk result (λ order. option_map wanted_in order
         ≡ Some (wants_convert (convert_of (rows_of (found_of matches.now))))) }
 {
+    let folders = all(alloc, matches, "folder")?;
+    let sets = all(alloc, matches, "set")?;
     Ok(Some(Order::Convert(ConvertOrder {
         file: text(matches, "FILE"),
+        listing: flag(matches, "listing"),
+        cards: flag(matches, "cards"),
+        folders,
+        sets,
     })))
 }
 
@@ -260,7 +266,7 @@ fn order_named<'a>(
         "list" => place(alloc, PlaceAction::Listing, matches),
         "execute" => execute(alloc, matches),
         "explain" => explain(matches),
-        "convert" => convert(matches),
+        "convert" => convert(alloc, matches),
         _ => Ok(None),
     }
 }

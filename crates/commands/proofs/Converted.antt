@@ -1,136 +1,252 @@
 -- Sources that were converted, or not.
-use Rattle.commands.proofs.Prelude.{◌≡◌, ◌<◌, ℕ, List, [], length, map, Option, inl, inr, refl, sym, ap, subst, ◌∙◌, ◌⊎◌, Ending, Done, Refused, status_of, AppendsBeginning, Appends, Directory, HasFile, Tells, memory_line, refusal_line, file_line, CountsFailure, TellsUnwritten, ConvertWanted}
-use Rattle.words.specs.declared.fault.Fault as words_fault
+use Rattle.commands.proofs.Prelude.{◌≡◌, ◌<◌, ◌≤◌, ℕ, List, [], length, map, Option, inl, inr, refl, sym, ap, subst, ◌∙◌, ◌⊎◌, arith, Ending, Done, Refused, status_of, AppendsBeginning, Appends, Keeps, Directory, HasFile, KeepsFiles, Tells, memory_line, refusal_line, file_line, CountsFailure, TellsUnwritten, ConvertWanted}
+use Rattle.words.specs.declared.limits.TheConstants.{LONGEST_SOURCE}
 use Rattle.literally.specs.declared.fault.Fault as expansion_fault
-use Rattle.syntax.specs.declared.fault.Fault as syntax_fault
-use Rattle.typing.specs.declared.fault.Fault as typing_fault
-use Rattle.layout.specs.declared.fault.Fault as storage_fault
+use Rattle.words.specs.declared.word.Word.{Word}
+use Rattle.words.proofs.LawsReadings.{one_reading}
+use Rattle.literally.specs.Expansion.{Expands}
+use Rattle.literally.proofs.LawsOneExpansion.{not_both}
 use Rattle.typed_trees.specs.TypedTrees.{TypedModule}
-use Rattle.sources.specs.{Causes.{HasReadCause}, Faults.{line_of, number_of}, Reading.{IsSourceOf}, declared.read.ReadFault.{ReadFault, TheVariants.{Expansion, Storage, Syntax, Typing, Words}}}
-use Rattle.convert.specs.{Conversion.{IsRefused}, Controls.{control_view, table_of_controls}, Table.{rule_view, table_of_rules}, Lines.{lined}, Sources.{IsConverted, note_lines}, declared.controls.Control.{Control}, declared.converting.Note.{Note}, declared.rule.Rule.{Rule}}
-use Rattle.commands.specs.Converting.{Converts, ConvertsByTables, HasNoConversion, IsModule, IsNoModule, changed, stays}
+use Rattle.sources.specs.{Causes.{HasReadCause}, Faults.{line_of, number_of}, Reading.{IsSourceOf}, declared.read.ReadFault.{ReadFault, TheVariants.{Expansion, Storage, Syntax, TooLong, Typing, Words}}}
+use Rattle.convert.specs.{Advice.{advice_view, usual_advice}, Assembly.{Parts, as_it_is}, Conversion.{IsRefused, no_expansion, no_words}, Lines.{plain}, Preparing.{prepared, prepared_notes}, Table.{rule_view, table_of_rules}, Sources.{IsConverted, note_lines, place_at}, declared.advice.Advice.{Advice}, declared.assembly.PlacedNote.{PlacedNote}, declared.includes.Entry.{Entry}, declared.rule.Rule.{Rule}}
+use Rattle.commands.specs.Converting.{Converts, ConvertsByTables, HasNoConversion, IsMistyped, IsModule, IsPutTogether, StopsIncluding, changed, fault_line_at, medium_of, rewritten, stays}
+use Rattle.commands.specs.internal.Converting.{IsOfForm, form_of_fault}
 unfoldable use Rattle.commands.specs.Converting.{ConvertsFile, ConvertsText, RefusesText}
+unfoldable use Rattle.commands.specs.internal.Converting.{ConvertsHeld, ConvertsParts, PrintsNoted}
 use Rattle.commands.proofs.Printed.{stays_written}
+use Rattle.commands.proofs.Included.{was_included, was_stopped_for_next}
 
 module _ (text : List ℕ) where
   pub source_is_module : (typed : TypedModule) → IsSourceOf text typed → IsModule text
-  source_is_module typed source = (source.typing.tree, source.typing.read)
+  source_is_module typed source = (typed, source.typing)
 
-  pub typing_is_module : (fault : typing_fault.Fault) → HasReadCause (Typing fault) text → IsModule text
-  typing_is_module fault cause = (cause.tree, cause.read)
+  pub of_form : (fault : ReadFault) → length text ≤ LONGEST_SOURCE → HasReadCause fault text → IsOfForm text (form_of_fault fault)
+  of_form TooLong short cause = absurd (omega (arith, short, cause))
+  of_form (Words fault) short cause = record { fault = Words fault; kind = tt; cause = cause }
+  of_form (Expansion fault) short cause = record { fault = Expansion fault; kind = tt; cause = cause }
+  of_form (Syntax fault) short cause = record { fault = Syntax fault; kind = tt; cause = cause }
+  of_form (Typing fault) short cause = (fault, cause)
+  of_form (Storage fault) short cause = (cause.typed, cause.typing)
 
-  pub storage_is_module : (fault : storage_fault.Fault) → HasReadCause (Storage fault) text → IsModule text
-  storage_is_module fault cause = (cause.typing.tree, cause.typing.read)
+  not_refused : (fault : expansion_fault.Fault) → IsMistyped text → IsRefused text fault → ⊥
+  not_refused fault (wrong, mistyped) (no_words {fault = of_words} first) =
+      (one_reading text).not_both mistyped.read.expansion.words of_words mistyped.read.expansion.spelling.spelled first
+  not_refused fault (wrong, mistyped) (no_expansion words spelled found) =
+      let same : words ≡ mistyped.read.expansion.words = (one_reading text).one_spelling words mistyped.read.expansion.words spelled mistyped.read.expansion.spelling.spelled in
+      not_both found (subst (λ (w : List Word). Expands w mistyped.read.output) (sym same) mistyped.read.expansion.expanded)
 
-  pub words_are_none : (fault : words_fault.Fault) → HasReadCause (Words fault) text → IsNoModule text
-  words_are_none fault cause = record { fault = Words fault; kind = tt; cause = cause }
+  -- a text that derives a tree is a list of words that has an expansion
+  mistyped_is_converted : (fault : ReadFault) → length text ≤ LONGEST_SOURCE → IsMistyped text → HasNoConversion text fault → ⊥
+  mistyped_is_converted TooLong short mistyped cause = omega (arith, short, cause)
+  mistyped_is_converted (Words fault) short mistyped cause = cause
+  mistyped_is_converted (Expansion fault) short mistyped cause = not_refused fault mistyped cause
+  mistyped_is_converted (Syntax fault) short mistyped cause = cause
+  mistyped_is_converted (Typing fault) short mistyped cause = cause
+  mistyped_is_converted (Storage fault) short mistyped cause = cause
 
-  pub expansion_is_none : (fault : expansion_fault.Fault) → HasReadCause (Expansion fault) text → IsNoModule text
-  expansion_is_none fault cause = record { fault = Expansion fault; kind = tt; cause = cause }
+-- a text was printed, or a beginning of it
+module _ (name : List ℕ) (entries : List Entry) (text : List ℕ) (notes : List PlacedNote) (old new out now : Option (List ℕ)) where
+  pub noted_unwritten : (status : ℕ) → status ≡ 1 → TellsUnwritten old new → AppendsBeginning out now text → PrintsNoted name entries text notes status old new out now
+  unfolding PrintsNoted
+  noted_unwritten status one told begun = inr (inr (one, told, begun))
 
-  pub syntax_is_none : (fault : syntax_fault.Fault) → HasReadCause (Syntax fault) text → IsNoModule text
-  syntax_is_none fault cause = record { fault = Syntax fault; kind = tt; cause = cause }
+  pub noted_written : (ending : Ending) (lines : List ℕ) → (ending ≡ Done) ⊎ (ending ≡ Refused) → (ending ≡ Done → notes ≡ []) → (ending ≡ Refused → 0 < length notes)
+      → (ending ≡ Refused → AppendsBeginning old new lines) → lines ≡ note_lines name entries notes → Appends out now text
+      → PrintsNoted name entries text notes (status_of ending) old new out now
+  unfolding PrintsNoted
+  noted_written ending lines (inl done) none some tells is appended = inl (ap status_of done, none done, appended)
+  noted_written ending lines (inr refused) none some tells is appended =
+      inr (inl (ap status_of refused, some refused, appended, subst (λ (l : List ℕ). AppendsBeginning old new l) is (tells refused)))
 
-  module _ (rules : List Rule) (controls : List Control) where
-    pub module_stays : (printed : List ℕ) (notes : List Note) → IsModule text → printed ≡ text → notes ≡ [] → Converts rules controls text printed notes
-    module_stays printed notes is same none = rw (same, none) (stays is)
+-- what was put together was converted and printed, or not
+module _ (name : List ℕ) (entries : List Entry) (rules : List Rule) (parts : Parts) (old new out now : Option (List ℕ)) where
+  pub parts_printed : (status : ℕ) (text : List ℕ) (notes : List PlacedNote) → IsConverted rules parts text notes → PrintsNoted name entries text notes status old new out now
+      → ConvertsParts name entries rules parts status old new out now
+  unfolding ConvertsParts
+  parts_printed status text notes converted printed = inl (record { text = text; notes = notes; converted = converted; printed = printed })
 
-    pub text_changed : (printed : List ℕ) (notes : List Note) → IsNoModule text → IsConverted rules controls text printed notes → Converts rules controls text printed notes
-    text_changed printed notes none converted = changed none converted
+  pub parts_unheld : (status : ℕ) → status ≡ 1 → Tells memory_line old new → ConvertsParts name entries rules parts status old new out out
+  unfolding ConvertsParts
+  parts_unheld status one told = inr (one, stays_written out, inl told)
 
-  pub text_refused : (fault : expansion_fault.Fault) → IsNoModule text → IsRefused (lined text) fault → HasNoConversion text (Expansion fault)
-  text_refused fault none refused = (none, refused)
+  pub parts_refused : (status : ℕ) (fault : ReadFault) → status ≡ 1 → HasNoConversion parts.text fault
+      → Tells (fault_line_at name entries (place_at parts.places (line_of fault)) fault) old new → ConvertsParts name entries rules parts status old new out out
+  unfolding ConvertsParts
+  parts_refused status fault one cause told = inr (one, stays_written out, inr (record { fault = fault; cause = cause; told = told }))
 
--- what converting a text of a file of this name prints and tells
-module _ (rules : List Rule) (controls : List Control) (name text : List ℕ) (old new out now : Option (List ℕ)) where
-  pub without_memory : (status : ℕ) → status ≡ 1 → Tells memory_line old new → ConvertsText rules controls name text status old new out out
+-- what converting a text prints and tells
+module _ (rules : List Rule) (advice : Advice) (wanted : ConvertWanted) (files : Option Directory) (before : List PlacedNote) (text : List ℕ) (old new out now : Option (List ℕ)) where
+  converted_printed : (status : ℕ) (entries : List Entry) (printed : List ℕ) (notes : List PlacedNote) → Converts rules advice wanted files before text entries printed notes
+      → PrintsNoted wanted.file entries printed notes status old new out now → ConvertsText rules advice wanted files before text status old new out now
+  unfolding ConvertsText RefusesText PrintsNoted
+  converted_printed status entries printed notes converts (inl (zero, none, appended)) = inl (
+    zero,
+    record {
+      entries = entries;
+      printed = printed;
+      converts = subst (λ (l : List PlacedNote). Converts rules advice wanted files before text entries printed l) none converts;
+      appended = appended;
+    },
+  )
+  converted_printed status entries printed notes converts (inr (inl (one, some, appended, told))) =
+      inr (one, inr (inl (record { entries = entries; printed = printed; notes = notes; some = some; converts = converts; appended = appended; told = told })))
+  converted_printed status entries printed notes converts (inr (inr (one, told, begun))) =
+      inr (one, inr (inr (record { entries = entries; printed = printed; notes = notes; converts = converts; told = told; begun = begun })))
+
+  pub module_printed : (status : ℕ) → IsModule text → PrintsNoted wanted.file [] text before status old new out now → ConvertsText rules advice wanted files before text status old new out now
+  module_printed status is printed = converted_printed status [] text before (stays is) printed
+
+  text_told : (status : ℕ) → status ≡ 1 → Keeps out now → Tells memory_line old new → ConvertsText rules advice wanted files before text status old new out now
   unfolding ConvertsText RefusesText
-  without_memory status one told = inr (one, inl (stays_written out, inl told))
+  text_told status one kept told = inr (one, inl (kept, inl told))
 
-  pub for_fault : (status : ℕ) (fault : ReadFault) → status ≡ 1 → HasNoConversion text fault → Tells (refusal_line (number_of fault) name (line_of fault)) old new
-      → ConvertsText rules controls name text status old new out out
-  unfolding ConvertsText RefusesText
-  for_fault status fault one cause told = inr (one, inl (stays_written out, inr (record { fault = fault; cause = cause; told = told })))
+  pub rewritten_printed : (status : ℕ) → length text ≤ LONGEST_SOURCE → IsMistyped text → ConvertsParts wanted.file [] rules (as_it_is before text) status old new out now
+      → ConvertsText rules advice wanted files before text status old new out now
+  unfolding ConvertsParts
+  rewritten_printed status short mistyped (inl done) = converted_printed status [] done.text done.notes (rewritten mistyped done.converted) done.printed
+  rewritten_printed status short mistyped (inr (one, kept, inl told)) = text_told status one kept told
+  rewritten_printed status short mistyped (inr (one, kept, inr told)) = absurd (mistyped_is_converted text told.fault short mistyped told.cause)
 
-  pub with_notes : (status : ℕ) (printed lines : List ℕ) (notes : List Note) → status ≡ 1 → 0 < length notes → Converts rules controls text printed notes → Appends out now printed
-      → lines ≡ note_lines name notes → AppendsBeginning old new lines → ConvertsText rules controls name text status old new out now
+  pub old_converted : (status : ℕ) (entries : List Entry) (parts : Parts) → IsPutTogether advice wanted files before text entries parts
+      → ConvertsParts wanted.file entries rules parts status old new out now → ConvertsText rules advice wanted files before text status old new out now
+  unfolding ConvertsText RefusesText ConvertsParts
+  old_converted status entries parts put (inl done) = converted_printed status entries done.text done.notes (changed put done.converted) done.printed
+  old_converted status entries parts put (inr (one, kept, inl told)) = text_told status one kept told
+  old_converted status entries parts put (inr (one, kept, inr told)) =
+      inr (one, inl (kept, inr (inr (record { entries = entries; parts = parts; together = put; fault = told.fault; cause = told.cause; told = told.told }))))
+
+  pub text_unheld : (status : ℕ) → status ≡ 1 → Tells memory_line old new → ConvertsText rules advice wanted files before text status old new out out
   unfolding ConvertsText RefusesText
-  with_notes status printed lines notes one some converts appended same told = inr (
+  text_unheld status one told = inr (one, inl (stays_written out, inl told))
+
+  pub text_too_long : (status : ℕ) → status ≡ 1 → LONGEST_SOURCE < length text → Tells (refusal_line (number_of TooLong) wanted.file 0) old new
+      → ConvertsText rules advice wanted files before text status old new out out
+  unfolding ConvertsText RefusesText
+  text_too_long status one long told = inr (one, inl (stays_written out, inr (inl (record { long = long; told = told }))))
+
+-- the same, or a file that is included can't be read
+module _ (rules : List Rule) (advice : Advice) (wanted : ConvertWanted) (files : Option Directory) (notes : List PlacedNote) (text : List ℕ) (before after : ℕ) (old new out now : Option (List ℕ)) where
+  pub held_converted : (status : ℕ) → after ≡ before → ConvertsText rules advice wanted files notes text status old new out now
+      → ConvertsHeld rules advice wanted files notes text status before after old new out now
+  unfolding ConvertsHeld
+  held_converted status same converts = inr (same, converts)
+
+  pub held_stopped : (status : ℕ) (stop : List ℕ) → status ≡ 1 → CountsFailure before after → StopsIncluding advice wanted files notes text stop → Tells (file_line stop) old new
+      → ConvertsHeld rules advice wanted files notes text status before after old new out out
+  unfolding ConvertsHeld
+  held_stopped status stop one counted stopped told = inl (one, stays_written out, record { counted = counted; name = stop; stopped = stopped; told = told })
+
+-- what is put together of files is put together of them as they were
+module _ (was files : Option Directory) (kept : KeepsFiles was files) (rules : List Rule) (advice : Advice) (wanted : ConvertWanted) (before : List PlacedNote) (text : List ℕ) where
+  was_put : (entries : List Entry) (parts : Parts) → IsPutTogether advice wanted files before text entries parts → IsPutTogether advice wanted was before text entries parts
+  was_put entries parts put = record {
+    none = put.none;
+    included = was_included was files kept advice wanted before (plain text) entries put.included;
+    parts_are = put.parts_are;
+  }
+
+  was_changed : {entries : List Entry} {printed : List ℕ} {notes : List PlacedNote} → Converts rules advice wanted files before text entries printed notes
+      → Converts rules advice wanted was before text entries printed notes
+  was_changed (stays is) = stays is
+  was_changed (rewritten mistyped converted) = rewritten mistyped converted
+  was_changed (changed {entries = entries} {parts = parts} put converted) = changed (was_put entries parts put) converted
+
+  pub was_stopped_including : (stop : List ℕ) → StopsIncluding advice wanted files before text stop → StopsIncluding advice wanted was before text stop
+  was_stopped_including stop stopped =
+      record { none = stopped.none; next = was_stopped_for_next was files kept advice wanted before (plain text) stop stopped.next }
+
+  pub was_converted : (status : ℕ) (old new out now : Option (List ℕ)) → ConvertsText rules advice wanted files before text status old new out now
+      → ConvertsText rules advice wanted was before text status old new out now
+  unfolding ConvertsText RefusesText
+  was_converted status old new out now (inl (zero, done)) =
+      inl (zero, record { entries = done.entries; printed = done.printed; converts = was_changed done.converts; appended = done.appended })
+  was_converted status old new out now (inr (one, inl (same, inl told))) = inr (one, inl (same, inl told))
+  was_converted status old new out now (inr (one, inl (same, inr (inl told)))) = inr (one, inl (same, inr (inl (record { long = told.long; told = told.told }))))
+  was_converted status old new out now (inr (one, inl (same, inr (inr told)))) = inr (
+    one,
+    inl (
+      same,
+      inr (inr (record {
+        entries = told.entries;
+        parts = told.parts;
+        together = was_put told.entries told.parts told.together;
+        fault = told.fault;
+        cause = told.cause;
+        told = told.told;
+      })),
+    ),
+  )
+  was_converted status old new out now (inr (one, inr (inl told))) = inr (
     one,
     inr (inl (record {
-      printed = printed;
-      notes = notes;
-      some = some;
-      converts = converts;
-      appended = appended;
-      told = subst (λ (l : List ℕ). AppendsBeginning old new l) same told;
+      entries = told.entries;
+      printed = told.printed;
+      notes = told.notes;
+      some = told.some;
+      converts = was_changed told.converts;
+      appended = told.appended;
+      told = told.told;
+    })),
+  )
+  was_converted status old new out now (inr (one, inr (inr told))) = inr (
+    one,
+    inr (inr (record {
+      entries = told.entries;
+      printed = told.printed;
+      notes = told.notes;
+      converts = was_changed told.converts;
+      told = told.told;
+      begun = told.begun;
     })),
   )
 
-  pub without_notes : (status : ℕ) (printed : List ℕ) (notes : List Note) → status ≡ 0 → notes ≡ [] → Converts rules controls text printed notes → Appends out now printed
-      → ConvertsText rules controls name text status old new out now
-  unfolding ConvertsText
-  without_notes status printed notes zero none converts appended =
-      inl (zero, record { printed = printed; converts = subst (λ (l : List Note). Converts rules controls text printed l) none converts; appended = appended })
-
-  pub not_written : (status : ℕ) (printed : List ℕ) (notes : List Note) → status ≡ 1 → Converts rules controls text printed notes → TellsUnwritten old new → AppendsBeginning out now printed
-      → ConvertsText rules controls name text status old new out now
-  unfolding ConvertsText RefusesText
-  not_written status printed notes one converts told begun =
-      inr (one, inr (inr (record { printed = printed; notes = notes; converts = converts; told = told; begun = begun })))
-
--- the same, as it is told
-module _ (rules : List Rule) (controls : List Control) (name text : List ℕ) (old new out now : Option (List ℕ)) where
-  pub ending_without_memory : (ending : Ending) → ending ≡ Refused → Tells memory_line old new → ConvertsText rules controls name text (status_of ending) old new out out
-  ending_without_memory ending refused told = without_memory rules controls name text old new out now (status_of ending) (ap status_of refused) told
-
-  pub ending_for_fault : (ending : Ending) (fault was : ReadFault) → ending ≡ Refused → was ≡ fault → HasNoConversion text fault → Tells (refusal_line (number_of was) name (line_of was)) old new
-      → ConvertsText rules controls name text (status_of ending) old new out out
-  ending_for_fault ending fault was refused is cause told = for_fault rules controls name text old new out now (status_of ending) fault (ap status_of refused) cause
-      (subst (λ (f : ReadFault). Tells (refusal_line (number_of f) name (line_of f)) old new) is told)
-
-  pub ending_unwritten : (ending : Ending) (printed sent : List ℕ) (notes : List Note) → ending ≡ Refused → Converts rules controls text printed notes → TellsUnwritten old new → sent ≡ printed
-      → AppendsBeginning out now sent → ConvertsText rules controls name text (status_of ending) old new out now
-  ending_unwritten ending printed sent notes refused converts told same begun =
-      not_written rules controls name text old new out now (status_of ending) printed notes (ap status_of refused) converts told (subst (λ (l : List ℕ). AppendsBeginning out now l) same begun)
-
-  pub ending_written : (ending : Ending) (printed sent lines told : List ℕ) (notes one two : List Note) → (ending ≡ Done) ⊎ (ending ≡ Refused) → (ending ≡ Done → two ≡ []) → (ending ≡ Refused → 0 < length two)
-      → (ending ≡ Refused → AppendsBeginning old new told) → Converts rules controls text printed notes → sent ≡ printed → Appends out now sent → one ≡ notes → two ≡ notes → told ≡ lines
-      → lines ≡ note_lines name one → ConvertsText rules controls name text (status_of ending) old new out now
-  ending_written ending printed sent lines told notes one two (inl done) none some tells converts same appended first second third is =
-      without_notes rules controls name text old new out now (status_of ending) printed notes (ap status_of done) (sym second ∙ none done) converts
-      (subst (λ (l : List ℕ). Appends out now l) same appended)
-  ending_written ending printed sent lines told notes one two (inr refused) none some tells converts same appended first second third is =
-      with_notes rules controls name text old new out now (status_of ending) printed told notes (ap status_of refused) (subst (λ (l : List Note). 0 < length l) second (some refused)) converts
-      (subst (λ (l : List ℕ). Appends out now l) same appended) (third ∙ is ∙ ap (note_lines name) first) (tells refused)
-
 -- what converting a file does
-module _ (rules : List Rule) (controls : List Control) (wanted : ConvertWanted) (files : Option Directory) (before after : ℕ) (old new out now : Option (List ℕ)) where
-  pub file_unread : (status : ℕ) → status ≡ 1 → CountsFailure before after → Tells (file_line wanted.file) old new → ConvertsFile rules controls wanted files status before after old new out out
+module _ (rules : List Rule) (advice : Advice) (wanted : ConvertWanted) (files : Option Directory) (before after : ℕ) (old new out now : Option (List ℕ)) where
+  pub file_unread : (status : ℕ) → status ≡ 1 → CountsFailure before after → Tells (file_line wanted.file) old new → ConvertsFile rules advice wanted files status before after old new out out
   unfolding ConvertsFile
-  file_unread status one counted told = inl (
-    one,
-    stays_written out,
-    record {
-      counted = counted;
-      name = wanted.file;
-      stopped = record { before = []; rest = []; texts = []; names_are = refl; read = tt };
-      told = told;
-    },
-  )
+  file_unread status one counted told = inl (one, stays_written out, record { counted = counted; name = wanted.file; stopped = inl refl; told = told })
 
-  pub file_unheld : (status : ℕ) → status ≡ 1 → after ≡ before → Tells memory_line old new → ConvertsFile rules controls wanted files status before after old new out out
+  pub file_unheld : (status : ℕ) → status ≡ 1 → after ≡ before → Tells memory_line old new → ConvertsFile rules advice wanted files status before after old new out out
   unfolding ConvertsFile
   file_unheld status one same told = inr (inl (one, record { count = same; told = told; nothing = stays_written out }))
 
-  pub file_converted : (status : ℕ) (text : List ℕ) → after ≡ before → HasFile files wanted.file text → ConvertsText rules controls wanted.file text status old new out now
-      → ConvertsFile rules controls wanted files status before after old new out now
-  unfolding ConvertsFile
-  file_converted status text same read converted = inr (inr (same, record { text = text; read = read; converted = converted }))
+  -- with the source of the file, and what was told of its lines
+  source_converted : (status middle : ℕ) (text : List ℕ) (held : Option Directory) → KeepsFiles files held → middle ≡ before → HasFile files wanted.file text
+      → ConvertsHeld rules advice wanted held (prepared_notes advice (medium_of wanted) text) (prepared (medium_of wanted) text) status middle after old new out now
+      → ConvertsFile rules advice wanted files status before after old new out now
+  unfolding ConvertsFile ConvertsHeld
+  source_converted status middle text held kept same read (inl (one, nothing, stopped)) = inl (
+    one,
+    nothing,
+    record {
+      counted = subst (λ (n : ℕ). CountsFailure n after) same stopped.counted;
+      name = stopped.name;
+      stopped = inr (record {
+        text = text;
+        read = read;
+        stops = was_stopped_including files held kept rules advice wanted (prepared_notes advice (medium_of wanted) text) (prepared (medium_of wanted) text) stopped.name stopped.stopped;
+      });
+      told = stopped.told;
+    },
+  )
+  source_converted status middle text held kept same read (inr (unchanged, converts)) = inr (inr (
+    unchanged ∙ same,
+    record {
+      text = text;
+      read = read;
+      converted = was_converted files held kept rules advice wanted (prepared_notes advice (medium_of wanted) text) (prepared (medium_of wanted) text) status old new out now converts;
+    },
+  ))
 
--- the rules and the controls are those of the tables
-pub by_tables : (rules : List Rule) (controls : List Control) (wanted : ConvertWanted) (files : Option Directory) (status before after : ℕ) (old new out now : Option (List ℕ))
-    → map rule_view rules ≡ table_of_rules → map control_view controls ≡ table_of_controls → ConvertsFile rules controls wanted files status before after old new out now
+  pub file_converted : (status middle : ℕ) (text source : List ℕ) (notes : List PlacedNote) (held : Option Directory) → KeepsFiles files held → middle ≡ before → HasFile files wanted.file text
+      → source ≡ prepared (medium_of wanted) text → notes ≡ prepared_notes advice (medium_of wanted) text
+      → ConvertsHeld rules advice wanted held notes source status middle after old new out now → ConvertsFile rules advice wanted files status before after old new out now
+  file_converted status middle text source notes held kept same read source_is notes_are converts =
+      source_converted status middle text held kept same read (rw (sym source_is, sym notes_are) converts)
+
+-- the rules and what is told are those of the tables
+pub by_tables : (rules : List Rule) (advice : Advice) (wanted : ConvertWanted) (files : Option Directory) (status before after : ℕ) (old new out now : Option (List ℕ))
+    → map rule_view rules ≡ table_of_rules → advice_view advice ≡ usual_advice → ConvertsFile rules advice wanted files status before after old new out now
     → ConvertsByTables wanted files status before after old new out now
-by_tables rules controls wanted files status before after old new out now first second converts =
-    record { rules = rules; controls = controls; rules_are = first; controls_are = second; converts = converts }
+by_tables rules advice wanted files status before after old new out now first second converts =
+    record { rules = rules; advice = advice; rules_are = first; advice_is = second; converts = converts }

@@ -18,6 +18,7 @@ pub mod Printed
 pub mod Untold
 pub mod Executed
 pub mod Explained
+pub mod Included
 pub mod Converted
 pub mod NeedsPrinted
 pub mod NeedRefused

@@ -1,34 +1,44 @@
 -- What is printed and told of a source that is converted.
-use Rattle.std.specs.Prelude.{◌≡◌, ◌⊎◌, ◌<◌, ℕ, true, List, [], ◌∷◌, length, map, Option, None, Some}
+use Rattle.std.specs.Prelude.{◌≡◌, ◌⊎◌, ◌<◌, ℕ, true, List, [], length, map, min, Option, None, Some}
 use Rattle.std.specs.Io.KnownBytes.{Appends, Keeps}
 use Rattle.failure.specs.Writing.{AppendsBeginning}
 use Rattle.clap.specs.Words.{Text}
 use Rattle.words.specs.declared.limits.TheConstants.{LONGEST_SOURCE}
 use Rattle.host.specs.Files.{Directory, HasFile}
-use Rattle.host.specs.Reading.{StopsAt}
 use Rattle.host.specs.Refusals.{Tells, memory_line, refusal_line}
 use Rattle.sources.specs.declared.read.ReadFault.{ReadFault}
 use Rattle.sources.specs.declared.read.ReadFault.TheVariants.{TooLong, Words, Expansion, Syntax, Typing, Storage}
-use Rattle.sources.specs.Causes.{HasReadCause}
+use Rattle.sources.specs.Causes.{HasReadCause, HasTypingFault}
 use Rattle.sources.specs.Faults.{line_of, number_of}
-use Rattle.sources.specs.Reading.{IsText}
-use Rattle.convert.specs.declared.controls.Control.{Control}
-use Rattle.convert.specs.declared.converting.Note.{Note}
+use Rattle.sources.specs.Reading.{HasTyping}
+use Rattle.convert.specs.declared.advice.Advice.{Advice}
+use Rattle.convert.specs.declared.assembly.Place.{Place}
+use Rattle.convert.specs.declared.assembly.PlacedNote.{PlacedNote}
+use Rattle.convert.specs.declared.includes.Entry.{Entry}
+use Rattle.convert.specs.declared.preparing.Medium.{Medium}
 use Rattle.convert.specs.declared.rule.Rule.{Rule}
-use Rattle.convert.specs.Controls.{control_view, table_of_controls}
+use Rattle.convert.specs.Advice.{advice_view, usual_advice}
+use Rattle.convert.specs.Assembly.{Parts, as_it_is}
 use Rattle.convert.specs.Conversion.{IsRefused}
-use Rattle.convert.specs.Lines.{lined}
+use Rattle.convert.specs.Includes.{name_of_file}
+use Rattle.convert.specs.Lines.{plain}
+use Rattle.convert.specs.Preparing.{prepared, prepared_notes}
 use Rattle.convert.specs.Table.{rule_view, table_of_rules}
-use Rattle.convert.specs.Sources.{IsConverted, note_lines}
+use Rattle.convert.specs.Sources.{IsConverted, note_lines, place_at}
 use Rattle.command_line.specs.Command.{ConvertWanted, Wanted, wants_compile, wants_convert, wants_execute}
 use Rattle.command_line.specs.Command.{wants_explain, wants_link, wants_need, wants_place, wants_program}
 use Rattle.command_line.specs.Settings.{outputs_in}
+use Rattle.commands.specs.Including.{IsIncluded, StopsLookingForNext, put_together}
 use Rattle.commands.specs.OutputFiles.{ByOutputs, is_output}
 use Rattle.commands.specs.Refusing.{RunsOut, TellsFile, TellsUnwritten}
 
--- a text is a module of this language, whether or not that has a fault of names or of types
+-- a text is a module of this language, with no fault of names or of types
 abbrev pub IsModule : (text : List ℕ) → Type 0
-IsModule text = (tree : _) × IsText text tree
+IsModule text = (typed : _) × HasTyping text typed
+
+-- a text would be a module but for a fault of names or of types
+abbrev pub IsMistyped : (text : List ℕ) → Type 0
+IsMistyped text = (fault : _) × HasTypingFault text fault
 
 -- the faults of a text that is no module
 abbrev pub IsOfNoModule : ReadFault → Type 0
@@ -45,58 +55,98 @@ pub record IsNoModule (text : List ℕ) : Type 0 where
   pub kind : IsOfNoModule fault
   pub cause : HasReadCause fault text
 
--- what a text is printed as, and what is told of it: a module stays as it is
-pub data Converts (rules : List Rule) (controls : List Control) (text : List ℕ) : List ℕ → List Note → Type 0 where
-  stays : IsModule text
-      → Converts rules controls text text []
-  changed : {printed : List ℕ} {notes : List Note}
-      → IsNoModule text
-      → IsConverted rules controls text printed notes
-      → Converts rules controls text printed notes
+-- a text is no module, and with the files that it includes it is put together so, after what was told before
+pub record IsPutTogether (advice : Advice) (wanted : ConvertWanted) (files : Option Directory) (before : List PlacedNote)
+    (text : List ℕ) (entries : List Entry) (parts : Parts) : Type 0 where
+  pub none : IsNoModule text
+  pub included : IsIncluded advice wanted files before (plain text) entries
+  pub parts_are : parts ≡ put_together advice wanted entries before (plain text)
 
--- the cause that a text is not converted: it is too long, or its words are refused once its lines were changed
+-- a text is no module, and a file that it includes can't be read
+pub record StopsIncluding (advice : Advice) (wanted : ConvertWanted) (files : Option Directory) (before : List PlacedNote)
+    (text stop : List ℕ) : Type 0 where
+  pub none : IsNoModule text
+  pub next : StopsLookingForNext advice wanted files before (plain text) stop
+
+-- the cause that what was put together is not converted: it is too long, or its words are refused
 abbrev pub HasNoConversion : List ℕ → ReadFault → Type 0
 HasNoConversion text TooLong = LONGEST_SOURCE < length text
 HasNoConversion text (Words fault) = ⊥
-HasNoConversion text (Expansion fault) = IsNoModule text × IsRefused (lined text) fault
+HasNoConversion text (Expansion fault) = IsRefused text fault
 HasNoConversion text (Syntax fault) = ⊥
 HasNoConversion text (Typing fault) = ⊥
 HasNoConversion text (Storage fault) = ⊥
 
-module _ (rules : List Rule) (controls : List Control) (name text : List ℕ) where
+-- where a fault is told: the line of a text that is too long is 0, and no greater one is told than 4294967295
+abbrev pub fault_line_at : (name : List ℕ) → List Entry → Place → ReadFault → List ℕ
+fault_line_at name entries place fault =
+    refusal_line (number_of fault) (name_of_file name entries place.file) (min place.line 4294967295)
+
+-- how a file holds its source
+abbrev pub medium_of : ConvertWanted → Medium
+medium_of wanted = record { listing = wanted.listing; cards = wanted.cards }
+
+module _ (rules : List Rule) (advice : Advice) (wanted : ConvertWanted) (files : Option Directory)
+    (before : List PlacedNote) (text : List ℕ) where
+  -- What a text is printed as with these files, and what is told of it after what was told before: a module stays as it is.
+  -- Of one with a fault of names or of types the words alone are changed.
+  pub data Converts : List Entry → List ℕ → List PlacedNote → Type 0 where
+    stays : IsModule text
+        → Converts [] text before
+    rewritten : {printed : List ℕ} {notes : List PlacedNote}
+        → IsMistyped text
+        → IsConverted rules (as_it_is before text) printed notes
+        → Converts [] printed notes
+    changed : {entries : List Entry} {parts : Parts} {printed : List ℕ} {notes : List PlacedNote}
+        → IsPutTogether advice wanted files before text entries parts
+        → IsConverted rules parts printed notes
+        → Converts entries printed notes
+
   -- all was printed, with nothing to tell
   pub record PrintsText (old new : Option (List ℕ)) : Type 0 where
+    pub entries : List Entry
     pub printed : List ℕ
-    pub converts : Converts rules controls text printed []
+    pub converts : Converts entries printed []
     pub appended : Appends old new printed
 
   -- all was printed, and there are notes, which were told, or a beginning of them
   pub record TellsNotes (err_old err_new out_old out_new : Option (List ℕ)) : Type 0 where
+    pub entries : List Entry
     pub printed : List ℕ
-    pub notes : List Note
+    pub notes : List PlacedNote
     pub some : 0 < length notes
-    pub converts : Converts rules controls text printed notes
+    pub converts : Converts entries printed notes
     pub appended : Appends out_old out_new printed
-    pub told : AppendsBeginning err_old err_new (note_lines name notes)
+    pub told : AppendsBeginning err_old err_new (note_lines wanted.file entries notes)
 
   -- memory ran out or standard output was not written, where a beginning was printed, which may be nothing or all
   pub record StopsText (err_old err_new out_old out_new : Option (List ℕ)) : Type 0 where
+    pub entries : List Entry
     pub printed : List ℕ
-    pub notes : List Note
-    pub converts : Converts rules controls text printed notes
+    pub notes : List PlacedNote
+    pub converts : Converts entries printed notes
     pub told : TellsUnwritten err_old err_new
     pub begun : AppendsBeginning out_old out_new printed
 
-  -- the text is not converted, and its fault was told
+  -- the text is not converted, and its fault was told, at the place of its line
   pub record TellsFault (old new : Option (List ℕ)) : Type 0 where
+    pub entries : List Entry
+    pub parts : Parts
+    pub together : IsPutTogether advice wanted files before text entries parts
     pub fault : ReadFault
-    pub cause : HasNoConversion text fault
-    pub told : Tells (refusal_line (number_of fault) name (line_of fault)) old new
+    pub cause : HasNoConversion parts.text fault
+    pub told : Tells (fault_line_at wanted.file entries (place_at parts.places (line_of fault)) fault) old new
+
+  -- the text is too long, and this was told
+  pub record TellsLength (old new : Option (List ℕ)) : Type 0 where
+    pub long : LONGEST_SOURCE < length text
+    pub told : Tells (refusal_line (number_of TooLong) wanted.file 0) old new
 
   -- why a text was not printed, or not without a word
   unfoldable pub RefusesText : (err_old err_new out_old out_new : Option (List ℕ)) → Type 0
   RefusesText err_old err_new out_old out_new =
-      (Keeps out_old out_new × (Tells memory_line err_old err_new ⊎ TellsFault err_old err_new))
+      (Keeps out_old out_new
+      × (Tells memory_line err_old err_new ⊎ (TellsLength err_old err_new ⊎ TellsFault err_old err_new)))
       ⊎ (TellsNotes err_old err_new out_old out_new ⊎ StopsText err_old err_new out_old out_new)
 
   -- what converting a text prints and tells, and the status
@@ -105,32 +155,44 @@ module _ (rules : List Rule) (controls : List Control) (name text : List ℕ) wh
       ((status ≡ 0) × PrintsText out_old out_new)
       ⊎ ((status ≡ 1) × RefusesText err_old err_new out_old out_new)
 
--- the file that is wanted has a text, which was converted
-pub record ConvertsRead (rules : List Rule) (controls : List Control) (wanted : ConvertWanted) (files : Option Directory)
+-- the file that is wanted has a text, whose source was converted, after what is told of its lines
+pub record ConvertsRead (rules : List Rule) (advice : Advice) (wanted : ConvertWanted) (files : Option Directory)
     (status : ℕ) (err_old err_new out_old out_new : Option (List ℕ)) : Type 0 where
   pub text : List ℕ
   pub read : HasFile files wanted.file text
-  pub converted : ConvertsText rules controls wanted.file text status err_old err_new out_old out_new
+  pub converted : ConvertsText rules advice wanted files (prepared_notes advice (medium_of wanted) text)
+      (prepared (medium_of wanted) text) status err_old err_new out_old out_new
 
--- What converting a file prints and tells, and the status: 1 where it can't be read or memory ran out, with nothing
--- printed, or else what converting its text does.
+-- the file that is wanted has a text, and a file that its source includes can't be read
+pub record StopsRead (advice : Advice) (wanted : ConvertWanted) (files : Option Directory) (stop : List ℕ) : Type 0 where
+  pub text : List ℕ
+  pub read : HasFile files wanted.file text
+  pub stops : StopsIncluding advice wanted files (prepared_notes advice (medium_of wanted) text)
+      (prepared (medium_of wanted) text) stop
+
+-- the file at which converting stops: the one that is wanted, or one that its source includes
+abbrev pub StopsConverting : Advice → ConvertWanted → Option Directory → List ℕ → Type 0
+StopsConverting advice wanted files stop = (stop ≡ wanted.file) ⊎ StopsRead advice wanted files stop
+
+-- What converting a file prints and tells, and the status: 1 where it or a file that it includes can't be read or memory ran
+-- out, with nothing printed, or else what converting its text does.
 unfoldable pub ConvertsFile :
-    List Rule → List Control → ConvertWanted → Option Directory → (status before after : ℕ)
+    List Rule → Advice → ConvertWanted → Option Directory → (status before after : ℕ)
     → (err_old err_new out_old out_new : Option (List ℕ)) → Type 0
-ConvertsFile rules controls wanted files status before after err_old err_new out_old out_new =
+ConvertsFile rules advice wanted files status before after err_old err_new out_old out_new =
     ((status ≡ 1) × Keeps out_old out_new
-    × TellsFile (StopsAt files (wanted.file ∷ [])) before after err_old err_new)
+    × TellsFile (StopsConverting advice wanted files) before after err_old err_new)
     ⊎ (((status ≡ 1) × RunsOut before after err_old err_new out_old out_new)
-    ⊎ ((after ≡ before) × ConvertsRead rules controls wanted files status err_old err_new out_old out_new))
+    ⊎ ((after ≡ before) × ConvertsRead rules advice wanted files status err_old err_new out_old out_new))
 
--- the same with the rules and the controls of their tables
+-- the same with the rules and what is told of controls as they are
 pub record ConvertsByTables (wanted : ConvertWanted) (files : Option Directory) (status before after : ℕ)
     (err_old err_new out_old out_new : Option (List ℕ)) : Type 0 where
   pub rules : List Rule
-  pub controls : List Control
+  pub advice : Advice
   pub rules_are : map rule_view rules ≡ table_of_rules
-  pub controls_are : map control_view controls ≡ table_of_controls
-  pub converts : ConvertsFile rules controls wanted files status before after err_old err_new out_old out_new
+  pub advice_is : advice_view advice ≡ usual_advice
+  pub converts : ConvertsFile rules advice wanted files status before after err_old err_new out_old out_new
 
 -- what an order to convert prints and tells; of other orders that is said elsewhere
 abbrev pub ConvertsAsWanted :

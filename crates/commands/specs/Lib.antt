@@ -12,6 +12,7 @@ pub mod Executing
 pub mod Explaining
 pub mod Needing
 pub mod Orders
+pub mod Including
 pub mod Converting
 pub mod internal
 pub use Rattle.commands.specs.NeedFaults as NeedFaults

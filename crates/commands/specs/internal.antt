@@ -1,2 +1,3 @@
 pub mod LineFaults
 pub mod Reading
+pub mod Converting

@@ -4,23 +4,40 @@ ghost use Rattle.std.specs.Prelude.{◌≡◌, ◌⊎◌, ◌<◌, ◌≤◌, []
 ghost use Rattle.failure.specs.Failure.{IfFault};
 ghost use Rattle.failure.specs.Writing.{AppendsBeginning};
 ghost use Rattle.words.specs.declared.limits.TheConstants.{LONGEST_SOURCE};
-ghost use Rattle.sources.specs.Causes.{HasReadCause};
 ghost use Rattle.host.specs.Endings.{status_of};
 ghost use Rattle.host.specs.Files.{KeepsFiles};
+ghost use Rattle.host.specs.Refusals.{Tells};
 ghost use Rattle.command_line.specs.Command.{convert_in};
-ghost use Rattle.commands.specs.Converting.{Converts, ConvertsByTables, ConvertsFile, ConvertsText, HasNoConversion, IsModule, IsNoModule};
+ghost use Rattle.convert.specs.Assembly.{as_it_is, parts_of};
+ghost use Rattle.convert.specs.Sources.{IsConverted, place_at};
+ghost use Rattle.sources.specs.Faults.{line_of};
+ghost use Rattle.commands.specs.Converting.{ConvertsByTables, ConvertsFile, HasNoConversion, IsNoModule, fault_line_at, medium_of};
+ghost use Rattle.commands.specs.internal.Converting.{ConvertsHeld, ConvertsParts, IsOfForm, PrintsNoted, form_of_fault};
 
+use crate::including::included_files;
 use command_line::ConvertOrder;
 use convert::{
-    Control, Converted, Note, Rule, all_controls, all_rules, convert_source, note_lines,
+    Advice, Assembly, Converted, Entry, Medium, PlacedNote, Rule, all_advice, all_rules, assemble,
+    assemble_as_is, convert_source, name_of_file, note_lines, place_at, plain, prepare,
 };
 use failure::{Failure, write_bytes};
-use host::{Ending, Files, refuse, refuse_file, refuse_memory, refuse_output};
+use host::{Ending, Files, refuse, refuse_file, refuse_memory, refuse_name, refuse_output};
 use sources::{LONGEST_SOURCE, ReadFault, read_source};
-use std::alloc::Global;
+use std::alloc::{AllocError, Global};
 use std::io::Write;
 
-/// Converts the source of an order by the rules and the controls of their tables.
+/// What a text is.
+#[derive(Clone, Copy)]
+pub(crate) enum Form {
+    /// A module of this language, with no fault of names or of types.
+    Module,
+    /// A module but for such a fault.
+    Mistyped,
+    /// Neither.
+    Old,
+}
+
+/// Converts the source of an order by the rules of their table.
 #[tactic(auto, using(crate::proofs::Converted::by_tables))]
 pub(crate) fn convert_by_tables<F: Files, O: Write, E: Write>(
     alloc: Global,
@@ -37,21 +54,21 @@ pub(crate) fn convert_by_tables<F: Files, O: Write, E: Write>(
     ensures count { (result ≡ Ending.Refused → ⊥) → F.failures files.new ≡ F.failures files.old }
     ensures quiet { (result ≡ Ending.Refused → ⊥) → E.contents err.new ≡ E.contents err.old }
 {
-    convert_file(alloc, all_rules(), all_controls(), order, files, out, err)
+    convert_file(alloc, all_rules(), all_advice(), order, files, out, err)
 }
 
 // Converts the source of an order.
 fn convert_file<F: Files, O: Write, E: Write>(
     alloc: Global,
     rules: &[Rule],
-    controls: &[Control],
+    advice: &Advice,
     order: &ConvertOrder,
     files: &mut F,
     out: &mut O,
     err: &mut E,
 ) -> Ending
     ensures unchanged { KeepsFiles (F.files files.old) (F.files files.new) }
-    ensures converted { ConvertsFile rules.now controls.now (convert_in order.now) (F.files files.old)
+    ensures converted { ConvertsFile rules.now advice.now (convert_in order.now) (F.files files.old)
         (status_of result) (F.failures files.old) (F.failures files.new)
         (E.contents err.old) (E.contents err.new) (O.contents out.old) (O.contents out.new) }
     ensures ending { (result ≡ Ending.Done) ⊎ (result ≡ Ending.Refused) }
@@ -63,49 +80,259 @@ fn convert_file<F: Files, O: Write, E: Write>(
         Err(Failure::Fault(fault)) => return refuse_file(fault, order.file, err),
         Err(Failure::Memory) => return refuse_memory(err),
     };
+    let Ok(prepared) = prepare(alloc, advice, medium_of(order), text.as_slice()) else {
+        return refuse_memory(err);
+    };
     convert_text(
         alloc,
         rules,
-        controls,
-        order.file,
-        text.as_slice(),
+        advice,
+        order,
+        prepared.notes.as_slice(),
+        prepared.text.as_slice(),
+        files,
         out,
         err,
     )
 }
 
-// Converts the text of a file of this name.
-fn convert_text<O: Write, E: Write>(
+// How the file of an order holds its source.
+fn medium_of(order: &ConvertOrder) -> Medium
+    ensures { result ≡ medium_of (convert_in order.now) }
+{
+    Medium {
+        listing: order.listing,
+        cards: order.cards,
+    }
+}
+
+// Converts the source of the file of an order, after what was told before.
+fn convert_text<F: Files, O: Write, E: Write>(
     alloc: Global,
     rules: &[Rule],
-    controls: &[Control],
+    advice: &Advice,
+    order: &ConvertOrder,
+    before: &[PlacedNote],
+    text: &[u8],
+    files: &mut F,
+    out: &mut O,
+    err: &mut E,
+) -> Ending
+    ensures unchanged { KeepsFiles (F.files files.old) (F.files files.new) }
+    ensures converted { ConvertsHeld rules.now advice.now (convert_in order.now) (F.files files.old) before.now
+        text.now (status_of result) (F.failures files.old) (F.failures files.new)
+        (E.contents err.old) (E.contents err.new) (O.contents out.old) (O.contents out.new) }
+    ensures ending { (result ≡ Ending.Done) ⊎ (result ≡ Ending.Refused) }
+    ensures count { (result ≡ Ending.Refused → ⊥) → F.failures files.new ≡ F.failures files.old }
+    ensures quiet { (result ≡ Ending.Refused → ⊥) → E.contents err.new ≡ E.contents err.old }
+{
+    if text.len() > LONGEST_SOURCE {
+        return refuse(ReadFault::TooLong.number(), order.file, 0, err);
+    }
+    match form_of(alloc, text) {
+        Ok(Form::Module) => print_noted(alloc, order.file, &[], text, before, out, err),
+        Ok(Form::Mistyped) => rewrite(alloc, rules, order.file, before, text, out, err),
+        Ok(Form::Old) => { convert_old(alloc, rules, advice, order, before, text, files, out, err) }
+        Err(_) => refuse_memory(err),
+    }
+}
+
+// What a text is.
+#[tactic(auto, using(crate::proofs::Converted::source_is_module, crate::proofs::Converted::of_form))]
+fn form_of(alloc: Global, text: &[u8]) -> Result<Form, AllocError>
+    requires { length text.now ≤ LONGEST_SOURCE }
+    ensures { IfOk result (λ form. IsOfForm text.now form) }
+{
+    match read_source(alloc, text) {
+        Ok(_) => Ok(Form::Module),
+        Err(Failure::Fault(fault)) => Ok(form_of_fault(fault)),
+        Err(Failure::Memory) => Err(AllocError),
+    }
+}
+
+// What a text with this fault is.
+fn form_of_fault(fault: ReadFault) -> Form
+    ensures { result ≡ form_of_fault fault }
+{
+    match fault {
+        ReadFault::Typing(_) => Form::Mistyped,
+        ReadFault::Storage(_) => Form::Module,
+        ReadFault::TooLong | ReadFault::Words(_) | ReadFault::Expansion(_) | ReadFault::Syntax(_) =>
+            Form::Old,
+    }
+}
+
+// Changes the words of a text that would be a module but for a fault of names or of types.
+fn rewrite<O: Write, E: Write>(
+    alloc: Global,
+    rules: &[Rule],
     name: &str,
+    before: &[PlacedNote],
     text: &[u8],
     out: &mut O,
     err: &mut E,
 ) -> Ending
-    ensures converted { ConvertsText rules.now controls.now name.now text.now (status_of result)
+    ensures converted { ConvertsParts name.now [] rules.now (as_it_is before.now text.now) (status_of result)
         (E.contents err.old) (E.contents err.new) (O.contents out.old) (O.contents out.new) }
     ensures ending { (result ≡ Ending.Done) ⊎ (result ≡ Ending.Refused) }
     ensures quiet { (result ≡ Ending.Refused → ⊥) → E.contents err.new ≡ E.contents err.old }
 {
-    let converted = match converted_text(alloc, rules, controls, text) {
-        Ok(converted) => converted,
-        Err(Failure::Fault(fault)) => return refuse(fault.number(), name, fault.line(), err),
-        Err(Failure::Memory) => return refuse_memory(err),
-    };
-    let Ok(lines) = note_lines(alloc, name, converted.notes.as_slice()) else {
+    match assemble_as_is(alloc, before, text) {
+        Ok(assembly) => print_assembly(alloc, rules, name, &[], &assembly, out, err),
+        Err(_) => refuse_memory(err),
+    }
+}
+
+// Converts a text that is no module.
+fn convert_old<F: Files, O: Write, E: Write>(
+    alloc: Global,
+    rules: &[Rule],
+    advice: &Advice,
+    order: &ConvertOrder,
+    before: &[PlacedNote],
+    text: &[u8],
+    files: &mut F,
+    out: &mut O,
+    err: &mut E,
+) -> Ending
+    requires { IsNoModule text.now }
+    ensures unchanged { KeepsFiles (F.files files.old) (F.files files.new) }
+    ensures converted { ConvertsHeld rules.now advice.now (convert_in order.now) (F.files files.old) before.now
+        text.now (status_of result) (F.failures files.old) (F.failures files.new)
+        (E.contents err.old) (E.contents err.new) (O.contents out.old) (O.contents out.new) }
+    ensures ending { (result ≡ Ending.Done) ⊎ (result ≡ Ending.Refused) }
+    ensures count { (result ≡ Ending.Refused → ⊥) → F.failures files.new ≡ F.failures files.old }
+    ensures quiet { (result ≡ Ending.Refused → ⊥) → E.contents err.new ≡ E.contents err.old }
+{
+    let Ok(source) = plain(alloc, text) else {
         return refuse_memory(err);
     };
-    match write_bytes(out, converted.text.as_slice()) {
-        Ok(()) => tell_notes(converted.notes.as_slice(), lines.as_slice(), err),
+    let entries = match included_files(alloc, advice, order, before, source.as_slice(), files) {
+        Ok(entries) => entries,
+        Err(Failure::Fault(name)) => return refuse_name("U3", name.as_slice(), 0, err),
+        Err(Failure::Memory) => return refuse_memory(err),
+    };
+    let sets = order.sets.as_slice();
+    match assemble(
+        alloc,
+        advice,
+        entries.as_slice(),
+        before,
+        sets,
+        source.as_slice(),
+    ) {
+        Ok(assembly) => print_assembly(
+            alloc,
+            rules,
+            order.file,
+            entries.as_slice(),
+            &assembly,
+            out,
+            err,
+        ),
+        Err(_) => refuse_memory(err),
+    }
+}
+
+// Prints what was put together, converted.
+fn print_assembly<O: Write, E: Write>(
+    alloc: Global,
+    rules: &[Rule],
+    name: &str,
+    entries: &[Entry],
+    assembly: &Assembly,
+    out: &mut O,
+    err: &mut E,
+) -> Ending
+    ensures converted { ConvertsParts name.now entries.now rules.now (parts_of assembly.now) (status_of result)
+        (E.contents err.old) (E.contents err.new) (O.contents out.old) (O.contents out.new) }
+    ensures ending { (result ≡ Ending.Done) ⊎ (result ≡ Ending.Refused) }
+    ensures quiet { (result ≡ Ending.Refused → ⊥) → E.contents err.new ≡ E.contents err.old }
+{
+    match converted_text(alloc, rules, assembly) {
+        Ok(converted) => {
+            let notes = converted.notes.as_slice();
+            print_noted(
+                alloc,
+                name,
+                entries,
+                converted.text.as_slice(),
+                notes,
+                out,
+                err,
+            )
+        }
+        Err(Failure::Fault(fault)) => refuse_fault(name, entries, assembly, &fault, err),
+        Err(Failure::Memory) => refuse_memory(err),
+    }
+}
+
+// What was put together, converted.
+fn converted_text(
+    alloc: Global,
+    rules: &[Rule],
+    assembly: &Assembly,
+) -> Result<Converted, Failure<ReadFault>>
+    ensures converted { IfOk result (λ converted. IsConverted rules.now (parts_of assembly.now)
+        converted.text.items converted.notes.items) }
+    ensures refused { IfFault result (HasNoConversion (parts_of assembly.now).text) }
+{
+    if assembly.text.len() > LONGEST_SOURCE {
+        return Err(Failure::Fault(ReadFault::TooLong));
+    }
+    match convert_source(alloc, rules, assembly) {
+        Ok(converted) => Ok(converted),
+        Err(Failure::Fault(fault)) => Err(Failure::Fault(ReadFault::Expansion(fault))),
+        Err(Failure::Memory) => Err(Failure::Memory),
+    }
+}
+
+// Prints the number of a fault, and where it was found.
+fn refuse_fault<E: Write>(
+    name: &str,
+    entries: &[Entry],
+    assembly: &Assembly,
+    fault: &ReadFault,
+    err: &mut E,
+) -> Ending
+    ensures ending { result ≡ Ending.Refused }
+    ensures told { Tells (fault_line_at name.now entries.now
+        (place_at (parts_of assembly.now).places (line_of fault.now)) fault.now)
+        (E.contents err.old) (E.contents err.new) }
+{
+    let place = place_at(assembly.places.as_slice(), fault.line() as usize);
+    let file = name_of_file(name.as_bytes(), entries, place.file);
+    let line = place.line.min(4_294_967_295) as u32;
+    refuse_name(fault.number(), file, line, err)
+}
+
+// Prints a text, and tells its notes.
+fn print_noted<O: Write, E: Write>(
+    alloc: Global,
+    name: &str,
+    entries: &[Entry],
+    text: &[u8],
+    notes: &[PlacedNote],
+    out: &mut O,
+    err: &mut E,
+) -> Ending
+    ensures printed { PrintsNoted name.now entries.now text.now notes.now (status_of result)
+        (E.contents err.old) (E.contents err.new) (O.contents out.old) (O.contents out.new) }
+    ensures ending { (result ≡ Ending.Done) ⊎ (result ≡ Ending.Refused) }
+    ensures quiet { (result ≡ Ending.Refused → ⊥) → E.contents err.new ≡ E.contents err.old }
+{
+    let Ok(lines) = note_lines(alloc, name, entries, notes) else {
+        return refuse_memory(err);
+    };
+    match write_bytes(out, text) {
+        Ok(()) => tell_notes(notes, lines.as_slice(), err),
         Err(Failure::Fault(_)) => refuse_output(err),
         Err(Failure::Memory) => refuse_memory(err),
     }
 }
 
 // Tells the lines of notes, if there are notes.
-fn tell_notes<E: Write>(notes: &[Note], lines: &[u8], err: &mut E) -> Ending
+fn tell_notes<E: Write>(notes: &[PlacedNote], lines: &[u8], err: &mut E) -> Ending
     ensures done { result ≡ Ending.Done → notes.now ≡ [] }
     ensures some { result ≡ Ending.Refused → 0 < length notes.now }
     ensures told { result ≡ Ending.Refused →
@@ -118,93 +345,4 @@ fn tell_notes<E: Write>(notes: &[Note], lines: &[u8], err: &mut E) -> Ending
     }
     let _ = write_bytes(err, lines);
     Ending::Refused
-}
-
-// A text in this language.
-#[tactic(auto, using(crate::proofs::Converted::source_is_module))]
-fn converted_text(
-    alloc: Global,
-    rules: &[Rule],
-    controls: &[Control],
-    text: &[u8],
-) -> Result<Converted, Failure<ReadFault>>
-    ensures converted { IfOk result (λ converted. Converts rules.now controls.now text.now
-        converted.text.items converted.notes.items) }
-    ensures refused { IfFault result (HasNoConversion text.now) }
-{
-    if text.len() > LONGEST_SOURCE {
-        return Err(Failure::Fault(ReadFault::TooLong));
-    }
-    match read_source(alloc, text) {
-        Ok(_) => same(alloc, rules, controls, text),
-        Err(Failure::Fault(fault)) => after_fault(alloc, rules, controls, text, fault),
-        Err(Failure::Memory) => Err(Failure::Memory),
-    }
-}
-
-// The same, where the text has this fault.
-#[tactic(auto, using(crate::proofs::Converted::typing_is_module, crate::proofs::Converted::storage_is_module, crate::proofs::Converted::words_are_none, crate::proofs::Converted::expansion_is_none, crate::proofs::Converted::syntax_is_none))]
-fn after_fault(
-    alloc: Global,
-    rules: &[Rule],
-    controls: &[Control],
-    text: &[u8],
-    fault: ReadFault,
-) -> Result<Converted, Failure<ReadFault>>
-    requires short { length text.now ≤ LONGEST_SOURCE }
-    requires cause { HasReadCause fault text.now }
-    ensures converted { IfOk result (λ converted. Converts rules.now controls.now text.now
-        converted.text.items converted.notes.items) }
-    ensures refused { IfFault result (HasNoConversion text.now) }
-{
-    match fault {
-        ReadFault::TooLong => Err(Failure::Fault(ReadFault::TooLong)),
-        ReadFault::Words(_) => changed(alloc, rules, controls, text),
-        ReadFault::Expansion(_) => changed(alloc, rules, controls, text),
-        ReadFault::Syntax(_) => changed(alloc, rules, controls, text),
-        ReadFault::Typing(_) => same(alloc, rules, controls, text),
-        ReadFault::Storage(_) => same(alloc, rules, controls, text),
-    }
-}
-
-// A module as it is.
-#[tactic(auto, using(crate::proofs::Converted::module_stays))]
-fn same(
-    alloc: Global,
-    rules: &[Rule],
-    controls: &[Control],
-    text: &[u8],
-) -> Result<Converted, Failure<ReadFault>>
-    requires { IsModule text.now }
-    ensures converted { IfOk result (λ converted. Converts rules.now controls.now text.now
-        converted.text.items converted.notes.items) }
-    ensures refused { IfFault result (HasNoConversion text.now) }
-{
-    let mut copy = Vec::new(alloc);
-    copy.extend_from_slice(text)?;
-    Ok(Converted {
-        text: copy,
-        notes: Vec::new(alloc),
-    })
-}
-
-// A text that is no module, changed.
-#[tactic(auto, using(crate::proofs::Converted::text_changed, crate::proofs::Converted::text_refused))]
-fn changed(
-    alloc: Global,
-    rules: &[Rule],
-    controls: &[Control],
-    text: &[u8],
-) -> Result<Converted, Failure<ReadFault>>
-    requires short { length text.now ≤ LONGEST_SOURCE }
-    requires none { IsNoModule text.now }
-    ensures converted { IfOk result (λ converted. Converts rules.now controls.now text.now
-        converted.text.items converted.notes.items) }
-    ensures refused { IfFault result (HasNoConversion text.now) }
-{
-    match convert_source(alloc, rules, controls, text) {
-        Ok(converted) => Ok(converted),
-        Err(Failure::Fault(fault)) => Err(Failure::Fault(ReadFault::Expansion(fault))),
-        Err(Failure::Memory) => Err(Failure::Memory),
-    }
 }

@@ -5,6 +5,7 @@ mod console;
 mod converting;
 mod executing;
 mod explaining;
+mod including;
 mod needing;
 mod needs;
 mod port_inputs;

@@ -1,3 +1,3 @@
 pub mod Short
-pub mod Shorter
-pub mod Hiding
+pub mod Taken
+pub mod Deeper

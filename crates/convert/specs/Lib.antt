@@ -10,6 +10,16 @@ pub mod Edits
 pub mod Converting
 pub mod Conversion
 pub mod Table
-pub mod Controls
 pub mod Lines
+pub mod Controls
+pub mod Switches
+pub mod Blocks
+pub mod Includes
+pub mod Advice
+pub mod Assembly
 pub mod Sources
+pub mod Columns
+pub mod Cards
+pub mod Listings
+pub mod Preparing
+pub mod internal

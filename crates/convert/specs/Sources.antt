@@ -1,23 +1,42 @@
 -- The conversion of a source.
-use Rattle.std.specs.Prelude.{◌≡◌, ℕ, List, [], ◌∷◌, ◌++◌, codes, decimal}
+use Rattle.std.specs.Prelude.{◌≡◌, ℕ, ◌-◌, nat_le, ◌&&◌, if◌then◌else◌, List, [], ◌∷◌, ◌++◌, codes, decimal, get_or, length, map}
 use Rattle.std.specs.List.{flat_map}
+use Rattle.convert.specs.declared.assembly.Place.{Place}
+use Rattle.convert.specs.declared.assembly.PlacedNote.{PlacedNote}
 use Rattle.convert.specs.declared.converting.Note.{Note}
-use Rattle.convert.specs.declared.controls.Control.{Control}
+use Rattle.convert.specs.declared.includes.Entry.{Entry}
 use Rattle.convert.specs.declared.rule.Rule.{Rule}
+use Rattle.convert.specs.Assembly.{Parts}
 use Rattle.convert.specs.Conversion.{IsConversion}
 use Rattle.convert.specs.Edits.{Change}
-use Rattle.convert.specs.Lines.{control_notes, lined}
+use Rattle.convert.specs.Includes.{name_of_file}
 
--- A source is converted to a text, and this is told: its lines come first, and then its words are changed by the rules.
-pub record IsConverted (rules : List Rule) (controls : List Control) (source text : List ℕ) (notes : List Note) : Type 0 where
+-- no line, of the source
+abbrev pub nowhere : Place
+nowhere = record { file = 0; line = 0 }
+
+-- where a line stands, counted from 1, of a text whose lines stand at these places
+abbrev pub place_at : List Place → ℕ → Place
+place_at places line =
+    if nat_le 1 line && nat_le line (length places) then get_or places (line - 1) nowhere else nowhere
+
+-- a note at the place of its line
+abbrev pub placed : List Place → Note → PlacedNote
+placed places note = record { place = place_at places note.line; text = note.text }
+
+-- What was put together is converted to a text, and this is told: first of lines with controls, and then of words, which are
+-- changed by the rules.
+pub record IsConverted (rules : List Rule) (parts : Parts) (text : List ℕ) (notes : List PlacedNote) : Type 0 where
   pub changes : List Change
   pub told : List Note
-  pub conversion : IsConversion rules (lined source) text changes told
-  pub notes_are : notes ≡ control_notes controls source ++ told
+  pub conversion : IsConversion rules parts.text text changes told
+  pub notes_are : notes ≡ parts.notes ++ map (placed parts.places) told
 
--- the line that tells a note of the file of this name
-abbrev pub note_line : (name : List ℕ) → Note → List ℕ
-note_line name note = name ++ (32 ∷ (decimal note.line ++ (codes ": " ++ (note.text.now ++ 10 ∷ []))))
+-- the line that tells a note, with the name of its file; that of the source is this
+abbrev pub note_line : (name : List ℕ) → List Entry → PlacedNote → List ℕ
+note_line name entries note =
+    name_of_file name entries note.place.file
+    ++ (32 ∷ (decimal note.place.line ++ (codes ": " ++ (note.text.now ++ 10 ∷ []))))
 
-abbrev pub note_lines : (name : List ℕ) → List Note → List ℕ
-note_lines name notes = flat_map (note_line name) notes
+abbrev pub note_lines : (name : List ℕ) → List Entry → List PlacedNote → List ℕ
+note_lines name entries notes = flat_map (note_line name entries) notes

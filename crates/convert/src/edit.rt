@@ -15,8 +15,8 @@ pub struct Edit {
     pub text: Vec<u8>,
 }
 
-// Whether a byte continues a name or a number: a letter, a digit or `$`.
-fn is_word_byte(b: u8) -> bool
+/// Whether a byte continues a name or a number: a letter, a digit or `$`.
+pub(crate) fn is_word_byte(b: u8) -> bool
     ensures { result ≡ is_word_byte b }
 {
     b.is_ascii_alphabetic() || b.is_ascii_digit() || b == b'$'

@@ -1,16 +1,16 @@
 //! Conversion of a source.
 
-ghost use Rattle.std.specs.Prelude.{◌≡◌, ◌≤◌, ◌++◌, length, IfOk};
+ghost use Rattle.std.specs.Prelude.{◌≡◌, ◌≤◌, ◌++◌, length, map, IfOk};
 ghost use Rattle.failure.specs.Failure.{IfFault};
 ghost use Rattle.words.specs.declared.limits.TheConstants.{LONGEST_SOURCE};
+ghost use Rattle.convert.specs.Assembly.{parts_of};
 ghost use Rattle.convert.specs.Conversion.{IsRefused};
-ghost use Rattle.convert.specs.Lines.{control_notes, lined};
-ghost use Rattle.convert.specs.Sources.{IsConverted, note_line, note_lines};
+ghost use Rattle.convert.specs.Sources.{IsConverted, note_line, note_lines, place_at, placed};
 
-use crate::controls::Control;
+use crate::assembly::{Assembly, Place, PlacedNote};
 use crate::conversion::{Conversion, convert};
 use crate::converting::Note;
-use crate::lines;
+use crate::includes::{Entry, name_of_file};
 use crate::rule::Rule;
 use failure::Failure;
 use itoa::Buffer;
@@ -18,90 +18,112 @@ use literally::Fault;
 use std::alloc::{AllocError, Global};
 use words::LONGEST_SOURCE;
 
-/// A converted source: its text, and what could not be changed.
+/// A converted source: its text, and what could not be carried out or changed.
 #[derive(Drop)]
 pub struct Converted {
     pub text: Vec<u8>,
-    pub notes: Vec<Note>,
+    pub notes: Vec<PlacedNote>,
 }
 
-// A source as it is after its lines, and what is told of these.
-#[derive(Drop)]
-struct Lined {
-    text: Vec<u8>,
-    notes: Vec<Note>,
+/// Where a line stands, counted from 1, of a text whose lines stand at these places; for another number line 0 of the source.
+pub fn place_at(places: &[Place], line: usize) -> Place
+    ensures { result ≡ place_at places.now line }
+{
+    if 1 <= line && line <= places.len() {
+        places[line - 1]
+    } else {
+        Place { file: 0, line: 0 }
+    }
 }
 
-/// A source in this language: its lines are changed, and then its words by rules, as `RULES`. Of lines with controls, as
-/// `CONTROLS`, something is told. A text that is not a list of words then,
-/// or in which a definition by LITERALLY is refused, is refused with that fault. Takes memory and time that grow with the text
-/// and its expansion.
-#[tactic(auto, using(crate::proofs::Shorter::lined_short))]
+/// A source that was put together in this language: its words are changed by rules, as `RULES`. A text that is not a list of
+/// words, or in which a definition by LITERALLY is refused, is refused with that fault. Takes memory and time that grow with
+/// the text and its expansion.
 pub fn convert_source(
     alloc: Global,
     rules: &[Rule],
-    controls: &[Control],
-    source: &[u8],
+    assembly: &Assembly,
 ) -> Result<Converted, Failure<Fault>>
-    requires { length source.now ≤ LONGEST_SOURCE }
-    ensures converted { IfOk result
-        (λ converted. IsConverted rules.now controls.now source.now
+    requires { length assembly.now.text.items ≤ LONGEST_SOURCE }
+    ensures converted { IfOk result (λ converted. IsConverted rules.now (parts_of assembly.now)
         converted.text.items converted.notes.items) }
-    ensures fault { IfFault result (IsRefused (lined source.now)) }
+    ensures fault { IfFault result (IsRefused (parts_of assembly.now).text) }
 {
-    let lined = line_source(alloc, controls, source)?;
-    let conversion = convert(alloc, rules, lined.text.as_slice())?;
-    let converted = join_notes(lined, conversion)?;
+    let conversion = convert(alloc, rules, assembly.text.as_slice())?;
+    let converted = join_notes(
+        alloc,
+        assembly.notes.as_slice(),
+        assembly.places.as_slice(),
+        conversion,
+    )?;
     Ok(converted)
 }
 
-// The lines of a source.
-fn line_source(alloc: Global, controls: &[Control], source: &[u8]) -> Result<Lined, AllocError>
-    ensures text { IfOk result (λ made. made.text.items ≡ lined source.now) }
-    ensures notes { IfOk result (λ made. made.notes.items ≡ control_notes controls.now source.now) }
-{
-    let plain = lines::plain(alloc, source)?;
-    let lines = lines::lines_of(alloc, plain.as_slice())?;
-    let text = lines::join_lines(alloc, lines.as_slice())?;
-    let mut notes = Vec::new(alloc);
-    lines::note_lines(alloc, controls, lines.as_slice(), &mut notes)?;
-    Ok(Lined { text, notes })
-}
-
 // What is told of lines, and then what is told of words.
-fn join_notes(lined: Lined, conversion: Conversion) -> Result<Converted, AllocError>
+fn join_notes(
+    alloc: Global,
+    first: &[PlacedNote],
+    places: &[Place],
+    conversion: Conversion,
+) -> Result<Converted, AllocError>
     ensures text { IfOk result (λ converted. converted.text ≡ conversion.text) }
-    ensures notes { IfOk result
-        (λ converted. converted.notes.items ≡ lined.notes.items ++ conversion.notes.items) }
+    ensures notes { IfOk result (λ converted. converted.notes.items
+        ≡ first.now ++ map (placed places.now) conversion.notes.items) }
 {
-    let mut notes = lined.notes;
-    notes.extend_from_slice(conversion.notes.as_slice())?;
+    let mut notes = Vec::from_slice(alloc, first)?;
+    add_notes(places, conversion.notes.as_slice(), &mut notes)?;
     Ok(Converted {
         text: conversion.text,
         notes,
     })
 }
 
-/// The lines that tell notes of the file of a name.
-pub fn note_lines(alloc: Global, name: &str, notes: &[Note]) -> Result<Vec<u8>, AllocError>
-    ensures { IfOk result (λ text. text.items ≡ note_lines name.now notes.now) }
+// Adds notes at the places of their lines.
+fn add_notes(places: &[Place], notes: &[Note], all: &mut Vec<PlacedNote>) -> Result<(), AllocError>
+    ensures { IfOk result (λ _. all.new.items ≡ all.old.items ++ map (placed places.now) notes.now) }
+{
+    let mut rest = notes;
+    while let [note, more @ ..] = rest {
+        let place = place_at(places, note.line);
+        all.push(PlacedNote {
+            place,
+            text: note.text,
+        })?;
+        rest = more;
+    }
+    Ok(())
+}
+
+/// The lines that tell notes of a source of a name, and of the files that were put in.
+pub fn note_lines(
+    alloc: Global,
+    name: &str,
+    entries: &[Entry],
+    notes: &[PlacedNote],
+) -> Result<Vec<u8>, AllocError>
+    ensures { IfOk result (λ text. text.items ≡ note_lines name.now entries.now notes.now) }
 {
     let mut text = Vec::new(alloc);
     let mut rest = notes;
     while let [note, more @ ..] = rest {
-        write_note(name, note, &mut text)?;
+        write_note(name, entries, note, &mut text)?;
         rest = more;
     }
     Ok(text)
 }
 
 // Adds the line that tells a note.
-fn write_note(name: &str, note: &Note, text: &mut Vec<u8>) -> Result<(), AllocError>
-    ensures { IfOk result (λ _. text.new.items ≡ text.old.items ++ note_line name.now note.now) }
+fn write_note(
+    name: &str,
+    entries: &[Entry],
+    note: &PlacedNote,
+    text: &mut Vec<u8>,
+) -> Result<(), AllocError>
+    ensures { IfOk result (λ _. text.new.items ≡ text.old.items ++ note_line name.now entries.now note.now) }
 {
     let mut digits = Buffer::new();
-    let line = digits.format(note.line);
-    text.extend_from_slice(name.as_bytes())?;
+    let line = digits.format(note.place.line);
+    text.extend_from_slice(name_of_file(name.as_bytes(), entries, note.place.file))?;
     text.push(b' ')?;
     text.extend_from_slice(line.as_bytes())?;
     text.extend_from_slice(b": ")?;

@@ -14,6 +14,11 @@ abbrev pub HasFile : Option Directory → List ℕ → List ℕ → Type 0
 HasFile None name bytes = ⊤
 HasFile (Some files) name bytes = files name ≡ Some bytes
 
+-- the bytes of the file of this name, or None where there is no such file; nothing is claimed of files that are not known
+abbrev pub FindsFile : Option Directory → List ℕ → Option (List ℕ) → Type 0
+FindsFile None name found = ⊤
+FindsFile (Some files) name found = files name ≡ found
+
 -- known files are afterwards the ones that the last argument says
 abbrev pub ChangesFiles : Option Directory → Option Directory → (Directory → Directory) → Type 0
 ChangesFiles None new change = ⊤

@@ -1,8 +1,8 @@
 //! Files that a program reads and writes.
 #![tactic(auto)]
 
-ghost use Rattle.std.specs.Prelude.{◌≡◌, ℕ, ◌≤◌, ◌<◌, List, Option, None, codes, length, take, IfOk, OnOk, IfErr, OnErr};
-ghost use Rattle.host.specs.Files.{BeginsFile, Counts, Directory, GrowsFile, HasFile, KeepsFiles};
+ghost use Rattle.std.specs.Prelude.{◌≡◌, ℕ, ◌≤◌, ◌<◌, List, Option, None, codes, length, option_map, take, IfOk, OnOk, IfErr, OnErr};
+ghost use Rattle.host.specs.Files.{BeginsFile, Counts, Directory, FindsFile, GrowsFile, HasFile, KeepsFiles};
 
 use failure::{Failure, write_some};
 use std::fs::{File, OpenOptions};
@@ -33,6 +33,14 @@ pub trait Files {
     /// The bytes of a file.
     fn read_file(&mut self, name: &str) -> Result<Vec<u8>, Failure<FileFault>>
         ensures bytes { IfOk result (λ bytes. HasFile (files self.old) name.now bytes.items) }
+        ensures kept { KeepsFiles (files self.old) (files self.new) }
+        ensures count { OnOk result (failures self.new ≡ failures self.old) }
+        ensures failed { IfErr result (λ failure. Counts failure (failures self.old) (failures self.new)) };
+
+    /// The bytes of a file, if there is one.
+    fn find_file(&mut self, name: &str) -> Result<Option<Vec<u8>>, Failure<FileFault>>
+        ensures found { IfOk result
+            (λ found. FindsFile (files self.old) name.now (option_map (λ bytes. bytes.items) found)) }
         ensures kept { KeepsFiles (files self.old) (files self.new) }
         ensures count { OnOk result (failures self.new ≡ failures self.old) }
         ensures failed { IfErr result (λ failure. Counts failure (failures self.old) (failures self.new)) };
@@ -126,6 +134,14 @@ impl<R: rt::Files + AllocGlobal> Files for HostFiles<'_, R> {
     fn read_file(&mut self, name: &str) -> Result<Vec<u8>, Failure<FileFault>> {
         match fs::read(self.rt, name) {
             Ok(bytes) => Ok(bytes),
+            Err(e) => Err(self.counted(failure_of(&e))),
+        }
+    }
+
+    fn find_file(&mut self, name: &str) -> Result<Option<Vec<u8>>, Failure<FileFault>> {
+        match fs::read(self.rt, name) {
+            Ok(bytes) => Ok(Some(bytes)),
+            Err(e) if e.kind() == io::ErrorKind::NotFound => Ok(None),
             Err(e) => Err(self.counted(failure_of(&e))),
         }
     }

@@ -8,6 +8,4 @@ unfoldable pub use Rattle.object_modules.specs.{Merge.{link_refusal, merge_of}, 
 pub use Rattle.object_laws.proofs.{Booleans.{or_exchanged}, Files.Accepted.{Alike, any_moved}, Merges.FixesOfPlaces.{runs_fixes, target_if_high}, Merges.HighBytes.{gains_part, high_byte_moves, high_moves_by_fixes}, Merges.MergeValid.{later_start, main_of, mains_are, names_from, places_are}, Merges.MergedParts.{AreMerged, merged_code, merged_data, merged_kept, parts_merged}, Merges.MovedValid.{moved_length}, Merges.PiecesByRuns.{AllBelow, AllPast, Apart, below_first, past_append, past_others, runs_apart, runs_placed}, Merges.PiecesJoined.{fixes_with_piece, joined_step, run_placed, runs_with_piece, with_piece}, Merges.PlacesKept.{AllFrom, stored_of}, Merges.RunsJoined.{same_test}, Merges.RunsMoved.{fixed_after, fixes_later, row_of, values_of}}
 pub use Rattle.objmod.proofs.{Kept.{found_there, kept_places}, KeptStored.{kept_stored}, ValidNames.{all_same, letter}}
 pub use Rattle.objmod.specs.internal.Keeping.{AllFit, ContentsFit, Placed, SegmentFits, fix_at, fix_table, fixes_by_place, is_in, listed, open_run, runs_kept}
-pub use Rattle.link_laws.specs.internal.Building.{AreJoined, AreWithin, HaveTheirFixes, alignment_joined, begins_a_page, end_in, end_joined, piece_fixes, piece_runs, runs_joined, stored_joined}
-pub use Rattle.link_laws.specs.internal.Growing.{AllFitAt, FitsAt, Grown, Resolved, all_grown, gain_by, grown_by, grown_in, kept_by, moves_by, nothing_grown, part_moves, public_name, resolved_in, with_content}
-pub use Rattle.link_laws.specs.internal.Passes.{code_after, data_after, externals_of, gathered, missing_in, name_of, one_main}
+pub use Rattle.link_laws.specs.{internal.Building.{AreJoined, AreWithin, HaveTheirFixes, alignment_joined, begins_a_page, end_in, end_joined, piece_fixes, piece_runs, runs_joined, stored_joined}, internal.Growing.{AllFitAt, FitsAt, Grown, Resolved, all_grown, gain_by, grown_by, grown_in, kept_by, moves_by, nothing_grown, part_moves, public_name, resolved_in, with_content}, internal.Passes.{code_after, data_after, externals_of, gathered, missing_in, name_of, one_main}}

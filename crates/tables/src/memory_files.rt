@@ -212,6 +212,19 @@ impl Files for MemoryFiles<'_> {
         }
     }
 
+    fn find_file(&mut self, name: &str) -> Result<Option<Vec<u8>>, Failure<FileFault>> {
+        if !self.is_good_call() {
+            return Err(Failure::Fault(self.fail()));
+        }
+        let Some(file) = self.file(name) else {
+            return Ok(None);
+        };
+        match Vec::from_slice(self.alloc, file.bytes.as_slice()) {
+            Ok(bytes) => Ok(Some(bytes)),
+            Err(_) => Err(Failure::Memory),
+        }
+    }
+
     fn begin(&mut self, name: &str) -> Result<(), Failure<FileFault>> {
         if !self.is_good_call() || name == CLOSED {
             Err(Failure::Fault(self.fail()))

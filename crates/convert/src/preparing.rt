@@ -1,0 +1,91 @@
+//! What of a file is the source.
+
+ghost use Rattle.std.specs.Prelude.{◌≡◌, true, IfOk};
+ghost use Rattle.convert.specs.Preparing.{from_cards, from_listing, notes_of_listing, prepared, prepared_notes};
+
+use crate::advice::Advice;
+use crate::assembly::PlacedNote;
+use crate::cards::carded;
+use crate::lines::{lines_of, plain};
+use crate::listings::{join_listed, note_listing};
+use std::alloc::{AllocError, Global};
+
+/// How a file holds its source.
+#[derive(Clone, Copy)]
+pub struct Medium {
+    /// As a listing, which a compiler printed.
+    pub listing: bool,
+    /// On cards, which have numbers after column 72.
+    pub cards: bool,
+}
+
+/// The source of a file, and what is told of lines that are none of a listing.
+#[derive(Drop)]
+pub struct Prepared {
+    pub text: Vec<u8>,
+    pub notes: Vec<PlacedNote>,
+}
+
+/// The source of a file: that of a listing, and then what is in the columns of cards.
+pub fn prepare(
+    alloc: Global,
+    advice: &Advice,
+    medium: Medium,
+    file: &[u8],
+) -> Result<Prepared, AllocError>
+    ensures text { IfOk result (λ made. made.text.items ≡ prepared medium file.now) }
+    ensures notes { IfOk result (λ made. made.notes.items ≡ prepared_notes advice.now medium file.now) }
+{
+    let source = from_listing(alloc, advice, medium.listing, file)?;
+    let text = from_cards(alloc, medium.cards, source.text)?;
+    Ok(Prepared {
+        text,
+        notes: source.notes,
+    })
+}
+
+// The source of a listing, if it is one.
+fn from_listing(
+    alloc: Global,
+    advice: &Advice,
+    is_one: bool,
+    file: &[u8],
+) -> Result<Prepared, AllocError>
+    ensures text { IfOk result (λ made. made.text.items ≡ from_listing is_one file.now) }
+    ensures notes { IfOk result (λ made. made.notes.items ≡ notes_of_listing advice.now is_one file.now) }
+{
+    if is_one {
+        unlist(alloc, advice, file)
+    } else {
+        let mut text = Vec::new(alloc);
+        text.extend_from_slice(file)?;
+        Ok(Prepared {
+            text,
+            notes: Vec::new(alloc),
+        })
+    }
+}
+
+// The source of a listing.
+fn unlist(alloc: Global, advice: &Advice, file: &[u8]) -> Result<Prepared, AllocError>
+    ensures text { IfOk result (λ made. made.text.items ≡ from_listing true file.now) }
+    ensures notes { IfOk result (λ made. made.notes.items ≡ notes_of_listing advice.now true file.now) }
+{
+    let plain = plain(alloc, file)?;
+    let lines = lines_of(alloc, plain.as_slice())?;
+    let text = join_listed(alloc, lines.as_slice())?;
+    let mut notes = Vec::new(alloc);
+    note_listing(advice, lines.as_slice(), &mut notes)?;
+    Ok(Prepared { text, notes })
+}
+
+// What is in the columns of cards, if the text is on cards.
+fn from_cards(alloc: Global, is_on: bool, text: Vec<u8>) -> Result<Vec<u8>, AllocError>
+    ensures { IfOk result (λ made. made.items ≡ from_cards is_on text.items) }
+{
+    if is_on {
+        carded(alloc, text.as_slice())
+    } else {
+        Ok(text)
+    }
+}
