@@ -2,14 +2,15 @@
 use Rattle.commands.proofs.Prelude.{◌≡◌, ◌<◌, ◌≤◌, ℕ, List, [], length, map, Option, inl, inr, refl, sym, ap, subst, ◌∙◌, ◌⊎◌, arith, Ending, Done, Refused, status_of, AppendsBeginning, Appends, Keeps, Directory, HasFile, KeepsFiles, Tells, memory_line, refusal_line, file_line, CountsFailure, TellsUnwritten, ConvertWanted}
 use Rattle.words.specs.declared.limits.TheConstants.{LONGEST_SOURCE}
 use Rattle.literally.specs.declared.fault.Fault as expansion_fault
-use Rattle.words.specs.declared.word.Word.{Word}
+use Rattle.words.specs.Spelling.{Lexeme, lexemes_of}
 use Rattle.words.proofs.LawsReadings.{one_reading}
 use Rattle.literally.specs.Expansion.{Expands}
 use Rattle.literally.proofs.LawsOneExpansion.{not_both}
 use Rattle.typed_trees.specs.TypedTrees.{TypedModule}
 use Rattle.sources.specs.{Causes.{HasReadCause}, Faults.{line_of, number_of}, Reading.{IsSourceOf}, declared.read.ReadFault.{ReadFault, TheVariants.{Expansion, Storage, Syntax, TooLong, Typing, Words}}}
-use Rattle.convert.specs.{Advice.{advice_view, usual_advice}, Assembly.{Parts, as_it_is}, Conversion.{IsRefused, no_expansion, no_words}, Lines.{plain}, Preparing.{prepared, prepared_notes}, Table.{rule_view, table_of_rules}, Sources.{IsConverted, note_lines, place_at}, declared.advice.Advice.{Advice}, declared.assembly.PlacedNote.{PlacedNote}, declared.includes.Entry.{Entry}, declared.rule.Rule.{Rule}}
-use Rattle.commands.specs.Converting.{Converts, ConvertsByTables, HasNoConversion, IsMistyped, IsModule, IsPutTogether, StopsIncluding, changed, fault_line_at, medium_of, rewritten, stays}
+use Rattle.convert.specs.{Advice.{advice_view, usual_advice}, Assembly.{Parts, as_it_is, assembled}, Conversion.{IsRefused, no_expansion, no_words}, Lines.{plain}, Preparing.{prepared, prepared_notes}, Table.{rule_view, table_of_rules}, Sources.{IsConverted, note_lines, place_at}, declared.advice.Advice.{Advice}, declared.assembly.PlacedNote.{PlacedNote}, declared.includes.Entry.{Entry}, declared.rule.Rule.{Rule}}
+use Rattle.commands.specs.Including.{IsIncluded, StopsLookingForNext}
+use Rattle.commands.specs.Converting.{Converts, ConvertsByTables, HasNoConversion, IsMistyped, IsModule, IsNoModule, IsPutTogether, StopsIncluding, changed, fault_line_at, medium_of, rewritten, stays}
 use Rattle.commands.specs.internal.Converting.{IsOfForm, form_of_fault}
 unfoldable use Rattle.commands.specs.Converting.{ConvertsFile, ConvertsText, RefusesText}
 unfoldable use Rattle.commands.specs.internal.Converting.{ConvertsHeld, ConvertsParts, PrintsNoted}
@@ -32,8 +33,8 @@ module _ (text : List ℕ) where
   not_refused fault (wrong, mistyped) (no_words {fault = of_words} first) =
       (one_reading text).not_both mistyped.read.expansion.words of_words mistyped.read.expansion.spelling.spelled first
   not_refused fault (wrong, mistyped) (no_expansion words spelled found) =
-      let same : words ≡ mistyped.read.expansion.words = (one_reading text).one_spelling words mistyped.read.expansion.words spelled mistyped.read.expansion.spelling.spelled in
-      not_both found (subst (λ (w : List Word). Expands w mistyped.read.output) (sym same) mistyped.read.expansion.expanded)
+      let same : lexemes_of words ≡ mistyped.read.expansion.words = (one_reading text).one_spelling (lexemes_of words) mistyped.read.expansion.words spelled mistyped.read.expansion.spelling.spelled in
+      not_both found (subst (λ (w : List Lexeme). Expands w mistyped.read.output) (sym same) mistyped.read.expansion.expanded)
 
   -- a text that derives a tree is a list of words that has an expansion
   mistyped_is_converted : (fault : ReadFault) → length text ≤ LONGEST_SOURCE → IsMistyped text → HasNoConversion text fault → ⊥
@@ -114,6 +115,22 @@ module _ (rules : List Rule) (advice : Advice) (wanted : ConvertWanted) (files :
   old_converted status entries parts put (inr (one, kept, inl told)) = text_told status one kept told
   old_converted status entries parts put (inr (one, kept, inr told)) =
       inr (one, inl (kept, inr (inr (record { entries = entries; parts = parts; together = put; fault = told.fault; cause = told.cause; told = told.told }))))
+
+  pub are_put : (entries : List Entry) (parts : Parts) (source : List ℕ) (sets : List (List ℕ)) → source ≡ plain text → sets ≡ wanted.sets → IsNoModule text
+      → IsIncluded advice wanted files before source entries → parts ≡ assembled advice entries before sets source → IsPutTogether advice wanted files before text entries parts
+  are_put entries parts source sets source_is sets_are none included parts_are = record {
+    none = none;
+    included = subst (λ (s : List ℕ). IsIncluded advice wanted files before s entries) source_is included;
+    parts_are =
+        parts_are
+        ∙ ap (λ (s : List ℕ). assembled advice entries before sets s) source_is
+        ∙ ap (λ (l : List (List ℕ)). assembled advice entries before l (plain text)) sets_are;
+  }
+
+  pub stops_including : (source stop : List ℕ) → source ≡ plain text → IsNoModule text → StopsLookingForNext advice wanted files before source stop
+      → StopsIncluding advice wanted files before text stop
+  stops_including source stop source_is none next =
+      record { none = none; next = subst (λ (s : List ℕ). StopsLookingForNext advice wanted files before s stop) source_is next }
 
   pub text_unheld : (status : ℕ) → status ≡ 1 → Tells memory_line old new → ConvertsText rules advice wanted files before text status old new out out
   unfolding ConvertsText RefusesText

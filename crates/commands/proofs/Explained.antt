@@ -24,6 +24,6 @@ module _ (wanted : ExplainWanted) (old new : Option (List ℕ)) where
   page_unwritten page out now read told printed = inr (record { page = page; read = read; told = told; printed = printed })
 
 -- no failure was counted
-pub refuses_explain : (wanted : ExplainWanted) (files : Option Directory) (count : ℕ) (old new out now : Option (List ℕ)) → RefusesPage wanted old new out now
-    → RefusesAsWanted (wants_explain wanted) files count count old new out now
-refuses_explain wanted files count old new out now refused = (refl, refused)
+pub refuses_explain : (wanted : ExplainWanted) (files after : Option Directory) (count : ℕ) (old new out now : Option (List ℕ)) → RefusesPage wanted old new out now
+    → RefusesAsWanted (wants_explain wanted) files after count count old new out now
+refuses_explain wanted files after count old new out now refused = (refl, refused)

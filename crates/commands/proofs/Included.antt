@@ -1,6 +1,6 @@
 -- The files that a source includes: what is known of files stays known where they stayed.
 use Rattle.commands.proofs.Prelude.{◌≡◌, ℕ, ◌≤◌, ◌<◌, ◌-◌, List, [], ◌∷◌, ◌++◌, length, drop, map, get_or, Option, None, Some, inl, inr, refl, sym, ap, subst, ◌∙◌, arith, Directory, KeepsFiles, ConvertWanted}
-use Rattle.std.proofs.Common.{take, take_all}
+use Rattle.std.proofs.Common.{option_map, take, take_all}
 use Rattle.host.specs.Files.{FindsFile}
 use Rattle.host.proofs.FilesRead.{was_there}
 use Rattle.convert.specs.declared.advice.Advice.{Advice}
@@ -26,6 +26,10 @@ module _ (was files : Option Directory) (kept : KeepsFiles was files) where
   was_looked nowhere = nowhere
   was_looked (here {name = name} text there) = here text (was_there was files name text kept there)
   was_looked (elsewhere {name = name} missing looks) = elsewhere (was_missing name missing) (was_looked looks)
+
+  pub was_text : (name : List ℕ) (found : Option (List ℕ × List ℕ)) → FindsText files name found → FindsText was name found
+  was_text name None missing = was_missing name missing
+  was_text name (Some found) (text, there, is) = (text, was_there was files name text kept there, is)
 
   pub was_stopped : {names : List (List ℕ)} {stop : List ℕ} → StopsLooking files names stop → StopsLooking was names stop
   was_stopped at_name = at_name
@@ -109,13 +113,20 @@ module _ (advice : Advice) (wanted : ConvertWanted) (files : Option Directory) (
   stops_next_name entries name stop looks few first stops =
       record { entries = entries; looked = looks; name = name; next = record { few = few; first = first }; stops = stops }
 
+  no_name : {A : Type 0} (items : A → List ℕ) (next : Option A) → ((name : A) → next ≡ Some name → ⊥) → option_map items next ≡ None
+  no_name items None none = refl
+  no_name items (Some name) none = absurd (none name refl)
+
   none_wanted : (wanted : List (List ℕ)) → first_of wanted ≡ None → wanted ≡ []
   none_wanted [] none = refl
   none_wanted (name ∷ names) none = cc
 
-  pub all_looked : (entries : List Entry) → Looks advice wanted files before source entries → first_of (put_together advice wanted entries before source).wanted ≡ None
-      → IsIncluded advice wanted files before source entries
-  all_looked entries looks none = record { looked = looks; enough = inl (none_wanted (put_together advice wanted entries before source).wanted none) }
+  pub all_looked : {A : Type 0} (items : A → List ℕ) (entries : List Entry) (next : Option A) → Looks advice wanted files before source entries → ((name : A) → next ≡ Some name → ⊥)
+      → option_map items next ≡ first_of (put_together advice wanted entries before source).wanted → IsIncluded advice wanted files before source entries
+  all_looked items entries next looks none is = record {
+    looked = looks;
+    enough = inl (none_wanted (put_together advice wanted entries before source).wanted (sym is ∙ no_name items next none));
+  }
 
   pub many_looked : (entries : List Entry) → Looks advice wanted files before source entries → most_names wanted ≤ length entries
       → IsIncluded advice wanted files before source entries

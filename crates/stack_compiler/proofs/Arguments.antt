@@ -1,5 +1,9 @@
 -- The code of arguments, one by one.
-use Rattle.stack_compiler.proofs.Prelude.{◌≡◌, ℕ, suc, ◌+◌, ◌-◌, ◌<◌, ◌≤◌, List, [], ◌∷◌, ◌++◌, length, drop, replicate, get_or, Option, None, option_map, ap, sym, ◌∙◌, arith, append_assoc, append-nil, TypedExpression, arguments_view, expression_view, Instruction, Drop, Push, InProgram, Site, arguments_code, called_code, expression_code, Found, found_view, drop_item, at_drop_all}
+use Rattle.stack_compiler.proofs.Prelude.{◌≡◌, ℕ, suc, ◌+◌, ◌-◌, ◌<◌, ◌≤◌, List, [], ◌∷◌, ◌++◌, length, drop, replicate, get_or, Option, None, option_map, ap, refl, sym, ◌∙◌, arith, append_assoc, append-nil, TypedExpression, arguments_view, expression_view, Instruction, Drop, Push, InProgram, Site, arguments_code, called_code, count_of_arguments, expression_code, Found, found_view, drop_item, at_drop_all}
+
+pub arguments_count : (items : List TypedExpression) → count_of_arguments (arguments_view items) ≡ length items
+arguments_count [] = refl
+arguments_count (first ∷ others) = ap suc (arguments_count others)
 
 module _ (site : Site) (made total : List Instruction) (arguments : List TypedExpression) (i : ℕ)
     (rest : made ++ arguments_code site (arguments_view (drop i arguments)) ≡ total) where

@@ -24,7 +24,7 @@ use typed_trees::{TypedExpression, TypedReference, TypedSubscript, TypedTarget};
 
 /// The value of an expression.
 #[cycle(expression)]
-#[tactic(auto, using(typed_trees::specs::declared::expression::TypedExpression::the_lemmas, typed_trees::proofs::Views::argument_rows_are, std::proofs::lemmas::List::append_assoc, typed_trees::proofs::Heights::arguments_count))]
+#[tactic(auto, using(typed_trees::specs::declared::expression::TypedExpression::the_lemmas, typed_trees::proofs::Views::argument_rows_are, std::proofs::lemmas::List::append_assoc, crate::proofs::Arguments::arguments_count))]
 pub(crate) fn emit_expression(
     site: &Site<'_>,
     code: &mut Vec<Instruction>,

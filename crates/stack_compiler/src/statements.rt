@@ -56,7 +56,7 @@ fn emit_assignment(
 }
 
 // A call whose value is not used.
-#[tactic(auto, using(std::proofs::lemmas::List::append_assoc, typed_trees::proofs::Heights::arguments_count))]
+#[tactic(auto, using(std::proofs::lemmas::List::append_assoc, crate::proofs::Arguments::arguments_count))]
 fn emit_call_statement(
     site: &Site<'_>,
     code: &mut Vec<Instruction>,

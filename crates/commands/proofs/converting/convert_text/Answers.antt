@@ -1,5 +1,5 @@
 use Rattle.commands.proofs.Prelude.{None, ap, arith, refl, status_of}
-use Rattle.commands.proofs.Converted.{held_converted, module_printed, rewritten_printed, text_unheld}
+use Rattle.commands.proofs.Converted.{held_converted, module_printed, rewritten_printed, text_too_long, text_unheld}
 use Rattle.commands.proofs.converting.convert_text.Goals as goal
 
 pub returns-in-Ok-Module-clause-converted : goal.returns-in-Ok-Module-clause-converted
@@ -11,6 +11,11 @@ returns-in-Ok-Mistyped-clause-converted g c =
     held_converted _ _ _ _ _ _ _ _ _ _ _ _ _ refl
     (rewritten_printed _ _ _ _ _ _ _ _ _ _ _ (omega arith) (rw c.in-Ok-Mistyped.field-0-is at c.in-Ok-Mistyped.ensures) c.rewrite.ensures.converted)
 
-pub returns-in-Err-Memory-clause-converted : goal.returns-in-Err-Memory-clause-converted
-returns-in-Err-Memory-clause-converted g c =
+pub returns-in-Err-clause-converted : goal.returns-in-Err-clause-converted
+returns-in-Err-clause-converted g c =
     held_converted _ _ _ _ _ _ _ _ _ _ _ _ _ refl (text_unheld _ _ _ _ _ _ _ _ _ None _ (ap status_of c.refuse_memory.ensures.ending) c.refuse_memory.ensures.line)
+
+pub returns-then-text-gt-LONGEST_SOURCE-clause-converted : goal.returns-then-text-gt-LONGEST_SOURCE-clause-converted
+returns-then-text-gt-LONGEST_SOURCE-clause-converted g c =
+    held_converted _ _ _ _ _ _ _ _ _ _ _ _ _ refl
+    (text_too_long _ _ _ _ _ _ _ _ _ None _ (ap status_of c.refuse.ensures.ending) (omega (arith, c.if-text-gt-LONGEST_SOURCE.true)) (rw c.number.ensures at c.refuse.ensures.told))
