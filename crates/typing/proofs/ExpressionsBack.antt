@@ -1,5 +1,5 @@
 -- Taking the conversions away from a typed expression gives back the tree that it was typed from.
-use Rattle.typing.proofs.Prelude.{◌≡◌, ℕ, List, [], ◌∷◌, length, refl, sym, ap, ◌∙◌, unwrap_or, ◌&&◌, is_none, Identifier, Place, ConstantTree, NumberConstant, StringConstant, ExpressionTree, ConstantLeaf, ReferenceLeaf, LocationLeaf, ListLeaf, ParenthesizedNode, AssignmentNode, UnaryNode, BinaryNode, ReferenceTree, ReferenceTo, MemberTree, NoMember, MemberOf, ArgumentTrees, NoArguments, MoreArguments, Binding, Declared, Object, ListNode, TypedProcedure, TypedModule, Constants, type_of, type_of_operands, NoCounter, Known, Given, place_of, scalar_of, is_writable, destination_of, call_arguments, require, is_not_based, Counter, counter_bound, Agrees, number_of_characters, bytes_of_constants, number_node, with_list, expression, given_reference, given_member, arguments, untyped_expression, untyped_arguments, plain_expression, plain_arguments, plain_member, plain_reference, byte_list, named, number_in, number_leaf, object_name, got_first}
+use Rattle.typing.proofs.Prelude.{◌≡◌, List, [], ◌∷◌, length, refl, sym, ap, ◌∙◌, unwrap_or, ◌&&◌, is_none, Identifier, Place, ConstantTree, NumberConstant, StringConstant, ExpressionTree, ConstantLeaf, ReferenceLeaf, LocationLeaf, ListLeaf, ParenthesizedNode, AssignmentNode, UnaryNode, BinaryNode, ReferenceTree, ReferenceTo, MemberTree, NoMember, MemberOf, ArgumentTrees, NoArguments, MoreArguments, Binding, Declared, Object, ListNode, TypedProcedure, TypedModule, Constants, type_of, type_of_operands, NoCounter, Known, Given, place_of, scalar_of, is_writable, destination_of, call_arguments, require, is_not_based, Counter, counter_bound, Agrees, number_of_characters, bytes_of_constants, number_node, with_list, expression, given_reference, given_member, arguments, untyped_expression, untyped_arguments, plain_expression, plain_arguments, plain_member, plain_reference, byte_list, named, number_in, number_leaf, object_name, got_first}
 use Rattle.typing.proofs.Kept.{Gives, then_more, anything, gives_ok, gives_fault, in_turn, is_found, kept_at, kept_more, kept_both}
 use Rattle.typing.proofs.ReferencesBack.{as_type_back, plain_given, plain_given_member, GivesTree, MemberBack, ReferenceBack, GivesTarget, call_arguments_kept, value_back, location_back, target_back}
 use Rattle.typing.proofs.Tables.{keeps_append}

@@ -1,5 +1,5 @@
 -- What holds of all that a check gives, and what is kept from one typing to the next.
-use Rattle.typing.proofs.Prelude.{◌≡◌, Bool, true, false, Option, Some, None, Ok, Err, refl, subst, Cause, Fault, ℕ, TypedModule, Constants, Checked, ◌>>=◌, require, found, Known, Agrees, Grows, HasLists, Place}
+use Rattle.typing.proofs.Prelude.{◌≡◌, Bool, true, false, Option, Some, None, Ok, Err, refl, subst, Cause, Fault, TypedModule, Constants, Checked, ◌>>=◌, require, found, Known, Agrees, Grows, HasLists, Place}
 
 -- what a check gives, if it gives anything, is so
 pub record Gives {A : Type 0} (P : A → Type 0) (result : Checked A) : Type 0 where

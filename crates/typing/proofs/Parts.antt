@@ -1,5 +1,5 @@
 -- The parts of a module that have no statements in them: expressions, simple statements, heads of loops.
-use Rattle.typing.proofs.Prelude.{◌≡◌, ℕ, List, Option, None, Some, sym, subst, All, IfOk, IfSome, is_none, ◌==◌, option_map_or, ScalarType, Identifier, Place, ExpressionTree, ReferenceTree, IterationTree, Entity, Procedure, Label, Binding, Declared, BuiltInName, UnknownLabel, Move, jump_of, Here, Body, Names, known_in, TypedArguments, NoTyped, MoreTyped, TypedStatement, TypedProcedure, Constants, LabelsOf, JumpsStay, ListsStand, IsNoLabel, BodyIsSound, ArgumentCount, CallOfTyped, require, Known, Given, place_of, count_of_given, bound, procedure_of, call_arguments, expression, Owner, TheModule, OfProcedure, Progress, with_constants, value, destinations, assignment, moved, call_bound, call, return_with, return_from, goto_bound, goto, counter_bound, step, iteration}
+use Rattle.typing.proofs.Prelude.{◌≡◌, List, Option, None, Some, sym, subst, All, IfOk, IfSome, is_none, ◌==◌, option_map_or, ScalarType, Identifier, Place, ExpressionTree, ReferenceTree, IterationTree, Entity, Procedure, Label, Binding, Declared, BuiltInName, UnknownLabel, Move, jump_of, Here, Body, Names, known_in, TypedArguments, NoTyped, MoreTyped, TypedStatement, TypedProcedure, Constants, LabelsOf, JumpsStay, ListsStand, IsNoLabel, BodyIsSound, ArgumentCount, CallOfTyped, require, Known, Given, place_of, count_of_given, bound, procedure_of, call_arguments, expression, Owner, TheModule, OfProcedure, Progress, with_constants, value, destinations, assignment, moved, call_bound, call, return_with, return_from, goto_bound, goto, counter_bound, step, iteration}
 use Rattle.typing.proofs.Steps.{then, then_any}
 use Rattle.typing.proofs.Jumps.KnownLabels.{IsLabelAround, AreAround}
 

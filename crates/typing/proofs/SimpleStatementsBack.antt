@@ -115,28 +115,28 @@ call-walks place name values progress holds =
     gives_ok (walked_kept progress holds kept)
 
 -- RETURN
-return_with-walks : (place : Place) (place : Place) (result : Option ScalarType) (tree : Option ExpressionTree)
+return_with-walks : (place : Place) (result : Option ScalarType) (tree : Option ExpressionTree)
     (progress : Progress)
     → Holds progress
     → KindWalks (trees.ReturnStatement place tree) progress [] (return_with place result tree progress)
-return_with-walks place place None None progress holds =
+return_with-walks place None None progress holds =
     gives_ok (walked_nothing progress holds (λ tables reaches. (tt, refl)))
-return_with-walks place place (Some scalar) (Some tree) progress holds =
+return_with-walks place (Some scalar) (Some tree) progress holds =
     in_turn (value-walks tree progress holds) λ found w.
     gives_ok
     (walked_as w
     (λ tables back.
     (tt, ap (λ k. trees.ReturnStatement nowhere (Some k)) (as_type_back tables scalar found.0 ∙ back))))
-return_with-walks place place None (Some tree) progress holds = gives_fault
-return_with-walks place place (Some scalar) None progress holds = gives_fault
+return_with-walks place None (Some tree) progress holds = gives_fault
+return_with-walks place (Some scalar) None progress holds = gives_fault
 
-pub return_from-walks : (place : Place) (place : Place) (owner : Owner) (tree : Option ExpressionTree)
+pub return_from-walks : (place : Place) (owner : Owner) (tree : Option ExpressionTree)
     (progress : Progress)
     → Holds progress
     → KindWalks (trees.ReturnStatement place tree) progress [] (return_from place owner tree progress)
-return_from-walks place place TheModule tree progress holds = gives_fault
-return_from-walks place place (OfProcedure number heading) tree progress holds =
-    return_with-walks place place heading.result tree progress holds
+return_from-walks place TheModule tree progress holds = gives_fault
+return_from-walks place (OfProcedure number heading) tree progress holds =
+    return_with-walks place heading.result tree progress holds
 
 -- GOTO
 goto_bound-back : (place : Place) (binding : Binding)

@@ -95,7 +95,7 @@ mutual
   kind-walks block (trees.CallStatement place name values) progress holds =
       call-walks place name values progress holds
   kind-walks block (trees.ReturnStatement place result) progress holds =
-      return_from-walks place place block.owner result progress holds
+      return_from-walks place block.owner result progress holds
   kind-walks block (trees.HaltStatement place) progress holds =
       gives_ok (walked_nothing progress holds (λ tables reaches. (tt, refl)))
   kind-walks block (trees.GotoStatement place label) progress holds = goto-walks place label progress holds

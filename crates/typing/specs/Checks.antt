@@ -1,5 +1,5 @@
 -- Checks: something is found, or a fault of a cause is at a place.
-use Rattle.std.specs.Prelude.{ℕ, Bool, true, false, Option, Some, None, Result, Ok, Err}
+use Rattle.std.specs.Prelude.{Bool, true, false, Option, Some, None, Result, Ok, Err}
 use Rattle.trees.specs.declared.identifier.Place.{Place}
 use Rattle.typing.specs.declared.fault.Cause.{Cause}
 use Rattle.typing.specs.declared.fault.Fault.{Fault}

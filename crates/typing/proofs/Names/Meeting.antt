@@ -1,5 +1,5 @@
 -- A check beside what it is to find: where it gives something, no name is wrong, and where it is refused for a name, one is.
-use Rattle.typing.proofs.Prelude.{◌≡◌, ℕ, Bool, true, false, Option, Some, None, Ok, Err, refl, sym, subst, Cause, Fault, Checked, ◌>>=◌, refuse, require, found, IsOfNames, Place}
+use Rattle.typing.proofs.Prelude.{◌≡◌, Bool, true, false, Option, Some, None, Ok, Err, refl, sym, subst, Cause, Fault, Checked, ◌>>=◌, refuse, require, found, IsOfNames, Place}
 
 -- where a check gives something this holds, and of that; a refusal of names is such a one
 pub record Meets {A : Type 0} (Right : Type 0) (Wrong : Fault → Type 0) (P : A → Type 0) (result : Checked A) : Type 0 where

@@ -1,5 +1,5 @@
 -- The parameters of every typed module fit: along the typing of a text.
-use Rattle.typing.proofs.Prelude.{◌≡◌, ℕ, ◌+◌, ◌<◌, true, false, List, [], ◌∷◌, length, Option, Some, None, Ok, refl, ap, sym, subst, ◌∙◌, append-nil, All, not, enumerate_from, option_or, All-from_recursion, ScalarType, Identifier, Place, ArgumentTrees, DeclarationTree, DeclarationTrees, DeclareTree, ElseTree, ExpressionTree, IterationTree, ModuleTree, MoreDeclarations, NoDeclarations, ProcedureTree, ReferenceTree, StatementKindTree, StatementTree, StatementTrees, Here, Names, into_list, is_label_again, out_of_list, with_label, jump_of, labels_of, HasParameters, ParametersFit, TypedList, TypedModule, TypedObject, TypedProcedure, TypedStatements, DeclaredTwice, Block, OfProcedure, Owner, Progress, TheModule, Checked, require, arguments, expression, check_body, own_block, scalar_in_block, scalar_in_declaration, Given, Known, bound, place_of, assignment, call, call_bound, counter_bound, declare_labels, destinations, goto, goto_bound, iteration, labels_before, list_of, return_from, return_with, step, value, with_constants, with_here, without_label, alone, at_the_beginning, cases, declaration, declarations, else_part, entered, inner_block, kind, labelled, left, module_block, module_with, statements, typing_of}
+use Rattle.typing.proofs.Prelude.{◌≡◌, ℕ, ◌+◌, ◌<◌, true, false, List, [], ◌∷◌, length, Option, Some, None, Ok, refl, ap, sym, subst, ◌∙◌, append-nil, All, not, enumerate_from, option_or, All-from_recursion, ScalarType, Identifier, Place, DeclarationTree, DeclarationTrees, DeclareTree, ElseTree, ExpressionTree, IterationTree, ModuleTree, MoreDeclarations, NoDeclarations, ProcedureTree, ReferenceTree, StatementKindTree, StatementTree, StatementTrees, Here, Names, into_list, is_label_again, out_of_list, with_label, jump_of, labels_of, HasParameters, ParametersFit, TypedList, TypedModule, TypedObject, TypedProcedure, TypedStatements, DeclaredTwice, Block, OfProcedure, Owner, Progress, TheModule, Checked, require, arguments, expression, check_body, own_block, scalar_in_block, scalar_in_declaration, Given, Known, bound, place_of, assignment, call, call_bound, counter_bound, declare_labels, destinations, goto, goto_bound, iteration, labels_before, list_of, return_from, return_with, step, value, with_constants, with_here, without_label, alone, at_the_beginning, cases, declaration, declarations, else_part, entered, inner_block, kind, labelled, left, module_block, module_with, statements, typing_of}
 use Rattle.trees.specs.Trees as trees
 use Rattle.typing.proofs.Kept.{Gives, gives_after, gives_fault, gives_ok, in_turn, then_more}
 use Rattle.typing.proofs.Parameters.Closing.{closed_goes, nothing, own_begins, own_stands}
