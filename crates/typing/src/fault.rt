@@ -5,7 +5,8 @@ use std::fmt::{Debug, Formatter};
 use thiserror::Error;
 use trees::Place;
 
-/// The cause of a fault. The documentation and the command line know it by a number, which several causes share.
+/// The cause of a fault. The documentation and the command line know it by a number; C13, C14 and C15 are each the
+/// number of several causes.
 #[derive(Clone, Copy, Debug, Error)]
 pub enum Cause {
     /// C11: no declaration makes the name known there.
@@ -39,7 +40,7 @@ pub enum Cause {
     #[error("LENGTH or LAST of what has no dimension, or of what is not the name of a variable")]
     NotMeasurable,
     /// C13: a port that is not a number, and not a string of one character.
-    #[error("a port that is not a constant")]
+    #[error("a port that is not a number or a string of one character")]
     PortNotConstant,
     /// C13: a parameter that is an array or a structure.
     #[error("a parameter that is an array or a structure")]
