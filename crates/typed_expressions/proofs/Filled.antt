@@ -1,5 +1,5 @@
 -- Scalars filled by one value after another.
-use Rattle.typed_expressions.proofs.Prelude.{◌≡◌, ℕ, ◌+◌, ◌-◌, ◌/◌, ◌<◌, ◌≤◌, List, [], ◌∷◌, ◌++◌, length, Ok, Err, Option, Some, refl, ap, sym, ◌∙◌, append_assoc, arith, length-append, map, nat_le, nat_lt, subst, true, tests, rules, drop, get_or, repeat, add-div_right, ScalarType, Byte, Address, Restricted, RestrictedTree, OriginTree, ConstantOrigin, LocationOrigin, OffsetTree, NumberConstant, StringConstant, StringTree, restricted_tree, InitialValue, ByteValue, WordValue, LocationValue, scalars_of_element, scalars_of_elements, ObjectType, StringNotNumber, ImpliedWithoutValues, NotByte, Checked, ◌>>=◌, require, found, number_of_characters, Filled, RestrictedValue, ANumber, FromObject, OtherModulesToo, AsListed, restricted_value, place_of_origin, filled_with, and_before, fill, fill_characters, fill_scalar, fill_string, fill_value, contents, contents_as_listed, enough_elements, elements_for, Known, FailsBy, Fault, onto, values_filled, elements_listed, fails_more, then_then, state_ended, state_fails, append-nil, Place}
+use Rattle.typed_expressions.proofs.Prelude.{◌≡◌, ℕ, ◌+◌, ◌-◌, ◌/◌, ◌<◌, ◌≤◌, List, [], ◌∷◌, ◌++◌, length, Ok, Err, Option, Some, refl, ap, sym, ◌∙◌, append_assoc, arith, length-append, map, nat_le, nat_lt, subst, true, tests, rules, drop, get_or, repeat, add-div_right, ScalarType, Byte, Address, Restricted, RestrictedTree, OriginTree, ConstantOrigin, LocationOrigin, OffsetTree, NumberConstant, StringConstant, StringTree, Offset, offset_tree, restricted_tree, InitialValue, ByteValue, WordValue, LocationValue, scalars_of_element, scalars_of_elements, ObjectType, StringNotNumber, ImpliedWithoutValues, NotByte, Checked, ◌>>=◌, require, found, number_of_characters, Filled, RestrictedValue, ANumber, FromObject, OtherModulesToo, AsListed, restricted_value, place_of_origin, filled_with, and_before, fill, fill_characters, fill_scalar, fill_string, fill_value, contents, contents_as_listed, enough_elements, elements_for, Known, FailsBy, Fault, onto, values_filled, elements_listed, fails_more, then_then, state_ended, state_fails, append-nil, Place}
 use Rattle.typed_expressions.proofs.LeftScalars.{repeat_empty}
 
 -- values and then more of them
@@ -176,3 +176,10 @@ module _ (known : Known) (place : Place) (t : ObjectType) (values : List Restric
   some_each some =
       let has = some_scalar known t values n made is (omega arith) in
       omega arith
+
+-- a string with numbers after it is one number
+pub string_with_offsets : (known : Known) (scalars : List ScalarType) (string : StringTree) (offsets : List Offset) → (length offsets ≡ 0 → ⊥)
+    → fill_value known scalars (ConstantOrigin (StringConstant string)) (map offset_tree offsets)
+    ≡ restricted_value OtherModulesToo known (ConstantOrigin (StringConstant string)) (map offset_tree offsets) >>= (λ value. fill_scalar string.place scalars value)
+string_with_offsets known scalars string [] some = absurd (some refl)
+string_with_offsets known scalars string (offset ∷ others) some = refl

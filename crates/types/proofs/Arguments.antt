@@ -1,5 +1,5 @@
 -- Lists of arguments.
-use Rattle.types.proofs.Prelude.{◌≡◌, ℕ, List, [], ◌∷◌, length, refl, TypedExpression, arguments_view, ArgumentCount, refuse, moved, Place}
+use Rattle.types.proofs.Prelude.{◌≡◌, List, [], ◌∷◌, length, refl, TypedExpression, arguments_view, ArgumentCount, refuse, moved, Place}
 
 -- MOVE has three arguments
 pub not_moved : (place : Place) (values : List TypedExpression) → (length values ≡ 3 → ⊥) → moved place (arguments_view values) ≡ refuse ArgumentCount place
