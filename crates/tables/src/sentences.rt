@@ -134,10 +134,11 @@ impl Help {
 
     // The faults of grammar, of names and of types.
     fn seek_trees(&mut self) {
+        let place = Place { start: 0, line: 1 };
         let trees = [
-            syntax::Fault::Word { line: 1 },
-            syntax::Fault::Depth { line: 1 },
-            syntax::Fault::EndName { line: 1 },
+            syntax::Fault::Word { place },
+            syntax::Fault::Depth { place },
+            syntax::Fault::EndName { place },
         ];
         for fault in &trees {
             self.seek(fault.number(), fault);
