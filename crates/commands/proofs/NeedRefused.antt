@@ -19,17 +19,17 @@ use Rattle.join.specs.declared.fault.Fault as join_fault
 use Rattle.join.specs.declared.fault.Fault.TheVariants as join_faults
 
 words_other : (fault : word_fault.Fault) → is_other (of_words.number_of fault) ≡ true
-words_other (word_faults.Character line) = refl
-words_other (word_faults.Unclosed line) = refl
-words_other (word_faults.Number line) = refl
-words_other (word_faults.Name line) = refl
+words_other (word_faults.Character start line) = refl
+words_other (word_faults.Unclosed start line) = refl
+words_other (word_faults.Number start line) = refl
+words_other (word_faults.Name start line) = refl
 
 expansion_other : (fault : expansion_fault.Fault) → is_other (of_expansion.number_of fault) ≡ true
 expansion_other (expansion_faults.Text fault) = words_other fault
-expansion_other (expansion_faults.Depth line) = refl
-expansion_other (expansion_faults.Count line) = refl
-expansion_other (expansion_faults.Quote line) = refl
-expansion_other (expansion_faults.Again line) = refl
+expansion_other (expansion_faults.Depth start line) = refl
+expansion_other (expansion_faults.Count start line) = refl
+expansion_other (expansion_faults.Quote start line) = refl
+expansion_other (expansion_faults.Again start line) = refl
 
 syntax_other : (fault : syntax_fault.Fault) → is_other (of_syntax.number_of fault) ≡ true
 syntax_other (syntax_faults.Word line) = refl

@@ -128,7 +128,7 @@ no_element (item ∷ items) below = absurd (omega arith)
 pub count_here : (output : List Lexeme) (processed : ℕ) (used : Lexeme) (more : ℕ)
     → ProcessesAtLeast output 0 (used ∷ []) more
     → MOST_WORDS < processed + more
-    → IsFaultAt output processed used (Count used.line)
+    → IsFaultAt output processed used (Count used.start used.line)
 count_here output processed used more takes over words = count_passed takes over
 
 -- a list from its first element on

@@ -6,7 +6,7 @@ pub use Rattle.words.proofs.LawsReadings.{one_reading}
 pub use Rattle.words.specs.{Characters.{is_blank, is_word_byte}, Items.{item_at}, Marks.{mark_item}, Names.{kind_of_name, name_item}, Spelling.{IsFirstFault, Lexeme, Spells, SpellsFrom, after_blank, lexeme_of, lexemes_of}, Strings.{comment_end, comment_item}, declared.fault.Fault.{Fault as TextFault}, declared.items.Cause.{Cause, TheVariants.{BadCharacter, BadNumber, LongName}}, declared.items.Item.{Item, TheVariants.{Spelled, Wrong}}, declared.vocabulary.Kind.{Kind, TheVariants.{Mark, Name, Number, Reserved, String}}, declared.vocabulary.Mark.{Mark as AMark}, declared.vocabulary.ReservedWord.{ReservedWord}, declared.word.Word.{Word}}
 unfoldable pub use Rattle.words.specs.{Marks.{mark_at}, Names.{reserved_of}}
 pub use Rattle.literally.specs.Definitions.{definition_by, has_quote, in_force, is_name, is_string, name_before, name_defined, text_if, text_in, text_of}
-pub use Rattle.literally.specs.Expansion.{Becomes, Expands, ExpandsFrom, FaultFrom, IsFault, IsSound, IsSoundText, IsTooDeep, ProcessesAtLeast, after_word, at_end, at_use, bad_text, begins_with_literally, count_passed, deeper, defined_again, depth_passed, fault_after_word, is_defined_again, later_word, no_words, none_yet, on_line, quote_in_text, replaced, stays, text_then, too_deep, word_then}
+pub use Rattle.literally.specs.Expansion.{Becomes, Expands, ExpandsFrom, FaultFrom, IsFault, IsSound, IsSoundText, IsTooDeep, ProcessesAtLeast, after_word, at_end, at_string, at_use, bad_text, begins_with_literally, count_passed, deeper, defined_again, depth_passed, fault_after_word, is_defined_again, later_word, no_words, none_yet, quote_in_text, replaced, stays, text_then, too_deep, word_then}
 pub use Rattle.literally.specs.declared.fault.Fault.{Fault}
 pub use Rattle.literally.specs.declared.fault.Fault.TheVariants.{Count, Text}
 pub use Rattle.literally.specs.declared.limits.TheConstants.{DEEPEST, MOST_WORDS}

@@ -87,35 +87,35 @@ pub data ExpandsFrom : List Lexeme → ℕ → List Lexeme → List Lexeme → T
       → ExpandsFrom (output ++ now) (processed + count) words whole
       → ExpandsFrom output processed (word ∷ words) whole
 
--- the fault of a text, on the line of its string
-abbrev pub on_line : ℕ → TextFault → TextFault
-on_line line (text_faults.Character place) = text_faults.Character line
-on_line line (text_faults.Unclosed place) = text_faults.Unclosed line
-on_line line (text_faults.Number place) = text_faults.Number line
-on_line line (text_faults.Name place) = text_faults.Name line
+-- the fault of a text, at the start and on the line of its string
+abbrev pub at_string : Lexeme → TextFault → TextFault
+at_string string (text_faults.Character start line) = text_faults.Character string.start string.line
+at_string string (text_faults.Unclosed start line) = text_faults.Unclosed string.start string.line
+at_string string (text_faults.Number start line) = text_faults.Number string.start string.line
+at_string string (text_faults.Name start line) = text_faults.Name string.start string.line
 
 -- Words after an output lead up to one that can't be expanded, with this fault.
 pub data FaultFrom : List Lexeme → ℕ → List Lexeme → Fault → Type 0 where
   defined_again : {output words : List Lexeme} {processed : ℕ} {word : Lexeme}
       → is_defined_again output word words ≡ true
-      → FaultFrom output processed (word ∷ words) (Again word.line)
+      → FaultFrom output processed (word ∷ words) (Again word.start word.line)
   quote_in_text : {output words : List Lexeme} {processed : ℕ} {word : Lexeme} {name text : List ℕ}
       → definition_by word (reverse output) ≡ Some (name, text)
       → has_quote text ≡ true
-      → FaultFrom output processed (word ∷ words) (Quote word.line)
+      → FaultFrom output processed (word ∷ words) (Quote word.start word.line)
   bad_text : {output words : List Lexeme} {processed : ℕ} {word : Lexeme}
       {name text : List ℕ} {fault : TextFault}
       → definition_by word (reverse output) ≡ Some (name, text)
       → has_quote text ≡ false
       → IsFirstFault text fault
-      → FaultFrom output processed (word ∷ words) (Text (on_line word.line fault))
+      → FaultFrom output processed (word ∷ words) (Text (at_string word fault))
   depth_passed : {output words : List Lexeme} {processed : ℕ} {word : Lexeme}
       → IsTooDeep output 0 (word ∷ [])
-      → FaultFrom output processed (word ∷ words) (Depth word.line)
+      → FaultFrom output processed (word ∷ words) (Depth word.start word.line)
   count_passed : {output words : List Lexeme} {processed more : ℕ} {word : Lexeme}
       → ProcessesAtLeast output 0 (word ∷ []) more
       → MOST_WORDS < processed + more
-      → FaultFrom output processed (word ∷ words) (Count word.line)
+      → FaultFrom output processed (word ∷ words) (Count word.start word.line)
   fault_after_word : {output words now : List Lexeme} {processed more : ℕ} {word : Lexeme} {fault : Fault}
       → is_defined_again output word words ≡ false
       → IsSound output word

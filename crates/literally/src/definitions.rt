@@ -8,7 +8,7 @@ ghost use Rattle.failure.specs.Failure.{IfFault};
 ghost use Rattle.symbols.specs.Names.{name_of};
 ghost use Rattle.words.specs.Spelling.{Lexeme, lexeme_of, lexemes_of};
 ghost use Rattle.literally.specs.Definitions.{name_defined, has_quote, in_force};
-ghost use Rattle.literally.specs.Expansion.{IsSound, on_line};
+ghost use Rattle.literally.specs.Expansion.{IsSound, at_string};
 ghost use Rattle.literally.specs.internal.Held.{words_for, AreHeld, StandsFor};
 ghost use Rattle.literally.specs.internal.Steps.{IsFaultAt};
 
@@ -69,7 +69,10 @@ impl<'a> Definitions<'a> {
         };
         let text = text_of(word.text);
         if has_quote(text) {
-            return Err(Failure::Fault(Fault::Quote { line: word.line }));
+            return Err(Failure::Fault(Fault::Quote {
+                start: word.start,
+                line: word.line,
+            }));
         }
         match scan(alloc, text) {
             Ok(words) => {
@@ -77,7 +80,7 @@ impl<'a> Definitions<'a> {
                 Ok(())
             }
             Err(Failure::Fault(fault)) => {
-                Err(Failure::Fault(Fault::Text(on_line(word.line, fault))))
+                Err(Failure::Fault(Fault::Text(at_string(word, fault))))
             }
             Err(Failure::Memory) => Err(Failure::Memory),
         }
@@ -125,14 +128,16 @@ fn has_quote(text: &[u8]) -> bool
     text.iter().any(|b| *b == b'\'')
 }
 
-// The fault of a text, on the line of its string.
-fn on_line(line: u32, fault: words::Fault) -> words::Fault
-    ensures { result ≡ on_line line fault }
+// The fault of a text, at the start and on the line of its string.
+fn at_string(string: Word, fault: words::Fault) -> words::Fault
+    ensures { result ≡ at_string (lexeme_of string.entry) fault }
 {
+    let start = string.start;
+    let line = string.line;
     match fault {
-        words::Fault::Character { .. } => words::Fault::Character { line },
-        words::Fault::Unclosed { .. } => words::Fault::Unclosed { line },
-        words::Fault::Number { .. } => words::Fault::Number { line },
-        words::Fault::Name { .. } => words::Fault::Name { line },
+        words::Fault::Character { .. } => words::Fault::Character { start, line },
+        words::Fault::Unclosed { .. } => words::Fault::Unclosed { start, line },
+        words::Fault::Number { .. } => words::Fault::Number { start, line },
+        words::Fault::Name { .. } => words::Fault::Name { start, line },
     }
 }

@@ -63,11 +63,14 @@ fn expand_word<'a>(
 {
     match definitions.text_for(&word) {
         Some(_) if begins_with_literally(after) => {
-            Err(Failure::Fault(Fault::Again { line: word.line }))
+            Err(Failure::Fault(Fault::Again {
+                start: word.start,
+                line: word.line,
+            }))
         }
         Some(text) => replace(alloc, definitions, word, text, processed, output),
         None => {
-            let processed = count_word(processed, word.line)?;
+            let processed = count_word(processed, word)?;
             definitions.define(alloc, output, word)?;
             push_word(output, word)?;
             Ok(processed)
@@ -93,21 +96,24 @@ fn replace<'a, 'd>(
     ensures fault { IfFault result
         (IsFaultAt (lexemes_of output.old.items) processed (lexeme_of used.entry)) }
 {
-    let mut processed = count_word(processed, used.line)?;
+    let mut processed = count_word(processed, used)?;
     let mut pending = Vec::new(alloc);
     push_text(&mut pending, text)?;
     while let Some(words) = pending.pop() {
         let [word, rest @ ..] = words else {
             continue;
         };
-        processed = count_word(processed, used.line)?;
+        processed = count_word(processed, used)?;
         push_text(&mut pending, rest)?;
         let Some(inner) = definitions.text_for(word) else {
             push_word(output, at_use(used, *word))?;
             continue;
         };
         if is_deepest(pending.len()) {
-            return Err(Failure::Fault(Fault::Depth { line: used.line }));
+            return Err(Failure::Fault(Fault::Depth {
+                start: used.start,
+                line: used.line,
+            }));
         }
         push_text(&mut pending, inner)?;
     }
@@ -121,14 +127,17 @@ fn is_deepest(depth: usize) -> bool
     depth == DEEPEST
 }
 
-// Counts one more word as processed, for the word of the list on this line.
-fn count_word(processed: usize, line: u32) -> Result<usize, Failure<Fault>>
+// Counts one more word as processed, for this word of the list.
+fn count_word(processed: usize, word: Word) -> Result<usize, Failure<Fault>>
     ensures ok { IfOk result (λ count. (count ≡ processed + 1) × (count ≤ MOST_WORDS)) }
     ensures err { IfErr result
-        (λ failure. (failure ≡ Failure.Fault (Fault.Count line)) × (MOST_WORDS < processed + 1)) }
+        (λ failure. (failure ≡ Failure.Fault (Fault.Count word.entry.start word.entry.line)) × (MOST_WORDS < processed + 1)) }
 {
     if processed >= MOST_WORDS {
-        return Err(Failure::Fault(Fault::Count { line }));
+        return Err(Failure::Fault(Fault::Count {
+            start: word.start,
+            line: word.line,
+        }));
     }
     Ok(processed + 1)
 }

@@ -98,19 +98,19 @@ impl Help {
     // The faults of words and of LITERALLY.
     fn seek_words(&mut self) {
         let words = [
-            words::Fault::Character { line: 1 },
-            words::Fault::Unclosed { line: 1 },
-            words::Fault::Number { line: 1 },
-            words::Fault::Name { line: 1 },
+            words::Fault::Character { start: 0, line: 1 },
+            words::Fault::Unclosed { start: 0, line: 1 },
+            words::Fault::Number { start: 0, line: 1 },
+            words::Fault::Name { start: 0, line: 1 },
         ];
         for fault in &words {
             self.seek(fault.number(), fault);
         }
         let texts = [
-            literally::Fault::Depth { line: 1 },
-            literally::Fault::Count { line: 1 },
-            literally::Fault::Quote { line: 1 },
-            literally::Fault::Again { line: 1 },
+            literally::Fault::Depth { start: 0, line: 1 },
+            literally::Fault::Count { start: 0, line: 1 },
+            literally::Fault::Quote { start: 0, line: 1 },
+            literally::Fault::Again { start: 0, line: 1 },
         ];
         for fault in &texts {
             self.seek(fault.number(), fault);

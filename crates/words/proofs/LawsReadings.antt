@@ -44,10 +44,10 @@ module _ (source : List ℕ) where
   fault_at_once : {place : ℕ} {fault : Fault} (cause : Cause)
       → FaultFrom source place fault
       → item_at (drop place source) ≡ Wrong cause
-      → fault ≡ fault_of cause (line_at source place)
+      → fault ≡ fault_of cause place (line_at source place)
   fault_at_once cause (fault_here {place = place} {cause = other} here) is =
       let same : other ≡ cause = cc in
-      ap (λ c. fault_of c (line_at source place)) same
+      ap (λ c. fault_of c place (line_at source place)) same
   fault_at_once cause (fault_after_blank here rest) is = absurd (cc)
   fault_at_once cause (fault_after_word here rest) is = absurd (cc)
 
@@ -126,7 +126,7 @@ reads_at : (source : List ℕ) (place : ℕ) (item : Item)
 reads_at source place Ending is fits later = inl ([], at_end is)
 reads_at source place (Blank taken) is fits later = reads_past_blank source place taken is (later taken fits.0 fits.1)
 reads_at source place (Spelled kind taken) is fits later = reads_past_word source place taken kind is (later taken fits.0 fits.1)
-reads_at source place (Wrong cause) is fits later = inr (fault_of cause (line_at source place), fault_here is)
+reads_at source place (Wrong cause) is fits later = inr (fault_of cause place (line_at source place), fault_here is)
 
 -- by a count that is no less than the bytes that are left
 reads_on : (fuel : ℕ) (source : List ℕ) (place : ℕ) → length source ≤ place + fuel → Reads source place

@@ -5,14 +5,21 @@ use Rattle.words.specs.declared.fault.Fault.TheVariants.{Character, Unclosed, Nu
 
 -- its number
 abbrev pub number_of : Fault → List ℕ
-number_of (Character line) = codes "C1"
-number_of (Unclosed line) = codes "C2"
-number_of (Number line) = codes "C3"
-number_of (Name line) = codes "C4"
+number_of (Character start line) = codes "C1"
+number_of (Unclosed start line) = codes "C2"
+number_of (Number start line) = codes "C3"
+number_of (Name start line) = codes "C4"
+
+-- the place of the first byte of the word or comment at fault
+abbrev pub start_of : Fault → ℕ
+start_of (Character start line) = start
+start_of (Unclosed start line) = start
+start_of (Number start line) = start
+start_of (Name start line) = start
 
 -- its line
 abbrev pub line_of : Fault → ℕ
-line_of (Character line) = line
-line_of (Unclosed line) = line
-line_of (Number line) = line
-line_of (Name line) = line
+line_of (Character start line) = line
+line_of (Unclosed start line) = line
+line_of (Number start line) = line
+line_of (Name start line) = line

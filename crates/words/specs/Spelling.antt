@@ -35,12 +35,12 @@ abbrev pub lexeme_at : List ℕ → ℕ → Kind → ℕ → Lexeme
 lexeme_at source place kind length =
     record { kind = kind; text = take length (drop place source); start = place; line = line_at source place }
 
--- the fault that a cause is on a line
-abbrev pub fault_of : Cause → ℕ → Fault
-fault_of BadCharacter line = faults.Character line
-fault_of NotClosed line = faults.Unclosed line
-fault_of BadNumber line = faults.Number line
-fault_of LongName line = faults.Name line
+-- the fault that a cause is at a place on a line
+abbrev pub fault_of : Cause → ℕ → ℕ → Fault
+fault_of BadCharacter start line = faults.Character start line
+fault_of NotClosed start line = faults.Unclosed start line
+fault_of BadNumber start line = faults.Number start line
+fault_of LongName start line = faults.Name start line
 
 -- From a place on, blanks, comments and words cover the text to its end, and these are the words.
 pub data SpellsFrom (source : List ℕ) : ℕ → List Lexeme → Type 0 where
@@ -60,7 +60,7 @@ pub data SpellsFrom (source : List ℕ) : ℕ → List Lexeme → Type 0 where
 pub data FaultFrom (source : List ℕ) : ℕ → Fault → Type 0 where
   fault_here : {place : ℕ} {cause : Cause}
       → item_at (drop place source) ≡ Wrong cause
-      → FaultFrom source place (fault_of cause (line_at source place))
+      → FaultFrom source place (fault_of cause place (line_at source place))
   fault_after_blank : {place length : ℕ} {fault : Fault}
       → item_at (drop place source) ≡ Blank length
       → FaultFrom source (place + length) fault

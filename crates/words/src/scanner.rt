@@ -27,7 +27,9 @@ pub fn scan<'a>(alloc: Global, source: &'a [u8]) -> Result<Vec<Word<'a>>, Failur
     loop {
         match next_item(&source[start..]) {
             Item::Ending => return Ok(words),
-            Item::Wrong(cause) => return Err(Failure::Fault(fault_of(cause, line))),
+            Item::Wrong(cause) => {
+                return Err(Failure::Fault(fault_of(cause, start as u32, line)));
+            }
             Item::Blank(length) => {
                 line += count_of_line_feeds(&source[start..start + length]) as u32;
                 start += length;
@@ -47,14 +49,14 @@ pub fn scan<'a>(alloc: Global, source: &'a [u8]) -> Result<Vec<Word<'a>>, Failur
     }
 }
 
-// The fault that a cause is on a line.
-fn fault_of(cause: Cause, line: u32) -> Fault
-    ensures { result ≡ fault_of cause line }
+// The fault that a cause is at a place on a line.
+fn fault_of(cause: Cause, start: u32, line: u32) -> Fault
+    ensures { result ≡ fault_of cause start line }
 {
     match cause {
-        Cause::BadCharacter => Fault::Character { line },
-        Cause::NotClosed => Fault::Unclosed { line },
-        Cause::BadNumber => Fault::Number { line },
-        Cause::LongName => Fault::Name { line },
+        Cause::BadCharacter => Fault::Character { start, line },
+        Cause::NotClosed => Fault::Unclosed { start, line },
+        Cause::BadNumber => Fault::Number { start, line },
+        Cause::LongName => Fault::Name { start, line },
     }
 }

@@ -10,7 +10,7 @@ returns-in_err-processed-in-None-clause-fault c =
     let output = lexemes_of c.args.output.now.items in
     let word = lexeme_of c.args.word in
     let after = lexemes_of c.args.after.now in
-    rw (p.1, p.2) (if_fault (FaultFrom output c.args.processed (word ∷ after)) c.in_err-processed-in-None.field-0.0 (Count word.line) c.in_err-processed-in-None.ensures.err.0 (count_here output c.args.processed word 1 (word_then none_yet) c.in_err-processed-in-None.ensures.err.1 after))
+    rw (p.1, p.2) (if_fault (FaultFrom output c.args.processed (word ∷ after)) c.in_err-processed-in-None.field-0.0 (Count word.start word.line) c.in_err-processed-in-None.ensures.err.0 (count_here output c.args.processed word 1 (word_then none_yet) c.in_err-processed-in-None.ensures.err.1 after))
 
 pub returns-in-Some-clause-fault : goal.returns-in-Some-clause-fault
 returns-in-Some-clause-fault c =

@@ -10,7 +10,7 @@ rest words = take (length words - 1) (drop 1 words)
 pub returns-in_err-processed-clause-fault : goal.returns-in_err-processed-clause-fault
 returns-in_err-processed-clause-fault c =
     let p = err_from_is_err_and c.from_residual.result c.from_residual.ensures.1 in
-    rw (p.1, p.2) (if_fault (IsFaultAt (lexemes_of c.args.output.now.items) c.args.processed (lexeme_of c.args.used)) c.in_err-processed.field-0.0 (Count c.args.used.line) c.in_err-processed.ensures.err.0 (count_here (lexemes_of c.args.output.now.items) c.args.processed (lexeme_of c.args.used) 1 (word_then none_yet) c.in_err-processed.ensures.err.1))
+    rw (p.1, p.2) (if_fault (IsFaultAt (lexemes_of c.args.output.now.items) c.args.processed (lexeme_of c.args.used)) c.in_err-processed.field-0.0 (Count c.args.used.start c.args.used.line) c.in_err-processed.ensures.err.0 (count_here (lexemes_of c.args.output.now.items) c.args.processed (lexeme_of c.args.used) 1 (word_then none_yet) c.in_err-processed.ensures.err.1))
 
 pub loop-words-init : goal.loop-words-init
 loop-words-init c =
@@ -44,7 +44,7 @@ returns-in_err-processed-2-clause-fault c =
     let used = lexeme_of c.args.used in
     let opened = waits_opened (λ text. text.now) output c.args.processed used c.loop-words.pending.items c.pop.new.self.items c.in-Some.words (get_or c.in-Some.words.now 0 c.args.used) (rest c.in-Some.words.now) _ _ c.in-Some.ensures.items (first_of c.in-Some.words.now c.args.used c.in-len1-up.len_at_least) c.loop-words.invariant.waits in
     let processed = processed_here output c.args.processed used _ _ _ _ _ opened in
-    rw (p.1, p.2) (if_fault (IsFaultAt output c.args.processed used) c.in_err-processed-2.field-0.0 (Count c.args.used.line) c.in_err-processed-2.ensures.err.0 (count_here output c.args.processed used processed.0 processed.1 (omega (arith, processed.2, c.in_err-processed-2.ensures.err.1))))
+    rw (p.1, p.2) (if_fault (IsFaultAt output c.args.processed used) c.in_err-processed-2.field-0.0 (Count c.args.used.start c.args.used.line) c.in_err-processed-2.ensures.err.0 (count_here output c.args.processed used processed.0 processed.1 (omega (arith, processed.2, c.in_err-processed-2.ensures.err.1))))
 
 pub loop-words-preserved-in_default-text_for : goal.loop-words-preserved-in_default-text_for
 loop-words-preserved-in_default-text_for c =

@@ -14,7 +14,8 @@ pub returns-in-Wrong-clause-fault : goal.returns-in-Wrong-clause-fault
 returns-in-Wrong-clause-fault c =
     let source = c.args.source.now in
     let is = item_here source c.loop-words.start (Wrong c.in-Wrong.cause) c.in-Wrong.ensures.item in
-    let same : fault_of c.in-Wrong.cause (line_at source c.loop-words.start) ≡ c.fault_of.result = ap (fault_of c.in-Wrong.cause) (sym c.loop-words.invariant.line) ∙ sym c.fault_of.ensures in
+    let start = c.loop-words.start in
+    let same : fault_of c.in-Wrong.cause start (line_at source start) ≡ c.fault_of.result = ap (fault_of c.in-Wrong.cause start) (sym c.loop-words.invariant.line) ∙ sym c.fault_of.ensures in
     subst (IsFirstFault source) same (c.loop-words.invariant.fault _ (fault_here is))
 
 pub loop-words-preserved-in-Blank : goal.loop-words-preserved-in-Blank

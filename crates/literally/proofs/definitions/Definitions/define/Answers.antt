@@ -1,4 +1,4 @@
-use Rattle.literally.proofs.Prelude.{◌≡◌, false, true, ◌∷◌, reverse, sym, ◌∙◌, ap, subst, name_of, lexeme_of, lexemes_of, Spells, IsFirstFault, has_quote, text_of, Text, FaultFrom, quote_in_text, bad_text, on_line}
+use Rattle.literally.proofs.Prelude.{◌≡◌, false, true, ◌∷◌, reverse, sym, ◌∙◌, ap, subst, name_of, lexeme_of, lexemes_of, Spells, IsFirstFault, has_quote, text_of, Text, FaultFrom, quote_in_text, bad_text, at_string}
 use Rattle.literally.proofs.Failures.{of_fault}
 use Rattle.literally.proofs.DefinitionsHeld.{definition_is, held_then, sound_by}
 use Rattle.literally.proofs.definitions.Definitions.define.Goals as goal
@@ -32,4 +32,4 @@ returns-in-Err-Fault-clause-fault c processed words =
     let free : has_quote (text_of word) ≡ false = ap has_quote (sym c.text_of-text.ensures) ∙ sym c.if-has_quote.ensures in
     let first : IsFirstFault (text_of word) c.in-Err-Fault.fault =
     subst (λ t. IsFirstFault t c.in-Err-Fault.fault) c.text_of-text.ensures (of_fault (IsFirstFault c.text_of-text.result.now) c.in-Err-Fault.field-0 c.in-Err-Fault.fault c.in-Err-Fault.field-0-is c.in-Err-Fault.ensures.fault) in
-    subst (λ fault. FaultFrom output processed (word ∷ words) (Text fault)) (sym (c.on_line.ensures ∙ ap (on_line word.line) c.in-Err-Fault.fault-is)) (bad_text is free first)
+    subst (λ fault. FaultFrom output processed (word ∷ words) (Text fault)) (sym (c.at_string.ensures ∙ ap (at_string word) c.in-Err-Fault.fault-is)) (bad_text is free first)
