@@ -32,9 +32,10 @@ expansion_other (expansion_faults.Quote start line) = refl
 expansion_other (expansion_faults.Again start line) = refl
 
 syntax_other : (fault : syntax_fault.Fault) → is_other (of_syntax.number_of fault) ≡ true
-syntax_other (syntax_faults.Word line) = refl
-syntax_other (syntax_faults.Depth line) = refl
-syntax_other (syntax_faults.EndName line) = refl
+syntax_other (syntax_faults.Word place) = refl
+syntax_other (syntax_faults.End place) = refl
+syntax_other (syntax_faults.Depth place) = refl
+syntax_other (syntax_faults.EndName place) = refl
 
 typing_other : (cause : Cause) → is_other (of_typing.number_of cause) ≡ true
 typing_other causes.UnknownName = refl

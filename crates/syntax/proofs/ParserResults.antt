@@ -1,7 +1,7 @@
 -- What was read of words, in terms of what they derive.
 use Rattle.syntax.proofs.Prelude.{◌≡◌, true, List, Result, Ok, Err, subst, IfOk, Lexeme, Module, NESTING_LIMIT, Derives, DerivesButForDepth, DerivesButForEndName, DerivesModule, Symbol, symbols_of, ModuleTree, module_tree, IfFault, Failure, Fault, Fails, Makes, Cause, TooDeep, OtherEndName, whole_module}
 use Rattle.failure.specs.declared.Failure.TheVariants as failures
-use Rattle.syntax.specs.declared.fault.Fault.TheVariants.{Word, Depth, EndName}
+use Rattle.syntax.specs.declared.fault.Fault.TheVariants.{Word, End, Depth, EndName}
 use Rattle.syntax.specs.Faults.{IsOfDepth, IsOfEndName, IsRefused, IsWrongWith}
 use Rattle.syntax.proofs.ParserLaws.{module_read-derives, module_derives-reads, module_deep-reads, module_end_name-reads, module_fails-cause}
 
@@ -17,9 +17,10 @@ parsed-derives words (Err failure) made = tt
 -- where there is a tree, no fault keeps it back
 none_kept_back : (read : Result ModuleTree Cause) (tree : ModuleTree) (fault : Fault)
     → read ≡ Ok tree → Fails (failures.Fault fault) read → ⊥
-none_kept_back read tree (Word line) whole fails = absurd cc
-none_kept_back read tree (Depth line) whole fails = absurd cc
-none_kept_back read tree (EndName line) whole fails = absurd cc
+none_kept_back read tree (Word place) whole fails = absurd cc
+none_kept_back read tree (End place) whole fails = absurd cc
+none_kept_back read tree (Depth place) whole fails = absurd cc
+none_kept_back read tree (EndName place) whole fails = absurd cc
 
 pub refused-derives_none : (words : List Lexeme) (parsed : Result Module (Failure Fault))
     → MadeOf words parsed
@@ -33,18 +34,20 @@ pub refused-wrong : (words : List Lexeme) (parsed : Result Module (Failure Fault
     → MadeOf words parsed
     → IfFault parsed (λ fault. (tree : ModuleTree) → DerivesModule (symbols_of words) tree → IsWrongWith fault tree)
 refused-wrong words (Ok found) made = tt
-refused-wrong words (Err (failures.Fault (Word line))) made = λ tree derived. module_fails-cause words tree _ derived made
-refused-wrong words (Err (failures.Fault (Depth line))) made = λ tree derived. module_fails-cause words tree _ derived made
-refused-wrong words (Err (failures.Fault (EndName line))) made =
+refused-wrong words (Err (failures.Fault (Word place))) made = λ tree derived. module_fails-cause words tree _ derived made
+refused-wrong words (Err (failures.Fault (End place))) made = λ tree derived. module_fails-cause words tree _ derived made
+refused-wrong words (Err (failures.Fault (Depth place))) made = λ tree derived. module_fails-cause words tree _ derived made
+refused-wrong words (Err (failures.Fault (EndName place))) made =
     λ tree derived. module_fails-cause words tree _ derived made
 refused-wrong words (Err failures.Memory) made = tt
 
 -- the fault of too many levels
 deep_fault : (read : Result ModuleTree Cause) (fault : Fault)
     → read ≡ Err TooDeep → Fails (failures.Fault fault) read → IsOfDepth fault
-deep_fault read (Word line) deep fails = absurd cc
-deep_fault read (Depth line) deep fails = tt
-deep_fault read (EndName line) deep fails = absurd cc
+deep_fault read (Word place) deep fails = absurd cc
+deep_fault read (End place) deep fails = absurd cc
+deep_fault read (Depth place) deep fails = tt
+deep_fault read (EndName place) deep fails = absurd cc
 
 pub deep-refused : (words : List Lexeme) (parsed : Result Module (Failure Fault)) → MadeOf words parsed
     → DerivesButForDepth words → IsRefused parsed IsOfDepth
@@ -56,9 +59,10 @@ deep-refused words (Err failures.Memory) made deep = tt
 -- the fault of another name after END
 end_name_fault : (read : Result ModuleTree Cause) (fault : Fault)
     → read ≡ Err OtherEndName → Fails (failures.Fault fault) read → IsOfEndName fault
-end_name_fault read (Word line) other fails = absurd cc
-end_name_fault read (Depth line) other fails = absurd cc
-end_name_fault read (EndName line) other fails = tt
+end_name_fault read (Word place) other fails = absurd cc
+end_name_fault read (End place) other fails = absurd cc
+end_name_fault read (Depth place) other fails = absurd cc
+end_name_fault read (EndName place) other fails = tt
 
 pub end_name-refused : (words : List Lexeme) (parsed : Result Module (Failure Fault)) → MadeOf words parsed
     → DerivesButForEndName words → IsRefused parsed IsOfEndName

@@ -6,7 +6,7 @@ ghost use Rattle.grammar.specs.Symbols.{symbol_of, MarkSymbol, ReservedSymbol};
 ghost use Rattle.words.specs.Strings.{characters_of, unquoted};
 ghost use Rattle.trees.specs.Views.{constant_tree, string_tree};
 ghost use Rattle.syntax.specs.internal.Expressions.{operator_of, next_operator};
-ghost use Rattle.syntax.specs.internal.Results.{left_of, cause_of, Gives, Leaves, OrMemory};
+ghost use Rattle.syntax.specs.internal.Results.{left_of, cause_of, next_place, unexpected_of, Gives, Leaves, OrMemory};
 ghost use Rattle.syntax.specs.internal.Reader.{Cause, Unexpected, TooDeep, at_mark, at_word, is_semicolon, keeps_place, place_of_word, next_semicolon, next_name, mark, word, semicolon, taken, name, number, string, constant, string_constant, number_constant};
 
 use crate::fault::Fault;
@@ -21,8 +21,8 @@ use words::{Kind, Mark, ReservedWord, Word};
 pub(crate) struct Reader<'a> {
     pub(crate) alloc: Global,
     rest: &'a [Word<'a>],
-    // The line of the word before.
-    line: u32,
+    // The place of the word before, or the start of line 1.
+    last: Place,
 }
 
 impl<'a> Model for Reader<'a> {
@@ -54,7 +54,7 @@ impl<'a> Reader<'a> {
         Reader {
             alloc,
             rest: words,
-            line: 1,
+            last: Place { start: 0, line: 1 },
         }
     }
 
@@ -108,7 +108,7 @@ impl<'a> Reader<'a> {
         ensures { self.new ≡ drop 1 self.old }
     {
         if let [first, rest @ ..] = self.rest {
-            self.line = first.line;
+            self.last = place_of(first);
             self.rest = rest;
         }
     }
@@ -303,9 +303,7 @@ impl<'a> Reader<'a> {
     pub(crate) fn unexpected(&self) -> Failure<Fault>
         ensures { cause_of result ≡ Some Unexpected }
     {
-        Failure::Fault(Fault::Word {
-            line: self.next_line(),
-        })
+        Failure::Fault(unexpected_at(self.rest, self.last))
     }
 
     /// The fault of nesting too deep.
@@ -313,16 +311,30 @@ impl<'a> Reader<'a> {
         ensures { cause_of result ≡ Some TooDeep }
     {
         Failure::Fault(Fault::Depth {
-            line: self.next_line(),
+            place: next_place(self.rest, self.last),
         })
     }
+}
 
-    // The line of the next word, or of the last one.
-    fn next_line(&self) -> u32 {
-        match self.rest {
-            [first, ..] => first.line,
-            [] => self.line,
-        }
+// The fault of the next word, which can't stand there, or of the end of the words, after the last word.
+fn unexpected_at(rest: &[Word], last: Place) -> Fault
+    ensures { result ≡ unexpected_of rest.now last }
+{
+    match rest {
+        [first, ..] => Fault::Word {
+            place: place_of(first),
+        },
+        [] => Fault::End { place: last },
+    }
+}
+
+// The place of the next word, or of the last one.
+fn next_place(rest: &[Word], last: Place) -> Place
+    ensures { result ≡ next_place rest.now last }
+{
+    match rest {
+        [first, ..] => place_of(first),
+        [] => last,
     }
 }
 

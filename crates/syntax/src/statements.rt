@@ -148,9 +148,7 @@ impl<'a> Reader<'a> {
             }
             Some(found) => {
                 if found.name != own.name {
-                    return Err(Failure::Fault(Fault::EndName {
-                        line: found.place.line,
-                    }));
+                    return Err(Failure::Fault(Fault::EndName { place: found.place }));
                 }
                 self.skip();
                 self.take_semicolon()?;

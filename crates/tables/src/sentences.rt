@@ -14,6 +14,7 @@ use std::alloc::Global;
 use std::fmt;
 use std::fmt::Write;
 use tool::ToolFault;
+use trees::Place;
 use typing::Cause;
 
 // What comes before the words of a fault that has a line.
@@ -119,10 +120,11 @@ impl Help {
 
     // The faults of grammar, of names and of types.
     fn seek_trees(&mut self) {
+        let place = Place { start: 0, line: 1 };
         let trees = [
-            syntax::Fault::Word { line: 1 },
-            syntax::Fault::Depth { line: 1 },
-            syntax::Fault::EndName { line: 1 },
+            syntax::Fault::Word { place },
+            syntax::Fault::Depth { place },
+            syntax::Fault::EndName { place },
         ];
         for fault in &trees {
             self.seek(fault.number(), fault);

@@ -1,23 +1,39 @@
 -- What a function of the parser returned is what reading the symbols gives, unless memory ran out.
-use Rattle.std.specs.Prelude.{◌≡◌, List, Option, None, Some, Result, Ok, Err}
+use Rattle.std.specs.Prelude.{◌≡◌, List, [], ◌∷◌, Option, None, Some, Result, Ok, Err}
 use Rattle.words.specs.declared.word.Word as scanned
 use Rattle.words.specs.Spelling.{lexemes_of}
+use Rattle.trees.specs.declared.identifier.Place.{Place}
 use Rattle.grammar.specs.Symbols.{Symbol, symbols_of}
 use Rattle.failure.specs.declared.Failure.{Failure}
 use Rattle.failure.specs.declared.Failure.TheVariants as failures
 use Rattle.syntax.specs.declared.fault.Fault.{Fault}
-use Rattle.syntax.specs.declared.fault.Fault.TheVariants.{Word, Depth, EndName}
+use Rattle.syntax.specs.declared.fault.Fault.TheVariants.{Word, End, Depth, EndName}
 use Rattle.syntax.specs.internal.Reader.{Cause, Unexpected, TooDeep, OtherEndName, Reading}
 
 -- the symbols of words
 abbrev pub left_of : List scanned.Word → List Symbol
 left_of words = symbols_of (lexemes_of words)
 
+-- the place of a word
+abbrev pub word_place : scanned.Word → Place
+word_place word = record { start = word.start; line = word.line }
+
+-- the place of the next of the words that are left, or that of the last word if none is left
+abbrev pub next_place : List scanned.Word → Place → Place
+next_place (word ∷ rest) last = word_place word
+next_place [] last = last
+
+-- the fault of the next of the words that are left, which can't stand there, or of the end of the words
+abbrev pub unexpected_of : List scanned.Word → Place → Fault
+unexpected_of (word ∷ rest) last = Word (word_place word)
+unexpected_of [] last = End last
+
 -- the cause that a failure gives; out of memory gives none
 abbrev pub cause_of : Failure Fault → Option Cause
-cause_of (failures.Fault (Word line)) = Some Unexpected
-cause_of (failures.Fault (Depth line)) = Some TooDeep
-cause_of (failures.Fault (EndName line)) = Some OtherEndName
+cause_of (failures.Fault (Word place)) = Some Unexpected
+cause_of (failures.Fault (End place)) = Some Unexpected
+cause_of (failures.Fault (Depth place)) = Some TooDeep
+cause_of (failures.Fault (EndName place)) = Some OtherEndName
 cause_of failures.Memory = None
 
 -- a cause is the cause of a failed reading; without one nothing is said
