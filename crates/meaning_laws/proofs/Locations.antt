@@ -1,5 +1,5 @@
 -- What INITIAL and DATA locate is an object of the table that is not BASED, in a frame or nowhere.
-use Rattle.meaning_laws.proofs.Prelude.{◌≡◌, ℕ, ◌-◌, Bool, true, false, List, [], ◌∷◌, length, slice_get, Option, Some, None, IsSomeAnd, nat_le, nat_lt, refl, sym, subst, cond, All, is_none, is_some, ◌&&◌, option_map_or, All-append, All-cons, All-nil, All-weaker, ScalarType, Byte, Address, Identifier, StringTree, StringConstant, OriginTree, ConstantOrigin, LocationOrigin, OffsetTree, RestrictedTree, ValueListTree, ItemTree, Binding, Declared, Object, Procedure, AtAddress, ByteValue, WordValue, LocationValue, InitialValue, scalars_of_element, scalars_of_elements, ObjectType, Home, InData, InConstants, Placed, BasedOn, Elsewhere, Nowhere, InFrame, TypedObject, values_in, MisplacedAttribute, WrongConstant, WrongUse, Block, Owner, OfProcedure, TheModule, is_external_linkage, ◌>>=◌, found, require, number_of_characters, number_of_constant, with_offsets, OtherModulesToo, with_address, static_bound, static_object, RestrictedValue, ANumber, FromObject, restricted_value, Filled, fill_scalar, fill_characters, fill_string, line_of_origin, fill_value, fill, Extents, NoArray, Elements, AsListed, Contents, enough_elements, contents, TypedItem, base_of, check_linkage, extents_of, home_with_values, is_data, is_plain, line_of_item, place_of_storage, typed_at, typed_base, typed_contents, typed_item, typed_type, Known, bound, line_of, Gives, gives_after, gives_fault, gives_ok, in_turn, is_found, required, then_more, HasAddress, LocatesObject}
+use Rattle.meaning_laws.proofs.Prelude.{◌≡◌, ℕ, ◌-◌, Bool, true, false, List, [], ◌∷◌, length, slice_get, Option, Some, None, IsSomeAnd, nat_le, nat_lt, refl, sym, subst, cond, All, is_none, is_some, ◌&&◌, option_map_or, All-append, All-cons, All-nil, All-weaker, ScalarType, Byte, Address, Identifier, Place, StringTree, StringConstant, OriginTree, ConstantOrigin, LocationOrigin, OffsetTree, RestrictedTree, ValueListTree, ItemTree, Binding, Declared, Object, Procedure, AtAddress, ByteValue, WordValue, LocationValue, InitialValue, scalars_of_element, scalars_of_elements, ObjectType, Home, InData, InConstants, Placed, BasedOn, Elsewhere, Nowhere, InFrame, TypedObject, values_in, NoVariable, MisplacedValues, StringNotNumber, NotByte, Block, Owner, OfProcedure, TheModule, is_external_linkage, ◌>>=◌, found, require, number_of_characters, number_of_constant, with_offsets, OtherModulesToo, with_address, static_bound, static_object, RestrictedValue, ANumber, FromObject, restricted_value, Filled, fill_scalar, fill_characters, fill_string, place_of_origin, fill_value, fill, Extents, NoArray, Elements, AsListed, Contents, enough_elements, contents, TypedItem, base_of, check_linkage, extents_of, home_with_values, is_data, is_plain, place_of_item, place_of_storage, typed_at, typed_base, typed_contents, typed_item, typed_type, Known, bound, place_of, Gives, gives_after, gives_fault, gives_ok, in_turn, is_found, required, then_more, HasAddress, LocatesObject}
 use Rattle.typing.specs.Items.{home_in, home_of}
 use Rattle.typing.proofs.Tables.{Keeps}
 
@@ -8,21 +8,21 @@ abbrev MayBeLocated : (objects : List TypedObject) → (number : ℕ) → Type 0
 MayBeLocated objects number =
     IsSomeAnd (slice_get objects number) (λ (found : TypedObject). HasAddress found.home)
 
-address_is : (home : Home) (number line : ℕ)
-    → Gives (λ found. (found ≡ number) × HasAddress home) (with_address OtherModulesToo home number line)
-address_is (InData values) number line = gives_ok (refl, tt)
-address_is (InConstants values) number line = gives_ok (refl, tt)
-address_is (Placed address) number line = gives_ok (refl, tt)
-address_is Elsewhere number line = gives_ok (refl, tt)
-address_is (BasedOn base) number line = gives_fault
-address_is Nowhere number line = gives_fault
-address_is (InFrame procedure) number line = gives_fault
+address_is : (home : Home) (number : ℕ) (place : Place)
+    → Gives (λ found. (found ≡ number) × HasAddress home) (with_address OtherModulesToo home number place)
+address_is (InData values) number place = gives_ok (refl, tt)
+address_is (InConstants values) number place = gives_ok (refl, tt)
+address_is (Placed address) number place = gives_ok (refl, tt)
+address_is Elsewhere number place = gives_ok (refl, tt)
+address_is (BasedOn base) number place = gives_fault
+address_is Nowhere number place = gives_fault
+address_is (InFrame procedure) number place = gives_fault
 
 bound_is : (known : Known) (binding : Binding) (name : Identifier)
     → Gives (MayBeLocated known.objects) (static_bound OtherModulesToo known binding name)
 bound_is known (Declared (Object number)) name =
-    in_turn (is_found (slice_get known.objects number) WrongUse (line_of name)) λ object is.
-    then_more (address_is object.home number (line_of name)) λ found has.
+    in_turn (is_found (slice_get known.objects number) NoVariable (place_of name)) λ object is.
+    then_more (address_is object.home number (place_of name)) λ found has.
     subst (MayBeLocated known.objects) (sym has.0)
     (subst (λ (entry : Option TypedObject). IsSomeAnd entry (λ (found : TypedObject). HasAddress found.home)) (sym is)
     has.1)
@@ -58,42 +58,42 @@ one_value : (objects : List TypedObject) (value : InitialValue) → LocatesObjec
 one_value objects value locates =
     All-cons (LocatesObject objects) value [] locates (All-nil (LocatesObject objects))
 
-scalar_locates : (objects : List TypedObject) (line : ℕ) (scalars : List ScalarType) (value : RestrictedValue)
+scalar_locates : (objects : List TypedObject) (place : Place) (scalars : List ScalarType) (value : RestrictedValue)
     → ValueLocates objects value
-    → Gives (FilledLocate objects) (fill_scalar line scalars value)
-scalar_locates objects line (Byte ∷ left) (ANumber number) is =
-    gives_after (require (nat_le number 255) WrongConstant line) λ small.
+    → Gives (FilledLocate objects) (fill_scalar place scalars value)
+scalar_locates objects place (Byte ∷ left) (ANumber number) is =
+    gives_after (require (nat_le number 255) NotByte place) λ small.
     gives_ok (one_value objects (ByteValue number) tt)
-scalar_locates objects line (Address ∷ left) (ANumber number) is = gives_ok (one_value objects (WordValue number) tt)
-scalar_locates objects line (Address ∷ left) (FromObject object offset) is =
+scalar_locates objects place (Address ∷ left) (ANumber number) is = gives_ok (one_value objects (WordValue number) tt)
+scalar_locates objects place (Address ∷ left) (FromObject object offset) is =
     gives_ok (one_value objects (LocationValue object offset) is)
-scalar_locates objects line (Byte ∷ left) (FromObject object offset) is = gives_fault
-scalar_locates objects line [] value is = gives_fault
+scalar_locates objects place (Byte ∷ left) (FromObject object offset) is = gives_fault
+scalar_locates objects place [] value is = gives_fault
 
-characters_locate : (objects : List TypedObject) (line : ℕ) (characters : List ℕ) (scalars : List ScalarType)
-    → Gives (FilledLocate objects) (fill_characters line characters scalars)
-characters_locate objects line [] scalars = gives_ok (All-nil (LocatesObject objects))
-characters_locate objects line (character ∷ others) (Byte ∷ left) =
-    in_turn (characters_locate objects line others left) λ filled locate.
+characters_locate : (objects : List TypedObject) (place : Place) (characters : List ℕ) (scalars : List ScalarType)
+    → Gives (FilledLocate objects) (fill_characters place characters scalars)
+characters_locate objects place [] scalars = gives_ok (All-nil (LocatesObject objects))
+characters_locate objects place (character ∷ others) (Byte ∷ left) =
+    in_turn (characters_locate objects place others left) λ filled locate.
     gives_ok (All-cons (LocatesObject objects) (ByteValue character) filled.values tt locate)
-characters_locate objects line (character ∷ others) (Address ∷ left) = gives_fault
-characters_locate objects line (character ∷ others) [] = gives_fault
+characters_locate objects place (character ∷ others) (Address ∷ left) = gives_fault
+characters_locate objects place (character ∷ others) [] = gives_fault
 
 string_locates : (objects : List TypedObject) (string : StringTree) (scalars : List ScalarType)
     → Gives (FilledLocate objects) (fill_string string scalars)
-string_locates objects string [] = characters_locate objects string.place.line string.characters []
+string_locates objects string [] = characters_locate objects string.place string.characters []
 string_locates objects string (Byte ∷ left) =
-    characters_locate objects string.place.line string.characters (Byte ∷ left)
+    characters_locate objects string.place string.characters (Byte ∷ left)
 string_locates objects string (Address ∷ left) =
-    gives_after (found (number_of_characters string.characters) WrongConstant string.place.line) λ number.
+    gives_after (found (number_of_characters string.characters) StringNotNumber string.place) λ number.
     gives_ok (one_value objects (WordValue number) tt)
 
 origin_locates : (known : Known) (scalars : List ScalarType) (origin : OriginTree) (offsets : List OffsetTree)
     → Gives (FilledLocate known.objects) (restricted_value OtherModulesToo known origin offsets
-    >>= (λ value. fill_scalar (line_of_origin origin) scalars value))
+    >>= (λ value. fill_scalar (place_of_origin origin) scalars value))
 origin_locates known scalars origin offsets =
     in_turn (restricted_locates known origin offsets) λ value is.
-    scalar_locates known.objects (line_of_origin origin) scalars value is
+    scalar_locates known.objects (place_of_origin origin) scalars value is
 
 value_locates : (known : Known) (scalars : List ScalarType) (origin : OriginTree) (offsets : List OffsetTree)
     → Gives (FilledLocate known.objects) (fill_value known scalars origin offsets)
@@ -112,16 +112,16 @@ values_locate known (value ∷ others) scalars =
 abbrev ContentsLocate : (objects : List TypedObject) → Contents → Type 0
 ContentsLocate objects made = All (LocatesObject objects) made.values
 
-contents_locate : (known : Known) (line : ℕ) (object_type : ObjectType) (extents : Extents)
+contents_locate : (known : Known) (place : Place) (object_type : ObjectType) (extents : Extents)
     (values : List RestrictedTree)
-    → Gives (ContentsLocate known.objects) (contents known line object_type extents values)
-contents_locate known line object_type NoArray values =
+    → Gives (ContentsLocate known.objects) (contents known place object_type extents values)
+contents_locate known place object_type NoArray values =
     in_turn (values_locate known values (scalars_of_element object_type)) λ filled locate.
     gives_ok locate
-contents_locate known line object_type (Elements count) values =
+contents_locate known place object_type (Elements count) values =
     in_turn (values_locate known values (scalars_of_elements count object_type)) λ filled locate.
     gives_ok locate
-contents_locate known line object_type AsListed values =
+contents_locate known place object_type AsListed values =
     in_turn (values_locate known values (scalars_of_elements (enough_elements values) object_type)) λ filled locate.
     let used : ℕ =
     length (scalars_of_elements (enough_elements values) object_type) - length filled.left in
@@ -132,11 +132,11 @@ typed_contents_locate : (known : Known) (block : Block) (item : ItemTree) (objec
     (extents : Extents) (list : Option ValueListTree)
     → Gives (ContentsLocate known.objects) (typed_contents known block item object_type extents list)
 typed_contents_locate known block item object_type extents None =
-    contents_locate known (line_of_item item) object_type extents []
+    contents_locate known (place_of_item item) object_type extents []
 typed_contents_locate known block item object_type extents (Some list) =
-    gives_after (require (is_plain block item && is_none item.at) MisplacedAttribute
-    (place_of_storage list.storage).line) λ plain.
-    contents_locate known (line_of_item item) object_type extents list.values
+    gives_after (require (is_plain block item && is_none item.at) MisplacedValues
+    (place_of_storage list.storage)) λ plain.
+    contents_locate known (place_of_item item) object_type extents list.values
 
 -- where an item lives
 home_locates : (objects : List TypedObject) (owner : Owner) (item : ItemTree) (base : Option ℕ)

@@ -43,7 +43,7 @@ pub bound_known : (here : Here) (name : Identifier) (binding : Binding) (binding
 unfolding bound_at
 bound_known here name binding bindings is = ap (λ found. bind_more (bound_name name found bindings) (bound_at here [])) is
 
-pub bound_unknown : (here : Here) (name : Identifier) (bindings : List Binding) → binding_of here name.name ≡ None → bound_at here (name ∷ []) bindings ≡ Err (Unknown name.place.line)
+pub bound_unknown : (here : Here) (name : Identifier) (bindings : List Binding) → binding_of here name.name ≡ None → bound_at here (name ∷ []) bindings ≡ Err (Unknown name.place)
 unfolding bound_at
 bound_unknown here name bindings is = ap (λ found. bind_more (bound_name name found bindings) (bound_at here [])) is
 
@@ -116,7 +116,7 @@ unfolding gives declares
 gives_declared is_again after name walk is = rw is (ap (λ all. Ok (walk_at (after name.name walk.here) all)) (append-nil walk.bindings))
 
 pub gives_again : (is_again : Here → List ℕ → Bool) (after : List ℕ → Here → Here) (name : Identifier) (walk : Walk) → is_again walk.here name.name ≡ true
-    → gives (declares is_again after name) walk ≡ Err (DeclaredTwice name.place.line)
+    → gives (declares is_again after name) walk ≡ Err (DeclaredTwice name.place)
 unfolding gives declares
 gives_again is_again after name walk is = rw is refl
 

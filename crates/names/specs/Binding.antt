@@ -17,8 +17,8 @@ bindings_of (Declaration name again ∷ others) = bindings_of others
 -- the fault of one event
 abbrev pub fault_of : Event → Option Fault
 fault_of (Use name (Some binding)) = None
-fault_of (Use name None) = Some (Unknown name.place.line)
-fault_of (Declaration name true) = Some (DeclaredTwice name.place.line)
+fault_of (Use name None) = Some (Unknown name.place)
+fault_of (Declaration name true) = Some (DeclaredTwice name.place)
 fault_of (Declaration name false) = None
 
 -- the first fault of events

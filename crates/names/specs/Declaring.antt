@@ -11,5 +11,5 @@ use Rattle.names.specs.declared.fault.Fault.TheVariants.{DeclaredTwice}
 abbrev pub Declares : {A B : Type 0} → Result A (Failure Fault) → Identifier → Bool → B → B → Type 0
 Declares (Ok done) name again now after = (again ≡ false) × (now ≡ after)
 Declares (Err (failures.Fault fault)) name again now after =
-    (again ≡ true) × (fault ≡ DeclaredTwice name.place.line)
+    (again ≡ true) × (fault ≡ DeclaredTwice name.place)
 Declares (Err failures.Memory) name again now after = Unit {0}

@@ -1,21 +1,31 @@
 //! What is wrong with a name.
 
+use std::fmt;
+use std::fmt::{Debug, Formatter};
 use thiserror::Error;
+use trees::Place;
 
-/// What is wrong with a name. Lines are counted from 1.
-#[derive(Clone, Copy, Debug, Error)]
+/// What is wrong with a name. The place is that of the name. Lines are counted from 1.
+#[derive(Clone, Copy, Error)]
 pub enum Fault {
     /// A name is used where no declaration of it is known.
-    #[error("line {line}: a name that is not declared here")]
-    Unknown { line: u32 },
+    #[error("line {}: a name that is not declared here", place.line)]
+    Unknown { place: Place },
     /// A name is declared where it has been declared before.
-    #[error("line {line}: a name that is declared twice")]
-    DeclaredTwice { line: u32 },
+    #[error("line {}: a name that is declared twice", place.line)]
+    DeclaredTwice { place: Place },
+}
+
+// Written out, since a place has none. It shows the message.
+impl Debug for Fault {
+    fn fmt<W: fmt::Write>(&self, f: &mut Formatter<W>) -> fmt::Result {
+        write!(f, "{self}")
+    }
 }
 
 impl Fault {
     ghost use Rattle.std.specs.Prelude.{◌≡◌};
-    ghost use Rattle.names.specs.Faults.{number_of, line_of};
+    ghost use Rattle.names.specs.Faults.{line_of, number_of, place_of};
 
     /// The number by which the documentation and the command line know the fault.
     pub fn number(&self) -> &'static str
@@ -27,12 +37,19 @@ impl Fault {
         }
     }
 
+    /// The place of the name.
+    pub fn place(&self) -> Place
+        ensures { result ≡ place_of self.now }
+    {
+        match self {
+            Fault::Unknown { place } | Fault::DeclaredTwice { place } => *place,
+        }
+    }
+
     /// The line of the name.
     pub fn line(&self) -> u32
         ensures { result ≡ line_of self.now }
     {
-        match self {
-            Fault::Unknown { line } | Fault::DeclaredTwice { line } => *line,
-        }
+        self.place().line
     }
 }

@@ -186,11 +186,9 @@ impl Drop for BodyNames {
 
 // The refusal of a name that may not be declared again.
 fn declared_twice(name: Identifier) -> Failure<Fault>
-    ensures { result ≡ failures.Fault (Fault.DeclaredTwice name.place.line) }
+    ensures { result ≡ failures.Fault (Fault.DeclaredTwice name.place) }
 {
-    Failure::Fault(Fault::DeclaredTwice {
-        line: name.place.line,
-    })
+    Failure::Fault(Fault::DeclaredTwice { place: name.place })
 }
 
 // Numbers the labels before a statement, and gives the number after them.

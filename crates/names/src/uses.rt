@@ -28,9 +28,7 @@ pub(crate) fn bind_name(
             bindings.push(binding)?;
             Ok(())
         }
-        None => Err(Failure::Fault(Fault::Unknown {
-            line: name.place.line,
-        })),
+        None => Err(Failure::Fault(Fault::Unknown { place: name.place })),
     }
 }
 

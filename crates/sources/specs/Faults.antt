@@ -22,5 +22,5 @@ line_of TooLong = 0
 line_of (Words fault) = of_words.line_of fault
 line_of (Expansion fault) = of_expansion.line_of fault
 line_of (Syntax fault) = of_syntax.line_of fault
-line_of (Typing fault) = fault.line
+line_of (Typing fault) = fault.place.line
 line_of (Storage fault) = 0

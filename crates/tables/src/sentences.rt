@@ -20,17 +20,31 @@ use typing::Cause;
 // What comes before the words of a fault that has a line.
 const PLACE: &str = "line 1: ";
 
-const CAUSES: [Cause; 10] = [
+// The causes that have a number of their own.
+const CAUSES: [Cause; 7] = [
     Cause::UnknownName,
     Cause::DeclaredTwice,
-    Cause::WrongUse,
-    Cause::MisplacedAttribute,
-    Cause::WrongConstant,
     Cause::ConstantWritten,
     Cause::NoLocation,
     Cause::TooLarge,
     Cause::MisplacedLabel,
     Cause::UnknownLabel,
+];
+
+// The numbers that several causes share, with the words for all of them, each with one of its causes.
+const SHARED: [(Cause, &str); 3] = [
+    (
+        Cause::SubscriptMismatch,
+        "a use that does not go with what is named",
+    ),
+    (
+        Cause::MisplacedLinkage,
+        "an attribute or a declaration that cannot stand here",
+    ),
+    (
+        Cause::StringNotNumber,
+        "a constant or a list of constants that is not allowed here",
+    ),
 ];
 
 const OBJECT_FAULTS: [objmod::Fault; 9] = [
@@ -132,9 +146,16 @@ impl Help {
         for cause in &CAUSES {
             let fault = typing::Fault {
                 cause: *cause,
-                line: 1,
+                place: Place { start: 0, line: 1 },
             };
             self.seek(fault.number(), &fault);
+        }
+        for (cause, words) in &SHARED {
+            let fault = typing::Fault {
+                cause: *cause,
+                place: Place { start: 0, line: 1 },
+            };
+            self.seek(fault.number(), words);
         }
     }
 

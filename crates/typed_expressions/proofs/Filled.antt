@@ -1,5 +1,5 @@
 -- Scalars filled by one value after another.
-use Rattle.typed_expressions.proofs.Prelude.{◌≡◌, ℕ, ◌+◌, ◌-◌, ◌/◌, ◌<◌, ◌≤◌, List, [], ◌∷◌, ◌++◌, length, Ok, Err, Option, Some, refl, ap, sym, ◌∙◌, append_assoc, arith, length-append, map, nat_le, nat_lt, subst, true, tests, rules, drop, get_or, repeat, add-div_right, ScalarType, Byte, Address, Restricted, RestrictedTree, OriginTree, ConstantOrigin, LocationOrigin, OffsetTree, NumberConstant, StringConstant, StringTree, restricted_tree, InitialValue, ByteValue, WordValue, LocationValue, scalars_of_element, scalars_of_elements, ObjectType, WrongConstant, Checked, ◌>>=◌, require, found, number_of_characters, Filled, RestrictedValue, ANumber, FromObject, OtherModulesToo, AsListed, restricted_value, line_of_origin, filled_with, and_before, fill, fill_characters, fill_scalar, fill_string, fill_value, contents, contents_as_listed, enough_elements, elements_for, Known, FailsBy, Fault, onto, values_filled, elements_listed, fails_more, then_then, state_ended, state_fails, append-nil}
+use Rattle.typed_expressions.proofs.Prelude.{◌≡◌, ℕ, ◌+◌, ◌-◌, ◌/◌, ◌<◌, ◌≤◌, List, [], ◌∷◌, ◌++◌, length, Ok, Err, Option, Some, refl, ap, sym, ◌∙◌, append_assoc, arith, length-append, map, nat_le, nat_lt, subst, true, tests, rules, drop, get_or, repeat, add-div_right, ScalarType, Byte, Address, Restricted, RestrictedTree, OriginTree, ConstantOrigin, LocationOrigin, OffsetTree, NumberConstant, StringConstant, StringTree, restricted_tree, InitialValue, ByteValue, WordValue, LocationValue, scalars_of_element, scalars_of_elements, ObjectType, StringNotNumber, ImpliedWithoutValues, NotByte, Checked, ◌>>=◌, require, found, number_of_characters, Filled, RestrictedValue, ANumber, FromObject, OtherModulesToo, AsListed, restricted_value, place_of_origin, filled_with, and_before, fill, fill_characters, fill_scalar, fill_string, fill_value, contents, contents_as_listed, enough_elements, elements_for, Known, FailsBy, Fault, onto, values_filled, elements_listed, fails_more, then_then, state_ended, state_fails, append-nil, Place}
 use Rattle.typed_expressions.proofs.LeftScalars.{repeat_empty}
 
 -- values and then more of them
@@ -66,36 +66,36 @@ counts_after scalars (Err fault) next counts = tt
 counts_one : (value : InitialValue) (scalar : ScalarType) (left : List ScalarType) → Counts (scalar ∷ left) (Ok (filled_with value left))
 counts_one value scalar left = omega arith
 
-counts_scalar : (line : ℕ) (scalars : List ScalarType) (value : RestrictedValue) → Counts scalars (fill_scalar line scalars value)
-counts_scalar line [] value = tt
-counts_scalar line (Byte ∷ left) (ANumber number) =
-    counts_after (Byte ∷ left) (require (nat_le number 255) WrongConstant line) (λ _. Ok (filled_with (ByteValue number) left)) (λ _. counts_one (ByteValue number) Byte left)
-counts_scalar line (Byte ∷ left) (FromObject object offset) = tt
-counts_scalar line (Address ∷ left) (ANumber number) = counts_one (WordValue number) Address left
-counts_scalar line (Address ∷ left) (FromObject object offset) = counts_one (LocationValue object offset) Address left
+counts_scalar : (place : Place) (scalars : List ScalarType) (value : RestrictedValue) → Counts scalars (fill_scalar place scalars value)
+counts_scalar place [] value = tt
+counts_scalar place (Byte ∷ left) (ANumber number) =
+    counts_after (Byte ∷ left) (require (nat_le number 255) NotByte place) (λ _. Ok (filled_with (ByteValue number) left)) (λ _. counts_one (ByteValue number) Byte left)
+counts_scalar place (Byte ∷ left) (FromObject object offset) = tt
+counts_scalar place (Address ∷ left) (ANumber number) = counts_one (WordValue number) Address left
+counts_scalar place (Address ∷ left) (FromObject object offset) = counts_one (LocationValue object offset) Address left
 
 counts_before : (value : InitialValue) (scalar : ScalarType) (left : List ScalarType) (checked : Checked Filled) → Counts left checked → Counts (scalar ∷ left) (checked >>= (λ (filled : Filled). Ok (and_before value filled)))
 counts_before value scalar left (Ok filled) counts = omega arith
 counts_before value scalar left (Err fault) counts = tt
 
-counts_characters : (line : ℕ) (characters : List ℕ) (scalars : List ScalarType) → Counts scalars (fill_characters line characters scalars)
-counts_characters line [] scalars = omega arith
-counts_characters line (character ∷ others) [] = tt
-counts_characters line (character ∷ others) (Byte ∷ left) =
-    counts_before (ByteValue character) Byte left (fill_characters line others left) (counts_characters line others left)
-counts_characters line (character ∷ others) (Address ∷ left) = tt
+counts_characters : (place : Place) (characters : List ℕ) (scalars : List ScalarType) → Counts scalars (fill_characters place characters scalars)
+counts_characters place [] scalars = omega arith
+counts_characters place (character ∷ others) [] = tt
+counts_characters place (character ∷ others) (Byte ∷ left) =
+    counts_before (ByteValue character) Byte left (fill_characters place others left) (counts_characters place others left)
+counts_characters place (character ∷ others) (Address ∷ left) = tt
 
 counts_string : (string : StringTree) (scalars : List ScalarType) → Counts scalars (fill_string string scalars)
-counts_string string [] = counts_characters string.place.line string.characters []
-counts_string string (Byte ∷ left) = counts_characters string.place.line string.characters (Byte ∷ left)
+counts_string string [] = counts_characters string.place string.characters []
+counts_string string (Byte ∷ left) = counts_characters string.place string.characters (Byte ∷ left)
 counts_string string (Address ∷ left) =
-    counts_after (Address ∷ left) (found (number_of_characters string.characters) WrongConstant string.place.line) (λ number. Ok (filled_with (WordValue number) left))
+    counts_after (Address ∷ left) (found (number_of_characters string.characters) StringNotNumber string.place) (λ number. Ok (filled_with (WordValue number) left))
     (λ number. counts_one (WordValue number) Address left)
 
 counts_restricted : (known : Known) (scalars : List ScalarType) (origin : OriginTree) (offsets : List OffsetTree)
-    → Counts scalars (restricted_value OtherModulesToo known origin offsets >>= (λ value. fill_scalar (line_of_origin origin) scalars value))
+    → Counts scalars (restricted_value OtherModulesToo known origin offsets >>= (λ value. fill_scalar (place_of_origin origin) scalars value))
 counts_restricted known scalars origin offsets =
-    counts_after scalars (restricted_value OtherModulesToo known origin offsets) (fill_scalar (line_of_origin origin) scalars) (counts_scalar (line_of_origin origin) scalars)
+    counts_after scalars (restricted_value OtherModulesToo known origin offsets) (fill_scalar (place_of_origin origin) scalars) (counts_scalar (place_of_origin origin) scalars)
 
 counts_value : (known : Known) (scalars : List ScalarType) (origin : OriginTree) (offsets : List OffsetTree) → Counts scalars (fill_value known scalars origin offsets)
 counts_value known scalars (ConstantOrigin (StringConstant string)) [] = counts_string string scalars
@@ -119,13 +119,13 @@ counts_values known (value ∷ others) scalars =
     counts_then scalars (fill_value known scalars value.origin value.offsets) (fill known others) (counts_value known scalars value.origin value.offsets) (counts_values known others)
 
 -- the scalars that a list uses, by the values that it gives
-listed_by : (line each : ℕ) (scalars : List ScalarType) (checked : Checked Filled) → Counts scalars checked
-    → checked >>= (λ (filled : Filled). contents_as_listed line (length scalars - length filled.left) each filled.values)
-    ≡ (checked >>= (λ (filled : Filled). Ok filled.values)) >>= (λ values. contents_as_listed line (length values) each values)
-listed_by line each scalars (Ok filled) counts =
+listed_by : (place : Place) (each : ℕ) (scalars : List ScalarType) (checked : Checked Filled) → Counts scalars checked
+    → checked >>= (λ (filled : Filled). contents_as_listed place (length scalars - length filled.left) each filled.values)
+    ≡ (checked >>= (λ (filled : Filled). Ok filled.values)) >>= (λ values. contents_as_listed place (length values) each values)
+listed_by place each scalars (Ok filled) counts =
     let used : length scalars - length filled.left ≡ length filled.values = omega arith in
-    ap (λ n. contents_as_listed line n each filled.values) used
-listed_by line each scalars (Err fault) counts = refl
+    ap (λ n. contents_as_listed place n each filled.values) used
+listed_by place each scalars (Err fault) counts = refl
 
 -- an element has a scalar where one is filled
 made_at_most : (scalars : List ScalarType) (checked : Checked Filled) (made : List InitialValue) → Counts scalars checked → checked >>= (λ (filled : Filled). Ok filled.values) ≡ Ok made → length made ≤ length scalars
@@ -142,35 +142,35 @@ some_scalar known t values n made is some =
     some_element n (length made) (scalars_of_element t) some (made_at_most scalars (fill known values scalars) made (counts_values known values scalars) is)
 
 -- the least number of elements
-pub elements_at_least : (line used each : ℕ) → 0 < used → 0 < each → elements_listed line used each ≡ Ok ((used - 1) / each + 1)
-elements_at_least line used each some has =
+pub elements_at_least : (place : Place) (used each : ℕ) → 0 < used → 0 < each → elements_listed place used each ≡ Ok ((used - 1) / each + 1)
+elements_at_least place used each some has =
     let test : nat_lt 0 used ≡ true = search (tests, rules) in
     let one : used + each - 1 ≡ used - 1 + each = omega arith in
-    ap (λ holds. require holds WrongConstant line >>= (λ _. Ok (elements_for used each))) test
+    ap (λ holds. require holds ImpliedWithoutValues place >>= (λ _. Ok (elements_for used each))) test
     ∙ ap (λ elements. Ok elements) (ap (λ n. n / each) one ∙ add-div_right (used - 1) has)
 
-listed_at : (line used each : ℕ) (made : List InitialValue) → contents_as_listed line used each made ≡ elements_listed line used each >>= (λ dimension. Ok (record { dimension = Some dimension; values = made }))
-listed_at line used each made =
-    then_then (require (nat_lt 0 used) WrongConstant line) (λ _. Ok (elements_for used each)) (λ dimension. Ok (record { dimension = Some dimension; values = made }))
+listed_at : (place : Place) (used each : ℕ) (made : List InitialValue) → contents_as_listed place used each made ≡ elements_listed place used each >>= (λ dimension. Ok (record { dimension = Some dimension; values = made }))
+listed_at place used each made =
+    then_then (require (nat_lt 0 used) ImpliedWithoutValues place) (λ _. Ok (elements_for used each)) (λ dimension. Ok (record { dimension = Some dimension; values = made }))
 
 -- an array that is as long as its list, from what fills it
-module _ (known : Known) (line : ℕ) (t : ObjectType) (values : List RestrictedTree) (n used each : ℕ) (made : List InitialValue)
+module _ (known : Known) (place : Place) (t : ObjectType) (values : List RestrictedTree) (n used each : ℕ) (made : List InitialValue)
     (enough : n ≡ enough_elements values) (whole : used ≡ length made) (element : each ≡ length (scalars_of_element t)) (is : values_filled known values (scalars_of_elements n t) ≡ Ok made) where
-  listed : contents known line t AsListed values ≡ elements_listed line used each >>= (λ dimension. Ok (record { dimension = Some dimension; values = made }))
+  listed : contents known place t AsListed values ≡ elements_listed place used each >>= (λ dimension. Ok (record { dimension = Some dimension; values = made }))
   listed =
       let scalars = scalars_of_elements (enough_elements values) t in
-      listed_by line (length (scalars_of_element t)) scalars (fill known values scalars) (counts_values known values scalars)
-      ∙ ap (λ (filled : Checked (List InitialValue)). filled >>= (λ values. contents_as_listed line (length values) (length (scalars_of_element t)) values)) (ap (λ count. values_filled known values (scalars_of_elements count t)) (sym enough) ∙ is)
-      ∙ ap (λ count. contents_as_listed line count (length (scalars_of_element t)) made) (sym whole)
-      ∙ ap (λ count. contents_as_listed line used count made) (sym element)
-      ∙ listed_at line used each made
+      listed_by place (length (scalars_of_element t)) scalars (fill known values scalars) (counts_values known values scalars)
+      ∙ ap (λ (filled : Checked (List InitialValue)). filled >>= (λ values. contents_as_listed place (length values) (length (scalars_of_element t)) values)) (ap (λ count. values_filled known values (scalars_of_elements count t)) (sym enough) ∙ is)
+      ∙ ap (λ count. contents_as_listed place count (length (scalars_of_element t)) made) (sym whole)
+      ∙ ap (λ count. contents_as_listed place used count made) (sym element)
+      ∙ listed_at place used each made
 
-  pub listed_ok : (dimension : ℕ) → elements_listed line used each ≡ Ok dimension → contents known line t AsListed values ≡ Ok (record { dimension = Some dimension; values = made })
+  pub listed_ok : (dimension : ℕ) → elements_listed place used each ≡ Ok dimension → contents known place t AsListed values ≡ Ok (record { dimension = Some dimension; values = made })
   listed_ok dimension given = listed ∙ ap (λ (elements : Checked ℕ). elements >>= (λ dimension. Ok (record { dimension = Some dimension; values = made }))) given
 
-  pub listed_fails : (fault : Option Fault) → FailsBy fault (elements_listed line used each) → FailsBy fault (contents known line t AsListed values)
+  pub listed_fails : (fault : Option Fault) → FailsBy fault (elements_listed place used each) → FailsBy fault (contents known place t AsListed values)
   listed_fails fault fails =
-      subst (FailsBy fault) (sym listed) (fails_more fault (elements_listed line used each) (λ dimension. Ok (record { dimension = Some dimension; values = made })) fails)
+      subst (FailsBy fault) (sym listed) (fails_more fault (elements_listed place used each) (λ dimension. Ok (record { dimension = Some dimension; values = made })) fails)
 
   pub some_each : 0 < used → 0 < each
   some_each some =

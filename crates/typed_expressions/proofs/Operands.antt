@@ -1,16 +1,16 @@
 -- The operands of built-in functions.
-use Rattle.typed_expressions.proofs.Prelude.{◌≡◌, ℕ, List, [], ◌∷◌, ◌++◌, length, false, refl, ap, sym, ◌∙◌, arith, length-append, ConstantLeaf, ReferenceLeaf, LocationLeaf, ListLeaf, ParenthesizedNode, AssignmentNode, UnaryNode, BinaryNode, ReferenceTo, ArgumentTrees, NoArguments, MoreArguments, Expression, Identifier, MemberOf, argument_trees, TypedExpression, Measure, ShiftFunction, UnaryFunction, TypedObject, arguments_view, WrongUse, refuse, Known, function_of, shift_of, measured_member, measurement, is_plain}
+use Rattle.typed_expressions.proofs.Prelude.{◌≡◌, ℕ, List, [], ◌∷◌, ◌++◌, length, false, refl, ap, sym, ◌∙◌, arith, length-append, ConstantLeaf, ReferenceLeaf, LocationLeaf, ListLeaf, ParenthesizedNode, AssignmentNode, UnaryNode, BinaryNode, ReferenceTo, ArgumentTrees, NoArguments, MoreArguments, Expression, Identifier, Place, MemberOf, argument_trees, TypedExpression, Measure, ShiftFunction, UnaryFunction, TypedObject, arguments_view, ArgumentCount, NotMeasurable, refuse, Known, function_of, shift_of, measured_member, measurement, is_plain}
 
-pub no_operand : (function : UnaryFunction) (line : ℕ) (values : List TypedExpression) → (length values ≡ 1 → ⊥) → function_of function line (arguments_view values) ≡ refuse WrongUse line
-no_operand function line [] other = refl
-no_operand function line (value ∷ []) other = absurd (other refl)
-no_operand function line (value ∷ second ∷ others) other = refl
+pub no_operand : (function : UnaryFunction) (place : Place) (values : List TypedExpression) → (length values ≡ 1 → ⊥) → function_of function place (arguments_view values) ≡ refuse ArgumentCount place
+no_operand function place [] other = refl
+no_operand function place (value ∷ []) other = absurd (other refl)
+no_operand function place (value ∷ second ∷ others) other = refl
 
-pub no_pair : (function : ShiftFunction) (line : ℕ) (values : List TypedExpression) → (length values ≡ 2 → ⊥) → shift_of function line (arguments_view values) ≡ refuse WrongUse line
-no_pair function line [] other = refl
-no_pair function line (value ∷ []) other = refl
-no_pair function line (value ∷ second ∷ []) other = absurd (other refl)
-no_pair function line (value ∷ second ∷ third ∷ others) other = refl
+pub no_pair : (function : ShiftFunction) (place : Place) (values : List TypedExpression) → (length values ≡ 2 → ⊥) → shift_of function place (arguments_view values) ≡ refuse ArgumentCount place
+no_pair function place [] other = refl
+no_pair function place (value ∷ []) other = refl
+no_pair function place (value ∷ second ∷ []) other = absurd (other refl)
+no_pair function place (value ∷ second ∷ third ∷ others) other = refl
 
 -- what is left of operands once the last is taken
 empty_front : {A : Type 0} (front : List A) (rest : List A) → length (front ++ rest) ≡ length rest → front ≡ []
@@ -28,20 +28,20 @@ two_operands values front rest value count two is before =
 
 -- a member with arguments is not measured
 pub member_with_arguments : (number : ℕ) (object : TypedObject) (name : Identifier) (arguments : List Expression) → (length arguments ≡ 0 → ⊥)
-    → measured_member number object (MemberOf name (argument_trees arguments)) ≡ refuse WrongUse name.place.line
+    → measured_member number object (MemberOf name (argument_trees arguments)) ≡ refuse NotMeasurable name.place
 member_with_arguments number object name [] other = absurd (other refl)
 member_with_arguments number object name (first ∷ others) other = refl
 
 -- what is no variable without subscripts is not measured
-pub no_measurement : (known : Known) (measure : Measure) (line : ℕ) (trees : ArgumentTrees) → is_plain trees ≡ false → measurement known measure line trees ≡ refuse WrongUse line
-no_measurement known measure line NoArguments other = refl
-no_measurement known measure line (MoreArguments (ReferenceLeaf (ReferenceTo name NoArguments part)) NoArguments) other = absurd (cc)
-no_measurement known measure line (MoreArguments (ReferenceLeaf (ReferenceTo name NoArguments part)) (MoreArguments second others)) other = refl
-no_measurement known measure line (MoreArguments (ReferenceLeaf (ReferenceTo name (MoreArguments first rest) part)) others) other = refl
-no_measurement known measure line (MoreArguments (ConstantLeaf constant) others) other = refl
-no_measurement known measure line (MoreArguments (LocationLeaf reference) others) other = refl
-no_measurement known measure line (MoreArguments (ListLeaf list) others) other = refl
-no_measurement known measure line (MoreArguments (ParenthesizedNode inner) others) other = refl
-no_measurement known measure line (MoreArguments (AssignmentNode target value) others) other = refl
-no_measurement known measure line (MoreArguments (UnaryNode operator operand) others) other = refl
-no_measurement known measure line (MoreArguments (BinaryNode operator left right) others) other = refl
+pub no_measurement : (known : Known) (measure : Measure) (place : Place) (trees : ArgumentTrees) → is_plain trees ≡ false → measurement known measure place trees ≡ refuse NotMeasurable place
+no_measurement known measure place NoArguments other = refl
+no_measurement known measure place (MoreArguments (ReferenceLeaf (ReferenceTo name NoArguments part)) NoArguments) other = absurd (cc)
+no_measurement known measure place (MoreArguments (ReferenceLeaf (ReferenceTo name NoArguments part)) (MoreArguments second others)) other = refl
+no_measurement known measure place (MoreArguments (ReferenceLeaf (ReferenceTo name (MoreArguments first rest) part)) others) other = refl
+no_measurement known measure place (MoreArguments (ConstantLeaf constant) others) other = refl
+no_measurement known measure place (MoreArguments (LocationLeaf reference) others) other = refl
+no_measurement known measure place (MoreArguments (ListLeaf list) others) other = refl
+no_measurement known measure place (MoreArguments (ParenthesizedNode inner) others) other = refl
+no_measurement known measure place (MoreArguments (AssignmentNode target value) others) other = refl
+no_measurement known measure place (MoreArguments (UnaryNode operator operand) others) other = refl
+no_measurement known measure place (MoreArguments (BinaryNode operator left right) others) other = refl

@@ -20,7 +20,7 @@ use crate::references::{number_of_arguments, port_of};
 use failure::Failure;
 use names::BuiltIn;
 use std::alloc::{AllocError, Global};
-use trees::{Expression, Reference, ScalarType};
+use trees::{Expression, Place, Reference, ScalarType};
 use typed_trees::{Measure, ShiftFunction, TypedExpression, TypedProcedure, UnaryFunction};
 use typing::{Cause, Fault};
 
@@ -68,17 +68,17 @@ fn arguments_as(
 
 impl Known {
     /// The arguments of a call, as many as there are parameters, and as values of their types. Another number of arguments
-    /// is refused as a wrong use, on the line of the call.
+    /// is refused, at the place of the call.
     #[cycle(expression)]
     pub fn call_arguments(
         &self,
         procedure: &TypedProcedure,
-        line: u32,
+        place: Place,
         trees: &[Expression],
         constants: &mut Constants,
     ) -> Result<Vec<TypedExpression>, Failure<Fault>>
         ensures { Gives (λ made. arguments_view made.items) result (constants_view constants.new)
-            (call_arguments (procedure_view procedure.now) line
+            (call_arguments (procedure_view procedure.now) place
             (record {
               trees = argument_trees trees.now;
               typed = arguments (known_view self.now) (argument_trees trees.now);
@@ -87,8 +87,8 @@ impl Known {
         let scalars = procedure.parameter_types.as_slice();
         require(
             number_of_arguments(trees) == scalars.len(),
-            Cause::WrongUse,
-            line,
+            Cause::ArgumentCount,
+            place,
         )?;
         let typed = self.arguments(trees, constants)?;
         arguments_as(self.alloc, scalars, typed)
@@ -107,13 +107,13 @@ impl Known {
             (call_of number (procedure_view procedure.now) (given self.now reference.now)
             (constants_view constants.old)) }
     {
-        let line = reference.name.place.line;
+        let place = reference.name.place;
         let Some(scalar) = procedure.result else {
-            return Err(refuse(Cause::WrongUse, line));
+            return Err(refuse(Cause::ValueOfUntyped, place));
         };
         let typed = self.call_arguments(
             procedure,
-            line,
+            place,
             reference.arguments.as_slice(),
             constants,
         )?;
@@ -132,12 +132,16 @@ impl Known {
         ensures { Gives expression_view result (constants_view constants.new)
             (unary_function function (given self.now reference.now) (constants_view constants.old)) }
     {
-        let line = reference.name.place.line;
+        let place = reference.name.place;
         let arguments = reference.arguments.as_slice();
-        require(number_of_arguments(arguments) == 1, Cause::WrongUse, line)?;
+        require(
+            number_of_arguments(arguments) == 1,
+            Cause::ArgumentCount,
+            place,
+        )?;
         let typed = self.arguments(arguments, constants)?;
         self.no_member(&reference.member)?;
-        function_of(self.alloc, function, line, typed)
+        function_of(self.alloc, function, place, typed)
     }
 
     // SHL, SHR, ROL and ROR of a value and a count.
@@ -151,12 +155,16 @@ impl Known {
         ensures { Gives expression_view result (constants_view constants.new)
             (shift_function function (given self.now reference.now) (constants_view constants.old)) }
     {
-        let line = reference.name.place.line;
+        let place = reference.name.place;
         let arguments = reference.arguments.as_slice();
-        require(number_of_arguments(arguments) == 2, Cause::WrongUse, line)?;
+        require(
+            number_of_arguments(arguments) == 2,
+            Cause::ArgumentCount,
+            place,
+        )?;
         let typed = self.arguments(arguments, constants)?;
         self.no_member(&reference.member)?;
-        shift_of(self.alloc, function, line, typed)
+        shift_of(self.alloc, function, place, typed)
     }
 
     // INPUT of a port.
@@ -168,7 +176,7 @@ impl Known {
         ensures { Gives expression_view result (constants_view constants.now)
             (input_value (given self.now reference.now) (constants_view constants.now)) }
     {
-        let port = port_of(reference.name.place.line, reference.arguments.as_slice())?;
+        let port = port_of(reference.name.place, reference.arguments.as_slice())?;
         self.no_member(&reference.member)?;
         Ok(expression_nodes::input(port))
     }
@@ -184,8 +192,8 @@ impl Known {
             (number_of_variable (known_view self.now) measure (given self.now reference.now)
             (constants_view constants.now)) }
     {
-        let line = reference.name.place.line;
-        let node = self.measurement(measure, line, reference.arguments.as_slice())?;
+        let place = reference.name.place;
+        let node = self.measurement(measure, place, reference.arguments.as_slice())?;
         self.no_member(&reference.member)?;
         Ok(node)
     }
@@ -231,7 +239,7 @@ impl Known {
                 constants,
             ),
             BuiltIn::Output | BuiltIn::Move => {
-                Err(refuse(Cause::WrongUse, reference.name.place.line))
+                Err(refuse(Cause::ValueOfUntyped, reference.name.place))
             }
         }
     }

@@ -5,22 +5,23 @@ ghost use Rattle.typing.specs.Checks.{require};
 ghost use Rattle.typing.specs.Results.{Answers, fault_in};
 
 use failure::Failure;
+use trees::Place;
 use typing::{Cause, Fault};
 
-/// A fault of a cause on a line, as a failure.
-pub fn refuse(cause: Cause, line: u32) -> Failure<Fault>
-    ensures { fault_in result ≡ Some (record { cause = cause; line = line }) }
+/// A fault of a cause at a place, as a failure.
+pub fn refuse(cause: Cause, place: Place) -> Failure<Fault>
+    ensures { fault_in result ≡ Some (record { cause = cause; place = place }) }
 {
-    Failure::Fault(Fault { cause, line })
+    Failure::Fault(Fault { cause, place })
 }
 
-/// Checks a condition. One that does not hold is refused, by the cause on the line.
-pub fn require(holds: bool, cause: Cause, line: u32) -> Result<(), Failure<Fault>>
-    ensures { Answers (λ _. tt) result (require holds cause line) }
+/// Checks a condition. One that does not hold is refused, by the cause at the place.
+pub fn require(holds: bool, cause: Cause, place: Place) -> Result<(), Failure<Fault>>
+    ensures { Answers (λ _. tt) result (require holds cause place) }
 {
     if holds {
         Ok(())
     } else {
-        Err(refuse(cause, line))
+        Err(refuse(cause, place))
     }
 }

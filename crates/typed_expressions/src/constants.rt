@@ -2,14 +2,14 @@
 
 ghost use Rattle.std.specs.Prelude.{◌≡◌, ◌++◌, map, IfOk};
 ghost use Rattle.trees.specs.Views.{constant_tree, offset_tree};
-ghost use Rattle.typing.specs.Constants.{line_of_constant as line_in_constant, moved_by as sum_moved_by, number_of_characters as characters_number, number_of_constant as constant_number, with_offsets as sum_with_offsets};
+ghost use Rattle.typing.specs.Constants.{place_of_constant as place_in_constant, moved_by as sum_moved_by, number_of_characters as characters_number, number_of_constant as constant_number, with_offsets as sum_with_offsets};
 ghost use Rattle.typing.specs.Constants.{bytes_of_constant, bytes_of_constants as list_bytes, bytes_of_number};
 ghost use Rattle.typing.specs.Results.{Answers};
 
 use crate::checks::refuse;
 use failure::Failure;
 use std::alloc::{AllocError, Global};
-use trees::{Constant, Offset, Sign};
+use trees::{Constant, Offset, Place, Sign};
 use typing::{Cause, Fault};
 
 /// The number that a string of one or two characters stands for, the first character high.
@@ -31,7 +31,7 @@ pub(crate) fn number_of_constant(constant: &Constant) -> Result<u16, Failure<Fau
         Constant::Number(number) => Ok(number.value),
         Constant::String(string) => match number_of_characters(string.characters.as_slice()) {
             Some(number) => Ok(number),
-            None => Err(refuse(Cause::WrongConstant, string.place.line)),
+            None => Err(refuse(Cause::StringNotNumber, string.place)),
         },
     }
 }
@@ -58,13 +58,13 @@ pub(crate) fn with_offsets(sum: u16, offsets: &[Offset]) -> Result<u16, Failure<
     Ok(sum)
 }
 
-/// The line of a constant.
-pub(crate) fn line_of_constant(constant: &Constant) -> u32
-    ensures { result ≡ line_in_constant (constant_tree constant.now) }
+/// The place of a constant.
+pub(crate) fn place_of_constant(constant: &Constant) -> Place
+    ensures { result ≡ place_in_constant (constant_tree constant.now) }
 {
     match constant {
-        Constant::Number(number) => number.place.line,
-        Constant::String(string) => string.place.line,
+        Constant::Number(number) => number.place,
+        Constant::String(string) => string.place,
     }
 }
 

@@ -133,17 +133,17 @@ impl Known {
         let Some(selector) = &reference.member else {
             return Ok(whole_part(object, subscript, object_type));
         };
-        let line = selector.name.place.line;
-        let place = member_place(object_type, selector.name)?;
+        let place = selector.name.place;
+        let found = member_place(object_type, selector.name)?;
         let arguments = selector.arguments.as_slice();
         let count = number_of_arguments(arguments);
         require(
-            takes_subscripts(extent, place.member.dimension, count),
-            Cause::WrongUse,
-            line,
+            takes_subscripts(extent, found.member.dimension, count),
+            Cause::SubscriptMismatch,
+            place,
         )?;
         let indices = self.arguments(arguments, constants)?;
-        part_of_member(self.alloc, object, subscript, place, indices)
+        part_of_member(self.alloc, object, subscript, found, indices)
     }
 
     // What a reference to an object means.
@@ -160,13 +160,13 @@ impl Known {
             (part_of number (object_view object.now) (extent_view extent) (given self.now reference.now)
             (constants_view constants.old)) }
     {
-        let line = reference.name.place.line;
+        let place = reference.name.place;
         let arguments = reference.arguments.as_slice();
         let count = number_of_arguments(arguments);
         require(
             takes_subscripts(extent, object.dimension, count),
-            Cause::WrongUse,
-            line,
+            Cause::SubscriptMismatch,
+            place,
         )?;
         let indices = self.arguments(arguments, constants)?;
         let stride = element_size(object)?;
@@ -204,7 +204,7 @@ impl Known {
                 reference: found,
                 scalar,
             }),
-            None => Err(refuse(Cause::WrongUse, reference.name.place.line)),
+            None => Err(refuse(Cause::MemberMismatch, reference.name.place)),
         }
     }
 
@@ -218,11 +218,11 @@ impl Known {
         ensures { Gives expression_view result (constants_view constants.new)
             (location_of (known_view self.now) (given self.now reference.now) (constants_view constants.old)) }
     {
-        let line = reference.name.place.line;
+        let place = reference.name.place;
         match self.bound(reference.name)? {
             Binding::Declared(Entity::Object(number)) => {
                 let object = self.object(reference.name, number)?;
-                require(has_location(&object.home), Cause::NoLocation, line)?;
+                require(has_location(&object.home), Cause::NoLocation, place)?;
                 let part = self.part_of(
                     reference,
                     number,
@@ -232,8 +232,8 @@ impl Known {
                 )?;
                 expression_nodes::location(self.alloc, part.reference)
             }
-            Binding::Declared(Entity::Procedure(_)) => Err(refuse(Cause::NoLocation, line)),
-            _ => Err(refuse(Cause::WrongUse, line)),
+            Binding::Declared(Entity::Procedure(_)) => Err(refuse(Cause::NoLocation, place)),
+            _ => Err(refuse(Cause::NoVariable, place)),
         }
     }
 
@@ -247,7 +247,7 @@ impl Known {
         ensures { Gives destination_view result (constants_view constants.new)
             (destination_of (known_view self.now) (given self.now target.now) (constants_view constants.old)) }
     {
-        let line = target.name.place.line;
+        let place = target.name.place;
         match self.bound(target.name)? {
             Binding::Declared(Entity::Object(number)) => {
                 let object = self.object(target.name, number)?;
@@ -258,11 +258,11 @@ impl Known {
                 Ok(Destination::Variable { scalar, reference })
             }
             Binding::BuiltInName(BuiltIn::Output) => {
-                let port = port_of(line, target.arguments.as_slice())?;
+                let port = port_of(place, target.arguments.as_slice())?;
                 self.no_member(&target.member)?;
                 Ok(Destination::Port(port))
             }
-            _ => Err(refuse(Cause::WrongUse, line)),
+            _ => Err(refuse(Cause::NoVariable, place)),
         }
     }
 
@@ -287,7 +287,7 @@ impl Known {
                 self.call_of(reference, number, procedure, constants)
             }
             Binding::BuiltInName(built_in) => self.built_in_value(reference, built_in, constants),
-            _ => Err(refuse(Cause::WrongUse, reference.name.place.line)),
+            _ => Err(refuse(Cause::NoVariable, reference.name.place)),
         }
     }
 }

@@ -6,19 +6,19 @@ ghost use Rattle.typed_trees.specs.Sizes.{scalars_of_elements};
 ghost use Rattle.typed_trees.specs.Views.{home_view, type_view};
 ghost use Rattle.names.specs.declared.entity.Binding.TheVariants.{Declared};
 ghost use Rattle.names.specs.declared.entity.Entity.TheVariants.{Object};
-ghost use Rattle.typing.specs.Filling.{AsListed, at_address, contents, enough_elements as elements_enough, fill_characters as characters_filled, fill_scalar as scalar_filled, fill_string as string_filled, fill_value as value_filled, line_of_origin as origin_line, restricted_value, scalars_at_most as most_scalars, static_bound, static_object, with_address as home_address};
+ghost use Rattle.typing.specs.Filling.{AsListed, at_address, contents, enough_elements as elements_enough, fill_characters as characters_filled, fill_scalar as scalar_filled, fill_string as string_filled, fill_value as value_filled, place_of_origin as origin_place, restricted_value, scalars_at_most as most_scalars, static_bound, static_object, with_address as home_address};
 ghost use Rattle.typed_expressions.specs.internal.Fillings.{elements_listed, filled_view, left_of, onto, reach_view, value_view, values_filled};
 ghost use Rattle.typing.specs.Results.{Answers, Leaves};
 ghost use Rattle.typed_expressions.specs.Views.{contents_view, extents_view, known_view};
 
 use crate::checks::refuse;
-use crate::constants::{line_of_constant, number_of_characters, number_of_constant, with_offsets};
+use crate::constants::{number_of_characters, number_of_constant, place_of_constant, with_offsets};
 use crate::known::Known;
 use crate::scalars::{Scalars, scalars_in_element};
 use failure::Failure;
 use names::{Binding, Entity};
 use std::alloc::Global;
-use trees::{Constant, Identifier, Offset, Origin, Restricted, ScalarType, StringLiteral};
+use trees::{Constant, Identifier, Offset, Origin, Place, Restricted, ScalarType, StringLiteral};
 use typed_trees::{AtAddress, Home, InitialValue, ObjectType};
 use typing::{Cause, Fault};
 
@@ -64,25 +64,25 @@ struct Filling {
 }
 
 // The number of an object whose address is known before the program runs.
-fn with_address(reach: Reach, home: &Home, number: u32, line: u32) -> Result<u32, Failure<Fault>>
+fn with_address(reach: Reach, home: &Home, number: u32, place: Place) -> Result<u32, Failure<Fault>>
     ensures { Answers (λ number. number) result
-        (home_address (reach_view reach) (home_view home.now) number line) }
+        (home_address (reach_view reach) (home_view home.now) number place) }
 {
     match (home, reach) {
-        (Home::Frame(_), _) => Err(refuse(Cause::NoLocation, line)),
+        (Home::Frame(_), _) => Err(refuse(Cause::NoLocation, place)),
         (Home::Data(_) | Home::Constant(_) | Home::At(_), _)
         | (Home::External, Reach::OtherModulesToo) => Ok(number),
-        _ => Err(refuse(Cause::WrongConstant, line)),
+        _ => Err(refuse(Cause::NoFixedAddress, place)),
     }
 }
 
-// The line of the beginning of a restricted expression.
-fn line_of_origin(origin: &Origin) -> u32
-    ensures { result ≡ origin_line (origin_tree origin.now) }
+// The place of the beginning of a restricted expression.
+fn place_of_origin(origin: &Origin) -> Place
+    ensures { result ≡ origin_place (origin_tree origin.now) }
 {
     match origin {
-        Origin::Constant(constant) => line_of_constant(constant),
-        Origin::Location(name) => name.place.line,
+        Origin::Constant(constant) => place_of_constant(constant),
+        Origin::Location(name) => name.place,
     }
 }
 
@@ -108,12 +108,12 @@ fn enough_elements(values: &[Restricted]) -> Option<usize>
 }
 
 // The least number of elements of `each` scalars that hold `used` scalars. `each` is at least 1.
-fn elements_for(line: u32, used: usize, each: usize) -> Result<u32, Failure<Fault>>
+fn elements_for(place: Place, used: usize, each: usize) -> Result<u32, Failure<Fault>>
     requires { 0 < used → 0 < each }
-    ensures { Answers (λ elements. elements) result (elements_listed line used each) }
+    ensures { Answers (λ elements. elements) result (elements_listed place used each) }
 {
     if used == 0 {
-        return Err(refuse(Cause::WrongConstant, line));
+        return Err(refuse(Cause::ImpliedWithoutValues, place));
     }
     match u32::try_from((used - 1) / each + 1) {
         Ok(elements) => Ok(elements),
@@ -132,9 +132,9 @@ impl Known {
         ensures { Answers (λ number. number) result
             (static_bound (reach_view reach) (known_view self.now) (Declared (Object number)) name) }
     {
-        let line = name.place.line;
+        let place = name.place;
         let object = self.object(name, number)?;
-        with_address(reach, &object.home, number, line)
+        with_address(reach, &object.home, number, place)
     }
 
     // The number of an object that a name is bound to, whose address is known before the program runs.
@@ -152,9 +152,9 @@ impl Known {
                 reach, number, name,
             ),
             Binding::Declared(Entity::Procedure(_)) => {
-                Err(refuse(Cause::NoLocation, name.place.line))
+                Err(refuse(Cause::NoLocation, name.place))
             }
-            _ => Err(refuse(Cause::WrongUse, name.place.line)),
+            _ => Err(refuse(Cause::NoVariable, name.place)),
         }
     }
 
@@ -226,7 +226,7 @@ impl Known {
             origin => {
                 let offsets = restricted.offsets.as_slice();
                 let value = self.restricted_value(Reach::OtherModulesToo, origin, offsets)?;
-                filling.fill_scalar(object_type, line_of_origin(origin), value)
+                filling.fill_scalar(object_type, place_of_origin(origin), value)
             }
         }
     }
@@ -251,11 +251,11 @@ impl Known {
     // The dimension of an array that is as long as its list, and its values.
     fn contents_as_listed(
         &self,
-        line: u32,
+        place: Place,
         object_type: &ObjectType,
         values: &[Restricted],
     ) -> Result<Contents, Failure<Fault>>
-        ensures { Answers contents_view result (contents (known_view self.now) line
+        ensures { Answers contents_view result (contents (known_view self.now) place
             (type_view object_type.now) AsListed (map restricted_tree values.now)) }
     {
         let (Some(elements), Some(each)) = (
@@ -265,7 +265,7 @@ impl Known {
             return Err(Failure::Memory);
         };
         let values = self.fill(object_type, values, elements)?;
-        let dimension = elements_for(line, values.len(), each)?;
+        let dimension = elements_for(place, values.len(), each)?;
         Ok(Contents {
             dimension: Some(dimension),
             values,
@@ -273,15 +273,15 @@ impl Known {
     }
 
     /// The dimension of an object, and its values, which fill its scalars from the first on. Refuses values that do
-    /// not go with their scalars, more values than scalars, and `(*)` without values, the last on the line of the item.
+    /// not go with their scalars, more values than scalars, and `(*)` without values, the last at the place of the item.
     pub fn contents(
         &self,
-        line: u32,
+        place: Place,
         object_type: &ObjectType,
         extents: Extents,
         values: &[Restricted],
     ) -> Result<Contents, Failure<Fault>>
-        ensures { Answers contents_view result (contents (known_view self.now) line
+        ensures { Answers contents_view result (contents (known_view self.now) place
             (type_view object_type.now) (extents_view extents) (map restricted_tree values.now)) }
     {
         match extents {
@@ -293,7 +293,7 @@ impl Known {
                 dimension: Some(u32::from(count)),
                 values: self.fill(object_type, values, usize::from(count))?,
             }),
-            Extents::AsListed => self.contents_as_listed(line, object_type, values),
+            Extents::AsListed => self.contents_as_listed(place, object_type, values),
         }
     }
 }
@@ -314,18 +314,18 @@ impl Filling {
     fn fill_scalar(
         &mut self,
         object_type: &ObjectType,
-        line: u32,
+        place: Place,
         value: RestrictedValue,
     ) -> Result<(), Failure<Fault>>
         ensures { Leaves result (filled_view (type_view object_type.now) self.new)
             (onto self.old.values.items
-            (scalar_filled line (left_of (type_view object_type.now) self.old.scalars) (value_view value))) }
+            (scalar_filled place (left_of (type_view object_type.now) self.old.scalars) (value_view value))) }
     {
         let filled = match (self.scalars.next(object_type), value) {
             (Some(ScalarType::Byte), RestrictedValue::Number(number)) => {
                 match u8::try_from(number) {
                     Ok(byte) => InitialValue::ByteValue(byte),
-                    Err(_) => return Err(refuse(Cause::WrongConstant, line)),
+                    Err(_) => return Err(refuse(Cause::NotByte, place)),
                 }
             }
             (Some(ScalarType::Address), RestrictedValue::Number(number)) => {
@@ -334,7 +334,10 @@ impl Filling {
             (Some(ScalarType::Address), RestrictedValue::FromObject { object, offset }) => {
                 InitialValue::LocationValue { object, offset }
             }
-            _ => return Err(refuse(Cause::WrongConstant, line)),
+            (Some(ScalarType::Byte), RestrictedValue::FromObject { .. }) => {
+                return Err(refuse(Cause::NotByte, place));
+            }
+            (None, _) => return Err(refuse(Cause::TooManyValues, place)),
         };
         self.values.push(filled)?;
         Ok(())
@@ -344,11 +347,11 @@ impl Filling {
     fn fill_character(
         &mut self,
         object_type: &ObjectType,
-        line: u32,
+        place: Place,
         character: u8,
     ) -> Result<(), Failure<Fault>>
         ensures { Leaves result (filled_view (type_view object_type.now) self.new)
-            (onto self.old.values.items (characters_filled line (character ∷ [])
+            (onto self.old.values.items (characters_filled place (character ∷ [])
             (left_of (type_view object_type.now) self.old.scalars))) }
     {
         match self.scalars.next(object_type) {
@@ -356,7 +359,7 @@ impl Filling {
                 self.values.push(InitialValue::ByteValue(character))?;
                 Ok(())
             }
-            _ => Err(refuse(Cause::WrongConstant, line)),
+            _ => Err(refuse(Cause::TooManyValues, place)),
         }
     }
 
@@ -364,15 +367,15 @@ impl Filling {
     fn fill_characters(
         &mut self,
         object_type: &ObjectType,
-        line: u32,
+        place: Place,
         characters: &[u8],
     ) -> Result<(), Failure<Fault>>
         ensures { Leaves result (filled_view (type_view object_type.now) self.new)
-            (onto self.old.values.items (characters_filled line characters.now
+            (onto self.old.values.items (characters_filled place characters.now
             (left_of (type_view object_type.now) self.old.scalars))) }
     {
         for character in characters {
-            self.fill_character(object_type, line, *character)?;
+            self.fill_character(object_type, place, *character)?;
         }
         Ok(())
     }
@@ -387,16 +390,16 @@ impl Filling {
             (onto self.old.values.items (string_filled (string_tree string.now)
             (left_of (type_view object_type.now) self.old.scalars))) }
     {
-        let line = string.place.line;
+        let place = string.place;
         let characters = string.characters.as_slice();
         match self.scalars.first(object_type) {
             Some(ScalarType::Address) => match number_of_characters(characters) {
                 Some(number) => {
-                    self.fill_scalar(object_type, line, RestrictedValue::Number(number))
+                    self.fill_scalar(object_type, place, RestrictedValue::Number(number))
                 }
-                None => Err(refuse(Cause::WrongConstant, line)),
+                None => Err(refuse(Cause::StringNotNumber, place)),
             },
-            _ => self.fill_characters(object_type, line, characters),
+            _ => self.fill_characters(object_type, place, characters),
         }
     }
 }

@@ -17,7 +17,7 @@ use crate::references::only;
 use failure::Failure;
 use names::{Binding, Entity};
 use std::alloc::Global;
-use trees::{Expression, Identifier, Reference, Selector};
+use trees::{Expression, Identifier, Place, Reference, Selector};
 use typed_trees::{
     Measure, NumberOrigin, ShiftFunction, TypedExpression, TypedObject, UnaryFunction,
 };
@@ -51,7 +51,7 @@ fn measured_member(
         });
     };
     if selector.arguments.len() != 0 {
-        return Err(refuse(Cause::WrongUse, selector.name.place.line));
+        return Err(refuse(Cause::NotMeasurable, selector.name.place));
     }
     let place = member_place(&object.object_type, selector.name)?;
     Ok(Measured {
@@ -63,13 +63,13 @@ fn measured_member(
 }
 
 // The number that a measure is: LENGTH and LAST of an array alone.
-fn measure_of(measure: Measure, measured: Measured, line: u32) -> Result<u32, Failure<Fault>>
-    ensures { Answers (λ value. value) result (measure_of measure (measured_view measured) line) }
+fn measure_of(measure: Measure, measured: Measured, place: Place) -> Result<u32, Failure<Fault>>
+    ensures { Answers (λ value. value) result (measure_of measure (measured_view measured) place) }
 {
     match (measure, measured.dimension) {
         (Measure::Length, Some(count)) => Ok(u32::from(count)),
         (Measure::Last, Some(count)) => Ok(u32::from(count.saturating_sub(1))),
-        (Measure::Length | Measure::Last, None) => Err(refuse(Cause::WrongUse, line)),
+        (Measure::Length | Measure::Last, None) => Err(refuse(Cause::NotMeasurable, place)),
         (Measure::Size, _) => Ok(measured.size),
     }
 }
@@ -118,14 +118,14 @@ fn plain(arguments: &[Expression]) -> Option<&Reference>
 pub(crate) fn function_of(
     alloc: Global,
     function: UnaryFunction,
-    line: u32,
+    place: Place,
     values: Vec<TypedExpression>,
 ) -> Result<TypedExpression, Failure<Fault>>
-    ensures { Answers expression_view result (function_of function line (arguments_view values.items)) }
+    ensures { Answers expression_view result (function_of function place (arguments_view values.items)) }
 {
     let mut values = values;
     if values.len() != 1 {
-        return Err(refuse(Cause::WrongUse, line));
+        return Err(refuse(Cause::ArgumentCount, place));
     }
     let Some(operand) = values.pop() else {
         return Err(Failure::Memory);
@@ -138,14 +138,14 @@ pub(crate) fn function_of(
 pub(crate) fn shift_of(
     alloc: Global,
     function: ShiftFunction,
-    line: u32,
+    place: Place,
     values: Vec<TypedExpression>,
 ) -> Result<TypedExpression, Failure<Fault>>
-    ensures { Answers expression_view result (shift_of function line (arguments_view values.items)) }
+    ensures { Answers expression_view result (shift_of function place (arguments_view values.items)) }
 {
     let mut values = values;
     if values.len() != 2 {
-        return Err(refuse(Cause::WrongUse, line));
+        return Err(refuse(Cause::ArgumentCount, place));
     }
     let Some(count) = values.pop() else {
         return Err(Failure::Memory);
@@ -171,7 +171,7 @@ impl Known {
             Binding::Declared(Entity::Object(number)) => {
                 measured_member(number, self.object(name, number)?, member)
             }
-            _ => Err(refuse(Cause::WrongUse, name.place.line)),
+            _ => Err(refuse(Cause::NoVariable, name.place)),
         }
     }
 
@@ -180,18 +180,18 @@ impl Known {
     pub(crate) fn measurement(
         &self,
         measure: Measure,
-        line: u32,
+        place: Place,
         arguments: &[Expression],
     ) -> Result<TypedExpression, Failure<Fault>>
-        ensures { Answers expression_view result (measurement (known_view self.now) measure line
+        ensures { Answers expression_view result (measurement (known_view self.now) measure place
             (argument_trees arguments.now)) }
     {
         let Some(reference) = plain(arguments) else {
-            return Err(refuse(Cause::WrongUse, line));
+            return Err(refuse(Cause::NotMeasurable, place));
         };
         let binding = self.bound(reference.name)?;
         let measured = self.measured_object(binding, reference.name, &reference.member)?;
-        let value = measure_of(measure, measured, reference.name.place.line)?;
+        let value = measure_of(measure, measured, reference.name.place)?;
         measure_node(measure, measured, value)
     }
 }

@@ -55,23 +55,24 @@ impl Known {
     {
         match self.scopes.binding(name.name) {
             Some(binding) => Ok(binding),
-            None => Err(refuse(Cause::UnknownName, name.place.line)),
+            None => Err(refuse(Cause::UnknownName, name.place)),
         }
     }
 
-    /// The object of a number that a name stands for. A number that no object has is refused as a wrong use of the name.
+    /// The object of a number that a name stands for. A number that no object has is refused as the
+    /// name of no variable.
     pub fn object(&self, name: Identifier, number: u32) -> Result<&TypedObject, Failure<Fault>>
         ensures { Answers (λ found. object_view found.now) result
             (object_of (known_view self.now) name number) }
     {
         match self.objects.get(number as usize) {
             Some(object) => Ok(object),
-            None => Err(refuse(Cause::WrongUse, name.place.line)),
+            None => Err(refuse(Cause::NoVariable, name.place)),
         }
     }
 
-    /// The procedure of a number that a name stands for. A number that no procedure has is refused as a wrong use of the
-    /// name.
+    /// The procedure of a number that a name stands for. A number that no procedure has is refused as the
+    /// name of no procedure.
     pub fn procedure(
         &self,
         name: Identifier,
@@ -82,7 +83,7 @@ impl Known {
     {
         match self.procedures.get(number as usize) {
             Some(procedure) => Ok(procedure),
-            None => Err(refuse(Cause::WrongUse, name.place.line)),
+            None => Err(refuse(Cause::CallOfNoProcedure, name.place)),
         }
     }
 }

@@ -30,10 +30,10 @@ pub(crate) fn member_place(
     ensures { Answers place_view result (place_of (type_view object_type.now) name) }
 {
     let ObjectType::Structure(members) = object_type else {
-        return Err(refuse(Cause::WrongUse, name.place.line));
+        return Err(refuse(Cause::MemberMismatch, name.place));
     };
     let Some(found) = members.named(name.name) else {
-        return Err(refuse(Cause::UnknownName, name.place.line));
+        return Err(refuse(Cause::UnknownName, name.place));
     };
     if found.position > 4_294_967_295 || found.offset == 4_294_967_295 {
         return Err(Failure::Memory);

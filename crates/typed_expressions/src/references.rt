@@ -16,7 +16,7 @@ use crate::known::Known;
 use crate::members::MemberPlace;
 use failure::Failure;
 use std::alloc::{AllocError, Global};
-use trees::{Constant, Expression, Identifier, ScalarType, Selector};
+use trees::{Constant, Expression, Identifier, Place, ScalarType, Selector};
 use typed_trees::{Home, ObjectType, TypedExpression, TypedObject, TypedReference, TypedSubscript};
 use typing::{Cause, Fault};
 
@@ -160,7 +160,7 @@ pub fn require_writable(object: &TypedObject, name: Identifier) -> Result<(), Fa
     require(
         !is_constant(&object.home),
         Cause::ConstantWritten,
-        name.place.line,
+        name.place,
     )
 }
 
@@ -171,26 +171,26 @@ impl Known {
     {
         match member {
             None => Ok(()),
-            Some(selector) => Err(refuse(Cause::WrongUse, selector.name.place.line)),
+            Some(selector) => Err(refuse(Cause::MemberMismatch, selector.name.place)),
         }
     }
 }
 
 // The port of a number.
-fn port_from(line: u32, number: u16) -> Result<u8, Failure<Fault>>
-    ensures { Answers (λ port. port) result (port_from line number) }
+fn port_from(place: Place, number: u16) -> Result<u8, Failure<Fault>>
+    ensures { Answers (λ port. port) result (port_from place number) }
 {
-    require(number <= 255, Cause::WrongConstant, line)?;
+    require(number <= 255, Cause::PortTooLarge, place)?;
     Ok(number as u8)
 }
 
 // The port that a string of one character gives.
-fn port_of_character(line: u32, characters: &[u8]) -> Result<u8, Failure<Fault>>
-    ensures { Answers (λ port. port) result (character_port line characters.now) }
+fn port_of_character(place: Place, characters: &[u8]) -> Result<u8, Failure<Fault>>
+    ensures { Answers (λ port. port) result (character_port place characters.now) }
 {
     match characters {
-        [character] => port_from(line, *character as u16),
-        _ => Err(refuse(Cause::WrongUse, line)),
+        [character] => port_from(place, *character as u16),
+        _ => Err(refuse(Cause::PortNotConstant, place)),
     }
 }
 
@@ -218,16 +218,16 @@ pub(crate) fn only(arguments: &[Expression]) -> Option<&Expression>
 
 /// The port that arguments give: a number up to 255, or a string of one character.
 #[tactic(auto, using(crate::proofs::Subscripts::no_port))]
-pub(crate) fn port_of(line: u32, arguments: &[Expression]) -> Result<u8, Failure<Fault>>
-    ensures { Answers (λ port. port) result (port_of line (argument_trees arguments.now)) }
+pub(crate) fn port_of(place: Place, arguments: &[Expression]) -> Result<u8, Failure<Fault>>
+    ensures { Answers (λ port. port) result (port_of place (argument_trees arguments.now)) }
 {
     match only(arguments) {
         Some(Expression::Constant(Constant::Number(number))) => {
-            port_from(number.place.line, number.value)
+            port_from(number.place, number.value)
         }
         Some(Expression::Constant(Constant::String(string))) => {
-            port_of_character(line, string.characters.as_slice())
+            port_of_character(place, string.characters.as_slice())
         }
-        _ => Err(refuse(Cause::WrongUse, line)),
+        _ => Err(refuse(Cause::PortNotConstant, place)),
     }
 }

@@ -1,5 +1,5 @@
 -- Where objects that are declared live, and that each takes a byte or more.
-use Rattle.typed_laws.proofs.Prelude.{◌≡◌, ℕ, zero, suc, ◌+◌, ◌-◌, ◌*◌, ◌<◌, Bool, true, false, List, [], ◌∷◌, ◌++◌, length, flat_map, replicate, slice_get, Option, Some, None, nat_le, nat_lt, refl, ap, cond, length-append, arith, zero-mul, suc-mul, mod-lt, div-add-mod', All, IfSome, is_none, is_some, not, ◌&&◌, option_map_or, leb-true, flat_map-append, All-append, All-cons, All-nil, sum_by-append, sum_by-cons, slice_get_within, Dimension, Count, Implied, Member, ScalarType, Byte, Address, Sign, Plus, Minus, Identifier, Number, StringTree, StringConstant, OriginTree, ConstantOrigin, LocationOrigin, OffsetTree, RestrictedTree, AtTree, ValueListTree, SubjectTree, ItemTypeTree, ScalarItem, StructureItem, ItemTree, IsNotEmpty, IsItemType, AtNumber, AtObject, AtAddress, ByteValue, WordValue, LocationValue, InitialValue, TypedMember, ObjectType, StructureObject, Home, InData, InConstants, Placed, BasedOn, Elsewhere, Nowhere, InFrame, size_of_scalar, count_of, size_of_member, size_of_element, has_member, scalars_of_member, scalars_of_element, scalars_of_elements, DeclaredTwice, WrongUse, MisplacedAttribute, WrongConstant, ◌>>=◌, require, found, number_of_characters, number_of_constant, moved_by, with_offsets, Known, line_of, bound, Owner, TheModule, OfProcedure, Block, is_external_linkage, Reach, ThisModule, OtherModulesToo, static_object, RestrictedValue, ANumber, FromObject, restricted_value, address_of, at_address, Filled, fill_scalar, fill_characters, fill_string, line_of_origin, fill_value, fill, Extents, NoArray, Elements, AsListed, Contents, enough_elements, elements_for, contents, TypedItem, base_of, is_base, is_group, line_of_item, names_parameter, object_bound, typed_base, extents_of, member_dimension, typed_members, typed_type, check_linkage, is_plain, typed_at, place_of_storage, typed_contents, is_data, home_in, home_with_values, home_of, typed_item, size_of_item, Gives, gives_ok, gives_fault, gives_after, in_turn, required, is_found, AddsWord}
+use Rattle.typed_laws.proofs.Prelude.{◌≡◌, ℕ, zero, suc, ◌+◌, ◌-◌, ◌*◌, ◌<◌, Bool, true, false, List, [], ◌∷◌, ◌++◌, length, flat_map, replicate, slice_get, Option, Some, None, nat_le, nat_lt, refl, ap, cond, length-append, arith, zero-mul, suc-mul, mod-lt, div-add-mod', All, IfSome, is_none, is_some, not, ◌&&◌, option_map_or, leb-true, flat_map-append, All-append, All-cons, All-nil, sum_by-append, sum_by-cons, slice_get_within, Dimension, Count, Implied, Member, ScalarType, Byte, Address, Sign, Plus, Minus, Identifier, Place, Number, StringTree, StringConstant, OriginTree, ConstantOrigin, LocationOrigin, OffsetTree, RestrictedTree, AtTree, ValueListTree, SubjectTree, ItemTypeTree, ScalarItem, StructureItem, ItemTree, IsNotEmpty, IsItemType, AtNumber, AtObject, AtAddress, ByteValue, WordValue, LocationValue, InitialValue, TypedMember, ObjectType, StructureObject, Home, InData, InConstants, Placed, BasedOn, Elsewhere, Nowhere, InFrame, size_of_scalar, count_of, size_of_member, size_of_element, has_member, scalars_of_member, scalars_of_element, scalars_of_elements, DeclaredTwice, NoVariable, ParameterNotScalar, NoBase, MisplacedAt, MisplacedValues, BasedParameter, ImpliedForGroup, StringNotNumber, ImpliedWithoutValues, NotByte, ◌>>=◌, require, found, number_of_characters, number_of_constant, moved_by, with_offsets, Known, place_of, bound, Owner, TheModule, OfProcedure, Block, is_external_linkage, Reach, ThisModule, OtherModulesToo, static_object, RestrictedValue, ANumber, FromObject, restricted_value, address_of, at_address, Filled, fill_scalar, fill_characters, fill_string, place_of_origin, fill_value, fill, Extents, NoArray, Elements, AsListed, Contents, enough_elements, elements_for, contents, TypedItem, base_of, is_base, is_group, place_of_item, names_parameter, object_bound, typed_base, extents_of, member_dimension, typed_members, typed_type, check_linkage, is_plain, typed_at, place_of_storage, typed_contents, is_data, home_in, home_with_values, home_of, typed_item, size_of_item, Gives, gives_ok, gives_fault, gives_after, in_turn, required, is_found, AddsWord}
 
 -- Where the object of a number lives: based on one before it, or in the frame of a procedure that is REENTRANT. What is
 -- added to where another lies is a word. The flags are those of the procedures so far.
@@ -56,7 +56,7 @@ typed_at_stands : (known : Known) (block : Block) (item : ItemTree) (at : Option
     → Gives (λ found. IfSome found AtStands) (typed_at known block item at)
 typed_at_stands known block item None = gives_ok tt
 typed_at_stands known block item (Some at) =
-    gives_after (require (is_plain block item) MisplacedAttribute at.place.line) λ plain.
+    gives_after (require (is_plain block item) MisplacedAt at.place) λ plain.
     in_turn (at_is known at.address) λ address stands.
     gives_ok stands
   where
@@ -69,40 +69,40 @@ typed_at_stands known block item (Some at) =
 abbrev FilledStand : Filled → Type 0
 FilledStand filled = All AddsWord filled.values
 
-scalar_stands : (line : ℕ) (scalars : List ScalarType) (value : RestrictedValue) → MovesByWord value
-    → Gives FilledStand (fill_scalar line scalars value)
-scalar_stands line (Byte ∷ left) (ANumber number) is =
-    gives_after (require (nat_le number 255) WrongConstant line) λ small.
+scalar_stands : (place : Place) (scalars : List ScalarType) (value : RestrictedValue) → MovesByWord value
+    → Gives FilledStand (fill_scalar place scalars value)
+scalar_stands place (Byte ∷ left) (ANumber number) is =
+    gives_after (require (nat_le number 255) NotByte place) λ small.
     gives_ok (All-cons AddsWord (ByteValue number) [] tt (All-nil AddsWord))
-scalar_stands line (Address ∷ left) (ANumber number) is =
+scalar_stands place (Address ∷ left) (ANumber number) is =
     gives_ok (All-cons AddsWord (WordValue number) [] tt (All-nil AddsWord))
-scalar_stands line (Address ∷ left) (FromObject object offset) is =
+scalar_stands place (Address ∷ left) (FromObject object offset) is =
     gives_ok (All-cons AddsWord (LocationValue object offset) [] is (All-nil AddsWord))
-scalar_stands line (Byte ∷ left) (FromObject object offset) is = gives_fault
-scalar_stands line [] value is = gives_fault
+scalar_stands place (Byte ∷ left) (FromObject object offset) is = gives_fault
+scalar_stands place [] value is = gives_fault
 
-characters_stand : (line : ℕ) (characters : List ℕ) (scalars : List ScalarType)
-    → Gives FilledStand (fill_characters line characters scalars)
-characters_stand line [] scalars = gives_ok (All-nil AddsWord)
-characters_stand line (character ∷ others) (Byte ∷ left) =
-    in_turn (characters_stand line others left) λ filled stand.
+characters_stand : (place : Place) (characters : List ℕ) (scalars : List ScalarType)
+    → Gives FilledStand (fill_characters place characters scalars)
+characters_stand place [] scalars = gives_ok (All-nil AddsWord)
+characters_stand place (character ∷ others) (Byte ∷ left) =
+    in_turn (characters_stand place others left) λ filled stand.
     gives_ok (All-cons AddsWord (ByteValue character) filled.values tt stand)
-characters_stand line (character ∷ others) (Address ∷ left) = gives_fault
-characters_stand line (character ∷ others) [] = gives_fault
+characters_stand place (character ∷ others) (Address ∷ left) = gives_fault
+characters_stand place (character ∷ others) [] = gives_fault
 
 string_stands : (string : StringTree) (scalars : List ScalarType) → Gives FilledStand (fill_string string scalars)
-string_stands string [] = characters_stand string.place.line string.characters []
-string_stands string (Byte ∷ left) = characters_stand string.place.line string.characters (Byte ∷ left)
+string_stands string [] = characters_stand string.place string.characters []
+string_stands string (Byte ∷ left) = characters_stand string.place string.characters (Byte ∷ left)
 string_stands string (Address ∷ left) =
-    gives_after (found (number_of_characters string.characters) WrongConstant string.place.line) λ number.
+    gives_after (found (number_of_characters string.characters) StringNotNumber string.place) λ number.
     gives_ok (All-cons AddsWord (WordValue number) [] tt (All-nil AddsWord))
 
 restricted_stands : (known : Known) (scalars : List ScalarType) (origin : OriginTree) (offsets : List OffsetTree)
     → Gives FilledStand (restricted_value OtherModulesToo known origin offsets
-    >>= (λ value. fill_scalar (line_of_origin origin) scalars value))
+    >>= (λ value. fill_scalar (place_of_origin origin) scalars value))
 restricted_stands known scalars origin offsets =
     in_turn (restricted_moves OtherModulesToo known origin offsets) λ value is.
-    scalar_stands (line_of_origin origin) scalars value is
+    scalar_stands (place_of_origin origin) scalars value is
 
 value_stands : (known : Known) (scalars : List ScalarType) (origin : OriginTree) (offsets : List OffsetTree)
     → Gives FilledStand (fill_value known scalars origin offsets)
@@ -170,7 +170,7 @@ members_more : (before : List TypedMember) (members : List Member) → HasScalar
     → Gives (λ found. HasScalars (StructureObject found)) (typed_members before members)
 members_more before [] has = gives_ok has
 members_more before (member ∷ others) has =
-    gives_after (require (not (has_member before member.name.name)) DeclaredTwice (line_of member.name)) λ once.
+    gives_after (require (not (has_member before member.name.name)) DeclaredTwice (place_of member.name)) λ once.
     gives_after (member_dimension member.dimension) λ dimension.
     members_more
     (before ++ record { name = member.name.name; dimension = dimension; scalar = member.scalar } ∷ []) others
@@ -180,7 +180,7 @@ members_some : (members : List Member) → IsNotEmpty members
     → Gives (λ found. HasScalars (StructureObject found)) (typed_members [] members)
 members_some [] is = absurd is
 members_some (member ∷ others) is =
-    gives_after (require (not (has_member [] member.name.name)) DeclaredTwice (line_of member.name)) λ once.
+    gives_after (require (not (has_member [] member.name.name)) DeclaredTwice (place_of member.name)) λ once.
     in_turn (dimension_some member.dimension) λ dimension some.
     members_more (record { name = member.name.name; dimension = dimension; scalar = member.scalar } ∷ []) others
     (one_member (record { name = member.name.name; dimension = dimension; scalar = member.scalar }) some)
@@ -190,7 +190,7 @@ type_some : (block : Block) (item : ItemTree) (tree : ItemTypeTree) → IsItemTy
 type_some block item (ScalarItem scalar) is =
     gives_ok (record { size = scalar_some scalar; count = omega arith })
 type_some block item (StructureItem members) is =
-    gives_after (require (not (names_parameter block item.subject)) WrongUse (line_of_item item)) λ plain.
+    gives_after (require (not (names_parameter block item.subject)) ParameterNotScalar (place_of_item item)) λ plain.
     in_turn (members_some members is) λ typed has.
     gives_ok has
 
@@ -205,12 +205,12 @@ extents_stand : (block : Block) (item : ItemTree) (dimension : Option Dimension)
 extents_stand block item None = gives_ok tt
 extents_stand block item (Some (Count number)) =
     in_turn (required (nat_le 1 number.value) _ _) λ _ one.
-    gives_after (require (not (names_parameter block item.subject)) WrongUse number.place.line) λ plain.
+    gives_after (require (not (names_parameter block item.subject)) ParameterNotScalar number.place) λ plain.
     gives_ok (omega (arith, leb-true 1 number.value one))
 extents_stand block item (Some Implied) =
-    gives_after (require (not (names_parameter block item.subject)) WrongUse (line_of_item item)) λ plain.
-    gives_after (require (not (is_group item.subject)) MisplacedAttribute (line_of_item item)) λ single.
-    gives_after (require (is_some item.value_list) WrongConstant (line_of_item item)) λ listed.
+    gives_after (require (not (names_parameter block item.subject)) ParameterNotScalar (place_of_item item)) λ plain.
+    gives_after (require (not (is_group item.subject)) ImpliedForGroup (place_of_item item)) λ single.
+    gives_after (require (is_some item.value_list) ImpliedWithoutValues (place_of_item item)) λ listed.
     gives_ok tt
 
 elements_some : (used each : ℕ) → 0 < used → 0 < each → 0 < elements_for used each
@@ -232,17 +232,17 @@ record ContentsStand (made : Contents) : Type 0 where
   values : All AddsWord made.values
   count : 0 < count_of made.dimension
 
-contents_stand : (known : Known) (line : ℕ) (object_type : ObjectType) (extents : Extents)
+contents_stand : (known : Known) (place : Place) (object_type : ObjectType) (extents : Extents)
     (values : List RestrictedTree)
     → HasScalars object_type → ExtentsStand extents
-    → Gives ContentsStand (contents known line object_type extents values)
-contents_stand known line object_type NoArray values has stands =
+    → Gives ContentsStand (contents known place object_type extents values)
+contents_stand known place object_type NoArray values has stands =
     in_turn (values_stand known values (scalars_of_element object_type)) λ filled stand.
     gives_ok (record { values = stand; count = omega arith })
-contents_stand known line object_type (Elements count) values has stands =
+contents_stand known place object_type (Elements count) values has stands =
     in_turn (values_stand known values (scalars_of_elements count object_type)) λ filled stand.
     gives_ok (record { values = stand; count = stands })
-contents_stand known line object_type AsListed values has stands =
+contents_stand known place object_type AsListed values has stands =
     in_turn (values_stand known values (scalars_of_elements (enough_elements values) object_type)) λ filled stand.
     let used : ℕ =
     length (scalars_of_elements (enough_elements values) object_type) - length filled.left in
@@ -255,22 +255,22 @@ typed_contents_stand : (known : Known) (block : Block) (item : ItemTree) (object
     → HasScalars object_type → ExtentsStand extents
     → Gives ContentsStand (typed_contents known block item object_type extents list)
 typed_contents_stand known block item object_type extents None has stands =
-    contents_stand known (line_of_item item) object_type extents [] has stands
+    contents_stand known (place_of_item item) object_type extents [] has stands
 typed_contents_stand known block item object_type extents (Some list) has stands =
-    gives_after (require (is_plain block item && is_none item.at) MisplacedAttribute
-    (place_of_storage list.storage).line) λ plain.
-    contents_stand known (line_of_item item) object_type extents list.values has stands
+    gives_after (require (is_plain block item && is_none item.at) MisplacedValues
+    (place_of_storage list.storage)) λ plain.
+    contents_stand known (place_of_item item) object_type extents list.values has stands
 
 -- a base is one of the objects so far
 base_stands : (known : Known) (block : Block) (subject : SubjectTree) (base : Option Identifier)
     → Gives (λ found. IfSome found (λ number. number < length known.objects)) (typed_base known block subject base)
 base_stands known block subject None = gives_ok tt
 base_stands known block subject (Some name) =
-    gives_after (require (not (names_parameter block subject)) MisplacedAttribute (line_of name)) λ plain.
+    gives_after (require (not (names_parameter block subject)) BasedParameter (place_of name)) λ plain.
     gives_after (bound known name) λ binding.
-    gives_after (object_bound binding (line_of name)) λ number.
-    in_turn (is_found (slice_get known.objects number) WrongUse (line_of name)) λ object is.
-    gives_after (require (is_base object) WrongUse (line_of name)) λ may.
+    gives_after (object_bound binding (place_of name)) λ number.
+    in_turn (is_found (slice_get known.objects number) NoVariable (place_of name)) λ object is.
+    gives_after (require (is_base object) NoBase (place_of name)) λ may.
     gives_ok (slice_get_within known.objects number object is)
 
 -- where an item lives

@@ -1,5 +1,5 @@
 -- The objects and the procedures of a text stand, from part to part.
-use Rattle.typed_laws.proofs.Prelude.{◌≡◌, ℕ, zero, suc, ◌+◌, ◌<◌, Bool, true, List, [], ◌∷◌, ◌++◌, length, map, Some, nat_le, refl, sym, ap, ◌∙◌, subst, length-append, arith, slice_get, slice_set, is_some, not, AllByRecursion, map-append, none-some, Identifier, DeclarationTree, DeclarationTrees, DeclareTree, ElementTree, ElseTree, HeadingTree, ItemElement, ItemTree, LiterallyElement, MoreDeclarations, NoDeclarations, ProcedureTree, StatementKindTree, StatementTree, StatementTrees, IsElement, IsItem, FRAME_LIMIT, OBJECT_LIMIT, size_of_object, Home, InData, InConstants, Placed, BasedOn, Elsewhere, Nowhere, InFrame, TypedList, TypedObject, TypedProcedure, TypedStatements, AtNumber, AtObject, DeclaredTwice, MisplacedAttribute, TooLarge, Block, OfProcedure, Owner, Progress, TheModule, is_external, Checked, require, TypedItem, declare_element, declare_elements, declare_item, declare_names, line_of_item, object_named, size_of_item, with_objects, with_typed_object, arguments, check_body, close_procedure, own_block, parameter_objects, parameter_types, procedure_with, Known, line_of, declare_labels, labels_before, list_of, with_here, without_label, alone, cases, declaration, declarations, else_part, entered, inner_block, kind, statements, Gives, gives_after, gives_ok, in_turn, then_more, Keeps, keeps_append, heading_procedure, Opened, opens, front_or_back, Same, assignment_same, call_same, goto_same, iteration_same, return_same, value_same, AreFormed, ElseIsFormed, IsFormed, KindIsFormed, StatementIsFormed, StatementsAreFormed, got_first}
+use Rattle.typed_laws.proofs.Prelude.{◌≡◌, ℕ, zero, suc, ◌+◌, ◌<◌, Bool, true, List, [], ◌∷◌, ◌++◌, length, map, Some, nat_le, refl, sym, ap, ◌∙◌, subst, length-append, arith, slice_get, slice_set, is_some, not, AllByRecursion, map-append, none-some, Identifier, DeclarationTree, DeclarationTrees, DeclareTree, ElementTree, ElseTree, HeadingTree, ItemElement, ItemTree, LiterallyElement, MoreDeclarations, NoDeclarations, ProcedureTree, StatementKindTree, StatementTree, StatementTrees, IsElement, IsItem, FRAME_LIMIT, OBJECT_LIMIT, size_of_object, Home, InData, InConstants, Placed, BasedOn, Elsewhere, Nowhere, InFrame, TypedList, TypedObject, TypedProcedure, TypedStatements, AtNumber, AtObject, DeclaredTwice, ExternalContents, TooLarge, Block, OfProcedure, Owner, Progress, TheModule, is_external, Checked, require, TypedItem, declare_element, declare_elements, declare_item, declare_names, place_of_item, object_named, size_of_item, with_objects, with_typed_object, arguments, check_body, close_procedure, own_block, parameter_objects, parameter_types, procedure_with, Known, place_of, declare_labels, labels_before, list_of, with_here, without_label, alone, cases, declaration, declarations, else_part, entered, inner_block, kind, statements, Gives, gives_after, gives_ok, in_turn, then_more, Keeps, keeps_append, heading_procedure, Opened, opens, front_or_back, Same, assignment_same, call_same, goto_same, iteration_same, return_same, value_same, AreFormed, ElseIsFormed, IsFormed, KindIsFormed, StatementIsFormed, StatementsAreFormed, got_first}
 use Rattle.trees.specs.Trees as trees
 use Rattle.names.specs.{Environment.{Here, is_declared_again, into_list}, Events.{labels_of}, Uses.{declared_by}}
 use Rattle.typing.specs.Typing.{labelled}
@@ -116,7 +116,7 @@ objects_more block item (name ∷ others) progress home size stands =
     } in
     let longer : length objects + 1 ≡ length (objects ++ object ∷ []) =
     omega (arith, length-append objects (object ∷ [])) in
-    gives_after (require (nat_le after.frame FRAME_LIMIT) TooLarge (line_of name)) λ small.
+    gives_after (require (nat_le after.frame FRAME_LIMIT) TooLarge (place_of name)) λ small.
     then_more
     (objects_more block item others after
     (subst (λ (number : ℕ). HomeStands flags number item.home) longer
@@ -130,7 +130,7 @@ item_goes block item progress formed stands =
     gives_after (declare_names block (declared_by item.subject) progress.known.here) λ here.
     in_turn (typed_item_stands progress.known block item (flags_of progress.known.procedures) stands.own formed.1)
     λ typed is.
-    gives_after (require (nat_le (size_of_item typed) OBJECT_LIMIT) TooLarge (line_of_item item)) λ small.
+    gives_after (require (nat_le (size_of_item typed) OBJECT_LIMIT) TooLarge (place_of_item item)) λ small.
     in_turn (objects_more block typed (declared_by item.subject) progress is.home is.size stands) λ after goes.
     gives_ok (record { flags = goes.flags; objects = goes.objects })
 
@@ -138,8 +138,8 @@ element_goes : (block : Block) (element : ElementTree) (progress : Progress) →
     → StandsAt block.owner progress
     → Gives (λ after. Goes progress after) (declare_element block element progress)
 element_goes block (LiterallyElement name text) progress formed stands =
-    gives_after (require (not (is_declared_again progress.known.here name.name)) DeclaredTwice (line_of name)) λ once.
-    gives_after (require (not (is_external block.owner)) MisplacedAttribute (line_of name)) λ placed.
+    gives_after (require (not (is_declared_again progress.known.here name.name)) DeclaredTwice (place_of name)) λ once.
+    gives_after (require (not (is_external block.owner)) ExternalContents (place_of name)) λ placed.
     gives_ok (record { flags = λ number flag is. is; objects = stands.objects })
 element_goes block (ItemElement item) progress formed stands = item_goes block item progress formed stands
 
@@ -266,7 +266,7 @@ mutual
   kind_goes block (trees.CallStatement place name values) progress formed stands =
       from_same stands (call_same name (record { trees = values; typed = arguments progress.known values }) progress)
   kind_goes block (trees.ReturnStatement place result) progress formed stands =
-      from_same stands (return_same place.line block.owner result progress)
+      from_same stands (return_same place block.owner result progress)
   kind_goes block (trees.HaltStatement place) progress formed stands = gives_ok (goes_nowhere progress stands)
   kind_goes block (trees.GotoStatement place label) progress formed stands =
       from_same stands (goto_same label progress)

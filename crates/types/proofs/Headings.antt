@@ -1,5 +1,5 @@
 -- Procedures in the table: as their headings say, and whole.
-use Rattle.types.proofs.Prelude.{◌≡◌, ℕ, ◌+◌, ◌<◌, List, [], ◌∷◌, ◌++◌, length, map, take, drop, get_or, not, ◌||◌, Option, Ok, Err, refl, ap, sym, subst, ◌∙◌, slice_set, append_assoc, unwrap_or, map-set, map-append, length-map, ScalarType, Byte, Identifier, HeadingTree, DeclarationTrees, Entity, Here, into_body, is_declared_again, with_procedure, PARAMETER_LIMIT, Procedure, GlobalItem, GlobalProcedure, TypedProcedure, procedure_view, DeclaredTwice, MisplacedAttribute, Fault, Checked, ◌>>=◌, require, line_of, Block, Progress, is_reentrant, is_external, with_global, check_reentrant, check_visibility, declare_parameters, no_more_parameters, empty_list, open_procedure, parameter_object, parameter_objects, parameter_types, procedure_with, scalar_in_block, with_heading, FailsBy, in_front, heading_opened, fails_more, drop_item}
+use Rattle.types.proofs.Prelude.{◌≡◌, ℕ, ◌+◌, ◌<◌, List, [], ◌∷◌, ◌++◌, length, map, take, drop, get_or, not, ◌||◌, Option, Ok, Err, refl, ap, sym, subst, ◌∙◌, slice_set, append_assoc, unwrap_or, map-set, map-append, length-map, ScalarType, Byte, Identifier, HeadingTree, DeclarationTrees, Entity, Here, into_body, is_declared_again, with_procedure, PARAMETER_LIMIT, Procedure, GlobalItem, GlobalProcedure, TypedProcedure, procedure_view, DeclaredTwice, NestedProcedure, Fault, Checked, ◌>>=◌, require, place_of, Block, Progress, is_reentrant, is_external, with_global, check_reentrant, check_visibility, declare_parameters, no_more_parameters, empty_list, open_procedure, parameter_object, parameter_objects, parameter_types, procedure_with, scalar_in_block, with_heading, FailsBy, in_front, heading_opened, fails_more, drop_item}
 use Rattle.std.specs.{Map.{lookup}, Str.{bytes_eq}}
 
 pub procedure_replaced : (procedures : List Procedure) (number : ℕ) (procedure : Procedure) → map procedure_view (slice_set procedures number procedure) ≡ slice_set (map procedure_view procedures) number (procedure_view procedure)
@@ -66,8 +66,8 @@ module _ (block : Block) (heading : HeadingTree) (declared : DeclarationTrees) (
   opening_is : open_procedure block heading declared progress ≡ (heading_opened block heading progress.known.here >>= headed)
   opening_is =
       in_seven
-      (require (not (is_declared_again progress.known.here heading.name.name)) DeclaredTwice (line_of heading.name))
-      (require (not (is_reentrant block.owner || is_external block.owner)) MisplacedAttribute (line_of heading.name))
+      (require (not (is_declared_again progress.known.here heading.name.name)) DeclaredTwice (place_of heading.name))
+      (require (not (is_reentrant block.owner || is_external block.owner)) NestedProcedure (place_of heading.name))
       (declare_parameters (take PARAMETER_LIMIT heading.parameters) (into_body (with_procedure heading.name.name progress.known.here)))
       (no_more_parameters (drop PARAMETER_LIMIT heading.parameters)) (check_visibility block heading.linkage) (check_reentrant heading.linkage heading.reentrant) headed
 

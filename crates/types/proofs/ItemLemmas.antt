@@ -1,5 +1,5 @@
 -- Items of a DECLARE.
-use Rattle.types.proofs.Prelude.{◌≡◌, ℕ, ◌<◌, ◌≤◌, min, nat_le, true, arith, le-leb, leb-true, sym, ◌∙◌, List, [], ◌∷◌, ◌++◌, ◌||◌, not, Option, Ok, Err, refl, ap, subst, lt-leb, dec_le, Here, with_object, is_declared_again, Member, Identifier, ItemTree, declared_by, FRAME_LIMIT, OBJECT_LIMIT, TypedMember, has_member, DeclaredTwice, MisplacedAttribute, TooLarge, Block, Progress, is_external, declares_parameter, Checked, ◌>>=◌, require, TypedItem, declare_names, declare_item, line_of_item, member_dimension, object_named, size_of_item, typed_item, typed_members, with_objects, with_typed_object, line_of, with_here, Fault, FailsBy, fails_more, fitted_in_turn, fitting_item, item_in_turn, with_names}
+use Rattle.types.proofs.Prelude.{◌≡◌, ℕ, ◌<◌, ◌≤◌, min, nat_le, true, arith, le-leb, leb-true, sym, ◌∙◌, List, [], ◌∷◌, ◌++◌, ◌||◌, not, Option, Ok, Err, refl, ap, subst, lt-leb, dec_le, Here, with_object, is_declared_again, Member, Identifier, ItemTree, declared_by, FRAME_LIMIT, OBJECT_LIMIT, TypedMember, has_member, DeclaredTwice, ExternalContents, TooLarge, Block, Progress, is_external, declares_parameter, Checked, ◌>>=◌, require, TypedItem, declare_names, declare_item, place_of_item, member_dimension, object_named, size_of_item, typed_item, typed_members, with_objects, with_typed_object, place_of, with_here, Fault, FailsBy, fails_more, fitted_in_turn, fitting_item, item_in_turn, with_names}
 
 -- one name, and then the others
 names_then : {A B : Type 0} (first : Checked A) (second : Checked B) (block : Block) (others : List Identifier) (here : Here) (progress : Progress)
@@ -11,8 +11,8 @@ names_then (Err fault) second block others here progress = refl
 
 pub first_name : (block : Block) (name : Identifier) (others : List Identifier) (progress : Progress) → with_names block (name ∷ others) progress ≡ with_names block (name ∷ []) progress >>= with_names block others
 first_name block name others progress =
-    names_then (require (not (is_declared_again progress.known.here name.name)) DeclaredTwice (line_of name))
-    (require (not (is_external block.owner) || declares_parameter block name.name) MisplacedAttribute (line_of name))
+    names_then (require (not (is_declared_again progress.known.here name.name)) DeclaredTwice (place_of name))
+    (require (not (is_external block.owner) || declares_parameter block name.name) ExternalContents (place_of name))
     block others (with_object name.name progress.known.here) progress
 
 -- one member, and then the others
@@ -30,7 +30,7 @@ member_added member before = typed_members before (member ∷ [])
 
 pub first_member : (member : Member) (others : List Member) (before : List TypedMember) → members_from (member ∷ others) before ≡ member_added member before >>= members_from others
 first_member member others before =
-    members_then (require (not (has_member before member.name.name)) DeclaredTwice (line_of member.name)) (member_dimension member.dimension)
+    members_then (require (not (has_member before member.name.name)) DeclaredTwice (place_of member.name)) (member_dimension member.dimension)
     (λ dimension. before ++ record { name = member.name.name; dimension = dimension; scalar = member.scalar } ∷ []) others
 
 -- a number that stops at the greatest of 32 bits, against a limit below that
@@ -49,7 +49,7 @@ abbrev object_of_name : Block → TypedItem → Identifier → Progress → Prog
 object_of_name block item name progress = with_typed_object item.linkage (object_named block item name.name) progress
 
 abbrev room_for : Block → TypedItem → Identifier → Progress → Checked (Unit {0})
-room_for block item name progress = require (nat_le (object_of_name block item name progress).frame FRAME_LIMIT) TooLarge (line_of name)
+room_for block item name progress = require (nat_le (object_of_name block item name progress).frame FRAME_LIMIT) TooLarge (place_of name)
 
 -- one object of an item, and then the others
 objects_then : (block : Block) (item : TypedItem) (others : List Identifier) (room : Checked (Unit {0})) (made : Progress)
@@ -78,7 +78,7 @@ objects_aside block item (name ∷ others) here progress =
 -- the names of an item may be declared before its objects are made
 module _ (block : Block) (item : ItemTree) (progress : Progress) where
   abbrev fits : TypedItem → Checked (Unit {0})
-  fits typed = require (nat_le (size_of_item typed) OBJECT_LIMIT) TooLarge (line_of_item item)
+  fits typed = require (nat_le (size_of_item typed) OBJECT_LIMIT) TooLarge (place_of_item item)
 
   abbrev made_from : TypedItem → Progress → Checked Progress
   made_from typed from = with_objects block typed (declared_by item.subject) from

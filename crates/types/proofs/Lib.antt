@@ -2,7 +2,7 @@ mod Prelude
 pub mod Arguments
 pub mod Listings
 pub mod Walks
-pub mod Lines
+pub mod Places
 pub mod Modules
 pub mod Headings
 pub mod ItemLemmas

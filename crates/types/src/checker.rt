@@ -56,6 +56,6 @@ pub(crate) fn answer_of_scopes(
     match declared {
         Ok(()) => Ok(()),
         Err(Failure::Memory) => Err(Failure::Memory),
-        Err(Failure::Fault(fault)) => Err(refuse(Cause::DeclaredTwice, fault.line())),
+        Err(Failure::Fault(fault)) => Err(refuse(Cause::DeclaredTwice, fault.place())),
     }
 }

@@ -21,7 +21,7 @@ ghost use Rattle.types.specs.internal.Views.{block_view, owner_view, progress_vi
 use crate::blocks::{Block, Owner};
 use crate::checker::{Checker, answer_of_scopes};
 use crate::identifiers::is_among;
-use crate::linkages::{add_global, is_external_linkage, is_public_linkage, line_of_linkage};
+use crate::linkages::{add_global, is_external_linkage, is_public_linkage, place_of_linkage};
 use crate::lists::length_of;
 use failure::Failure;
 use names::{Binding, Entity};
@@ -71,8 +71,8 @@ fn typed_base(
         } => {
             require(
                 !names_parameter(block, subject),
-                Cause::MisplacedAttribute,
-                name.place.line,
+                Cause::BasedParameter,
+                name.place,
             )?;
             base_named(known, *name)
         }
@@ -84,7 +84,7 @@ fn typed_base(
 fn base_named(known: &Known, name: Identifier) -> Result<Option<u32>, Failure<Fault>>
     ensures { Answers (λ base. base) result (base_named (known_view known.now) name) }
 {
-    let number = object_bound(known.bound(name)?, name.place.line)?;
+    let number = object_bound(known.bound(name)?, name.place)?;
     base_numbered(known, name, number)
 }
 
@@ -96,9 +96,9 @@ fn base_numbered(
 ) -> Result<Option<u32>, Failure<Fault>>
     ensures { Answers (λ base. base) result (base_numbered (known_view known.now) name number) }
 {
-    let line = name.place.line;
+    let place = name.place;
     let object = known.object(name, number)?;
-    require(is_base(object), Cause::WrongUse, line)?;
+    require(is_base(object), Cause::NoBase, place)?;
     Ok(Some(number))
 }
 
@@ -113,11 +113,7 @@ fn typed_at(
 {
     match &item.at {
         Some(at) => {
-            require(
-                is_plain(block, item),
-                Cause::MisplacedAttribute,
-                at.place.line,
-            )?;
+            require(is_plain(block, item), Cause::MisplacedAt, at.place)?;
             Ok(Some(known.at_address(&at.address)?))
         }
         None => Ok(None),
@@ -136,18 +132,14 @@ fn typed_contents(
         (items.typed_contents (known_view known.now) (block_view block.entry) (item_tree item.now)
         (type_view object_type.now) (extents_view extents) (item_tree item.now).value_list) }
 {
-    let line = line_of_item(item);
+    let place = place_of_item(item);
     match &item.value_list {
         Some(list) => {
             let goes = is_plain(block, item) && item.at.is_none();
-            require(
-                goes,
-                Cause::MisplacedAttribute,
-                place_of_storage(list.storage).line,
-            )?;
-            known.contents(line, object_type, extents, list.values.as_slice())
+            require(goes, Cause::MisplacedValues, place_of_storage(list.storage))?;
+            known.contents(place, object_type, extents, list.values.as_slice())
         }
-        None => known.contents(line, object_type, extents, &[]),
+        None => known.contents(place, object_type, extents, &[]),
     }
 }
 
@@ -196,7 +188,7 @@ fn fitting_item(known: &Known, block: Block<'_>, item: &Item) -> Result<TypedIte
         (fitting_item (known_view known.now) (block_view block.entry) (item_tree item.now)) }
 {
     let typed = typed_item(known, block, item)?;
-    typed.check_size(line_of_item(item))?;
+    typed.check_size(place_of_item(item))?;
     Ok(typed)
 }
 
@@ -209,7 +201,11 @@ fn typed_type(known: &Known, block: Block<'_>, item: &Item) -> Result<ObjectType
         ItemType::Scalar(scalar) => Ok(ObjectType::Scalar(*scalar)),
         ItemType::Structure(members) => {
             let is_parameter = names_parameter(block, &item.subject);
-            require(!is_parameter, Cause::WrongUse, line_of_item(item))?;
+            require(
+                !is_parameter,
+                Cause::ParameterNotScalar,
+                place_of_item(item),
+            )?;
             structure_of(known.alloc, members.as_slice())
         }
     }
@@ -266,11 +262,11 @@ impl TypedItem {
 
     // An object has at most 65,535 bytes.
     #[tactic(auto, using(crate::proofs::ItemLemmas::capped_within))]
-    fn check_size(&self, line: u32) -> Result<(), Failure<Fault>>
+    fn check_size(&self, place: Place) -> Result<(), Failure<Fault>>
         ensures { Answers (λ _. tt) result
-            (required (nat_le (items.size_of_item (typed_item_view self.now)) object_limit) TooLarge line) }
+            (required (nat_le (items.size_of_item (typed_item_view self.now)) object_limit) TooLarge place) }
     {
-        require(self.size() <= OBJECT_LIMIT, Cause::TooLarge, line)
+        require(self.size() <= OBJECT_LIMIT, Cause::TooLarge, place)
     }
 }
 
@@ -358,11 +354,11 @@ fn bytes_in_frame(object: &TypedObject) -> u32
 
 // The bytes in the frame of a call with one more object, at most 1024.
 #[tactic(auto, using(crate::proofs::ItemLemmas::capped_within, crate::proofs::ItemLemmas::capped_exact))]
-fn frame_with(frame: u32, object: &TypedObject, line: u32) -> Result<u32, Failure<Fault>>
-    ensures { Answers (λ bytes. bytes) result (bytes_with frame (object_view object.now) line) }
+fn frame_with(frame: u32, object: &TypedObject, place: Place) -> Result<u32, Failure<Fault>>
+    ensures { Answers (λ bytes. bytes) result (bytes_with frame (object_view object.now) place) }
 {
     let bytes = frame.saturating_add(bytes_in_frame(object));
-    require(bytes <= FRAME_LIMIT, Cause::TooLarge, line)?;
+    require(bytes <= FRAME_LIMIT, Cause::TooLarge, place)?;
     Ok(bytes)
 }
 
@@ -399,15 +395,15 @@ fn any_parameter(block: Block<'_>, names: &[Identifier]) -> bool
         .any(|name| declares_parameter(block, name.name))
 }
 
-// The line of the first name of an item.
-fn line_of_item(item: &Item) -> u32
-    ensures { result ≡ items.line_of_item (item_tree item.now) }
+// The place of the first name of an item.
+fn place_of_item(item: &Item) -> Place
+    ensures { result ≡ items.place_of_item (item_tree item.now) }
 {
     match &item.subject {
-        Subject::Single { name, .. } => name.place.line,
+        Subject::Single { name, .. } => name.place,
         Subject::Group(names) => match names.as_slice() {
-            [first, ..] => first.place.line,
-            [] => 0,
+            [first, ..] => first.place,
+            [] => Place { start: 0, line: 0 },
         },
     }
 }
@@ -421,12 +417,12 @@ fn is_base(object: &TypedObject) -> bool
 }
 
 // The object that a name is bound to.
-fn object_bound(binding: Binding, line: u32) -> Result<u32, Failure<Fault>>
-    ensures { Answers (λ number. number) result (items.object_bound binding line) }
+fn object_bound(binding: Binding, place: Place) -> Result<u32, Failure<Fault>>
+    ensures { Answers (λ number. number) result (items.object_bound binding place) }
 {
     match binding {
         Binding::Declared(Entity::Object(number)) => Ok(number),
-        _ => Err(refuse(Cause::WrongUse, line)),
+        _ => Err(refuse(Cause::NoVariable, place)),
     }
 }
 
@@ -440,12 +436,12 @@ fn extents_of(block: Block<'_>, item: &Item) -> Result<Extents, Failure<Fault>>
     match item.dimension {
         None => Ok(Extents::NoArray),
         Some(Dimension::Count(number)) => {
-            require(1 <= number.value, Cause::WrongConstant, number.place.line)?;
-            require(is_scalar, Cause::WrongUse, number.place.line)?;
+            require(1 <= number.value, Cause::ZeroDimension, number.place)?;
+            require(is_scalar, Cause::ParameterNotScalar, number.place)?;
             Ok(Extents::Elements(number.value))
         }
         Some(Dimension::Implied) => {
-            require(is_scalar, Cause::WrongUse, line_of_item(item))?;
+            require(is_scalar, Cause::ParameterNotScalar, place_of_item(item))?;
             as_listed(item)
         }
     }
@@ -455,9 +451,13 @@ fn extents_of(block: Block<'_>, item: &Item) -> Result<Extents, Failure<Fault>>
 fn as_listed(item: &Item) -> Result<Extents, Failure<Fault>>
     ensures { Answers extents_view result (listed_extents (item_tree item.now)) }
 {
-    let line = line_of_item(item);
-    require(!is_group(&item.subject), Cause::MisplacedAttribute, line)?;
-    require(item.value_list.is_some(), Cause::WrongConstant, line)?;
+    let place = place_of_item(item);
+    require(!is_group(&item.subject), Cause::ImpliedForGroup, place)?;
+    require(
+        item.value_list.is_some(),
+        Cause::ImpliedWithoutValues,
+        place,
+    )?;
     Ok(Extents::AsListed)
 }
 
@@ -483,7 +483,7 @@ fn check_linkage(block: Block<'_>, item: &Item) -> Result<(), Failure<Fault>>
     match item.linkage {
         Some(linkage) => {
             let goes = block.is_module_level() && !is_based(&item.subject);
-            require(goes, Cause::MisplacedAttribute, line_of_linkage(linkage))
+            require(goes, Cause::MisplacedLinkage, place_of_linkage(linkage))
         }
         None => Ok(()),
     }
@@ -577,12 +577,12 @@ fn typed_members(alloc: Global, members: &[Member]) -> Result<Members, Failure<F
 fn add_member(typed: &mut Members, member: Member) -> Result<(), Failure<Fault>>
     ensures { Leaves result typed.new (items.typed_members typed.old (member ∷ [])) }
 {
-    let line = member.name.place.line;
+    let place = member.name.place;
     let dimension = member.dimension;
     let added = typed.push(member_of(member))?;
-    require(added, Cause::DeclaredTwice, line)?;
+    require(added, Cause::DeclaredTwice, place)?;
     match dimension {
-        Some(number) => require(1 <= number.value, Cause::WrongConstant, number.place.line),
+        Some(number) => require(1 <= number.value, Cause::ZeroDimension, number.place),
         None => Ok(()),
     }
 }
@@ -642,11 +642,11 @@ impl Checker {
         ensures { Leaves result (progress_view self.new)
             (items.declare_definition (block_view block.entry) name (progress_view self.old)) }
     {
-        let line = name.place.line;
+        let place = name.place;
         let owner = block.owner;
         let is_external = owner.is_external();
         answer_of_scopes(self.known.scopes.declare_definition(name))?;
-        require(!is_external, Cause::MisplacedAttribute, line)
+        require(!is_external, Cause::ExternalContents, place)
     }
 
     // Declares the name of an object. In an EXTERNAL procedure it is a parameter.
@@ -660,8 +660,8 @@ impl Checker {
         let is_parameter = declares_parameter(block, name.name);
         require(
             !is_external || is_parameter,
-            Cause::MisplacedAttribute,
-            name.place.line,
+            Cause::ExternalContents,
+            name.place,
         )
     }
 
@@ -703,7 +703,7 @@ impl Checker {
     {
         let linkage = item.linkage;
         let object = object_named(block, item, name.name)?;
-        self.list_object(&object, linkage, name.place.line)?;
+        self.list_object(&object, linkage, name.place)?;
         push_object(&mut self.known, object)
     }
 
@@ -712,12 +712,12 @@ impl Checker {
         &mut self,
         object: &TypedObject,
         linkage: Option<Linkage>,
-        line: u32,
+        place: Place,
     ) -> Result<(), Failure<Fault>>
         ensures { Leaves result (progress_view self.new)
-            (object_listed linkage (object_view object.now) line (progress_view self.old)) }
+            (object_listed linkage (object_view object.now) place (progress_view self.old)) }
     {
-        let frame = frame_with(self.frame, object, line)?;
+        let frame = frame_with(self.frame, object, place)?;
         let number = next_object(&self.known)?;
         add_constant(&mut self.constants, &object.home, number)?;
         add_global(&mut self.globals, linkage, GlobalItem::GlobalObject(number))?;

@@ -1,10 +1,10 @@
 //! PUBLIC and EXTERNAL.
 
 ghost use Rattle.std.specs.Prelude.{◌≡◌, OnOk};
-ghost use Rattle.typing.specs.Blocks.{is_external_linkage, is_public_linkage, line_of_linkage, with_global};
+ghost use Rattle.typing.specs.Blocks.{is_external_linkage, is_public_linkage, place_of_linkage, with_global};
 
 use std::alloc::AllocError;
-use trees::Linkage;
+use trees::{Linkage, Place};
 use typed_trees::GlobalItem;
 
 /// Whether something is PUBLIC.
@@ -21,12 +21,12 @@ pub(crate) fn is_external_linkage(linkage: Option<Linkage>) -> bool
     matches!(linkage, Some(Linkage::External(_)))
 }
 
-/// The line of PUBLIC or EXTERNAL.
-pub(crate) fn line_of_linkage(linkage: Linkage) -> u32
-    ensures { result ≡ line_of_linkage linkage }
+/// The place of PUBLIC or EXTERNAL.
+pub(crate) fn place_of_linkage(linkage: Linkage) -> Place
+    ensures { result ≡ place_of_linkage linkage }
 {
     match linkage {
-        Linkage::Public(place) | Linkage::External(place) => place.line,
+        Linkage::Public(place) | Linkage::External(place) => place,
     }
 }
 

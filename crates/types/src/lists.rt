@@ -41,7 +41,7 @@ pub(crate) fn without_label(labels: &[Identifier]) -> Result<(), Failure<Fault>>
 {
     match labels {
         [] => Ok(()),
-        [label, ..] => Err(refuse(Cause::MisplacedLabel, label.place.line)),
+        [label, ..] => Err(refuse(Cause::MisplacedLabel, label.place)),
     }
 }
 

@@ -8,7 +8,7 @@ ghost use Rattle.names.specs.Environment.{into_body};
 ghost use Rattle.names.specs.Uses.{declared_by};
 ghost use Rattle.typed_trees.specs.Views.{list_view, procedure_view};
 ghost use Rattle.typing.specs.Blocks.{is_external, is_reentrant};
-ghost use Rattle.typing.specs.Statements.{line_of_kind, line_of_statement, line_of_targets};
+ghost use Rattle.typing.specs.Statements.{place_of_kind, place_of_statement, place_of_targets};
 ghost use Rattle.typing.specs.Procedures.{check_body, check_reentrant, check_visibility, declare_parameters, empty_list, no_more_parameters, open_procedure, parameter_object, parameter_objects, parameter_types, procedure_with, scalar_in_block, scalar_in_declaration, scalar_in_element, scalar_in_elements, scalar_of_type, visibility_of};
 ghost use Rattle.typing.specs.Results.{Answers, Leaves};
 ghost use Rattle.types.specs.internal.Views.{block_view, owner_view, progress_view};
@@ -17,7 +17,7 @@ ghost use Rattle.types.specs.internal.Walking.{heading_opened, names_among, para
 use crate::blocks::{Block, Owner};
 use crate::checker::{Checker, answer_of_scopes};
 use crate::identifiers::{is_among, is_same};
-use crate::linkages::{add_global, is_external_linkage, line_of_linkage};
+use crate::linkages::{add_global, is_external_linkage, place_of_linkage};
 use crate::lists::length_of;
 use failure::Failure;
 use names::{Entity, Scopes};
@@ -43,7 +43,7 @@ fn parameter_object(parameter: Identifier, declared: Option<Entity>) -> Result<u
 {
     match declared {
         Some(Entity::Object(number)) => Ok(number),
-        _ => Err(refuse(Cause::WrongUse, parameter.place.line)),
+        _ => Err(refuse(Cause::ParameterNotDeclared, parameter.place)),
     }
 }
 
@@ -64,17 +64,17 @@ pub(crate) fn parameter_objects(
 }
 
 // Where a reference begins.
-#[tactic(auto, using(crate::proofs::Lines::line_of_parts))]
-fn line_of_reference(reference: &Reference) -> u32
-    ensures { result ≡ line_of_targets (reference_tree reference.now ∷ []) }
+#[tactic(auto, using(crate::proofs::Places::place_of_parts))]
+fn place_of_reference(reference: &Reference) -> Place
+    ensures { result ≡ place_of_targets (reference_tree reference.now ∷ []) }
 {
-    reference.name.place.line
+    reference.name.place
 }
 
-// The line at which a statement begins, its labels aside.
+// The place at which a statement begins, its labels aside.
 #[tactic(auto, using(names::proofs::Parts::do_is))]
-fn line_of_kind(kind: &StatementKind) -> u32
-    ensures { result ≡ line_of_kind (kind_tree kind.now) }
+fn place_of_kind(kind: &StatementKind) -> Place
+    ensures { result ≡ place_of_kind (kind_tree kind.now) }
 {
     match kind {
         StatementKind::Null(place)
@@ -82,22 +82,22 @@ fn line_of_kind(kind: &StatementKind) -> u32
         | StatementKind::Call { place, .. }
         | StatementKind::Return { place, .. }
         | StatementKind::Goto { place, .. }
-        | StatementKind::Do { place, .. } => place.line,
-        StatementKind::Assignment(assignment) => line_of_reference(&assignment.target),
-        StatementKind::If(branch) => branch.place.line,
-        StatementKind::While(turns) => turns.place.line,
-        StatementKind::Iterate(turns) => turns.place.line,
-        StatementKind::Case(choice) => choice.place.line,
+        | StatementKind::Do { place, .. } => *place,
+        StatementKind::Assignment(assignment) => place_of_reference(&assignment.target),
+        StatementKind::If(branch) => branch.place,
+        StatementKind::While(turns) => turns.place,
+        StatementKind::Iterate(turns) => turns.place,
+        StatementKind::Case(choice) => choice.place,
     }
 }
 
 // Where a statement begins.
-fn line_of_statement(statement: &Statement) -> u32
-    ensures { result ≡ line_of_statement (statement_tree statement.now) }
+fn place_of_statement(statement: &Statement) -> Place
+    ensures { result ≡ place_of_statement (statement_tree statement.now) }
 {
     match statement.labels.as_slice() {
-        [label, ..] => label.place.line,
-        [] => line_of_kind(&statement.kind),
+        [label, ..] => label.place,
+        [] => place_of_kind(&statement.kind),
     }
 }
 
@@ -110,8 +110,8 @@ pub(crate) fn check_body(heading: &Heading, body: &[Statement]) -> Result<(), Fa
         [] => Ok(()),
         [first, ..] => require(
             !is_external_linkage(heading.linkage),
-            Cause::MisplacedAttribute,
-            line_of_statement(first),
+            Cause::ExternalContents,
+            place_of_statement(first),
         ),
     }
 }
@@ -270,7 +270,7 @@ fn no_more_parameters(parameters: &[Identifier]) -> Result<(), Failure<Fault>>
 {
     match parameters {
         [] => Ok(()),
-        [parameter, ..] => Err(refuse(Cause::WrongConstant, parameter.place.line)),
+        [parameter, ..] => Err(refuse(Cause::TooManyParameters, parameter.place)),
     }
 }
 
@@ -282,8 +282,8 @@ fn check_visibility(block: Block<'_>, linkage: Option<Linkage>) -> Result<(), Fa
         None => Ok(()),
         Some(linkage) => require(
             block.is_module_level(),
-            Cause::MisplacedAttribute,
-            line_of_linkage(linkage),
+            Cause::MisplacedLinkage,
+            place_of_linkage(linkage),
         ),
     }
 }
@@ -296,8 +296,8 @@ fn check_reentrant(linkage: Option<Linkage>, reentrant: Option<Place>) -> Result
         None => Ok(()),
         Some(place) => require(
             !is_external_linkage(linkage),
-            Cause::MisplacedAttribute,
-            place.line,
+            Cause::ReentrantExternal,
+            place,
         ),
     }
 }
@@ -314,8 +314,8 @@ fn open_heading(
     declare_procedure(scopes, heading.name)?;
     require(
         holds_procedures(block.owner),
-        Cause::MisplacedAttribute,
-        heading.name.place.line,
+        Cause::NestedProcedure,
+        heading.name.place,
     )?;
     open_parameters(scopes, block, heading)
 }

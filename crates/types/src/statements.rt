@@ -23,7 +23,7 @@ use crate::statement_nodes;
 use failure::Failure;
 use names::{Binding, BuiltIn, Entity};
 use std::alloc::{AllocError, Global};
-use trees::{Assignment, Expression, Identifier, Iteration, ScalarType, Selector};
+use trees::{Assignment, Expression, Identifier, Iteration, Place, ScalarType, Selector};
 use typed_expressions::{
     Constants, Destination, Known, as_type, refuse, require, require_writable, target_of,
 };
@@ -139,14 +139,14 @@ fn as_addresses(alloc: Global, moving: Moving) -> Result<TypedMove, AllocError>
 #[tactic(auto, using(crate::proofs::Arguments::not_moved))]
 fn moved(
     alloc: Global,
-    line: u32,
+    place: Place,
     values: Vec<TypedExpression>,
 ) -> Result<TypedStatement, Failure<Fault>>
-    ensures { Answers statement_view result (moved line (arguments_view values.items)) }
+    ensures { Answers statement_view result (moved place (arguments_view values.items)) }
 {
     match moving_of(values) {
         Some(moving) => statement_nodes::copying(alloc, as_addresses(alloc, moving)?),
-        None => Err(refuse(Cause::WrongUse, line)),
+        None => Err(refuse(Cause::ArgumentCount, place)),
     }
 }
 
@@ -170,10 +170,10 @@ fn untyped_call(
         (call_bound (known_view known.now) (Declared (Procedure number)) name
         (given_in (known_view known.now) (argument_trees trees.now)) (constants_view constants.old)) }
 {
-    let line = name.place.line;
+    let place = name.place;
     let procedure = known.procedure(name, number)?;
-    require(procedure.result.is_none(), Cause::WrongUse, line)?;
-    let values = known.call_arguments(procedure, line, trees, constants)?;
+    require(procedure.result.is_none(), Cause::CallOfTyped, place)?;
+    let values = known.call_arguments(procedure, place, trees, constants)?;
     Ok(statement_nodes::call(number, values))
 }
 
@@ -188,10 +188,10 @@ fn call_of_move(
         (call_bound (known_view known.now) (BuiltInName Move) name
         (given_in (known_view known.now) (argument_trees trees.now)) (constants_view constants.old)) }
 {
-    let line = name.place.line;
-    require(are_three(trees), Cause::WrongUse, line)?;
+    let place = name.place;
+    require(are_three(trees), Cause::ArgumentCount, place)?;
     let values = known.arguments(trees, constants)?;
-    moved(known.alloc, line, values)
+    moved(known.alloc, place, values)
 }
 
 // CALL by the binding of a name: an untyped procedure, or MOVE.
@@ -211,7 +211,7 @@ fn call_bound(
             untyped_call(known, number, name, trees, constants)
         }
         Binding::BuiltInName(BuiltIn::Move) => call_of_move(known, name, trees, constants),
-        _ => Err(refuse(Cause::WrongUse, name.place.line)),
+        _ => Err(refuse(Cause::CallOfNoProcedure, name.place)),
     }
 }
 
@@ -235,12 +235,12 @@ impl Checker {
     // RETURN of a value, in a procedure with a result of this type.
     fn return_value(
         &mut self,
-        line: u32,
+        place: Place,
         scalar: ScalarType,
         tree: &Expression,
     ) -> Result<TypedStatement, Failure<Fault>>
         ensures { Gives statement_view result (progress_view self.new)
-            (return_with line (Some scalar) (Some (expression_tree tree.now)) (progress_view self.old)) }
+            (return_with place (Some scalar) (Some (expression_tree tree.now)) (progress_view self.old)) }
     {
         let typed = self.value(tree)?;
         let typed = as_type(self.alloc, typed, scalar)?;
@@ -250,46 +250,46 @@ impl Checker {
     // RETURN in a procedure with this result.
     fn return_with(
         &mut self,
-        line: u32,
+        place: Place,
         scalar: Option<ScalarType>,
         tree: &Option<Box<Expression>>,
     ) -> Result<TypedStatement, Failure<Fault>>
         ensures { Gives statement_view result (progress_view self.new)
-            (return_with line scalar (option_map (λ held. expression_tree held.value) tree.now)
+            (return_with place scalar (option_map (λ held. expression_tree held.value) tree.now)
             (progress_view self.old)) }
     {
         match (scalar, tree) {
             (None, None) => statement_nodes::return_value(self.alloc, None),
-            (Some(scalar), Some(tree)) => self.return_value(line, scalar, tree),
-            _ => Err(refuse(Cause::WrongUse, line)),
+            (Some(scalar), Some(tree)) => self.return_value(place, scalar, tree),
+            _ => Err(refuse(Cause::ReturnMismatch, place)),
         }
     }
 
     /// RETURN, which stands in procedures, with a value exactly in typed ones.
     pub(crate) fn return_from(
         &mut self,
-        line: u32,
+        place: Place,
         owner: Owner<'_>,
         tree: &Option<Box<Expression>>,
     ) -> Result<TypedStatement, Failure<Fault>>
         ensures { Gives statement_view result (progress_view self.new)
-            (return_from line (owner_view owner.entry)
+            (return_from place (owner_view owner.entry)
             (option_map (λ held. expression_tree held.value) tree.now) (progress_view self.old)) }
     {
         match owner {
-            Owner::Module => Err(refuse(Cause::WrongUse, line)),
-            Owner::Procedure { heading, .. } => self.return_with(line, heading.result, tree),
+            Owner::Module => Err(refuse(Cause::ReturnOutside, place)),
+            Owner::Procedure { heading, .. } => self.return_with(place, heading.result, tree),
         }
     }
 }
 
 // The label that a name after GOTO is bound to.
-fn goto_bound(line: u32, binding: Binding) -> Result<TypedStatement, Failure<Fault>>
-    ensures { Answers statement_view result (goto_bound line binding) }
+fn goto_bound(place: Place, binding: Binding) -> Result<TypedStatement, Failure<Fault>>
+    ensures { Answers statement_view result (goto_bound place binding) }
 {
     match binding {
         Binding::Declared(Entity::Label(label)) => Ok(TypedStatement::Goto(label)),
-        _ => Err(refuse(Cause::UnknownLabel, line)),
+        _ => Err(refuse(Cause::UnknownLabel, place)),
     }
 }
 
@@ -299,7 +299,7 @@ impl Checker {
         ensures { Gives statement_view result (progress_view self.new)
             (goto label (progress_view self.old)) }
     {
-        goto_bound(label.place.line, self.known.scopes.jump(label.name))
+        goto_bound(label.place, self.known.scopes.jump(label.name))
     }
 }
 
@@ -310,12 +310,12 @@ fn counter_type(object: &TypedObject, name: Identifier) -> Result<ScalarType, Fa
     require_writable(object, name)?;
     require(
         object.dimension.is_none() && !matches!(object.home, Home::Based(_)),
-        Cause::WrongUse,
-        name.place.line,
+        Cause::NoCounter,
+        name.place,
     )?;
     match object.object_type {
         ObjectType::Scalar(scalar) => Ok(scalar),
-        ObjectType::Structure(_) => Err(refuse(Cause::WrongUse, name.place.line)),
+        ObjectType::Structure(_) => Err(refuse(Cause::NoCounter, name.place)),
     }
 }
 
@@ -350,7 +350,7 @@ fn counter_bound(
 {
     match binding {
         Binding::Declared(Entity::Object(number)) => counter_object(known, number, name),
-        _ => Err(refuse(Cause::WrongUse, name.place.line)),
+        _ => Err(refuse(Cause::NoVariable, name.place)),
     }
 }
 

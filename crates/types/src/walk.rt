@@ -81,7 +81,7 @@ impl Checker {
             StatementKind::Assignment(assignment) => self.assignment(assignment),
             StatementKind::Call { procedure, .. } => self.call(procedure),
             StatementKind::Return { place, value } => {
-                self.return_from(place.line, block.owner, value)
+                self.return_from(*place, block.owner, value)
             }
             StatementKind::Goto { label, .. } => self.goto(**label),
             StatementKind::If(branch) => self.conditional(block, branch),

@@ -1,5 +1,5 @@
 -- Declarations leave the labels that are known as they were, and procedures sound.
-use Rattle.typing.proofs.Prelude.{◌≡◌, ℕ, List, [], ◌∷◌, ◌++◌, take, drop, refl, ap, subst, sym, IfOk, nat_le, not, ◌||◌, All-append, All-cons, All-nil, All-set, Identifier, ItemTree, ElementTree, LiterallyElement, ItemElement, HeadingTree, DeclarationTrees, Here, Body, Names, into_body, after_body, with_object, with_procedure, with_parameter, with_label, is_declared_again, is_parameter_again, is_label_again, declared_by, OBJECT_LIMIT, FRAME_LIMIT, PARAMETER_LIMIT, TypedList, TypedProcedure, BodyIsSound, DeclaredTwice, MisplacedAttribute, TooLarge, require, line_of, Block, Progress, is_external, is_reentrant, declares_parameter, TypedItem, declare_names, line_of_item, object_named, with_typed_object, with_objects, typed_item, size_of_item, declare_item, declare_definition, declare_element, declare_elements, declare_labels, declare_parameters, no_more_parameters, check_visibility, check_reentrant, parameter_types, procedure_with, empty_list, open_procedure, close_procedure}
+use Rattle.typing.proofs.Prelude.{◌≡◌, ℕ, List, [], ◌∷◌, ◌++◌, take, drop, refl, ap, subst, sym, IfOk, nat_le, not, ◌||◌, All-append, All-cons, All-nil, All-set, Identifier, ItemTree, ElementTree, LiterallyElement, ItemElement, HeadingTree, DeclarationTrees, Here, Body, Names, into_body, after_body, with_object, with_procedure, with_parameter, with_label, is_declared_again, is_parameter_again, is_label_again, declared_by, OBJECT_LIMIT, FRAME_LIMIT, PARAMETER_LIMIT, TypedList, TypedProcedure, BodyIsSound, DeclaredTwice, NestedProcedure, ExternalContents, TooLarge, require, place_of, Block, Progress, is_external, is_reentrant, declares_parameter, TypedItem, declare_names, place_of_item, object_named, with_typed_object, with_objects, typed_item, size_of_item, declare_item, declare_definition, declare_element, declare_elements, declare_labels, declare_parameters, no_more_parameters, check_visibility, check_reentrant, parameter_types, procedure_with, empty_list, open_procedure, close_procedure}
 use Rattle.typing.proofs.Steps.{then, then_any}
 use Rattle.typing.proofs.Parts.{IsIn, AreSound, IsAt}
 
@@ -20,7 +20,7 @@ module _ {lists : List Names} {outer : List Body} where
       → IsIn lists outer here → IfOk (declare_labels labels here) (IsIn lists outer)
   declare_labels_is [] here is = is
   declare_labels_is (label ∷ others) here is =
-      then_any _ (require (not (is_label_again here label.name)) DeclaredTwice (line_of label)) _ (λ is_new.
+      then_any _ (require (not (is_label_again here label.name)) DeclaredTwice (place_of label)) _ (λ is_new.
       declare_labels_is others (with_label label.name here)
       (record { lists_are = is.lists_are; outer_are = is.outer_are }))
 
@@ -28,7 +28,7 @@ module _ {lists : List Names} {outer : List Body} where
       → IsIn lists outer here → IfOk (declare_parameters parameters here) (IsIn lists outer)
   declare_parameters_is [] here is = is
   declare_parameters_is (parameter ∷ others) here is =
-      then_any _ (require (not (is_parameter_again here parameter.name)) DeclaredTwice (line_of parameter)) _
+      then_any _ (require (not (is_parameter_again here parameter.name)) DeclaredTwice (place_of parameter)) _
       (λ is_new.
       declare_parameters_is others (with_parameter parameter.name here)
       (record { lists_are = is.lists_are; outer_are = is.outer_are }))
@@ -37,9 +37,9 @@ module _ {lists : List Names} {outer : List Body} where
       → IsIn lists outer here → IfOk (declare_names block names here) (IsIn lists outer)
   declare_names_is block [] here is = is
   declare_names_is block (name ∷ others) here is =
-      then_any _ (require (not (is_declared_again here name.name)) DeclaredTwice (line_of name)) _ (λ is_new.
-      then_any _ (require (not (is_external block.owner) || declares_parameter block name.name) MisplacedAttribute
-      (line_of name)) _ (λ may_stand.
+      then_any _ (require (not (is_declared_again here name.name)) DeclaredTwice (place_of name)) _ (λ is_new.
+      then_any _ (require (not (is_external block.owner) || declares_parameter block name.name) ExternalContents
+      (place_of name)) _ (λ may_stand.
       declare_names_is block others (with_object name.name here)
       (record { lists_are = is.lists_are; outer_are = is.outer_are })))
 
@@ -51,7 +51,7 @@ module _ {lists : List Names} {outer : List Body} where
   with_objects_is block item [] progress at = at
   with_objects_is block item (name ∷ others) progress at =
       let after : Progress = with_typed_object item.linkage (object_named block item name.name) progress in
-      then_any _ (require (nat_le after.frame FRAME_LIMIT) TooLarge (line_of name)) _ (λ fits.
+      then_any _ (require (nat_le after.frame FRAME_LIMIT) TooLarge (place_of name)) _ (λ fits.
       with_objects_is block item others after (record { here = at.here; procedures = at.procedures }))
 
   declare_item_is : (block : Block) (item : ItemTree) (progress : Progress)
@@ -61,7 +61,7 @@ module _ {lists : List Names} {outer : List Body} where
       then _ _ (declare_names block (declared_by item.subject) progress.known.here) _
       (declare_names_is block (declared_by item.subject) progress.known.here at.here) (λ here is.
       then_any _ (typed_item progress.known block item) _ (λ typed.
-      then_any _ (require (nat_le (size_of_item typed) OBJECT_LIMIT) TooLarge (line_of_item item)) _ (λ fits.
+      then_any _ (require (nat_le (size_of_item typed) OBJECT_LIMIT) TooLarge (place_of_item item)) _ (λ fits.
       then _ _ (with_objects block typed (declared_by item.subject) progress) _
       (with_objects_is block typed (declared_by item.subject) progress at) (λ declared after.
       record { here = is; procedures = after.procedures }))))
@@ -70,9 +70,9 @@ module _ {lists : List Names} {outer : List Body} where
       → IsAt lists outer progress.known
       → IfOk (declare_definition block name progress) (λ after. IsAt lists outer after.known)
   declare_definition_is block name progress at =
-      then_any _ (require (not (is_declared_again progress.known.here name.name)) DeclaredTwice (line_of name)) _
+      then_any _ (require (not (is_declared_again progress.known.here name.name)) DeclaredTwice (place_of name)) _
       (λ is_new.
-      then_any _ (require (not (is_external block.owner)) MisplacedAttribute (line_of name)) _ (λ may_stand.
+      then_any _ (require (not (is_external block.owner)) ExternalContents (place_of name)) _ (λ may_stand.
       record {
         here = record { lists_are = at.here.lists_are; outer_are = at.here.outer_are };
         procedures = at.procedures;
@@ -102,9 +102,9 @@ pub open_procedure_is : {lists : List Names} {outer : List Body} (block : Block)
 open_procedure_is block heading declared progress at =
     let named : Here = with_procedure heading.name.name progress.known.here in
     then_any _ (require (not (is_declared_again progress.known.here heading.name.name)) DeclaredTwice
-    (line_of heading.name)) _ (λ is_new.
-    then_any _ (require (not (is_reentrant block.owner || is_external block.owner)) MisplacedAttribute
-    (line_of heading.name)) _ (λ may_stand.
+    (place_of heading.name)) _ (λ is_new.
+    then_any _ (require (not (is_reentrant block.owner || is_external block.owner)) NestedProcedure
+    (place_of heading.name)) _ (λ may_stand.
     then _ _ (declare_parameters (take PARAMETER_LIMIT heading.parameters) (into_body named)) _
     (declare_parameters_is (take PARAMETER_LIMIT heading.parameters) (into_body named)
     (record { lists_are = refl; outer_are = ap (λ (bodies : List Body). named.body ∷ bodies) at.here.outer_are }))

@@ -1,5 +1,5 @@
 -- Declarations and headings: what they add to the tables.
-use Rattle.typing.proofs.Prelude.{◌≡◌, ℕ, List, [], ◌∷◌, ◌++◌, map, take, drop, length, Some, slice_get, slice_set, nat_le, not, ◌||◌, refl, sym, ap, ◌∙◌, subst, append_assoc, append-nil, map-append, ScalarType, Identifier, ItemTree, ElementTree, LiterallyElement, ItemElement, HeadingTree, DeclarationTrees, StatementTrees, Here, into_body, out_of_body, is_declared_again, is_parameter_again, with_object, with_procedure, with_parameter, with_definition, declared_by, OBJECT_LIMIT, FRAME_LIMIT, PARAMETER_LIMIT, TypedList, TypedObject, TypedProcedure, TypedModule, DeclaredTwice, MisplacedAttribute, TooLarge, require, line_of, Block, Progress, is_external, is_reentrant, declares_parameter, declare_names, TypedItem, object_named, with_typed_object, with_objects, typed_item, size_of_item, line_of_item, declare_item, declare_definition, declare_element, declare_elements, declare_parameters, no_more_parameters, check_visibility, check_reentrant, parameter_types, procedure_with, empty_list, with_heading, open_procedure, close_procedure, with_here, plain_statements, untyped_list}
+use Rattle.typing.proofs.Prelude.{◌≡◌, ℕ, List, [], ◌∷◌, ◌++◌, map, take, drop, length, Some, slice_get, slice_set, nat_le, not, ◌||◌, refl, sym, ap, ◌∙◌, subst, append_assoc, append-nil, map-append, ScalarType, Identifier, ItemTree, ElementTree, LiterallyElement, ItemElement, HeadingTree, DeclarationTrees, StatementTrees, Here, into_body, out_of_body, is_declared_again, is_parameter_again, with_object, with_procedure, with_parameter, with_definition, declared_by, OBJECT_LIMIT, FRAME_LIMIT, PARAMETER_LIMIT, TypedList, TypedObject, TypedProcedure, TypedModule, DeclaredTwice, NestedProcedure, ExternalContents, TooLarge, require, place_of, Block, Progress, is_external, is_reentrant, declares_parameter, declare_names, TypedItem, object_named, with_typed_object, with_objects, typed_item, size_of_item, place_of_item, declare_item, declare_definition, declare_element, declare_elements, declare_parameters, no_more_parameters, check_visibility, check_reentrant, parameter_types, procedure_with, empty_list, with_heading, open_procedure, close_procedure, with_here, plain_statements, untyped_list}
 use Rattle.typing.proofs.Kept.{Gives, gives_ok, in_turn, gives_after, then_more}
 use Rattle.typing.proofs.Tables.{Fits, Keeps, keeps_append, with_object-fits, with_procedure-fits, with_parameter-fits, with_definition-fits, into_body-fits, out_of_body-fits}
 use Rattle.typing.proofs.Walked.{object_names, procedure_names, Holds, Reaches, bodies_back, Walked, walked_then, walked_as, walked_nothing, walked_to}
@@ -16,9 +16,9 @@ declare_names-fit : (objects procedures : List (List ℕ)) (block : Block) (name
 declare_names-fit objects procedures block [] here fits =
     gives_ok (subst (λ k. Fits k procedures here) (sym (append-nil objects)) fits)
 declare_names-fit objects procedures block (name ∷ others) here fits =
-    gives_after (require (not (is_declared_again here name.name)) DeclaredTwice (line_of name)) λ once.
-    gives_after (require (not (is_external block.owner) || declares_parameter block name.name) MisplacedAttribute
-    (line_of name)) λ placed.
+    gives_after (require (not (is_declared_again here name.name)) DeclaredTwice (place_of name)) λ once.
+    gives_after (require (not (is_external block.owner) || declares_parameter block name.name) ExternalContents
+    (place_of name)) λ placed.
     subst (λ k. Gives (Fits k procedures) (declare_names block others (with_object name.name here)))
     (append_assoc objects (name.name ∷ []) (names_of others))
     (declare_names-fit (objects ++ name.name ∷ []) procedures block others (with_object name.name here)
@@ -43,7 +43,7 @@ with_objects-adds block item (name ∷ others) progress =
     let object : TypedObject = object_named block item name.name in
     let objects : List TypedObject = progress.known.objects in
     gives_after (require (nat_le (with_typed_object item.linkage object progress).frame FRAME_LIMIT) TooLarge
-    (line_of name)) λ small.
+    (place_of name)) λ small.
     then_more (with_objects-adds block item others (with_typed_object item.linkage object progress)) λ after rest.
     record {
       named = rest.named
@@ -86,15 +86,15 @@ declare_item-walks block item progress holds =
     (declare_names-fit (object_names progress.known.objects) (procedure_names progress.known.procedures) block
     (declared_by item.subject) progress.known.here holds) λ here fits.
     gives_after (typed_item progress.known block item) λ typed.
-    gives_after (require (nat_le (size_of_item typed) OBJECT_LIMIT) TooLarge (line_of_item item)) λ small.
+    gives_after (require (nat_le (size_of_item typed) OBJECT_LIMIT) TooLarge (place_of_item item)) λ small.
     in_turn (with_objects-adds block typed (declared_by item.subject) progress) λ after added.
     gives_ok (walked_objects (declared_by item.subject) progress after here added fits)
 
 declare_definition-walks : (block : Block) (name : Identifier) (progress : Progress) → Holds progress
     → Gives (λ after. Walked progress after [] Nothing) (declare_definition block name progress)
 declare_definition-walks block name progress holds =
-    gives_after (require (not (is_declared_again progress.known.here name.name)) DeclaredTwice (line_of name)) λ once.
-    gives_after (require (not (is_external block.owner)) MisplacedAttribute (line_of name)) λ placed.
+    gives_after (require (not (is_declared_again progress.known.here name.name)) DeclaredTwice (place_of name)) λ once.
+    gives_after (require (not (is_external block.owner)) ExternalContents (place_of name)) λ placed.
     gives_ok
     (walked_to (with_definition name.name progress.known.here) (with_definition-fits name.name)
     (walked_nothing progress holds (λ tables reaches. tt)))
@@ -119,7 +119,7 @@ declare_parameters-fit : (objects procedures : List (List ℕ)) (parameters : Li
     → Gives (Fits objects procedures) (declare_parameters parameters here)
 declare_parameters-fit objects procedures [] here fits = gives_ok fits
 declare_parameters-fit objects procedures (parameter ∷ others) here fits =
-    gives_after (require (not (is_parameter_again here parameter.name)) DeclaredTwice (line_of parameter)) λ once.
+    gives_after (require (not (is_parameter_again here parameter.name)) DeclaredTwice (place_of parameter)) λ once.
     declare_parameters-fit objects procedures others (with_parameter parameter.name here)
     (with_parameter-fits parameter.name fits)
 
@@ -167,9 +167,9 @@ pub open_procedure-opens : (block : Block) (heading : HeadingTree) (declared : D
     → Gives (Opened heading declared progress) (open_procedure block heading declared progress)
 open_procedure-opens block heading declared progress holds =
     gives_after (require (not (is_declared_again progress.known.here heading.name.name)) DeclaredTwice
-    (line_of heading.name)) λ once.
-    gives_after (require (not (is_reentrant block.owner || is_external block.owner)) MisplacedAttribute
-    (line_of heading.name)) λ placed.
+    (place_of heading.name)) λ once.
+    gives_after (require (not (is_reentrant block.owner || is_external block.owner)) NestedProcedure
+    (place_of heading.name)) λ placed.
     in_turn
     (declare_parameters-fit (object_names progress.known.objects)
     (procedure_names progress.known.procedures ++ heading.name.name ∷ []) (take PARAMETER_LIMIT heading.parameters)

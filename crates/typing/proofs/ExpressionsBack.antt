@@ -1,5 +1,5 @@
 -- Taking the conversions away from a typed expression gives back the tree that it was typed from.
-use Rattle.typing.proofs.Prelude.{◌≡◌, ℕ, List, [], ◌∷◌, length, refl, sym, ap, ◌∙◌, unwrap_or, ◌&&◌, is_none, Identifier, ConstantTree, NumberConstant, StringConstant, ExpressionTree, ConstantLeaf, ReferenceLeaf, LocationLeaf, ListLeaf, ParenthesizedNode, AssignmentNode, UnaryNode, BinaryNode, ReferenceTree, ReferenceTo, MemberTree, NoMember, MemberOf, ArgumentTrees, NoArguments, MoreArguments, Binding, Declared, Object, ListNode, TypedProcedure, TypedModule, Constants, type_of, type_of_operands, WrongUse, Known, Given, line_of, scalar_of, is_writable, destination_of, call_arguments, require, is_not_based, Counter, counter_bound, Agrees, number_of_characters, bytes_of_constants, number_node, with_list, expression, given_reference, given_member, arguments, untyped_expression, untyped_arguments, plain_expression, plain_arguments, plain_member, plain_reference, byte_list, named, number_in, number_leaf, object_name, got_first}
+use Rattle.typing.proofs.Prelude.{◌≡◌, ℕ, List, [], ◌∷◌, length, refl, sym, ap, ◌∙◌, unwrap_or, ◌&&◌, is_none, Identifier, Place, ConstantTree, NumberConstant, StringConstant, ExpressionTree, ConstantLeaf, ReferenceLeaf, LocationLeaf, ListLeaf, ParenthesizedNode, AssignmentNode, UnaryNode, BinaryNode, ReferenceTree, ReferenceTo, MemberTree, NoMember, MemberOf, ArgumentTrees, NoArguments, MoreArguments, Binding, Declared, Object, ListNode, TypedProcedure, TypedModule, Constants, type_of, type_of_operands, NoCounter, Known, Given, place_of, scalar_of, is_writable, destination_of, call_arguments, require, is_not_based, Counter, counter_bound, Agrees, number_of_characters, bytes_of_constants, number_node, with_list, expression, given_reference, given_member, arguments, untyped_expression, untyped_arguments, plain_expression, plain_arguments, plain_member, plain_reference, byte_list, named, number_in, number_leaf, object_name, got_first}
 use Rattle.typing.proofs.Kept.{Gives, then_more, anything, gives_ok, gives_fault, in_turn, is_found, kept_at, kept_more, kept_both}
 use Rattle.typing.proofs.ReferencesBack.{as_type_back, plain_given, plain_given_member, GivesTree, MemberBack, ReferenceBack, GivesTarget, call_arguments_kept, value_back, location_back, target_back}
 use Rattle.typing.proofs.Tables.{keeps_append}
@@ -100,11 +100,11 @@ target_kept known reference constants = target_given known reference constants (
 abbrev pub given_arguments : Known → ArgumentTrees → Given
 given_arguments known trees = record { trees = trees; typed = arguments known trees }
 
-pub call_kept : (known : Known) (procedure : TypedProcedure) (line : ℕ) (trees : ArgumentTrees) (constants : Constants)
+pub call_kept : (known : Known) (procedure : TypedProcedure) (place : Place) (trees : ArgumentTrees) (constants : Constants)
     → Gives (GivesTree known untyped_arguments (plain_arguments trees) constants)
-    (call_arguments procedure line (given_arguments known trees) constants)
-call_kept known procedure line trees constants =
-    call_arguments_kept known procedure line (given_arguments known trees) constants (arguments_kept known trees)
+    (call_arguments procedure place (given_arguments known trees) constants)
+call_kept known procedure place trees constants =
+    call_arguments_kept known procedure place (given_arguments known trees) constants (arguments_kept known trees)
 
 -- the variable of an iterative DO
 pub counter_named : (known : Known) (binding : Binding) (name : Identifier)
@@ -114,7 +114,7 @@ pub counter_named : (known : Known) (binding : Binding) (name : Identifier)
 counter_named known (Declared (Object number)) name bound_to =
     in_turn (is_object known name number bound_to) (λ object stands.
     in_turn (anything (is_writable object name)) (λ _ _.
-    in_turn (anything (require (is_none object.dimension && is_not_based object.home) WrongUse (line_of name))) (λ _ _.
+    in_turn (anything (require (is_none object.dimension && is_not_based object.home) NoCounter (place_of name))) (λ _ _.
     in_turn (is_found (scalar_of object.object_type) _ _) (λ scalar _.
     gives_ok (λ tables agrees. (stands.in_tables tables agrees).0)))))
 counter_named known binding name bound_to = gives_fault

@@ -1,5 +1,5 @@
 -- The globals of a text so far are listed, and go on to be as its tables grow.
-use Rattle.typing.proofs.Prelude.{◌≡◌, ℕ, ◌+◌, Bool, true, false, List, [], ◌∷◌, ◌++◌, length, Option, None, Some, if◌then◌else◌, cond, nat_le, refl, sym, ap, ◌∙◌, append-nil, arith, filter_map, All, is_none, is_some, ◌&&◌, cons_option, enumerate_from, option_map_or, All-append, All-cons, All-nil, filter_map-append, Linkage, Public, External, Identifier, SubjectTree, ItemTree, HeadingTree, AtAddress, GlobalItem, GlobalObject, GlobalProcedure, InitialValue, Home, InData, InConstants, Placed, BasedOn, Elsewhere, Nowhere, InFrame, TypedObject, TypedProcedure, TypedModule, shared_object, shared_procedure, is_shared, is_global, global_object, global_procedure, IsHereIfPublic, ListsGlobals, FRAME_LIMIT, TooLarge, require, Known, line_of, Owner, TheModule, OfProcedure, Block, Progress, with_global, is_public_linkage, is_external_linkage, is_module_level, TypedItem, base_of, typed_base, extents_of, typed_type, check_linkage, typed_at, typed_contents, is_data, home_with_values, object_named, with_typed_object, with_objects, typed_item, visibility_of, and_parts}
+use Rattle.typing.proofs.Prelude.{◌≡◌, ℕ, ◌+◌, Bool, true, false, List, [], ◌∷◌, ◌++◌, length, Option, None, Some, if◌then◌else◌, cond, nat_le, refl, sym, ap, ◌∙◌, append-nil, arith, filter_map, All, is_none, is_some, ◌&&◌, cons_option, enumerate_from, option_map_or, All-append, All-cons, All-nil, filter_map-append, Linkage, Public, External, Identifier, SubjectTree, ItemTree, HeadingTree, AtAddress, GlobalItem, GlobalObject, GlobalProcedure, InitialValue, Home, InData, InConstants, Placed, BasedOn, Elsewhere, Nowhere, InFrame, TypedObject, TypedProcedure, TypedModule, shared_object, shared_procedure, is_shared, is_global, global_object, global_procedure, IsHereIfPublic, ListsGlobals, FRAME_LIMIT, TooLarge, require, Known, place_of, Owner, TheModule, OfProcedure, Block, Progress, with_global, is_public_linkage, is_external_linkage, is_module_level, TypedItem, base_of, typed_base, extents_of, typed_type, check_linkage, typed_at, typed_contents, is_data, home_with_values, object_named, with_typed_object, with_objects, typed_item, visibility_of, and_parts}
 use Rattle.typing.proofs.Kept.{Gives, then_more, gives_ok, gives_after, in_turn, required}
 use Rattle.typing.proofs.Storage.Storable.{enumerate_more}
 use Rattle.typing.proofs.Types.TypesKept.{Heading, headings}
@@ -177,7 +177,7 @@ with_objects-listed block item [] progress fits listed = gives_ok listed
 with_objects-listed block item (name ∷ others) progress fits listed =
     let object : TypedObject = object_named block item name.name in
     gives_after (require (nat_le (with_typed_object item.linkage object progress).frame FRAME_LIMIT) TooLarge
-    (line_of name)) λ small.
+    (place_of name)) λ small.
     with_objects-listed block item others (with_typed_object item.linkage object progress) fits
     (object_listed block item name.name fits listed)
 

@@ -1,5 +1,5 @@
 -- What holds of all that a check gives, and what is kept from one typing to the next.
-use Rattle.typing.proofs.Prelude.{◌≡◌, Bool, true, false, Option, Some, None, Ok, Err, refl, subst, Cause, Fault, ℕ, TypedModule, Constants, Checked, ◌>>=◌, require, found, Known, Agrees, Grows, HasLists}
+use Rattle.typing.proofs.Prelude.{◌≡◌, Bool, true, false, Option, Some, None, Ok, Err, refl, subst, Cause, Fault, ℕ, TypedModule, Constants, Checked, ◌>>=◌, require, found, Known, Agrees, Grows, HasLists, Place}
 
 -- what a check gives, if it gives anything, is so
 pub record Gives {A : Type 0} (P : A → Type 0) (result : Checked A) : Type 0 where
@@ -40,14 +40,14 @@ pub then_more : {A : Type 0} {P Q : A → Type 0} {result : Checked A}
 then_more is more = record { holds = λ a e. more a (is.holds a e) }
 
 -- what the two simple checks give
-pub required : (test : Bool) (cause : Cause) (line : ℕ) → Gives (λ _. test ≡ true) (require test cause line)
-required true cause line = record { holds = λ _ _. refl }
-required false cause line = record { holds = λ a e. absurd cc }
+pub required : (test : Bool) (cause : Cause) (place : Place) → Gives (λ _. test ≡ true) (require test cause place)
+required true cause place = record { holds = λ _ _. refl }
+required false cause place = record { holds = λ a e. absurd cc }
 
-pub is_found : {A : Type 0} (option : Option A) (cause : Cause) (line : ℕ)
-    → Gives (λ a. option ≡ Some a) (found option cause line)
-is_found (Some a) cause line = gives_ok refl
-is_found None cause line = record { holds = λ a e. absurd cc }
+pub is_found : {A : Type 0} (option : Option A) (cause : Cause) (place : Place)
+    → Gives (λ a. option ≡ Some a) (found option cause place)
+is_found (Some a) cause place = gives_ok refl
+is_found None cause place = record { holds = λ a e. absurd cc }
 
 -- What a typing says of the tables of its module: those that agree with what is known where it stands, and
 -- that have the constant lists up to its end. Constant lists keep their numbers.

@@ -1,5 +1,5 @@
 -- What names in the text are bound to, as against the names in the tables.
-use Rattle.typing.proofs.Prelude.{◌≡◌, ℕ, List, [], Option, Some, None, refl, unwrap_or, slice_get, codes, option_or, option_map, Identifier, Binding, Declared, BuiltInName, BuiltIn, Entity, Object, Procedure, binding_of, built_in_of, built_ins, Here, entity_of, TypedObject, TypedModule, UnknownName, Known, line_of, bound, object_of, procedure_of, members_of, Agrees, procedure_name, object_name, members_of_object}
+use Rattle.typing.proofs.Prelude.{◌≡◌, ℕ, List, [], Option, Some, None, refl, unwrap_or, slice_get, codes, option_or, option_map, Identifier, Binding, Declared, BuiltInName, BuiltIn, Entity, Object, Procedure, binding_of, built_in_of, built_ins, Here, entity_of, TypedObject, TypedModule, UnknownName, Known, place_of, bound, object_of, procedure_of, members_of, Agrees, procedure_name, object_name, members_of_object}
 use Rattle.names.specs.declared.entity.BuiltIn.TheVariants as built_in_names
 use Rattle.typing.proofs.Kept.{Gives, then_more, is_found}
 use Rattle.typing.proofs.Tables.{names_known}
@@ -63,7 +63,7 @@ abbrev pub Binds : Known → Identifier → Binding → Type 0
 Binds known name binding = binding_of known.here name.name ≡ Some binding
 
 pub is_bound : (known : Known) (name : Identifier) → Gives (Binds known name) (bound known name)
-is_bound known name = is_found (binding_of known.here name.name) UnknownName (line_of name)
+is_bound known name = is_found (binding_of known.here name.name) UnknownName (place_of name)
 
 -- an object that a name is bound to
 pub is_object : (known : Known) (name : Identifier) (number : ℕ)

@@ -1,5 +1,5 @@
 -- The parts of a module that have no statements in them: expressions, simple statements, heads of loops.
-use Rattle.typing.proofs.Prelude.{◌≡◌, ℕ, List, Option, None, Some, sym, subst, All, IfOk, IfSome, is_none, ◌==◌, option_map_or, ScalarType, Identifier, ExpressionTree, ReferenceTree, IterationTree, Entity, Procedure, Label, Binding, Declared, BuiltInName, UnknownLabel, Move, jump_of, Here, Body, Names, known_in, TypedArguments, NoTyped, MoreTyped, TypedStatement, TypedProcedure, Constants, LabelsOf, JumpsStay, ListsStand, IsNoLabel, BodyIsSound, WrongUse, require, Known, Given, line_of, count_of_given, bound, procedure_of, call_arguments, expression, Owner, TheModule, OfProcedure, Progress, with_constants, value, destinations, assignment, moved, call_bound, call, return_with, return_from, goto_bound, goto, counter_bound, step, iteration}
+use Rattle.typing.proofs.Prelude.{◌≡◌, ℕ, List, Option, None, Some, sym, subst, All, IfOk, IfSome, is_none, ◌==◌, option_map_or, ScalarType, Identifier, Place, ExpressionTree, ReferenceTree, IterationTree, Entity, Procedure, Label, Binding, Declared, BuiltInName, UnknownLabel, Move, jump_of, Here, Body, Names, known_in, TypedArguments, NoTyped, MoreTyped, TypedStatement, TypedProcedure, Constants, LabelsOf, JumpsStay, ListsStand, IsNoLabel, BodyIsSound, ArgumentCount, CallOfTyped, require, Known, Given, place_of, count_of_given, bound, procedure_of, call_arguments, expression, Owner, TheModule, OfProcedure, Progress, with_constants, value, destinations, assignment, moved, call_bound, call, return_with, return_from, goto_bound, goto, counter_bound, step, iteration}
 use Rattle.typing.proofs.Steps.{then, then_any}
 use Rattle.typing.proofs.Jumps.KnownLabels.{IsLabelAround, AreAround}
 
@@ -26,29 +26,29 @@ pub record IsSound (around : List LabelsOf) (statement : TypedStatement) : Type 
 abbrev pub IsDone : List LabelsOf → List Names → List Body → TypedStatement × Progress → Type 0
 IsDone around lists outer typed = IsSound around typed.0 × IsAt lists outer typed.1.known
 
-moved_is : (around : List LabelsOf) (line : ℕ) (values : TypedArguments) → IfOk (moved line values) (IsSound around)
-moved_is around line (MoreTyped count (MoreTyped source (MoreTyped destination NoTyped))) =
+moved_is : (around : List LabelsOf) (place : Place) (values : TypedArguments) → IfOk (moved place values) (IsSound around)
+moved_is around place (MoreTyped count (MoreTyped source (MoreTyped destination NoTyped))) =
     record { jumps = tt; stands = tt; is_no_label = tt }
-moved_is around line values = tt
+moved_is around place values = tt
 
 call_bound_is : (around : List LabelsOf) (known : Known) (binding : Binding) (name : Identifier) (given : Given)
     (constants : Constants) → IfOk (call_bound known binding name given constants) (λ typed. IsSound around typed.0)
 call_bound_is around known (Declared (Procedure number)) name given constants =
     then_any _ (procedure_of known name number) _ (λ procedure.
-    then_any _ (require (is_none procedure.result) WrongUse (line_of name)) _ (λ is_untyped.
-    then_any _ (call_arguments procedure (line_of name) given constants) _ (λ typed.
+    then_any _ (require (is_none procedure.result) CallOfTyped (place_of name)) _ (λ is_untyped.
+    then_any _ (call_arguments procedure (place_of name) given constants) _ (λ typed.
     record { jumps = tt; stands = tt; is_no_label = tt })))
 call_bound_is around known (BuiltInName Move) name given constants =
-    then_any _ (require (count_of_given given == 3) WrongUse (line_of name)) _ (λ are_three.
+    then_any _ (require (count_of_given given == 3) ArgumentCount (place_of name)) _ (λ are_three.
     then_any _ (given.typed constants) _ (λ typed.
-    then _ _ (moved (line_of name) typed.0) _ (moved_is around (line_of name) typed.0) (λ moving is. is)))
+    then _ _ (moved (place_of name) typed.0) _ (moved_is around (place_of name) typed.0) (λ moving is. is)))
 call_bound_is around known binding name given constants = tt
 
-goto_bound_is : (around : List LabelsOf) (line : ℕ) (found : Option Entity) → IfSome found (IsLabelAround around)
-    → IfOk (goto_bound line (option_map_or Declared found UnknownLabel)) (IsSound around)
-goto_bound_is around line None is = tt
-goto_bound_is around line (Some (Label label)) is = record { jumps = is; stands = tt; is_no_label = tt }
-goto_bound_is around line (Some entity) is = tt
+goto_bound_is : (around : List LabelsOf) (place : Place) (found : Option Entity) → IfSome found (IsLabelAround around)
+    → IfOk (goto_bound place (option_map_or Declared found UnknownLabel)) (IsSound around)
+goto_bound_is around place None is = tt
+goto_bound_is around place (Some (Label label)) is = record { jumps = is; stands = tt; is_no_label = tt }
+goto_bound_is around place (Some entity) is = tt
 
 module _ {lists : List Names} {outer : List Body} where
   -- These parts leave the place as it was.
@@ -72,27 +72,27 @@ module _ {lists : List Names} {outer : List Body} where
       then _ _ (call_bound progress.known binding name given progress.constants) _
       (call_bound_is around progress.known binding name given progress.constants) (λ typed is. (is, at)))
 
-  return_with_is : (around : List LabelsOf) (line : ℕ)
+  return_with_is : (around : List LabelsOf) (place : Place)
       (result : Option ScalarType) (tree : Option ExpressionTree) (progress : Progress)
-      → IsAt lists outer progress.known → IfOk (return_with line result tree progress) (IsDone around lists outer)
-  return_with_is around line None None progress at = (record { jumps = tt; stands = tt; is_no_label = tt }, at)
-  return_with_is around line (Some scalar) (Some tree) progress at =
+      → IsAt lists outer progress.known → IfOk (return_with place result tree progress) (IsDone around lists outer)
+  return_with_is around place None None progress at = (record { jumps = tt; stands = tt; is_no_label = tt }, at)
+  return_with_is around place (Some scalar) (Some tree) progress at =
       then _ _ (value tree progress) _ (value_is tree progress at)
       (λ typed after. (record { jumps = tt; stands = tt; is_no_label = tt }, after))
-  return_with_is around line result tree progress at = tt
+  return_with_is around place result tree progress at = tt
 
-  pub return_is : (around : List LabelsOf) (line : ℕ) (owner : Owner)
+  pub return_is : (around : List LabelsOf) (place : Place) (owner : Owner)
       (tree : Option ExpressionTree) (progress : Progress)
-      → IsAt lists outer progress.known → IfOk (return_from line owner tree progress) (IsDone around lists outer)
-  return_is around line TheModule tree progress at = tt
-  return_is around line (OfProcedure number heading) tree progress at = return_with_is around line heading.result tree progress at
+      → IsAt lists outer progress.known → IfOk (return_from place owner tree progress) (IsDone around lists outer)
+  return_is around place TheModule tree progress at = tt
+  return_is around place (OfProcedure number heading) tree progress at = return_with_is around place heading.result tree progress at
 
   pub goto_is : {around : List LabelsOf} (label : Identifier) (progress : Progress)
       → AreAround around lists → IsAt lists outer progress.known
       → IfOk (goto label progress) (IsDone around lists outer)
   goto_is {around = around} label progress are at =
-      then _ _ (goto_bound (line_of label) (jump_of progress.known.here label.name)) _
-      (goto_bound_is around (line_of label) (known_in progress.known.here.body.lists label.name)
+      then _ _ (goto_bound (place_of label) (jump_of progress.known.here label.name)) _
+      (goto_bound_is around (place_of label) (known_in progress.known.here.body.lists label.name)
       (subst (λ (lists : List Names). IfSome (known_in lists label.name) (IsLabelAround around)) (sym at.here.lists_are)
       (are.known label.name)))
       (λ typed is. (is, at))

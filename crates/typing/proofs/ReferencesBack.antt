@@ -1,5 +1,5 @@
 -- Taking the conversions away from a typed reference gives back the reference that it was typed from.
-use Rattle.typing.proofs.Prelude.{◌≡◌, ℕ, suc, ◌==◌, Bool, true, false, List, [], ◌∷◌, length, Option, Some, None, nat_le, refl, sym, ap, subst, ◌∙◌, arith, unwrap_or, slice_get, codes, if◌then◌else◌, option_map, option_map_or, bytes_eq, bytes_eq-Decides, eqb-true, leb-true, ScalarType, Byte, Address, Identifier, ExpressionTree, NumberConstant, StringConstant, ConstantLeaf, ReferenceLeaf, LocationLeaf, ReferenceTree, ReferenceTo, MemberTree, NoMember, MemberOf, ArgumentTrees, NoArguments, MoreArguments, Binding, Declared, BuiltInName, BuiltIn, Object, Procedure, TypedMember, ShiftFunction, UnaryFunction, Measure, TypedExpression, Subscript, TypedReference, TypedArguments, NoTyped, MoreTyped, TypedObject, TypedProcedure, TypedModule, Constants, FoundMember, member_named, after_member, size_of_scalar, size_of_element, type_of, converted, as_type, arguments_as, type_of_shift, Destination, target_of, Known, Given, GivenMember, WithoutMember, WithMember, GivenReference, line_of, number_of_arguments, count_of_given, Extent, AnElement, AlsoTheWhole, takes_subscripts, subscript_of, members_of, FoundPart, part_with_member, part_of, scalar_part, without_member, port_of, port_of_character, has_location, location_of_bound, location_of, is_writable, destination_of_bound, destination_of, call_arguments, call_of, function_of, unary_function, shift_of, shift_function, input_value, Measured, measured_member, measured_object, measure_of, measurement, number_of_variable, built_in_value, value_of_bound, value_of, Agrees, number_of_characters, untyped_expression, untyped_arguments, untyped_subscript, plain_arguments, plain_member, one_argument, member_tree, untyped_target, named, number_leaf, call_tree, function_name, shift_name, measure_name, procedure_name, object_name, untyped_reference, member_name, Checked}
+use Rattle.typing.proofs.Prelude.{◌≡◌, ℕ, suc, ◌==◌, Bool, true, false, List, [], ◌∷◌, length, Option, Some, None, nat_le, refl, sym, ap, subst, ◌∙◌, arith, unwrap_or, slice_get, codes, if◌then◌else◌, option_map, option_map_or, bytes_eq, bytes_eq-Decides, eqb-true, leb-true, ScalarType, Byte, Address, Identifier, Place, ExpressionTree, NumberConstant, StringConstant, ConstantLeaf, ReferenceLeaf, LocationLeaf, ReferenceTree, ReferenceTo, MemberTree, NoMember, MemberOf, ArgumentTrees, NoArguments, MoreArguments, Binding, Declared, BuiltInName, BuiltIn, Object, Procedure, TypedMember, ShiftFunction, UnaryFunction, Measure, TypedExpression, Subscript, TypedReference, TypedArguments, NoTyped, MoreTyped, TypedObject, TypedProcedure, TypedModule, Constants, FoundMember, member_named, after_member, size_of_scalar, size_of_element, type_of, converted, as_type, arguments_as, type_of_shift, Destination, target_of, Known, Given, GivenMember, WithoutMember, WithMember, GivenReference, place_of, number_of_arguments, count_of_given, Extent, AnElement, AlsoTheWhole, takes_subscripts, subscript_of, members_of, FoundPart, part_with_member, part_of, scalar_part, without_member, port_of, port_of_character, has_location, location_of_bound, location_of, is_writable, destination_of_bound, destination_of, call_arguments, call_of, function_of, unary_function, shift_of, shift_function, input_value, Measured, measured_member, measured_object, measure_of, measurement, number_of_variable, built_in_value, value_of_bound, value_of, Agrees, number_of_characters, untyped_expression, untyped_arguments, untyped_subscript, plain_arguments, plain_member, one_argument, member_tree, untyped_target, named, number_leaf, call_tree, function_name, shift_name, measure_name, procedure_name, object_name, untyped_reference, member_name, Checked}
 use Rattle.names.specs.declared.entity.BuiltIn.TheVariants as built_in_names
 use Rattle.typed_trees.specs.declared.parts.UnaryFunction.TheVariants as functions
 use Rattle.typed_trees.specs.declared.parts.ShiftFunction.TheVariants as shifts
@@ -154,11 +154,11 @@ has_no_member WithoutMember = gives_ok refl
 has_no_member (WithMember name given) = gives_fault
 
 -- arguments of the parameters' types
-pub call_arguments_kept : (known : Known) (procedure : TypedProcedure) (line : ℕ) (given : Given) (constants : Constants)
+pub call_arguments_kept : (known : Known) (procedure : TypedProcedure) (place : Place) (given : Given) (constants : Constants)
     → GivenBack known given
     → Gives (GivesTree known untyped_arguments (plain_arguments given.trees) constants)
-    (call_arguments procedure line given constants)
-call_arguments_kept known procedure line given constants back =
+    (call_arguments procedure place given constants)
+call_arguments_kept known procedure place given constants back =
     in_turn (required (count_of_given given == length procedure.parameter_types) _ _) (λ _ _.
     in_turn (back constants) (λ typed kept.
     gives_ok (kept_more kept (λ tables agrees is.
@@ -170,32 +170,32 @@ GivesFunction name values =
     Gives (λ node. (tables : TypedModule)
     → untyped_expression tables node ≡ ReferenceLeaf (call_tree name (untyped_arguments tables values)))
 
-function_back : (function : UnaryFunction) (line : ℕ) (values : TypedArguments)
-    → GivesFunction (function_name function) values (function_of function line values)
-function_back function line (MoreTyped operand NoTyped) = gives_ok (λ tables. refl)
-function_back function line values = gives_fault
+function_back : (function : UnaryFunction) (place : Place) (values : TypedArguments)
+    → GivesFunction (function_name function) values (function_of function place values)
+function_back function place (MoreTyped operand NoTyped) = gives_ok (λ tables. refl)
+function_back function place values = gives_fault
 
-shift_back : (function : ShiftFunction) (line : ℕ) (values : TypedArguments)
-    → GivesFunction (shift_name function) values (shift_of function line values)
-shift_back function line (MoreTyped value (MoreTyped count NoTyped)) = gives_ok (λ tables.
+shift_back : (function : ShiftFunction) (place : Place) (values : TypedArguments)
+    → GivesFunction (shift_name function) values (shift_of function place values)
+shift_back function place (MoreTyped value (MoreTyped count NoTyped)) = gives_ok (λ tables.
     let one = as_type_back tables (type_of_shift function (type_of value)) value in
     let other = as_type_back tables Byte count in
     cc)
-shift_back function line values = gives_fault
+shift_back function place values = gives_fault
 
 -- ports
-character_back : (line : ℕ) (characters : List ℕ)
-    → Gives (λ port. unwrap_or (number_of_characters characters) 0 ≡ port) (port_of_character line characters)
-character_back line (character ∷ []) = in_turn (required (nat_le character 255) _ _) (λ _ _. gives_ok refl)
-character_back line characters = gives_fault
+character_back : (place : Place) (characters : List ℕ)
+    → Gives (λ port. unwrap_or (number_of_characters characters) 0 ≡ port) (port_of_character place characters)
+character_back place (character ∷ []) = in_turn (required (nat_le character 255) _ _) (λ _ _. gives_ok refl)
+character_back place characters = gives_fault
 
-port_back : (line : ℕ) (trees : ArgumentTrees)
-    → Gives (λ port. plain_arguments trees ≡ one_argument (number_leaf port)) (port_of line trees)
-port_back line (MoreArguments (ConstantLeaf (NumberConstant number)) NoArguments) =
+port_back : (place : Place) (trees : ArgumentTrees)
+    → Gives (λ port. plain_arguments trees ≡ one_argument (number_leaf port)) (port_of place trees)
+port_back place (MoreArguments (ConstantLeaf (NumberConstant number)) NoArguments) =
     in_turn (required (nat_le number.value 255) _ _) (λ _ _. gives_ok refl)
-port_back line (MoreArguments (ConstantLeaf (StringConstant string)) NoArguments) =
-    then_more (character_back line string.characters) (λ port e. ap (λ found. one_argument (number_leaf found)) e)
-port_back line trees = gives_fault
+port_back place (MoreArguments (ConstantLeaf (StringConstant string)) NoArguments) =
+    then_more (character_back place string.characters) (λ port e. ap (λ found. one_argument (number_leaf found)) e)
+port_back place trees = gives_fault
 
 -- LENGTH, LAST and SIZE: the number of what is measured says which object or member that is
 abbrev GivesMeasured : Known → Identifier → MemberTree → Checked Measured → Type 0
@@ -229,18 +229,18 @@ measured_object_back known (Declared (Object number)) name part bound_to =
     measured_member_back known name number object part stands)
 measured_object_back known binding name part bound_to = gives_fault
 
-measurement_back : (known : Known) (measure : Measure) (line : ℕ) (trees : ArgumentTrees)
+measurement_back : (known : Known) (measure : Measure) (place : Place) (trees : ArgumentTrees)
     → Gives (λ node. (tables : TypedModule) → Agrees tables known
     → untyped_expression tables node ≡ ReferenceLeaf (call_tree (measure_name measure) (plain_arguments trees)))
-    (measurement known measure line trees)
-measurement_back known measure line (MoreArguments (ReferenceLeaf (ReferenceTo name NoArguments part)) NoArguments) =
+    (measurement known measure place trees)
+measurement_back known measure place (MoreArguments (ReferenceLeaf (ReferenceTo name NoArguments part)) NoArguments) =
     in_turn (is_bound known name) (λ binding bound_to.
     in_turn (measured_object_back known binding name part bound_to) (λ measured back.
-    in_turn (anything (measure_of measure measured (line_of name))) (λ value _.
+    in_turn (anything (measure_of measure measured (place_of name))) (λ value _.
     gives_ok (λ tables agrees.
     ap (λ tree. ReferenceLeaf (call_tree (measure_name measure) (one_argument (ReferenceLeaf tree))))
     (back tables agrees)))))
-measurement_back known measure line trees = gives_fault
+measurement_back known measure place trees = gives_fault
 
 -- what a value goes to
 abbrev pub GivesTarget : Known → ReferenceTree → Constants → Destination × Constants → Type 0
@@ -295,7 +295,7 @@ module _ (known : Known) (given : GivenReference) (constants : Constants) (back 
       → GivesValue (call_of number procedure given constants)
   call_back number procedure called =
       in_turn (is_found procedure.result _ _) (λ result _.
-      in_turn (call_arguments_kept known procedure (line_of given.name) given.arguments constants back.0) (λ typed kept.
+      in_turn (call_arguments_kept known procedure (place_of given.name) given.arguments constants back.0) (λ typed kept.
       in_turn (has_no_member given.member) (λ _ none.
       gives_ok (kept_more kept (λ tables agrees is.
       ap ReferenceLeaf (plain_call _ _ (sym (called tables agrees)) (sym is) none))))))
@@ -307,7 +307,7 @@ module _ (known : Known) (given : GivenReference) (constants : Constants) (back 
       in_turn (required (count_of_given given.arguments == 1) _ _) (λ _ _.
       in_turn (back.0 constants) (λ typed kept.
       in_turn (has_no_member given.member) (λ _ none.
-      in_turn (function_back function (line_of given.name) typed.0) (λ node made.
+      in_turn (function_back function (place_of given.name) typed.0) (λ node made.
       gives_ok (kept_more kept (λ tables agrees is.
       made tables ∙ ap ReferenceLeaf (plain_call _ _ called (sym is) none)))))))
 
@@ -318,13 +318,13 @@ module _ (known : Known) (given : GivenReference) (constants : Constants) (back 
       in_turn (required (count_of_given given.arguments == 2) _ _) (λ _ _.
       in_turn (back.0 constants) (λ typed kept.
       in_turn (has_no_member given.member) (λ _ none.
-      in_turn (shift_back function (line_of given.name) typed.0) (λ node made.
+      in_turn (shift_back function (place_of given.name) typed.0) (λ node made.
       gives_ok (kept_more kept (λ tables agrees is.
       made tables ∙ ap ReferenceLeaf (plain_call _ _ called (sym is) none)))))))
 
   input_back : given.name.name ≡ codes "INPUT" → GivesValue (input_value given constants)
   input_back called =
-      in_turn (port_back (line_of given.name) given.arguments.trees) (λ port is.
+      in_turn (port_back (place_of given.name) given.arguments.trees) (λ port is.
       in_turn (has_no_member given.member) (λ _ none.
       gives_ok (kept_at (λ tables agrees. ap ReferenceLeaf (plain_call _ _ called is none)))))
 
@@ -332,7 +332,7 @@ module _ (known : Known) (given : GivenReference) (constants : Constants) (back 
       → given.name.name ≡ measure_name measure
       → GivesValue (number_of_variable known measure given constants)
   variable_back measure called =
-      in_turn (measurement_back known measure (line_of given.name) given.arguments.trees) (λ node is.
+      in_turn (measurement_back known measure (place_of given.name) given.arguments.trees) (λ node is.
       in_turn (has_no_member given.member) (λ _ none.
       gives_ok (kept_at (λ tables agrees.
       is tables agrees ∙ ap ReferenceLeaf (plain_call _ _ called refl none)))))
@@ -395,7 +395,7 @@ module _ (known : Known) (given : GivenReference) (constants : Constants) (back 
       in_turn (scalar_part_back number object stands) (λ part kept.
       gives_ok (kept_more kept (λ tables agrees is from. is)))))
   bound_target_back (BuiltInName built_in_names.Output) bound_to =
-      in_turn (port_back (line_of given.name) given.arguments.trees) (λ port is.
+      in_turn (port_back (place_of given.name) given.arguments.trees) (λ port is.
       in_turn (has_no_member given.member) (λ _ none.
       gives_ok (kept_at (λ tables agrees from.
       plain_call _ _ (bound_spelled known.here given.name.name built_in_names.Output bound_to) is none))))

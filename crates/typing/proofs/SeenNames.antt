@@ -1,5 +1,5 @@
 -- At each place of a text the objects that names stand for can be referred to from there.
-use Rattle.typing.proofs.Prelude.{◌≡◌, ℕ, ◌+◌, ◌<◌, ◌≤◌, Bool, true, false, List, [], ◌∷◌, length, Option, slice_get, refl, sym, subst, if◌then◌else◌, arith, IsSomeAnd, is_some, not, ◌||◌, ScalarType, HeadingTree, Identifier, Entity, Object, Procedure, Label, Definition, Here, Body, into_block, out_of_block, into_body, out_of_body, after_body, into_list, out_of_list, with_object, with_procedure, with_definition, with_parameter, with_label, is_declared_again, is_parameter_again, is_label_again, Home, InData, InConstants, Placed, BasedOn, Elsewhere, Nowhere, InFrame, TypedObject, TypedModule, Within, WithinProcedure, WithinMain, LiesFor, IsSeen, DeclaredTwice, MisplacedAttribute, require, Known, line_of, Owner, TheModule, OfProcedure, Block, is_external, is_reentrant, declares_parameter, declare_names, declare_labels, declare_parameters}
+use Rattle.typing.proofs.Prelude.{◌≡◌, ℕ, ◌+◌, ◌<◌, ◌≤◌, Bool, true, false, List, [], ◌∷◌, length, Option, slice_get, refl, sym, subst, if◌then◌else◌, arith, IsSomeAnd, is_some, not, ◌||◌, ScalarType, HeadingTree, Identifier, Entity, Object, Procedure, Label, Definition, Here, Body, into_block, out_of_block, into_body, out_of_body, after_body, into_list, out_of_list, with_object, with_procedure, with_definition, with_parameter, with_label, is_declared_again, is_parameter_again, is_label_again, Home, InData, InConstants, Placed, BasedOn, Elsewhere, Nowhere, InFrame, TypedObject, TypedModule, Within, WithinProcedure, WithinMain, LiesFor, IsSeen, DeclaredTwice, ExternalContents, require, Known, place_of, Owner, TheModule, OfProcedure, Block, is_external, is_reentrant, declares_parameter, declare_names, declare_labels, declare_parameters}
 use Rattle.typing.proofs.Kept.{Gives, then_more, gives_ok, gives_after}
 use Rattle.typing.proofs.Tables.{Implies, BodyFits, BodiesFit, entity_known, body_weaker, bodies_weaker, names_with-fit, numbered-fit, after_block-fits, after_list-fits, Keeps}
 use Rattle.typing.proofs.Types.TypesKept.{and_more}
@@ -165,7 +165,7 @@ pub declare_labels-stand : {owner : Owner} {objects : List TypedObject} (labels 
     (declare_labels labels here)
 declare_labels-stand [] here stands = gives_ok (stands, refl)
 declare_labels-stand (label ∷ others) here stands =
-    gives_after (require (not (is_label_again here label.name)) DeclaredTwice (line_of label)) λ once.
+    gives_after (require (not (is_label_again here label.name)) DeclaredTwice (place_of label)) λ once.
     declare_labels-stand others (with_label label.name here) (with_label-stands stands label.name)
 
 -- into the body of a procedure: what is around it has no frame
@@ -199,7 +199,7 @@ pub declare_parameters-stand : {owner : Owner} {objects : List TypedObject} (par
     (declare_parameters parameters here)
 declare_parameters-stand [] here stands = gives_ok (stands, refl)
 declare_parameters-stand (parameter ∷ others) here stands =
-    gives_after (require (not (is_parameter_again here parameter.name)) DeclaredTwice (line_of parameter)) λ once.
+    gives_after (require (not (is_parameter_again here parameter.name)) DeclaredTwice (place_of parameter)) λ once.
     declare_parameters-stand others (with_parameter parameter.name here) (with_parameter-stands stands parameter.name)
 
 -- out of it: the next of the bodies around it
@@ -233,9 +233,9 @@ declare_names-fit : (block : Block) (P : Entity → List ℕ → Type 0) (names 
     (declare_names block names here)
 declare_names-fit block P [] here each fits = gives_ok (fits, omega arith, refl)
 declare_names-fit block P (name ∷ others) here each fits =
-    gives_after (require (not (is_declared_again here name.name)) DeclaredTwice (line_of name)) λ once.
-    gives_after (require (not (is_external block.owner) || declares_parameter block name.name) MisplacedAttribute
-    (line_of name)) λ placed.
+    gives_after (require (not (is_declared_again here name.name)) DeclaredTwice (place_of name)) λ once.
+    gives_after (require (not (is_external block.owner) || declares_parameter block name.name) ExternalContents
+    (place_of name)) λ placed.
     then_more (declare_names-fit block P others (with_object name.name here)
     (λ number any low high is_here. each number any (omega (arith, low)) (omega (arith, high)) is_here)
     (λ is_here.

@@ -1,5 +1,5 @@
 -- Statements without statements in them are given back.
-use Rattle.typing.proofs.Prelude.{◌≡◌, ℕ, List, [], ◌∷◌, map, Option, None, Some, option_map, is_none, ◌==◌, codes, refl, sym, ap, ap₂, ◌∙◌, ScalarType, Address, Identifier, Place, ExpressionTree, ReferenceTree, ArgumentTrees, IterationTree, StatementKindTree, Binding, Declared, BuiltInName, Move, Procedure, Label, jump_of, WrongUse, TypedExpression, TypedArguments, NoTyped, MoreTyped, TypedIteration, TypedStatement, LabelStatement, TypedModule, Constants, type_of, Checked, require, Destination, target_of, Known, line_of, count_of_given, Owner, TheModule, OfProcedure, Progress, with_constants, value, destinations, assignment, moved, call_bound, call, return_with, return_from, goto_bound, goto, Counter, counter_bound, step, iteration, nowhere, named, nameless, plain_expression, plain_reference, plain_arguments, plain_iteration, plain_kind, object_name, untyped_expression, untyped_target, untyped_arguments, untyped_iteration, untyped_kind}
+use Rattle.typing.proofs.Prelude.{◌≡◌, ℕ, List, [], ◌∷◌, map, Option, None, Some, option_map, is_none, ◌==◌, codes, refl, sym, ap, ap₂, ◌∙◌, ScalarType, Address, Identifier, Place, ExpressionTree, ReferenceTree, ArgumentTrees, IterationTree, StatementKindTree, Binding, Declared, BuiltInName, Move, Procedure, Label, jump_of, ArgumentCount, CallOfTyped, TypedExpression, TypedArguments, NoTyped, MoreTyped, TypedIteration, TypedStatement, LabelStatement, TypedModule, Constants, type_of, Checked, require, Destination, target_of, Known, place_of, count_of_given, Owner, TheModule, OfProcedure, Progress, with_constants, value, destinations, assignment, moved, call_bound, call, return_with, return_from, goto_bound, goto, Counter, counter_bound, step, iteration, nowhere, named, nameless, plain_expression, plain_reference, plain_arguments, plain_iteration, plain_kind, object_name, untyped_expression, untyped_target, untyped_arguments, untyped_iteration, untyped_kind}
 use Rattle.trees.specs.Trees as trees
 use Rattle.typing.proofs.Kept.{Gives, gives_ok, gives_fault, in_turn, gives_after, then_more, Kept, kept_at, kept_more, kept_both}
 use Rattle.typing.proofs.NamesBack.{Binds, is_bound, is_procedure, bound_spelled}
@@ -62,14 +62,14 @@ assignment-walks targets source progress holds =
 abbrev call_statement : List ℕ → ArgumentTrees → StatementKindTree
 call_statement name values = trees.CallStatement nowhere (named name) values
 
-moved-back : (line : ℕ) (values : TypedArguments)
+moved-back : (place : Place) (values : TypedArguments)
     → Gives
     (λ (moving : TypedStatement).
     (tables : TypedModule) → IsNoLabel moving
     × (untyped_kind tables moving
     ≡ call_statement (codes "MOVE") (untyped_arguments tables values)))
-    (moved line values)
-moved-back line (MoreTyped count (MoreTyped source (MoreTyped destination NoTyped))) =
+    (moved place values)
+moved-back place (MoreTyped count (MoreTyped source (MoreTyped destination NoTyped))) =
     gives_ok (λ tables. (
       tt,
       ap (call_statement (codes "MOVE"))
@@ -77,7 +77,7 @@ moved-back line (MoreTyped count (MoreTyped source (MoreTyped destination NoType
           (ap₂ trees.MoreArguments (as_type_back tables Address source)
           (ap (λ k. trees.MoreArguments k trees.NoArguments) (as_type_back tables Address destination)))),
     ))
-moved-back line values = gives_fault
+moved-back place values = gives_fault
 
 call_bound-kept : (known : Known) (binding : Binding) (name : Identifier) (values : ArgumentTrees)
     (constants : Constants)
@@ -90,13 +90,13 @@ call_bound-kept : (known : Known) (binding : Binding) (name : Identifier) (value
     (call_bound known binding name (given_arguments known values) constants)
 call_bound-kept known (Declared (Procedure number)) name values constants is =
     in_turn (is_procedure known name number is) λ procedure its_name.
-    gives_after (require (is_none procedure.result) WrongUse (line_of name)) λ untyped.
-    in_turn (call_kept known procedure (line_of name) values constants) λ found kept.
+    gives_after (require (is_none procedure.result) CallOfTyped (place_of name)) λ untyped.
+    in_turn (call_kept known procedure (place_of name) values constants) λ found kept.
     gives_ok (kept_more kept (λ tables agree same. (tt, ap₂ call_statement (its_name tables agree) same)))
 call_bound-kept known (BuiltInName Move) name values constants is =
-    gives_after (require (count_of_given (given_arguments known values) == 3) WrongUse (line_of name)) λ three.
+    gives_after (require (count_of_given (given_arguments known values) == 3) ArgumentCount (place_of name)) λ three.
     in_turn (arguments_kept known values constants) λ found kept.
-    in_turn (moved-back (line_of name) found.0) λ moving back.
+    in_turn (moved-back (place_of name) found.0) λ moving back.
     gives_ok
     (kept_more kept
     (λ tables agree same. (
@@ -115,43 +115,43 @@ call-walks place name values progress holds =
     gives_ok (walked_kept progress holds kept)
 
 -- RETURN
-return_with-walks : (place : Place) (line : ℕ) (result : Option ScalarType) (tree : Option ExpressionTree)
+return_with-walks : (place : Place) (place : Place) (result : Option ScalarType) (tree : Option ExpressionTree)
     (progress : Progress)
     → Holds progress
-    → KindWalks (trees.ReturnStatement place tree) progress [] (return_with line result tree progress)
-return_with-walks place line None None progress holds =
+    → KindWalks (trees.ReturnStatement place tree) progress [] (return_with place result tree progress)
+return_with-walks place place None None progress holds =
     gives_ok (walked_nothing progress holds (λ tables reaches. (tt, refl)))
-return_with-walks place line (Some scalar) (Some tree) progress holds =
+return_with-walks place place (Some scalar) (Some tree) progress holds =
     in_turn (value-walks tree progress holds) λ found w.
     gives_ok
     (walked_as w
     (λ tables back.
     (tt, ap (λ k. trees.ReturnStatement nowhere (Some k)) (as_type_back tables scalar found.0 ∙ back))))
-return_with-walks place line None (Some tree) progress holds = gives_fault
-return_with-walks place line (Some scalar) None progress holds = gives_fault
+return_with-walks place place None (Some tree) progress holds = gives_fault
+return_with-walks place place (Some scalar) None progress holds = gives_fault
 
-pub return_from-walks : (place : Place) (line : ℕ) (owner : Owner) (tree : Option ExpressionTree)
+pub return_from-walks : (place : Place) (place : Place) (owner : Owner) (tree : Option ExpressionTree)
     (progress : Progress)
     → Holds progress
-    → KindWalks (trees.ReturnStatement place tree) progress [] (return_from line owner tree progress)
-return_from-walks place line TheModule tree progress holds = gives_fault
-return_from-walks place line (OfProcedure number heading) tree progress holds =
-    return_with-walks place line heading.result tree progress holds
+    → KindWalks (trees.ReturnStatement place tree) progress [] (return_from place owner tree progress)
+return_from-walks place place TheModule tree progress holds = gives_fault
+return_from-walks place place (OfProcedure number heading) tree progress holds =
+    return_with-walks place place heading.result tree progress holds
 
 -- GOTO
-goto_bound-back : (line : ℕ) (binding : Binding)
+goto_bound-back : (place : Place) (binding : Binding)
     → Gives
     (λ (done : TypedStatement).
     (tables : TypedModule) → IsNoLabel done
     × (untyped_kind tables done ≡ trees.GotoStatement nowhere nameless))
-    (goto_bound line binding)
-goto_bound-back line (Declared (Label label)) = gives_ok (λ tables. (tt, refl))
-goto_bound-back line binding = gives_fault
+    (goto_bound place binding)
+goto_bound-back place (Declared (Label label)) = gives_ok (λ tables. (tt, refl))
+goto_bound-back place binding = gives_fault
 
 pub goto-walks : (place : Place) (label : Identifier) (progress : Progress) → Holds progress
     → KindWalks (trees.GotoStatement place label) progress [] (goto label progress)
 goto-walks place label progress holds =
-    in_turn (goto_bound-back (line_of label) (jump_of progress.known.here label.name)) λ done back.
+    in_turn (goto_bound-back (place_of label) (jump_of progress.known.here label.name)) λ done back.
     gives_ok (walked_nothing progress holds (λ tables reaches. back tables))
 
 -- the head of an iterative DO

@@ -1,5 +1,5 @@
 -- Statements, declarations and modules are given back by taking the conversions away from their typing.
-use Rattle.typing.proofs.Prelude.{◌≡◌, ℕ, ◌+◌, not, List, [], ◌∷◌, ◌++◌, length, Ok, refl, ap, ap₂, ◌∙◌, append-nil, Identifier, StatementTree, LabelledStatement, StatementKindTree, ElseTree, StatementTrees, DeclarationTree, DeclareTree, ProcedureTree, DeclarationTrees, NoDeclarations, MoreDeclarations, ModuleTree, Here, out_of_block, into_list, out_of_list, with_label, is_label_again, labels_of, DeclaredTwice, TypedStatement, LabelStatement, TypedElse, TypedStatements, TypedList, TypedModule, Checked, require, line_of, Block, Progress, with_here, labels_before, declare_labels, after_labels, list_of, own_block, parameter_objects, check_body, inner_block, entered, kind, labelled, alone, else_part, cases, statements, declaration, declarations, module_block, at_the_beginning, module_with, typing_of, nowhere, nameless, without_names, plain_statement, plain_else, plain_statements, bodies_in_statement, bodies_in_kind, bodies_in_else, bodies_in_statements, bodies_in_declaration, bodies_in, untyped_kind, untyped_else, untyped_statements, untyped_list, GivesBack}
+use Rattle.typing.proofs.Prelude.{◌≡◌, ℕ, ◌+◌, not, List, [], ◌∷◌, ◌++◌, length, Ok, refl, ap, ap₂, ◌∙◌, append-nil, Identifier, StatementTree, LabelledStatement, StatementKindTree, ElseTree, StatementTrees, DeclarationTree, DeclareTree, ProcedureTree, DeclarationTrees, NoDeclarations, MoreDeclarations, ModuleTree, Here, out_of_block, into_list, out_of_list, with_label, is_label_again, labels_of, DeclaredTwice, TypedStatement, LabelStatement, TypedElse, TypedStatements, TypedList, TypedModule, Checked, require, place_of, Block, Progress, with_here, labels_before, declare_labels, after_labels, list_of, own_block, parameter_objects, check_body, inner_block, entered, kind, labelled, alone, else_part, cases, statements, declaration, declarations, module_block, at_the_beginning, module_with, typing_of, nowhere, nameless, without_names, plain_statement, plain_else, plain_statements, bodies_in_statement, bodies_in_kind, bodies_in_else, bodies_in_statements, bodies_in_declaration, bodies_in, untyped_kind, untyped_else, untyped_statements, untyped_list, GivesBack}
 use Rattle.trees.specs.Trees as trees
 use Rattle.typed_trees.specs.TypedTrees as typed
 use Rattle.typed_trees.specs.TypedTrees.{MoreStatements as MoreTyped}
@@ -68,7 +68,7 @@ pub declare_labels-fit : (objects procedures : List (List ℕ)) (labels : List I
     → Gives (Fits objects procedures) (declare_labels labels here)
 declare_labels-fit objects procedures [] here fits = gives_ok fits
 declare_labels-fit objects procedures (label ∷ others) here fits =
-    gives_after (require (not (is_label_again here label.name)) DeclaredTwice (line_of label)) λ once.
+    gives_after (require (not (is_label_again here label.name)) DeclaredTwice (place_of label)) λ once.
     declare_labels-fit objects procedures others (with_label label.name here) (with_label-fits label.name fits)
 
 -- a list of statements
@@ -95,7 +95,7 @@ mutual
   kind-walks block (trees.CallStatement place name values) progress holds =
       call-walks place name values progress holds
   kind-walks block (trees.ReturnStatement place result) progress holds =
-      return_from-walks place place.line block.owner result progress holds
+      return_from-walks place place block.owner result progress holds
   kind-walks block (trees.HaltStatement place) progress holds =
       gives_ok (walked_nothing progress holds (λ tables reaches. (tt, refl)))
   kind-walks block (trees.GotoStatement place label) progress holds = goto-walks place label progress holds

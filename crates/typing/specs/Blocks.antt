@@ -4,6 +4,7 @@ use Rattle.std.specs.Prelude.{ℕ, Bool, true, false, ◌&&◌, List, [], ◌∷
 use Rattle.trees.specs.declared.declaration.Linkage.{Linkage}
 use Rattle.trees.specs.declared.declaration.Linkage.TheVariants.{Public, External}
 use Rattle.trees.specs.declared.identifier.Identifier.{Identifier}
+use Rattle.trees.specs.declared.identifier.Place.{Place}
 use Rattle.trees.specs.Trees.{HeadingTree}
 use Rattle.names.specs.Environment.{is_among}
 use Rattle.typed_trees.specs.declared.parts.GlobalItem.{GlobalItem}
@@ -41,9 +42,9 @@ abbrev pub with_global : Option Linkage → GlobalItem → List GlobalItem → L
 with_global None item globals = globals
 with_global (Some linkage) item globals = globals ++ item ∷ []
 
-abbrev pub line_of_linkage : Linkage → ℕ
-line_of_linkage (Public place) = place.line
-line_of_linkage (External place) = place.line
+abbrev pub place_of_linkage : Linkage → Place
+place_of_linkage (Public place) = place
+place_of_linkage (External place) = place
 
 -- whether the owner of a declaration is a REENTRANT procedure, or an EXTERNAL one
 abbrev pub is_reentrant : Owner → Bool

@@ -1,5 +1,6 @@
--- Checks: something is found, or a fault of a cause is on a line.
+-- Checks: something is found, or a fault of a cause is at a place.
 use Rattle.std.specs.Prelude.{ℕ, Bool, true, false, Option, Some, None, Result, Ok, Err}
+use Rattle.trees.specs.declared.identifier.Place.{Place}
 use Rattle.typing.specs.declared.fault.Cause.{Cause}
 use Rattle.typing.specs.declared.fault.Fault.{Fault}
 
@@ -13,16 +14,20 @@ abbrev pub ◌>>=◌ : {A B : Type 0} → Result A Fault → (A → Result B Fau
 (Ok a) >>= next = next a
 (Err fault) >>= next = Err fault
 
--- a fault of a cause on a line
-abbrev pub refuse : {A : Type 0} → Cause → (line : ℕ) → Checked A
-refuse cause line = Err (record { cause = cause; line = line })
+-- a fault of a cause at a place
+abbrev pub refuse : {A : Type 0} → Cause → (place : Place) → Checked A
+refuse cause place = Err (record { cause = cause; place = place })
+
+-- where no word is to blame
+abbrev pub no_place : Place
+no_place = record { start = 0; line = 0 }
 
 -- a condition holds, or it is refused
-abbrev pub require : Bool → Cause → (line : ℕ) → Checked (Unit {0})
-require true cause line = Ok tt
-require false cause line = refuse cause line
+abbrev pub require : Bool → Cause → (place : Place) → Checked (Unit {0})
+require true cause place = Ok tt
+require false cause place = refuse cause place
 
 -- something is there, or it is refused
-abbrev pub found : {A : Type 0} → Option A → Cause → (line : ℕ) → Checked A
-found (Some a) cause line = Ok a
-found None cause line = refuse cause line
+abbrev pub found : {A : Type 0} → Option A → Cause → (place : Place) → Checked A
+found (Some a) cause place = Ok a
+found None cause place = refuse cause place

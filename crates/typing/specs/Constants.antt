@@ -4,8 +4,9 @@ use Rattle.trees.specs.declared.declaration.ScalarType.{ScalarType}
 use Rattle.trees.specs.declared.declaration.ScalarType.TheVariants.{Byte, Address}
 use Rattle.trees.specs.declared.declaration.Sign.{Sign}
 use Rattle.trees.specs.declared.declaration.Sign.TheVariants.{Plus, Minus}
+use Rattle.trees.specs.declared.identifier.Place.{Place}
 use Rattle.trees.specs.Trees.{ConstantTree, NumberConstant, StringConstant, OffsetTree}
-use Rattle.typing.specs.declared.fault.Cause.TheVariants.{WrongConstant}
+use Rattle.typing.specs.declared.fault.Cause.TheVariants.{StringNotNumber}
 use Rattle.typing.specs.Checks.{Checked, ◌>>=◌, found}
 
 -- a number up to 255 is a BYTE, and a greater one an ADDRESS
@@ -18,16 +19,16 @@ number_of_characters (character ∷ []) = Some character
 number_of_characters (high ∷ low ∷ []) = Some (256 * high + low)
 number_of_characters characters = None
 
--- the line of a constant
-abbrev pub line_of_constant : ConstantTree → ℕ
-line_of_constant (NumberConstant number) = number.place.line
-line_of_constant (StringConstant string) = string.place.line
+-- the place of a constant
+abbrev pub place_of_constant : ConstantTree → Place
+place_of_constant (NumberConstant number) = number.place
+place_of_constant (StringConstant string) = string.place
 
 -- the number that a constant is; a string that is empty or has more than two characters is not a number
 abbrev pub number_of_constant : ConstantTree → Checked ℕ
 number_of_constant (NumberConstant number) = Ok number.value
 number_of_constant (StringConstant string) =
-    found (number_of_characters string.characters) WrongConstant string.place.line
+    found (number_of_characters string.characters) StringNotNumber string.place
 
 -- constants added to a number and subtracted from it, from the left, modulo 65536
 abbrev pub moved_by : ℕ → Sign → ℕ → ℕ

@@ -18,7 +18,7 @@ use Rattle.names.specs.declared.entity.Binding.TheVariants.{Declared}
 use Rattle.names.specs.declared.entity.Entity.TheVariants.{Object}
 use Rattle.names.specs.Environment.{Here, with_object, with_definition, is_declared_again}
 use Rattle.names.specs.Uses.{declared_by}
-use Rattle.typing.specs.declared.fault.Cause.TheVariants.{DeclaredTwice, WrongUse, MisplacedAttribute, WrongConstant, TooLarge}
+use Rattle.typing.specs.declared.fault.Cause.TheVariants.{DeclaredTwice, NoVariable, ParameterNotScalar, NoBase, MisplacedLinkage, MisplacedAt, MisplacedValues, BasedParameter, ImpliedForGroup, ExternalContents, ZeroDimension, ImpliedWithoutValues, TooLarge}
 use Rattle.typed_trees.specs.declared.limits.TheConstants.{OBJECT_LIMIT, FRAME_LIMIT}
 use Rattle.typed_trees.specs.declared.parts.AtAddress.{AtAddress}
 use Rattle.typed_trees.specs.declared.parts.ConstantItem.TheVariants.{ConstantObject}
@@ -27,18 +27,18 @@ use Rattle.typed_trees.specs.declared.parts.InitialValue.{InitialValue}
 use Rattle.typed_trees.specs.declared.parts.TypedMember.{TypedMember}
 use Rattle.typed_trees.specs.TypedTrees.{ObjectType, ScalarObject, StructureObject, Home, InData, InConstants, Placed, BasedOn, Elsewhere, Nowhere, InFrame, TypedObject, Constants}
 use Rattle.typed_trees.specs.Sizes.{count_of, size_of_element, size_of_object, has_member}
-use Rattle.typing.specs.Checks.{Checked, ◌>>=◌, refuse, require}
-use Rattle.typing.specs.References.{Known, line_of, bound, object_of}
-use Rattle.typing.specs.Blocks.{Owner, TheModule, OfProcedure, Block, Progress, with_global, is_public_linkage, is_external_linkage, line_of_linkage, is_reentrant, is_external, is_module_level, declares_parameter}
+use Rattle.typing.specs.Checks.{Checked, ◌>>=◌, refuse, require, no_place}
+use Rattle.typing.specs.References.{Known, place_of, bound, object_of}
+use Rattle.typing.specs.Blocks.{Owner, TheModule, OfProcedure, Block, Progress, with_global, is_public_linkage, is_external_linkage, place_of_linkage, is_reentrant, is_external, is_module_level, declares_parameter}
 use Rattle.typing.specs.Filling.{at_address, Extents, NoArray, Elements, AsListed, Contents, contents}
 
 -- the names of an item are declared as objects; in an EXTERNAL procedure they are parameters
 abbrev pub declare_names : Block → List Identifier → Here → Checked Here
 declare_names block [] here = Ok here
 declare_names block (name ∷ others) here = do
-  _ ← require (not (is_declared_again here name.name)) DeclaredTwice (line_of name)
-  _ ← require (not (is_external block.owner) || declares_parameter block name.name) MisplacedAttribute
-      (line_of name)
+  _ ← require (not (is_declared_again here name.name)) DeclaredTwice (place_of name)
+  _ ← require (not (is_external block.owner) || declares_parameter block name.name) ExternalContents
+      (place_of name)
   declare_names block others (with_object name.name here)
 
 -- whether an item declares several names in parentheses, or a parameter
@@ -55,13 +55,13 @@ abbrev pub base_of : SubjectTree → Option Identifier
 base_of (SingleSubject name base) = base
 base_of (GroupSubject names) = None
 
--- the line of the first name
-abbrev pub first_line : List Identifier → ℕ
-first_line [] = 0
-first_line (name ∷ others) = line_of name
+-- the place of the first name
+abbrev pub first_place : List Identifier → Place
+first_place [] = no_place
+first_place (name ∷ others) = place_of name
 
-abbrev pub line_of_item : ItemTree → ℕ
-line_of_item item = first_line (declared_by item.subject)
+abbrev pub place_of_item : ItemTree → Place
+place_of_item item = first_place (declared_by item.subject)
 
 -- whether an object may be a base: a scalar ADDRESS that is not BASED itself
 abbrev pub is_not_based : Home → Bool
@@ -76,45 +76,45 @@ abbrev pub is_base : TypedObject → Bool
 is_base object = is_none object.dimension && is_address object.object_type && is_not_based object.home
 
 -- the object that a name is bound to
-abbrev pub object_bound : Binding → (line : ℕ) → Checked ℕ
-object_bound (Declared (Object number)) line = Ok number
-object_bound binding line = refuse WrongUse line
+abbrev pub object_bound : Binding → (place : Place) → Checked ℕ
+object_bound (Declared (Object number)) place = Ok number
+object_bound binding place = refuse NoVariable place
 
 -- the base of an item; parameters are not BASED
 abbrev pub typed_base : Known → Block → SubjectTree → Option Identifier → Checked (Option ℕ)
 typed_base known block subject None = Ok None
 typed_base known block subject (Some name) = do
-  _ ← require (not (names_parameter block subject)) MisplacedAttribute (line_of name)
+  _ ← require (not (names_parameter block subject)) BasedParameter (place_of name)
   binding ← bound known name
-  number ← object_bound binding (line_of name)
+  number ← object_bound binding (place_of name)
   object ← object_of known name number
-  _ ← require (is_base object) WrongUse (line_of name)
+  _ ← require (is_base object) NoBase (place_of name)
   Ok (Some number)
 
 -- A dimension is 1 or more. Parameters are scalars. `(*)` goes with one name, and with INITIAL or DATA.
 abbrev pub extents_of : Block → ItemTree → Option Dimension → Checked Extents
 extents_of block item None = Ok NoArray
 extents_of block item (Some (Count number)) = do
-  _ ← require (nat_le 1 number.value) WrongConstant number.place.line
-  _ ← require (not (names_parameter block item.subject)) WrongUse number.place.line
+  _ ← require (nat_le 1 number.value) ZeroDimension number.place
+  _ ← require (not (names_parameter block item.subject)) ParameterNotScalar number.place
   Ok (Elements number.value)
 extents_of block item (Some Implied) = do
-  _ ← require (not (names_parameter block item.subject)) WrongUse (line_of_item item)
-  _ ← require (not (is_group item.subject)) MisplacedAttribute (line_of_item item)
-  _ ← require (is_some item.value_list) WrongConstant (line_of_item item)
+  _ ← require (not (names_parameter block item.subject)) ParameterNotScalar (place_of_item item)
+  _ ← require (not (is_group item.subject)) ImpliedForGroup (place_of_item item)
+  _ ← require (is_some item.value_list) ImpliedWithoutValues (place_of_item item)
   Ok AsListed
 
 abbrev pub member_dimension : Option Number → Checked (Option ℕ)
 member_dimension None = Ok None
 member_dimension (Some number) = do
-  _ ← require (nat_le 1 number.value) WrongConstant number.place.line
+  _ ← require (nat_le 1 number.value) ZeroDimension number.place
   Ok (Some number.value)
 
 -- the members of a structure differ from each other
 abbrev pub typed_members : (before : List TypedMember) → List Member → Checked (List TypedMember)
 typed_members before [] = Ok before
 typed_members before (member ∷ others) = do
-  _ ← require (not (has_member before member.name.name)) DeclaredTwice (line_of member.name)
+  _ ← require (not (has_member before member.name.name)) DeclaredTwice (place_of member.name)
   dimension ← member_dimension member.dimension
   typed_members
       (before ++ record { name = member.name.name; dimension = dimension; scalar = member.scalar } ∷ [])
@@ -123,7 +123,7 @@ typed_members before (member ∷ others) = do
 abbrev pub typed_type : Block → ItemTree → ItemTypeTree → Checked ObjectType
 typed_type block item (ScalarItem scalar) = Ok (ScalarObject scalar)
 typed_type block item (StructureItem members) = do
-  _ ← require (not (names_parameter block item.subject)) WrongUse (line_of_item item)
+  _ ← require (not (names_parameter block item.subject)) ParameterNotScalar (place_of_item item)
   typed ← typed_members [] members
   Ok (StructureObject typed)
 
@@ -131,8 +131,8 @@ typed_type block item (StructureItem members) = do
 abbrev pub check_linkage : Block → ItemTree → Option Linkage → Checked (Unit {0})
 check_linkage block item None = Ok tt
 check_linkage block item (Some linkage) =
-    require (is_module_level block && is_none (base_of item.subject)) MisplacedAttribute
-    (line_of_linkage linkage)
+    require (is_module_level block && is_none (base_of item.subject)) MisplacedLinkage
+    (place_of_linkage linkage)
 
 -- Whether an item may have a place or values of its own: one name, not BASED, not EXTERNAL, not a parameter, and
 -- not a variable of a REENTRANT procedure.
@@ -144,11 +144,11 @@ is_plain block item =
 abbrev pub typed_at : Known → Block → ItemTree → Option AtTree → Checked (Option AtAddress)
 typed_at known block item None = Ok None
 typed_at known block item (Some at) = do
-  _ ← require (is_plain block item) MisplacedAttribute at.place.line
+  _ ← require (is_plain block item) MisplacedAt at.place
   address ← at_address known at.address
   Ok (Some address)
 
--- the line of INITIAL or DATA
+-- the place of INITIAL or DATA
 abbrev pub place_of_storage : Storage → Place
 place_of_storage (Initial place) = place
 place_of_storage (Data place) = place
@@ -157,10 +157,10 @@ place_of_storage (Data place) = place
 abbrev pub typed_contents :
     Known → Block → ItemTree → ObjectType → Extents → Option ValueListTree → Checked Contents
 typed_contents known block item object_type extents None =
-    contents known (line_of_item item) object_type extents []
+    contents known (place_of_item item) object_type extents []
 typed_contents known block item object_type extents (Some list) = do
-  _ ← require (is_plain block item && is_none item.at) MisplacedAttribute (place_of_storage list.storage).line
-  contents known (line_of_item item) object_type extents list.values
+  _ ← require (is_plain block item && is_none item.at) MisplacedValues (place_of_storage list.storage)
+  contents known (place_of_item item) object_type extents list.values
 
 -- whether a list is DATA's
 abbrev pub is_data_storage : Storage → Bool
@@ -231,7 +231,7 @@ with_objects block item [] progress = Ok progress
 with_objects block item (name ∷ others) progress = do
   _ ← require
       (nat_le (with_typed_object item.linkage (object_named block item name.name) progress).frame FRAME_LIMIT)
-      TooLarge (line_of name)
+      TooLarge (place_of name)
   with_objects block item others (with_typed_object item.linkage (object_named block item name.name) progress)
 
 -- an item as it is for each of its names
@@ -258,15 +258,15 @@ abbrev pub declare_item : Block → ItemTree → Progress → Checked Progress
 declare_item block item progress = do
   here ← declare_names block (declared_by item.subject) progress.known.here
   typed ← typed_item progress.known block item
-  _ ← require (nat_le (size_of_item typed) OBJECT_LIMIT) TooLarge (line_of_item item)
+  _ ← require (nat_le (size_of_item typed) OBJECT_LIMIT) TooLarge (place_of_item item)
   declared ← with_objects block typed (declared_by item.subject) progress
   Ok (record declared { known = record declared.known { here = here } })
 
 -- A definition by LITERALLY declares its name. An EXTERNAL procedure has no definition.
 abbrev pub declare_definition : Block → Identifier → Progress → Checked Progress
 declare_definition block name progress = do
-  _ ← require (not (is_declared_again progress.known.here name.name)) DeclaredTwice (line_of name)
-  _ ← require (not (is_external block.owner)) MisplacedAttribute (line_of name)
+  _ ← require (not (is_declared_again progress.known.here name.name)) DeclaredTwice (place_of name)
+  _ ← require (not (is_external block.owner)) ExternalContents (place_of name)
   Ok (record progress {
     known = record progress.known { here = with_definition name.name progress.known.here };
   })

@@ -11,10 +11,10 @@ use Rattle.typing.specs.declared.fault.Fault.{Fault}
 
 -- a name that no member of its object has, and one that another member of the structure has
 abbrev pub unknown_member : Identifier → Fault
-unknown_member name = record { cause = UnknownName; line = name.place.line }
+unknown_member name = record { cause = UnknownName; place = name.place }
 
 abbrev pub twice_declared : Member → Fault
-twice_declared member = record { cause = DeclaredTwice; line = member.name.place.line }
+twice_declared member = record { cause = DeclaredTwice; place = member.name.place }
 
 abbrev mutual
   pub members_in_expression : ExpressionTree → List Fault

@@ -23,10 +23,10 @@ IsOfNames cause = ⊥
 
 -- a fault of names as the typing has it
 abbrev pub as_refusal : name_fault.Fault → Fault
-as_refusal (name_faults.Unknown line) = record { cause = UnknownName; line = line }
-as_refusal (name_faults.DeclaredTwice line) = record { cause = DeclaredTwice; line = line }
+as_refusal (name_faults.Unknown place) = record { cause = UnknownName; place = place }
+as_refusal (name_faults.DeclaredTwice place) = record { cause = DeclaredTwice; place = place }
 
--- The typing of a module whose binding has this first fault is refused: for the same on the same line, or for
+-- The typing of a module whose binding has this first fault is refused: for the same at the same place, or for
 -- another cause than one of names, or for a fault that the name of a member may have.
 pub record IsRefusedBeside (tree : ModuleTree) (fault : name_fault.Fault) : Type 0 where
   pub refusal : Fault

@@ -4,6 +4,7 @@ use Rattle.std.specs.Prelude.{ℕ, zero, suc, Bool, true, false, not, ◌==◌, 
 use Rattle.trees.specs.declared.declaration.ScalarType.{ScalarType}
 use Rattle.trees.specs.declared.declaration.ScalarType.TheVariants.{Address}
 use Rattle.trees.specs.declared.identifier.Identifier.{Identifier}
+use Rattle.trees.specs.declared.identifier.Place.{Place}
 use Rattle.trees.specs.Trees.{NumberConstant, StringConstant, ConstantLeaf, ArgumentTrees, NoArguments, MoreArguments}
 use Rattle.names.specs.declared.entity.Binding.{Binding}
 use Rattle.names.specs.declared.entity.Binding.TheVariants.{Declared, BuiltInName}
@@ -11,7 +12,7 @@ use Rattle.names.specs.declared.entity.BuiltIn.TheVariants.{Output}
 use Rattle.names.specs.declared.entity.Entity.TheVariants.{Object, Procedure}
 use Rattle.names.specs.Environment.{Here}
 use Rattle.names.specs.BuiltIns.{binding_of}
-use Rattle.typing.specs.declared.fault.Cause.TheVariants.{UnknownName, WrongUse, WrongConstant, ConstantWritten, NoLocation}
+use Rattle.typing.specs.declared.fault.Cause.TheVariants.{UnknownName, SubscriptMismatch, MemberMismatch, CallOfNoProcedure, NoVariable, PortNotConstant, PortTooLarge, ConstantWritten, NoLocation}
 use Rattle.typed_trees.specs.declared.parts.TypedMember.{TypedMember}
 use Rattle.typed_trees.specs.TypedTrees.{TypedExpression, LocationNode, TypedReference, PartOf, Subscript, NoSubscript, At, TypedArguments, NoArguments as NoTyped, MoreArguments as MoreTyped, ObjectType, ScalarObject, StructureObject, Home, InConstants, InFrame, TypedObject, TypedProcedure, Constants}
 use Rattle.typed_trees.specs.declared.members.FoundMember.{FoundMember}
@@ -41,8 +42,8 @@ pub record GivenReference : Type 0 where
   pub arguments : Given
   pub member : GivenMember
 
-abbrev pub line_of : Identifier → ℕ
-line_of name = name.place.line
+abbrev pub place_of : Identifier → Place
+place_of name = name.place
 
 abbrev pub number_of_arguments : ArgumentTrees → ℕ
 number_of_arguments NoArguments = zero
@@ -53,14 +54,14 @@ count_of_given given = number_of_arguments given.trees
 
 -- the binding of a name
 abbrev pub bound : Known → Identifier → Checked Binding
-bound known name = found (binding_of known.here name.name) UnknownName (line_of name)
+bound known name = found (binding_of known.here name.name) UnknownName (place_of name)
 
 -- an object, or a procedure, by its number; every number that a name stands for is one of the table
 abbrev pub object_of : Known → Identifier → (number : ℕ) → Checked TypedObject
-object_of known name number = found (slice_get known.objects number) WrongUse (line_of name)
+object_of known name number = found (slice_get known.objects number) NoVariable (place_of name)
 
 abbrev pub procedure_of : Known → Identifier → (number : ℕ) → Checked TypedProcedure
-procedure_of known name number = found (slice_get known.procedures number) WrongUse (line_of name)
+procedure_of known name number = found (slice_get known.procedures number) CallOfNoProcedure (place_of name)
 
 -- How much of an array a reference means: an element alone, or also the whole, if it has no subscript.
 pub data Extent : Type 0 where
@@ -105,9 +106,9 @@ abbrev pub part_with_member :
 part_with_member object object_type subscript extent WithoutMember constants =
     Ok (whole_part object subscript object_type, constants)
 part_with_member object object_type subscript extent (WithMember name given) constants = do
-  members ← found (members_of object_type) WrongUse (line_of name)
-  place ← found (member_named members name.name) UnknownName (line_of name)
-  _ ← require (takes_subscripts extent place.member.dimension (count_of_given given)) WrongUse (line_of name)
+  members ← found (members_of object_type) MemberMismatch (place_of name)
+  place ← found (member_named members name.name) UnknownName (place_of name)
+  _ ← require (takes_subscripts extent place.member.dimension (count_of_given given)) SubscriptMismatch (place_of name)
   typed ← given.typed constants
   Ok (part_of_member object subscript place typed.0, typed.1)
   where
@@ -122,8 +123,8 @@ part_with_member object object_type subscript extent (WithMember name given) con
 abbrev pub part_of :
     (number : ℕ) → TypedObject → Extent → GivenReference → Constants → Checked (FoundPart × Constants)
 part_of number object extent given constants = do
-  _ ← require (takes_subscripts extent object.dimension (count_of_given given.arguments)) WrongUse
-      (line_of given.name)
+  _ ← require (takes_subscripts extent object.dimension (count_of_given given.arguments)) SubscriptMismatch
+      (place_of given.name)
   typed ← given.arguments.typed constants
   part_with_member number object.object_type
       (subscript_of (size_of_element object.object_type) object.dimension typed.0)
@@ -135,7 +136,7 @@ abbrev pub scalar_part :
     → Checked (TypedReference × ScalarType × Constants)
 scalar_part number object given constants = do
   part ← part_of number object AnElement given constants
-  scalar ← found part.0.scalar WrongUse (line_of given.name)
+  scalar ← found part.0.scalar MemberMismatch (place_of given.name)
   Ok (part.0.reference, scalar, part.1)
 
 -- Whether an object has a location. One in the frame of a call has none.
@@ -148,11 +149,11 @@ abbrev pub location_of_bound :
     Known → Binding → GivenReference → Constants → Checked (TypedExpression × Constants)
 location_of_bound known (Declared (Object number)) given constants = do
   object ← object_of known given.name number
-  _ ← require (has_location object.home) NoLocation (line_of given.name)
+  _ ← require (has_location object.home) NoLocation (place_of given.name)
   part ← part_of number object AlsoTheWhole given constants
   Ok (LocationNode part.0.reference, part.1)
-location_of_bound known (Declared (Procedure number)) given constants = refuse NoLocation (line_of given.name)
-location_of_bound known binding given constants = refuse WrongUse (line_of given.name)
+location_of_bound known (Declared (Procedure number)) given constants = refuse NoLocation (place_of given.name)
+location_of_bound known binding given constants = refuse NoVariable (place_of given.name)
 
 abbrev pub location_of : Known → GivenReference → Constants → Checked (TypedExpression × Constants)
 location_of known given constants = do
@@ -160,26 +161,26 @@ location_of known given constants = do
   location_of_bound known binding given constants
 
 -- a port: a number up to 255, or a string of one character
-abbrev pub port_from : (line number : ℕ) → Checked ℕ
-port_from line number = do
-  _ ← require (nat_le number 255) WrongConstant line
+abbrev pub port_from : (place : Place) (number : ℕ) → Checked ℕ
+port_from place number = do
+  _ ← require (nat_le number 255) PortTooLarge place
   Ok number
 
-abbrev pub port_of_character : (line : ℕ) → List ℕ → Checked ℕ
-port_of_character line (character ∷ []) = port_from line character
-port_of_character line characters = refuse WrongUse line
+abbrev pub port_of_character : (place : Place) → List ℕ → Checked ℕ
+port_of_character place (character ∷ []) = port_from place character
+port_of_character place characters = refuse PortNotConstant place
 
-abbrev pub port_of : (line : ℕ) → ArgumentTrees → Checked ℕ
-port_of line (MoreArguments (ConstantLeaf (NumberConstant number)) NoArguments) =
-    port_from number.place.line number.value
-port_of line (MoreArguments (ConstantLeaf (StringConstant string)) NoArguments) =
-    port_of_character line string.characters
-port_of line trees = refuse WrongUse line
+abbrev pub port_of : (place : Place) → ArgumentTrees → Checked ℕ
+port_of place (MoreArguments (ConstantLeaf (NumberConstant number)) NoArguments) =
+    port_from number.place number.value
+port_of place (MoreArguments (ConstantLeaf (StringConstant string)) NoArguments) =
+    port_of_character place string.characters
+port_of place trees = refuse PortNotConstant place
 
 -- the result of a procedure has no members
 abbrev pub without_member : GivenMember → Checked (Unit {0})
 without_member WithoutMember = Ok tt
-without_member (WithMember name given) = refuse WrongUse (line_of name)
+without_member (WithMember name given) = refuse MemberMismatch (place_of name)
 
 -- objects with DATA are not written to by their names
 abbrev pub is_constant : Home → Bool
@@ -187,7 +188,7 @@ is_constant (InConstants values) = true
 is_constant home = false
 
 abbrev pub is_writable : TypedObject → Identifier → Checked (Unit {0})
-is_writable object name = require (not (is_constant object.home)) ConstantWritten (line_of name)
+is_writable object name = require (not (is_constant object.home)) ConstantWritten (place_of name)
 
 -- the destination of an assigned value: a scalar, or OUTPUT
 abbrev pub destination_of_bound :
@@ -198,10 +199,10 @@ destination_of_bound known (Declared (Object number)) given constants = do
   part ← scalar_part number object given constants
   Ok (Variable part.1 part.0, part.2)
 destination_of_bound known (BuiltInName Output) given constants = do
-  port ← port_of (line_of given.name) given.arguments.trees
+  port ← port_of (place_of given.name) given.arguments.trees
   _ ← without_member given.member
   Ok (Port port, constants)
-destination_of_bound known binding given constants = refuse WrongUse (line_of given.name)
+destination_of_bound known binding given constants = refuse NoVariable (place_of given.name)
 
 abbrev pub destination_of : Known → GivenReference → Constants → Checked (Destination × Constants)
 destination_of known given constants = do

@@ -3,7 +3,7 @@ use Rattle.std.specs.Prelude.{◌≡◌, Option, None, Some, Result, Ok, Err}
 use Rattle.failure.specs.declared.Failure.{Failure}
 use Rattle.failure.specs.declared.Failure.TheVariants as failures
 use Rattle.names.specs.declared.fault.Fault.{Fault as NameFault}
-use Rattle.names.specs.Faults.{line_of}
+use Rattle.names.specs.Faults.{place_of}
 use Rattle.typing.specs.declared.fault.Cause.TheVariants.{DeclaredTwice}
 use Rattle.typing.specs.declared.fault.Fault.{Fault}
 use Rattle.typing.specs.Checks.{Checked, ◌>>=◌}
@@ -39,7 +39,7 @@ abbrev pub as_fault : {A : Type 0} → Result A (Failure NameFault) → Result A
 as_fault (Ok done) = Ok done
 as_fault (Err failures.Memory) = Err failures.Memory
 as_fault (Err (failures.Fault fault)) =
-    Err (failures.Fault (record { cause = DeclaredTwice; line = line_of fault }))
+    Err (failures.Fault (record { cause = DeclaredTwice; place = place_of fault }))
 
 -- the result of a check, with another part in front of it
 abbrev pub in_front : {Q : Type 0} → (Q → Q) → Checked Q → Checked Q

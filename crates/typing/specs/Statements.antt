@@ -3,6 +3,7 @@ use Rattle.std.specs.Prelude.{ℕ, ◌+◌, ◌==◌, not, ◌&&◌, List, [], �
 use Rattle.trees.specs.declared.declaration.ScalarType.{ScalarType}
 use Rattle.trees.specs.declared.declaration.ScalarType.TheVariants.{Address}
 use Rattle.trees.specs.declared.identifier.Identifier.{Identifier}
+use Rattle.trees.specs.declared.identifier.Place.{Place}
 use Rattle.trees.specs.Trees.{ExpressionTree, ReferenceTree, ReferenceTo, IterationTree, StatementTree, LabelledStatement, StatementKindTree, NullStatement, AssignmentStatement, CallStatement, ReturnStatement, HaltStatement, GotoStatement, IfStatement, DoStatement, WhileStatement, IterateStatement, CaseStatement, StatementTrees, NoStatements, MoreStatements}
 use Rattle.names.specs.declared.entity.Binding.{Binding}
 use Rattle.names.specs.declared.entity.Binding.TheVariants.{Declared, BuiltInName}
@@ -11,12 +12,12 @@ use Rattle.names.specs.declared.entity.Entity.TheVariants.{Object, Procedure, La
 use Rattle.names.specs.Environment.{Here, into_list, out_of_list, with_label, is_label_again}
 use Rattle.names.specs.BuiltIns.{jump_of}
 use Rattle.names.specs.Events.{labels_of}
-use Rattle.typing.specs.declared.fault.Cause.TheVariants.{DeclaredTwice, WrongUse, MisplacedLabel, UnknownLabel}
+use Rattle.typing.specs.declared.fault.Cause.TheVariants.{DeclaredTwice, ArgumentCount, CallOfTyped, CallOfNoProcedure, NoVariable, NoCounter, ReturnMismatch, ReturnOutside, MisplacedLabel, UnknownLabel}
 use Rattle.typed_trees.specs.TypedTrees.{TypedExpression, TypedArguments, NoArguments as NoTyped, MoreArguments as MoreTyped, TypedIteration, TypedStatement, LabelStatement, AssignmentStatement as TypedAssignment, CallStatement as TypedCall, MoveStatement, ReturnStatement as TypedReturn, GotoStatement as TypedGoto, TypedStatements, MoreStatements as MoreTypedStatements, TypedList, ListOf, Constants}
-use Rattle.typing.specs.Checks.{Checked, ◌>>=◌, refuse, require, found}
+use Rattle.typing.specs.Checks.{Checked, ◌>>=◌, refuse, require, found, no_place}
 use Rattle.typed_trees.specs.ExpressionTypes.{type_of}
 use Rattle.typing.specs.Nodes.{as_type, Destination, target_of}
-use Rattle.typing.specs.References.{Known, Given, line_of, count_of_given, bound, object_of, procedure_of, scalar_of, is_writable, destination_of}
+use Rattle.typing.specs.References.{Known, Given, place_of, count_of_given, bound, object_of, procedure_of, scalar_of, is_writable, destination_of}
 use Rattle.typing.specs.Functions.{call_arguments}
 use Rattle.typing.specs.Expressions.{expression, given_reference}
 use Rattle.typing.specs.Blocks.{Owner, TheModule, OfProcedure, Progress}
@@ -54,24 +55,24 @@ assignment targets source progress = do
   Ok (assigned places.0 typed.0, typed.1)
 
 -- CALL of an untyped procedure, or of MOVE, whose arguments are ADDRESSes
-abbrev pub moved : (line : ℕ) → TypedArguments → Checked TypedStatement
-moved line (MoreTyped count (MoreTyped source (MoreTyped destination NoTyped))) =
+abbrev pub moved : (place : Place) → TypedArguments → Checked TypedStatement
+moved place (MoreTyped count (MoreTyped source (MoreTyped destination NoTyped))) =
     Ok (MoveStatement (as_type Address count) (as_type Address source) (as_type Address destination))
-moved line values = refuse WrongUse line
+moved place values = refuse ArgumentCount place
 
 abbrev pub call_bound :
     Known → Binding → Identifier → Given → Constants → Checked (TypedStatement × Constants)
 call_bound known (Declared (Procedure number)) name given constants = do
   procedure ← procedure_of known name number
-  _ ← require (is_none procedure.result) WrongUse (line_of name)
-  typed ← call_arguments procedure (line_of name) given constants
+  _ ← require (is_none procedure.result) CallOfTyped (place_of name)
+  typed ← call_arguments procedure (place_of name) given constants
   Ok (TypedCall number typed.0, typed.1)
 call_bound known (BuiltInName Move) name given constants = do
-  _ ← require (count_of_given given == 3) WrongUse (line_of name)
+  _ ← require (count_of_given given == 3) ArgumentCount (place_of name)
   typed ← given.typed constants
-  moving ← moved (line_of name) typed.0
+  moving ← moved (place_of name) typed.0
   Ok (moving, typed.1)
-call_bound known binding name given constants = refuse WrongUse (line_of name)
+call_bound known binding name given constants = refuse CallOfNoProcedure (place_of name)
 
 abbrev pub call : Identifier → Given → Progress → Checked (TypedStatement × Progress)
 call name given progress = do
@@ -81,26 +82,26 @@ call name given progress = do
 
 -- RETURN stands in procedures, with a value exactly in typed ones
 abbrev pub return_with :
-    (line : ℕ) → Option ScalarType → Option ExpressionTree → Progress → Checked (TypedStatement × Progress)
-return_with line None None progress = Ok (TypedReturn None, progress)
-return_with line (Some scalar) (Some tree) progress = do
+    (place : Place) → Option ScalarType → Option ExpressionTree → Progress → Checked (TypedStatement × Progress)
+return_with place None None progress = Ok (TypedReturn None, progress)
+return_with place (Some scalar) (Some tree) progress = do
   typed ← value tree progress
   Ok (TypedReturn (Some (as_type scalar typed.0)), typed.1)
-return_with line result tree progress = refuse WrongUse line
+return_with place result tree progress = refuse ReturnMismatch place
 
 abbrev pub return_from :
-    (line : ℕ) → Owner → Option ExpressionTree → Progress → Checked (TypedStatement × Progress)
-return_from line TheModule tree progress = refuse WrongUse line
-return_from line (OfProcedure number heading) tree progress = return_with line heading.result tree progress
+    (place : Place) → Owner → Option ExpressionTree → Progress → Checked (TypedStatement × Progress)
+return_from place TheModule tree progress = refuse ReturnOutside place
+return_from place (OfProcedure number heading) tree progress = return_with place heading.result tree progress
 
 -- GOTO goes to a label that is known there
-abbrev pub goto_bound : (line : ℕ) → Binding → Checked TypedStatement
-goto_bound line (Declared (Label label)) = Ok (TypedGoto label)
-goto_bound line binding = refuse UnknownLabel line
+abbrev pub goto_bound : (place : Place) → Binding → Checked TypedStatement
+goto_bound place (Declared (Label label)) = Ok (TypedGoto label)
+goto_bound place binding = refuse UnknownLabel place
 
 abbrev pub goto : Identifier → Progress → Checked (TypedStatement × Progress)
 goto label progress = do
-  typed ← goto_bound (line_of label) (jump_of progress.known.here label.name)
+  typed ← goto_bound (place_of label) (jump_of progress.known.here label.name)
   Ok (typed, progress)
 
 -- the variable of an iterative DO: a scalar without a subscript, neither BASED nor DATA
@@ -112,10 +113,10 @@ abbrev pub counter_bound : Known → Binding → Identifier → Checked Counter
 counter_bound known (Declared (Object number)) name = do
   object ← object_of known name number
   _ ← is_writable object name
-  _ ← require (is_none object.dimension && is_not_based object.home) WrongUse (line_of name)
-  scalar ← found (scalar_of object.object_type) WrongUse (line_of name)
+  _ ← require (is_none object.dimension && is_not_based object.home) NoCounter (place_of name)
+  scalar ← found (scalar_of object.object_type) NoCounter (place_of name)
   Ok (record { object = number; scalar = scalar })
-counter_bound known binding name = refuse WrongUse (line_of name)
+counter_bound known binding name = refuse NoVariable (place_of name)
 
 abbrev pub step : Option ExpressionTree → Progress → Checked (Option TypedExpression × Progress)
 step None progress = Ok (None, progress)
@@ -145,13 +146,13 @@ labels_before (LabelledStatement labels kind) = labels
 abbrev pub declare_labels : List Identifier → Here → Checked Here
 declare_labels [] here = Ok here
 declare_labels (label ∷ others) here = do
-  _ ← require (not (is_label_again here label.name)) DeclaredTwice (line_of label)
+  _ ← require (not (is_label_again here label.name)) DeclaredTwice (place_of label)
   declare_labels others (with_label label.name here)
 
 -- a statement after THEN or ELSE or of a DO CASE has no label
 abbrev pub without_label : List Identifier → Checked (Unit {0})
 without_label [] = Ok tt
-without_label (label ∷ others) = refuse MisplacedLabel (line_of label)
+without_label (label ∷ others) = refuse MisplacedLabel (place_of label)
 
 -- the places from one on
 abbrev pub places_of : (place : ℕ) → List Identifier → List ℕ
@@ -186,23 +187,23 @@ list_of trees typed_from progress = do
   )
 
 -- where a statement begins
-abbrev pub line_of_targets : List ReferenceTree → ℕ
-line_of_targets [] = 0
-line_of_targets (ReferenceTo name subscripts part ∷ others) = line_of name
+abbrev pub place_of_targets : List ReferenceTree → Place
+place_of_targets [] = no_place
+place_of_targets (ReferenceTo name subscripts part ∷ others) = place_of name
 
-abbrev pub line_of_kind : StatementKindTree → ℕ
-line_of_kind (NullStatement place) = place.line
-line_of_kind (AssignmentStatement targets source) = line_of_targets targets
-line_of_kind (CallStatement place name trees) = place.line
-line_of_kind (ReturnStatement place result) = place.line
-line_of_kind (HaltStatement place) = place.line
-line_of_kind (GotoStatement place label) = place.line
-line_of_kind (IfStatement place condition body otherwise) = place.line
-line_of_kind (DoStatement place declared body) = place.line
-line_of_kind (WhileStatement place condition body) = place.line
-line_of_kind (IterateStatement place head body) = place.line
-line_of_kind (CaseStatement place choice body) = place.line
+abbrev pub place_of_kind : StatementKindTree → Place
+place_of_kind (NullStatement place) = place
+place_of_kind (AssignmentStatement targets source) = place_of_targets targets
+place_of_kind (CallStatement place name trees) = place
+place_of_kind (ReturnStatement place result) = place
+place_of_kind (HaltStatement place) = place
+place_of_kind (GotoStatement place label) = place
+place_of_kind (IfStatement place condition body otherwise) = place
+place_of_kind (DoStatement place declared body) = place
+place_of_kind (WhileStatement place condition body) = place
+place_of_kind (IterateStatement place head body) = place
+place_of_kind (CaseStatement place choice body) = place
 
-abbrev pub line_of_statement : StatementTree → ℕ
-line_of_statement (LabelledStatement [] kind) = line_of_kind kind
-line_of_statement (LabelledStatement (label ∷ others) kind) = line_of label
+abbrev pub place_of_statement : StatementTree → Place
+place_of_statement (LabelledStatement [] kind) = place_of_kind kind
+place_of_statement (LabelledStatement (label ∷ others) kind) = place_of label

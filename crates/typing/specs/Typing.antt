@@ -29,7 +29,7 @@ abbrev mutual
   kind block (AssignmentStatement targets source) progress = assignment targets source progress
   kind block (CallStatement place name trees) progress =
       call name (record { trees = trees; typed = arguments progress.known trees }) progress
-  kind block (ReturnStatement place result) progress = return_from place.line block.owner result progress
+  kind block (ReturnStatement place result) progress = return_from place block.owner result progress
   kind block (HaltStatement place) progress = Ok (TypedHalt, progress)
   kind block (GotoStatement place label) progress = goto label progress
   kind block (IfStatement place condition body otherwise) progress = do

@@ -22,7 +22,7 @@ use Rattle.typing.specs.Constants.{number_of_characters, bytes_of_constants}
 use Rattle.typing.specs.References.{members_of}
 
 abbrev pub nowhere : Place
-nowhere = record { start = 0; line = 0 }
+nowhere = record { start = 0; place = 0 }
 
 abbrev pub named : List ℕ → Identifier
 named name = record { name = name; place = nowhere }

@@ -12,9 +12,12 @@ use Rattle.names.specs.Binding.{IsBinding, first_fault}
 use Rattle.names.specs.BuiltIns.{built_in_of}
 use Rattle.names.specs.Events.{declares, events_of, in_turn, jumps_to, moves, nothing, see_item, uses_of}
 
--- a name on a line
+-- a place on a line, and a name there
+abbrev on_line : ℕ → Place
+on_line line = record { start = 0; line = line }
+
 abbrev on : ℕ → List ℕ → Identifier
-on line name = record { name = name; place = record { start = 0; line = line } }
+on line name = record { name = name; place = on_line line }
 
 abbrev alone : ℕ → List ℕ → ReferenceTree
 alone line name = ReferenceTo (on line name) NoArguments NoMember
@@ -87,7 +90,7 @@ inner_name-is = record { faultless = refl; bound = refl }
 abbrev own_base : ModuleTree
 own_base = of_parts (DeclareTree (variable 3 (codes "A") (Some (on 3 (codes "A"))) ∷ []) ∷ []) []
 
-own_base-is : first_fault (events_of own_base) ≡ Some (Unknown 3)
+own_base-is : first_fault (events_of own_base) ≡ Some (Unknown (on_line 3))
 unfolding in_turn see_item declares nothing moves jumps_to uses_of built_in_of
 own_base-is = refl
 
@@ -133,7 +136,7 @@ two_labels =
     ∷ labelled 3 (codes "L") (NullStatement at)
     ∷ [])
 
-two_labels-is : first_fault (events_of two_labels) ≡ Some (DeclaredTwice 3)
+two_labels-is : first_fault (events_of two_labels) ≡ Some (DeclaredTwice (on_line 3))
 unfolding in_turn see_item declares nothing moves jumps_to uses_of built_in_of
 two_labels-is = refl
 
@@ -144,7 +147,7 @@ label_of_a_name =
     ∷ labelled 3 (codes "L") (NullStatement at)
     ∷ [])
 
-label_of_a_name-is : first_fault (events_of label_of_a_name) ≡ Some (DeclaredTwice 3)
+label_of_a_name-is : first_fault (events_of label_of_a_name) ≡ Some (DeclaredTwice (on_line 3))
 unfolding in_turn see_item declares nothing moves jumps_to uses_of built_in_of
 label_of_a_name-is = refl
 
@@ -169,14 +172,14 @@ abbrev parameter_too_early : ModuleTree
 parameter_too_early =
     of_parts (procedure (on 1 (codes "X") ∷ []) [] (plain (assign 2 (codes "X") (codes "X")) ∷ []) ∷ []) []
 
-parameter_too_early-is : first_fault (events_of parameter_too_early) ≡ Some (Unknown 2)
+parameter_too_early-is : first_fault (events_of parameter_too_early) ≡ Some (Unknown (on_line 2))
 unfolding in_turn see_item declares nothing moves jumps_to uses_of built_in_of
 parameter_too_early-is = refl
 
 abbrev module_name : ModuleTree
 module_name = of_parts (declare 1 (codes "A") ∷ []) (plain (assign 2 (codes "A") (codes "M")) ∷ [])
 
-module_name-is : first_fault (events_of module_name) ≡ Some (Unknown 2)
+module_name-is : first_fault (events_of module_name) ≡ Some (Unknown (on_line 2))
 unfolding in_turn see_item declares nothing moves jumps_to uses_of built_in_of
 module_name-is = refl
 
@@ -185,6 +188,6 @@ abbrev twice_before_unknown : ModuleTree
 twice_before_unknown =
     of_parts (declare 1 (codes "A") ∷ DeclareTree (variable 2 (codes "A") (Some (on 2 (codes "B"))) ∷ []) ∷ []) []
 
-twice_before_unknown-is : first_fault (events_of twice_before_unknown) ≡ Some (DeclaredTwice 2)
+twice_before_unknown-is : first_fault (events_of twice_before_unknown) ≡ Some (DeclaredTwice (on_line 2))
 unfolding in_turn see_item declares nothing moves jumps_to uses_of built_in_of
 twice_before_unknown-is = refl

@@ -30,7 +30,7 @@ gives part walk = unless (first_fault (part walk.here).events) (record {
 
 -- a name with its binding, after these bindings
 abbrev pub bound_name : Identifier → Option Binding → List Binding → Result (List Binding) Fault
-bound_name name None bindings = Err (Unknown name.place.line)
+bound_name name None bindings = Err (Unknown name.place)
 bound_name name (Some binding) bindings = Ok (bindings ++ binding ∷ [])
 
 abbrev pub bind_more : {A B : Type 0} → Result A Fault → (A → Result B Fault) → Result B Fault

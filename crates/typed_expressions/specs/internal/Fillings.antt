@@ -12,8 +12,9 @@ use Rattle.typed_expressions.specs.declared.filling.RestrictedValue.{RestrictedV
 use Rattle.typed_expressions.specs.declared.filling.RestrictedValue.TheVariants as code_values
 use Rattle.typed_expressions.specs.declared.scalars.Run.{Run}
 use Rattle.typed_expressions.specs.declared.scalars.Scalars.{Scalars}
-use Rattle.typing.specs.declared.fault.Cause.TheVariants.{WrongConstant}
+use Rattle.typing.specs.declared.fault.Cause.TheVariants.{ImpliedWithoutValues}
 use Rattle.typing.specs.References.{Known}
+use Rattle.trees.specs.declared.identifier.Place.{Place}
 use Rattle.trees.specs.Trees.{RestrictedTree}
 use Rattle.typing.specs.Checks.{Checked, ◌>>=◌, require}
 use Rattle.typing.specs.Filling.{Reach, ThisModule, OtherModulesToo, RestrictedValue, ANumber, FromObject, Filled, fill, elements_for}
@@ -74,6 +75,6 @@ abbrev pub values_filled : Known → List RestrictedTree → List ScalarType →
 values_filled known values scalars = fill known values scalars >>= (λ (filled : Filled). Ok filled.values)
 
 -- the dimension of an array that is as long as its list
-abbrev pub elements_listed : (line : ℕ) → (used each : ℕ) → Checked ℕ
-elements_listed line used each =
-    require (nat_lt 0 used) WrongConstant line >>= (λ holds. Ok (elements_for used each))
+abbrev pub elements_listed : (place : Place) → (used each : ℕ) → Checked ℕ
+elements_listed place used each =
+    require (nat_lt 0 used) ImpliedWithoutValues place >>= (λ holds. Ok (elements_for used each))

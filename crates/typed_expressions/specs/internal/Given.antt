@@ -14,7 +14,7 @@ use Rattle.trees.specs.declared.declaration.ScalarType.{ScalarType}
 use Rattle.typed_trees.specs.declared.members.FoundMember.{FoundMember}
 use Rattle.typed_trees.specs.Sizes.{member_named, size_of_scalar}
 use Rattle.typed_trees.specs.TypedTrees.{TypedExpression, TypedReference, PartOf, Subscript, TypedArguments, ObjectType, Constants}
-use Rattle.typing.specs.declared.fault.Cause.TheVariants.{UnknownName, WrongUse}
+use Rattle.typing.specs.declared.fault.Cause.TheVariants.{UnknownName, MemberMismatch}
 use Rattle.typing.specs.declared.fault.Fault.{Fault}
 use Rattle.typed_expressions.specs.declared.functions.Measured.{Measured as CodeMeasured}
 use Rattle.typed_expressions.specs.declared.members.MemberPlace.{MemberPlace}
@@ -24,7 +24,7 @@ use Rattle.typing.specs.Results.{FailsBy, fault_in}
 use Rattle.typed_expressions.specs.declared.references.Extent.{Extent as CodeExtent}
 use Rattle.typed_expressions.specs.declared.references.Extent.TheVariants as extents
 use Rattle.typed_expressions.specs.declared.references.FoundPart.{FoundPart as CodePart}
-use Rattle.typing.specs.References.{Given, GivenMember, WithoutMember, WithMember, GivenReference, Extent, AnElement, AlsoTheWhole, FoundPart, line_of, members_of, subscript_of}
+use Rattle.typing.specs.References.{Given, GivenMember, WithoutMember, WithMember, GivenReference, Extent, AnElement, AlsoTheWhole, FoundPart, place_of, members_of, subscript_of}
 use Rattle.typing.specs.Nodes.{as_type}
 use Rattle.typing.specs.Expressions.{arguments}
 use Rattle.typing.specs.Functions.{Measured}
@@ -66,8 +66,8 @@ given known reference = record {
 -- the member of a name
 abbrev pub member_place : ObjectType → Identifier → Checked FoundMember
 member_place object_type name = do
-  members ← found (members_of object_type) WrongUse (line_of name)
-  found (member_named members name.name) UnknownName (line_of name)
+  members ← found (members_of object_type) MemberMismatch (place_of name)
+  found (member_named members name.name) UnknownName (place_of name)
 
 abbrev pub place_view : MemberPlace → FoundMember
 place_view place = record { position = place.position; offset = place.offset; member = place.member }

@@ -1,5 +1,5 @@
 -- What a part of a text declares is added to the tables, in its order.
-use Rattle.types.proofs.Prelude.{◌≡◌, ℕ, List, [], ◌∷◌, ◌++◌, length, map, filter_map, Option, None, Some, option_map, option_map_or, slice_get, slice_set, unwrap_or, not, nat_le, refl, sym, ap, ◌∙◌, subst, append_assoc, append-nil, filter_map-append, set-append_seam, slice_get-map, AllZip, Gives, gives_ok, gives_after, in_turn, then_more, AreNamed, Holds, Keeps, NamesFit, IsNamed, keeps_append, names_known, object_names, procedure_names, ItemTree, HeadingTree, DeclarationTrees, Identifier, declared_by, Names, Object, Here, is_declared_again, FRAME_LIMIT, OBJECT_LIMIT, DeclaredTwice, MisplacedAttribute, TooLarge, TypedList, TypedProcedure, Block, Progress, is_external, is_public_linkage, require, line_of, TypedItem, declare_element, declare_elements, declare_item, declare_names, line_of_item, object_named, size_of_item, with_objects, with_typed_object, close_procedure, parameter_types, procedure_with, with_here, IsDeclared, HasHeading, Entry, ObjectEntry, ProcedureEntry, declared_object, declared_procedure, entries_in_element, entries_in_elements, name_in, same_names}
+use Rattle.types.proofs.Prelude.{◌≡◌, ℕ, List, [], ◌∷◌, ◌++◌, length, map, filter_map, Option, None, Some, option_map, option_map_or, slice_get, slice_set, unwrap_or, not, nat_le, refl, sym, ap, ◌∙◌, subst, append_assoc, append-nil, filter_map-append, set-append_seam, slice_get-map, AllZip, Gives, gives_ok, gives_after, in_turn, then_more, AreNamed, Holds, Keeps, NamesFit, IsNamed, keeps_append, names_known, object_names, procedure_names, ItemTree, HeadingTree, DeclarationTrees, Identifier, declared_by, Names, Object, Here, is_declared_again, FRAME_LIMIT, OBJECT_LIMIT, DeclaredTwice, ExternalContents, TooLarge, TypedList, TypedProcedure, Block, Progress, is_external, is_public_linkage, require, place_of, TypedItem, declare_element, declare_elements, declare_item, declare_names, place_of_item, object_named, size_of_item, with_objects, with_typed_object, close_procedure, parameter_types, procedure_with, with_here, IsDeclared, HasHeading, Entry, ObjectEntry, ProcedureEntry, declared_object, declared_procedure, entries_in_element, entries_in_elements, name_in, same_names}
 use Rattle.trees.specs.Trees.{ElementTree, ItemElement, LiterallyElement}
 use Rattle.typed_trees.specs.TypedTrees.{TypedObject}
 use Rattle.names.specs.Environment.{out_of_body}
@@ -129,7 +129,7 @@ objects_add block item typed [] progress is = gives_ok (record {
 objects_add block item typed (name ∷ others) progress is =
     let object : TypedObject = object_named block typed name.name in
     gives_after (require (nat_le (with_typed_object typed.linkage object progress).frame FRAME_LIMIT) TooLarge
-    (line_of name)) λ small.
+    (place_of name)) λ small.
     then_more (objects_add block item typed others (with_typed_object typed.linkage object progress) is) λ after rest.
     record {
       objects = object ∷ rest.objects;
@@ -149,7 +149,7 @@ item_adds : (block : Block) (item : ItemTree) (progress : Progress)
 item_adds block item progress =
     gives_after (declare_names block (declared_by item.subject) progress.known.here) λ here.
     in_turn (item_is progress.known block item) λ typed is.
-    gives_after (require (nat_le (size_of_item typed) OBJECT_LIMIT) TooLarge (line_of_item item)) λ small.
+    gives_after (require (nat_le (size_of_item typed) OBJECT_LIMIT) TooLarge (place_of_item item)) λ small.
     in_turn (objects_add block item typed (declared_by item.subject) progress is) λ after added.
     gives_ok (record {
       objects = added.objects;
@@ -163,8 +163,8 @@ item_adds block item progress =
 element_adds : (block : Block) (element : ElementTree) (progress : Progress)
     → Gives (λ after. Adds progress after (entries_in_element element)) (declare_element block element progress)
 element_adds block (LiterallyElement name text) progress =
-    gives_after (require (not (is_declared_again progress.known.here name.name)) DeclaredTwice (line_of name)) λ once.
-    gives_after (require (not (is_external block.owner)) MisplacedAttribute (line_of name)) λ placed.
+    gives_after (require (not (is_declared_again progress.known.here name.name)) DeclaredTwice (place_of name)) λ once.
+    gives_after (require (not (is_external block.owner)) ExternalContents (place_of name)) λ placed.
     gives_ok (adds_none progress _ refl refl)
 element_adds block (ItemElement item) progress = item_adds block item progress
 

@@ -1,5 +1,5 @@
 -- What an item declares is typed as it says.
-use Rattle.types.proofs.Prelude.{◌≡◌, ℕ, ◌&&◌, Bool, true, false, List, [], ◌∷◌, ◌++◌, map, Option, None, Some, option_map, option_map_or, is_none, is_some, not, nat_lt, if◌then◌else◌, refl, sym, ap, ◌∙◌, subst, append_assoc, append-nil, Gives, gives_ok, gives_after, in_turn, then_more, ItemTree, Member, TypedMember, has_member, DeclaredTwice, MisplacedAttribute, WrongUse, WrongConstant, require, line_of, Block, is_external_linkage, TypedItem, line_of_item, member_dimension, typed_item, typed_members, FitsDimension, first_word, member_of, type_of_item, word_of_home, word_of_item, SaysNothing}
+use Rattle.types.proofs.Prelude.{◌≡◌, ℕ, ◌&&◌, Bool, true, false, List, [], ◌∷◌, ◌++◌, map, Option, None, Some, option_map, option_map_or, is_none, is_some, not, nat_lt, if◌then◌else◌, refl, sym, ap, ◌∙◌, subst, append_assoc, append-nil, Gives, gives_ok, gives_after, in_turn, then_more, ItemTree, Member, TypedMember, has_member, DeclaredTwice, ParameterNotScalar, NoBase, MisplacedAt, MisplacedValues, BasedParameter, ImpliedForGroup, ZeroDimension, ImpliedWithoutValues, require, place_of, Block, is_external_linkage, TypedItem, place_of_item, member_dimension, typed_item, typed_members, FitsDimension, first_word, member_of, type_of_item, word_of_home, word_of_item, SaysNothing, Place}
 use Rattle.trees.specs.{Trees.{AtTree, ItemTypeTree, RestrictedTree, ScalarItem, StructureItem, SubjectTree, ValueListTree}, declared.declaration.Dimension.{Dimension, TheVariants.{Count, Implied}}, declared.identifier.{Identifier.{Identifier}, Number.{Number}}}
 use Rattle.typed_trees.specs.{Sizes.{scalars_of_element, scalars_of_elements}, TypedTrees.{BasedOn, Elsewhere, Home, InConstants, InData, InFrame, Nowhere, ObjectType, Placed, StructureObject}, declared.parts.{AtAddress.{AtAddress}, InitialValue.{InitialValue}}}
 use Rattle.typing.specs.{Blocks.{OfProcedure, Owner, TheModule}, Filling.{AsListed, Contents, Elements, Extents, NoArray, at_address, contents, contents_as_listed, elements_for, enough_elements, fill}, Items.{base_of, check_linkage, extents_of, home_in, home_of, home_with_values, is_base, is_data, is_group, is_plain, names_parameter, object_bound, place_of_storage, typed_at, typed_base, typed_contents, typed_type}, References.{Known, bound, object_of}}
@@ -9,11 +9,11 @@ base_is : (known : Known) (block : Block) (subject : SubjectTree) (name : Option
     → Gives (λ (base : Option ℕ). is_some base ≡ is_some name) (typed_base known block subject name)
 base_is known block subject None = gives_ok refl
 base_is known block subject (Some name) =
-    gives_after (require (not (names_parameter block subject)) MisplacedAttribute (line_of name)) λ plain.
+    gives_after (require (not (names_parameter block subject)) BasedParameter (place_of name)) λ plain.
     gives_after (bound known name) λ binding.
-    gives_after (object_bound binding (line_of name)) λ number.
+    gives_after (object_bound binding (place_of name)) λ number.
     gives_after (object_of known name number) λ object.
-    gives_after (require (is_base object) WrongUse (line_of name)) λ fits.
+    gives_after (require (is_base object) NoBase (place_of name)) λ fits.
     gives_ok refl
 
 -- a dimension
@@ -26,43 +26,43 @@ extents_fit : (block : Block) (item : ItemTree) (dimension : Option Dimension)
     → Gives (FitsExtents dimension) (extents_of block item dimension)
 extents_fit block item None = gives_ok refl
 extents_fit block item (Some (Count number)) =
-    gives_after (require _ WrongConstant number.place.line) λ some.
-    gives_after (require (not (names_parameter block item.subject)) WrongUse number.place.line) λ plain.
+    gives_after (require _ ZeroDimension number.place) λ some.
+    gives_after (require (not (names_parameter block item.subject)) ParameterNotScalar number.place) λ plain.
     gives_ok refl
 extents_fit block item (Some Implied) =
-    gives_after (require (not (names_parameter block item.subject)) WrongUse (line_of_item item)) λ plain.
-    gives_after (require (not (is_group item.subject)) MisplacedAttribute (line_of_item item)) λ single.
-    gives_after (require (is_some item.value_list) WrongConstant (line_of_item item)) λ listed.
+    gives_after (require (not (names_parameter block item.subject)) ParameterNotScalar (place_of_item item)) λ plain.
+    gives_after (require (not (is_group item.subject)) ImpliedForGroup (place_of_item item)) λ single.
+    gives_after (require (is_some item.value_list) ImpliedWithoutValues (place_of_item item)) λ listed.
     gives_ok refl
 
-as_listed : (line used each : ℕ) (values : List InitialValue)
-    → Gives (λ (found : Contents). is_some found.dimension ≡ true) (contents_as_listed line used each values)
-as_listed line used each values =
-    gives_after (require (nat_lt 0 used) WrongConstant line) λ some.
+as_listed : (place : Place) (used each : ℕ) (values : List InitialValue)
+    → Gives (λ (found : Contents). is_some found.dimension ≡ true) (contents_as_listed place used each values)
+as_listed place used each values =
+    gives_after (require (nat_lt 0 used) ImpliedWithoutValues place) λ some.
     gives_ok refl
 
-contents_fit : (known : Known) (line : ℕ) (object_type : ObjectType) (dimension : Option Dimension) (extents : Extents)
+contents_fit : (known : Known) (place : Place) (object_type : ObjectType) (dimension : Option Dimension) (extents : Extents)
     (values : List RestrictedTree)
     → FitsExtents dimension extents
     → Gives (λ (found : Contents). FitsDimension dimension found.dimension)
-    (contents known line object_type extents values)
-contents_fit known line object_type None extents values is =
+    (contents known place object_type extents values)
+contents_fit known place object_type None extents values is =
     subst
     (λ (one : Extents).
-    Gives (λ (found : Contents). found.dimension ≡ None) (contents known line object_type one values)) (sym is)
+    Gives (λ (found : Contents). found.dimension ≡ None) (contents known place object_type one values)) (sym is)
     (gives_after (fill known values (scalars_of_element object_type)) λ filled. gives_ok refl)
-contents_fit known line object_type (Some (Count number)) extents values is =
+contents_fit known place object_type (Some (Count number)) extents values is =
     subst
     (λ (one : Extents).
-    Gives (λ (found : Contents). found.dimension ≡ Some number.value) (contents known line object_type one values))
+    Gives (λ (found : Contents). found.dimension ≡ Some number.value) (contents known place object_type one values))
     (sym is)
     (gives_after (fill known values (scalars_of_elements number.value object_type)) λ filled. gives_ok refl)
-contents_fit known line object_type (Some Implied) extents values is =
+contents_fit known place object_type (Some Implied) extents values is =
     subst
     (λ (one : Extents).
-    Gives (λ (found : Contents). is_some found.dimension ≡ true) (contents known line object_type one values)) (sym is)
+    Gives (λ (found : Contents). is_some found.dimension ≡ true) (contents known place object_type one values)) (sym is)
     (gives_after (fill known values (scalars_of_elements (enough_elements values) object_type)) λ filled.
-    as_listed line _ _ filled.values)
+    as_listed place _ _ filled.values)
 
 typed_contents_fit : (known : Known) (block : Block) (item : ItemTree) (object_type : ObjectType) (extents : Extents)
     (list : Option ValueListTree)
@@ -70,18 +70,18 @@ typed_contents_fit : (known : Known) (block : Block) (item : ItemTree) (object_t
     → Gives (λ (found : Contents). FitsDimension item.dimension found.dimension)
     (typed_contents known block item object_type extents list)
 typed_contents_fit known block item object_type extents None is =
-    contents_fit known (line_of_item item) object_type item.dimension extents [] is
+    contents_fit known (place_of_item item) object_type item.dimension extents [] is
 typed_contents_fit known block item object_type extents (Some list) is =
     gives_after
-    (require (is_plain block item && is_none item.at) MisplacedAttribute (place_of_storage list.storage).line) λ plain.
-    contents_fit known (line_of_item item) object_type item.dimension extents list.values is
+    (require (is_plain block item && is_none item.at) MisplacedValues (place_of_storage list.storage)) λ plain.
+    contents_fit known (place_of_item item) object_type item.dimension extents list.values is
 
 -- a type
 dimension_is : (dimension : Option Number)
     → Gives (λ (found : Option ℕ). found ≡ option_map (λ (number : Number). number.value) dimension)
     (member_dimension dimension)
 dimension_is None = gives_ok refl
-dimension_is (Some number) = gives_after (require _ WrongConstant number.place.line) λ some. gives_ok refl
+dimension_is (Some number) = gives_after (require _ ZeroDimension number.place) λ some. gives_ok refl
 
 members_are : (before : List TypedMember) (members : List Member)
     → Gives (λ (typed : List TypedMember). typed ≡ before ++ map member_of members) (typed_members before members)
@@ -89,7 +89,7 @@ members_are before [] = gives_ok (sym (append-nil before))
 members_are before (member ∷ others) =
     let it : Option ℕ → TypedMember =
     λ dimension. record { name = member.name.name; dimension = dimension; scalar = member.scalar } in
-    gives_after (require (not (has_member before member.name.name)) DeclaredTwice (line_of member.name)) λ once.
+    gives_after (require (not (has_member before member.name.name)) DeclaredTwice (place_of member.name)) λ once.
     in_turn (dimension_is member.dimension) λ dimension is.
     then_more (members_are (before ++ it dimension ∷ []) others) λ typed same.
     same ∙ append_assoc before (it dimension ∷ []) (map member_of others)
@@ -99,7 +99,7 @@ type_is : (block : Block) (item : ItemTree) (tree : ItemTypeTree)
     → Gives (λ (object_type : ObjectType). object_type ≡ type_of_item tree) (typed_type block item tree)
 type_is block item (ScalarItem scalar) = gives_ok refl
 type_is block item (StructureItem members) =
-    gives_after (require (not (names_parameter block item.subject)) WrongUse (line_of_item item)) λ plain.
+    gives_after (require (not (names_parameter block item.subject)) ParameterNotScalar (place_of_item item)) λ plain.
     in_turn (members_are [] members) λ typed same.
     gives_ok (ap StructureObject same)
 
@@ -108,7 +108,7 @@ at_is : (known : Known) (block : Block) (item : ItemTree) (at : Option AtTree)
     → Gives (λ (found : Option AtAddress). is_some found ≡ is_some at) (typed_at known block item at)
 at_is known block item None = gives_ok refl
 at_is known block item (Some at) =
-    gives_after (require (is_plain block item) MisplacedAttribute at.place.line) λ plain.
+    gives_after (require (is_plain block item) MisplacedAt at.place) λ plain.
     gives_after (at_address known at.address) λ address.
     gives_ok refl
 

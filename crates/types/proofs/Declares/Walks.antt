@@ -54,7 +54,7 @@ mutual
   kind_walks block (trees.CallStatement place name values) progress holds =
       from_same holds (call_same name (record { trees = values; typed = arguments progress.known values }) progress)
   kind_walks block (trees.ReturnStatement place result) progress holds =
-      from_same holds (return_same place.line block.owner result progress)
+      from_same holds (return_same place block.owner result progress)
   kind_walks block (trees.HaltStatement place) progress holds = gives_ok (holds, adds_none progress progress refl refl)
   kind_walks block (trees.GotoStatement place label) progress holds = from_same holds (goto_same label progress)
   kind_walks block (trees.IfStatement place condition body otherwise) progress holds =

@@ -3,18 +3,19 @@ use Rattle.std.specs.Prelude.{ℕ, ◌+◌, not, List, [], ◌∷◌, ◌++◌, 
 use Rattle.trees.specs.declared.declaration.Linkage.{Linkage}
 use Rattle.trees.specs.declared.declaration.Member.{Member}
 use Rattle.trees.specs.declared.identifier.Identifier.{Identifier}
+use Rattle.trees.specs.declared.identifier.Place.{Place}
 use Rattle.trees.specs.Trees.{ItemTree}
 use Rattle.names.specs.Uses.{declared_by}
-use Rattle.typing.specs.declared.fault.Cause.TheVariants.{MisplacedAttribute, TooLarge, WrongConstant, WrongUse}
+use Rattle.typing.specs.declared.fault.Cause.TheVariants.{NoBase, ImpliedForGroup, ImpliedWithoutValues, TooLarge}
 use Rattle.typed_trees.specs.declared.parts.GlobalItem.TheVariants.{GlobalObject}
 use Rattle.typed_trees.specs.declared.limits.TheConstants.{FRAME_LIMIT, OBJECT_LIMIT}
 use Rattle.typed_trees.specs.TypedTrees.{ObjectType, StructureObject, TypedObject}
 use Rattle.typed_trees.specs.Views.{home_view}
 use Rattle.typing.specs.Checks.{Checked, ◌>>=◌, require}
-use Rattle.typing.specs.References.{Known, bound, line_of, object_of}
+use Rattle.typing.specs.References.{Known, bound, place_of, object_of}
 use Rattle.typing.specs.Filling.{Extents, AsListed}
 use Rattle.typing.specs.Blocks.{Block, Progress, with_global}
-use Rattle.typing.specs.Items.{TypedItem, declare_names, bytes_in_frame, check_linkage, home_of, is_base, is_group, line_of_item, object_bound, size_of_item, typed_at, typed_contents, typed_item, typed_members, with_constant, with_objects}
+use Rattle.typing.specs.Items.{TypedItem, declare_names, bytes_in_frame, check_linkage, home_of, is_base, is_group, place_of_item, object_bound, size_of_item, typed_at, typed_contents, typed_item, typed_members, with_constant, with_objects}
 use Rattle.types.specs.declared.items.PlacedItem.{PlacedItem}
 use Rattle.typing.specs.Statements.{with_here}
 
@@ -29,9 +30,9 @@ abbrev pub with_last_object : TypedObject → Known → Known
 with_last_object object known = record known { objects = known.objects ++ object ∷ [] }
 
 -- the bytes in the frame of a call with one more object
-abbrev pub bytes_with : (frame : ℕ) → TypedObject → (line : ℕ) → Checked ℕ
-bytes_with frame object line = do
-  _ ← require (nat_le (frame + bytes_in_frame object.home object) FRAME_LIMIT) TooLarge line
+abbrev pub bytes_with : (frame : ℕ) → TypedObject → (place : Place) → Checked ℕ
+bytes_with frame object place = do
+  _ ← require (nat_le (frame + bytes_in_frame object.home object) FRAME_LIMIT) TooLarge place
   Ok (frame + bytes_in_frame object.home object)
 
 -- an item whose names are declared before its objects are made
@@ -39,14 +40,14 @@ abbrev pub item_in_turn : Block → ItemTree → Progress → Checked Progress
 item_in_turn block item progress = do
   named ← with_names block (declared_by item.subject) progress
   typed ← typed_item progress.known block item
-  _ ← require (nat_le (size_of_item typed) OBJECT_LIMIT) TooLarge (line_of_item item)
+  _ ← require (nat_le (size_of_item typed) OBJECT_LIMIT) TooLarge (place_of_item item)
   with_objects block typed (declared_by item.subject) named
 
 -- an item that fits, and an item whose names are declared between that and its objects
 abbrev pub fitting_item : Known → Block → ItemTree → Checked TypedItem
 fitting_item known block item = do
   typed ← typed_item known block item
-  _ ← require (nat_le (size_of_item typed) OBJECT_LIMIT) TooLarge (line_of_item item)
+  _ ← require (nat_le (size_of_item typed) OBJECT_LIMIT) TooLarge (place_of_item item)
   Ok typed
 
 abbrev pub fitted_in_turn : Block → ItemTree → Progress → Checked Progress
@@ -59,13 +60,13 @@ fitted_in_turn block item progress = do
 abbrev pub base_numbered : Known → Identifier → (number : ℕ) → Checked (Option ℕ)
 base_numbered known name number = do
   object ← object_of known name number
-  _ ← require (is_base object) WrongUse (line_of name)
+  _ ← require (is_base object) NoBase (place_of name)
   Ok (Some number)
 
 abbrev pub base_named : Known → Identifier → Checked (Option ℕ)
 base_named known name = do
   binding ← bound known name
-  number ← object_bound binding (line_of name)
+  number ← object_bound binding (place_of name)
   base_numbered known name number
 
 -- an item from its type on
@@ -99,14 +100,14 @@ structure_of members = do
 -- as many elements as a list has values
 abbrev pub listed_extents : ItemTree → Checked Extents
 listed_extents item = do
-  _ ← require (not (is_group item.subject)) MisplacedAttribute (line_of_item item)
-  _ ← require (is_some item.value_list) WrongConstant (line_of_item item)
+  _ ← require (not (is_group item.subject)) ImpliedForGroup (place_of_item item)
+  _ ← require (is_some item.value_list) ImpliedWithoutValues (place_of_item item)
   Ok AsListed
 
 -- the next object, beside the table
-abbrev pub object_listed : Option Linkage → TypedObject → (line : ℕ) → Progress → Checked Progress
-object_listed linkage object line progress = do
-  bytes ← bytes_with progress.frame object line
+abbrev pub object_listed : Option Linkage → TypedObject → (place : Place) → Progress → Checked Progress
+object_listed linkage object place progress = do
+  bytes ← bytes_with progress.frame object place
   Ok (record progress {
     constants = with_constant object.home (length progress.known.objects) progress.constants;
     globals = with_global linkage (GlobalObject (length progress.known.objects)) progress.globals;

@@ -10,12 +10,12 @@ use Rattle.names.specs.Events.{labels_of}
 use Rattle.typed_trees.specs.declared.limits.TheConstants.{PARAMETER_LIMIT}
 use Rattle.typed_trees.specs.TypedTrees.{TypedTarget, TypedStatement, TypedList, TypedObject}
 use Rattle.typed_trees.specs.Views.{list_view}
-use Rattle.typing.specs.declared.fault.Cause.TheVariants.{DeclaredTwice, WrongUse, MisplacedAttribute}
+use Rattle.typing.specs.declared.fault.Cause.TheVariants.{DeclaredTwice, NoCounter, NestedProcedure}
 use Rattle.types.specs.declared.statements.Counter.{Counter as CodeCounter}
 use Rattle.types.specs.declared.procedures.Inside.{Inside}
 use Rattle.typing.specs.Checks.{Checked, ◌>>=◌, require, found}
 use Rattle.typing.specs.Nodes.{Destination, target_of}
-use Rattle.typing.specs.References.{Known, Given, line_of, scalar_of, is_writable}
+use Rattle.typing.specs.References.{Known, Given, place_of, scalar_of, is_writable}
 use Rattle.typing.specs.Expressions.{arguments}
 use Rattle.typing.specs.Items.{is_not_based}
 use Rattle.typing.specs.Blocks.{OfProcedure, Block, Progress, is_reentrant, is_external}
@@ -41,8 +41,8 @@ targets_for places from = map (λ (place : Destination). target_of place from) p
 abbrev pub counter_type : TypedObject → Identifier → Checked ScalarType
 counter_type object name = do
   _ ← is_writable object name
-  _ ← require (is_none object.dimension && is_not_based object.home) WrongUse (line_of name)
-  found (scalar_of object.object_type) WrongUse (line_of name)
+  _ ← require (is_none object.dimension && is_not_based object.home) NoCounter (place_of name)
+  found (scalar_of object.object_type) NoCounter (place_of name)
 
 abbrev pub counter_view : CodeCounter → Counter
 counter_view counter = record { object = counter.object; scalar = counter.scalar }
@@ -50,12 +50,12 @@ counter_view counter = record { object = counter.object; scalar = counter.scalar
 -- one label of a body, one parameter of a heading
 abbrev pub label_declared : Identifier → Here → Checked Here
 label_declared label here = do
-  _ ← require (not (is_label_again here label.name)) DeclaredTwice (line_of label)
+  _ ← require (not (is_label_again here label.name)) DeclaredTwice (place_of label)
   Ok (with_label label.name here)
 
 abbrev pub parameter_declared : Identifier → Here → Checked Here
 parameter_declared parameter here = do
-  _ ← require (not (is_parameter_again here parameter.name)) DeclaredTwice (line_of parameter)
+  _ ← require (not (is_parameter_again here parameter.name)) DeclaredTwice (place_of parameter)
   Ok (with_parameter parameter.name here)
 
 -- into a list of statements, and out of it
@@ -113,15 +113,15 @@ names_among declared name = is_among (map (λ (one : Identifier). one.name) decl
 -- the name of a procedure
 abbrev pub procedure_declared : Identifier → Here → Checked Here
 procedure_declared name here = do
-  _ ← require (not (is_declared_again here name.name)) DeclaredTwice (line_of name)
+  _ ← require (not (is_declared_again here name.name)) DeclaredTwice (place_of name)
   Ok (with_procedure name.name here)
 
 -- a heading, up to what names stand for where the body of its procedure begins
 abbrev pub heading_opened : Block → HeadingTree → Here → Checked Here
 heading_opened block heading before = do
-  _ ← require (not (is_declared_again before heading.name.name)) DeclaredTwice (line_of heading.name)
-  _ ← require (not (is_reentrant block.owner || is_external block.owner)) MisplacedAttribute
-      (line_of heading.name)
+  _ ← require (not (is_declared_again before heading.name.name)) DeclaredTwice (place_of heading.name)
+  _ ← require (not (is_reentrant block.owner || is_external block.owner)) NestedProcedure
+      (place_of heading.name)
   here ← declare_parameters (take PARAMETER_LIMIT heading.parameters)
       (into_body (with_procedure heading.name.name before))
   _ ← no_more_parameters (drop PARAMETER_LIMIT heading.parameters)

@@ -83,7 +83,7 @@ mutual
   kind_is {around = around} block (CallStatement place name trees) progress are at =
       call_is around name (record { trees = trees; typed = arguments progress.known trees }) progress at
   kind_is {around = around} block (ReturnStatement place result) progress are at =
-      return_is around place.line block.owner result progress at
+      return_is around place block.owner result progress at
   kind_is block (HaltStatement place) progress are at = (record { jumps = tt; stands = tt; is_no_label = tt }, at)
   kind_is block (GotoStatement place label) progress are at = goto_is label progress are at
   kind_is block (IfStatement place condition body otherwise) progress are at =

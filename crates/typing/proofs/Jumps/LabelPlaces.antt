@@ -1,5 +1,5 @@
 -- The labels of a list stand where its places say, and no two labels of a module have the same number.
-use Rattle.typing.proofs.Prelude.{◌≡◌, ◌≢◌, ℕ, zero, suc, ◌+◌, ◌-◌, ◌≤◌, min, List, [], ◌∷◌, ◌++◌, length, take, drop, flat_map, slice_set, Option, None, Some, Ok, Err, refl, ap, sym, subst, ◌∙◌, append-nil, arith, length-append, IfOk, AllPairs, is_none, nat_le, not, ◌||◌, ◌==◌, AllByRecursion, flat_map-append, All-from_recursion, AllPairs-cons, ScalarType, Identifier, ExpressionTree, ReferenceTree, IterationTree, StatementTree, LabelledStatement, StatementKindTree, NullStatement, AssignmentStatement, CallStatement, ReturnStatement, HaltStatement, GotoStatement, IfStatement, DoStatement, WhileStatement, IterateStatement, CaseStatement, ElseTree, NoElse, ElseStatement, StatementTrees, NoStatements, MoreStatements, ItemTree, ElementTree, LiterallyElement, ItemElement, HeadingTree, DeclarationTree, DeclareTree, ProcedureTree, DeclarationTrees, NoDeclarations, MoreDeclarations, ModuleTree, Binding, Declared, BuiltInName, Move, Procedure, Label, jump_of, Here, Body, into_list, into_body, after_body, with_object, with_procedure, with_parameter, with_label, is_declared_again, is_parameter_again, is_label_again, labels_of, declared_by, OBJECT_LIMIT, FRAME_LIMIT, PARAMETER_LIMIT, TypedArguments, NoTyped, TypedStatement, LabelStatement, TypedStatements, TypedList, TypedProcedure, TypedModule, Constants, LabelsOf, JumpsStayInStatements, LabelsStand, IsNoLabel, ListsStandInStatements, labels_in, labels_in_else, labels_in_statements, labels_in_list, labels_in_procedure, labels_in_module, DeclaredTwice, WrongUse, MisplacedAttribute, TooLarge, Checked, require, Known, Given, line_of, count_of_given, bound, procedure_of, call_arguments, expression, arguments, Owner, TheModule, OfProcedure, Block, Progress, is_external, is_reentrant, declares_parameter, TypedItem, declare_names, line_of_item, object_named, with_typed_object, with_objects, typed_item, size_of_item, declare_item, declare_definition, declare_element, declare_elements, with_here, with_constants, value, destinations, assignment, moved, call_bound, call, return_with, return_from, goto_bound, goto, counter_bound, step, iteration, declare_labels, without_label, places_of, places_from, after_labels, list_of, declare_parameters, no_more_parameters, check_visibility, check_reentrant, parameter_types, procedure_with, empty_list, open_procedure, own_block, parameter_objects, check_body, close_procedure, inner_block, entered, kind, labelled, alone, else_part, cases, statements, declaration, declarations, module_block, at_the_beginning, typing_of}
+use Rattle.typing.proofs.Prelude.{◌≡◌, ◌≢◌, ℕ, zero, suc, ◌+◌, ◌-◌, ◌≤◌, min, List, [], ◌∷◌, ◌++◌, length, take, drop, flat_map, slice_set, Option, None, Some, Ok, Err, refl, ap, sym, subst, ◌∙◌, append-nil, arith, length-append, IfOk, AllPairs, is_none, nat_le, not, ◌||◌, ◌==◌, AllByRecursion, flat_map-append, All-from_recursion, AllPairs-cons, ScalarType, Identifier, Place, ExpressionTree, ReferenceTree, IterationTree, StatementTree, LabelledStatement, StatementKindTree, NullStatement, AssignmentStatement, CallStatement, ReturnStatement, HaltStatement, GotoStatement, IfStatement, DoStatement, WhileStatement, IterateStatement, CaseStatement, ElseTree, NoElse, ElseStatement, StatementTrees, NoStatements, MoreStatements, ItemTree, ElementTree, LiterallyElement, ItemElement, HeadingTree, DeclarationTree, DeclareTree, ProcedureTree, DeclarationTrees, NoDeclarations, MoreDeclarations, ModuleTree, Binding, Declared, BuiltInName, Move, Procedure, Label, jump_of, Here, Body, into_list, into_body, after_body, with_object, with_procedure, with_parameter, with_label, is_declared_again, is_parameter_again, is_label_again, labels_of, declared_by, OBJECT_LIMIT, FRAME_LIMIT, PARAMETER_LIMIT, TypedArguments, NoTyped, TypedStatement, LabelStatement, TypedStatements, TypedList, TypedProcedure, TypedModule, Constants, LabelsOf, JumpsStayInStatements, LabelsStand, IsNoLabel, ListsStandInStatements, labels_in, labels_in_else, labels_in_statements, labels_in_list, labels_in_procedure, labels_in_module, DeclaredTwice, ArgumentCount, CallOfTyped, NestedProcedure, ExternalContents, TooLarge, Checked, require, Known, Given, place_of, count_of_given, bound, procedure_of, call_arguments, expression, arguments, Owner, TheModule, OfProcedure, Block, Progress, is_external, is_reentrant, declares_parameter, TypedItem, declare_names, place_of_item, object_named, with_typed_object, with_objects, typed_item, size_of_item, declare_item, declare_definition, declare_element, declare_elements, with_here, with_constants, value, destinations, assignment, moved, call_bound, call, return_with, return_from, goto_bound, goto, counter_bound, step, iteration, declare_labels, without_label, places_of, places_from, after_labels, list_of, declare_parameters, no_more_parameters, check_visibility, check_reentrant, parameter_types, procedure_with, empty_list, open_procedure, own_block, parameter_objects, check_body, close_procedure, inner_block, entered, kind, labelled, alone, else_part, cases, statements, declaration, declarations, module_block, at_the_beginning, typing_of}
 use Rattle.typed_trees.specs.TypedTrees.{MoreArguments, MoreStatements as MoreTyped}
 use Rattle.typing.proofs.Steps.{then, then_any}
 
@@ -167,20 +167,20 @@ module _ (n : ℕ) where
       then _ _ (value source (with_constants places.1 progress)) _ (value_adds source (with_constants places.1 progress))
       (λ typed adds. adds))
 
-  moved_has_none : (line : ℕ) (values : TypedArguments) → IfOk (moved line values) (λ typed. labels_in typed ≡ [])
-  moved_has_none line (MoreArguments count (MoreArguments source (MoreArguments destination NoTyped))) = refl
-  moved_has_none line values = tt
+  moved_has_none : (place : Place) (values : TypedArguments) → IfOk (moved place values) (λ typed. labels_in typed ≡ [])
+  moved_has_none place (MoreArguments count (MoreArguments source (MoreArguments destination NoTyped))) = refl
+  moved_has_none place values = tt
 
   call_bound_has_none : (known : Known) (binding : Binding) (name : Identifier) (given : Given) (constants : Constants)
       → IfOk (call_bound known binding name given constants) (λ typed. labels_in typed.0 ≡ [])
   call_bound_has_none known (Declared (Procedure number)) name given constants =
       then_any _ (procedure_of known name number) _ (λ procedure.
-      then_any _ (require (is_none procedure.result) WrongUse (line_of name)) _ (λ is_untyped.
-      then_any _ (call_arguments procedure (line_of name) given constants) _ (λ typed. refl)))
+      then_any _ (require (is_none procedure.result) CallOfTyped (place_of name)) _ (λ is_untyped.
+      then_any _ (call_arguments procedure (place_of name) given constants) _ (λ typed. refl)))
   call_bound_has_none known (BuiltInName Move) name given constants =
-      then_any _ (require (count_of_given given == 3) WrongUse (line_of name)) _ (λ are_three.
+      then_any _ (require (count_of_given given == 3) ArgumentCount (place_of name)) _ (λ are_three.
       then_any _ (given.typed constants) _ (λ typed.
-      then _ _ (moved (line_of name) typed.0) _ (moved_has_none (line_of name) typed.0) (λ moving none. none)))
+      then _ _ (moved (place_of name) typed.0) _ (moved_has_none (place_of name) typed.0) (λ moving none. none)))
   call_bound_has_none known binding name given constants = tt
 
   call_adds : (name : Identifier) (given : Given) (progress : Progress)
@@ -191,26 +191,26 @@ module _ (n : ℕ) where
       (call_bound_has_none progress.known binding name given progress.constants)
       (λ typed none. without (labels_in typed.0) progress.known none))
 
-  return_with_adds : (line : ℕ) (result : Option ScalarType) (tree : Option ExpressionTree) (progress : Progress)
-      → IfOk (return_with line result tree progress) (AddsStatement progress)
-  return_with_adds line None None progress = stays progress.known
-  return_with_adds line (Some scalar) (Some tree) progress =
+  return_with_adds : (place : Place) (result : Option ScalarType) (tree : Option ExpressionTree) (progress : Progress)
+      → IfOk (return_with place result tree progress) (AddsStatement progress)
+  return_with_adds place None None progress = stays progress.known
+  return_with_adds place (Some scalar) (Some tree) progress =
       then _ _ (value tree progress) _ (value_adds tree progress) (λ typed adds. adds)
-  return_with_adds line result tree progress = tt
+  return_with_adds place result tree progress = tt
 
-  return_adds : (line : ℕ) (owner : Owner) (tree : Option ExpressionTree) (progress : Progress)
-      → IfOk (return_from line owner tree progress) (AddsStatement progress)
-  return_adds line TheModule tree progress = tt
-  return_adds line (OfProcedure number heading) tree progress = return_with_adds line heading.result tree progress
+  return_adds : (place : Place) (owner : Owner) (tree : Option ExpressionTree) (progress : Progress)
+      → IfOk (return_from place owner tree progress) (AddsStatement progress)
+  return_adds place TheModule tree progress = tt
+  return_adds place (OfProcedure number heading) tree progress = return_with_adds place heading.result tree progress
 
-  goto_has_none : (line : ℕ) (binding : Binding) → IfOk (goto_bound line binding) (λ typed. labels_in typed ≡ [])
-  goto_has_none line (Declared (Label label)) = refl
-  goto_has_none line binding = tt
+  goto_has_none : (place : Place) (binding : Binding) → IfOk (goto_bound place binding) (λ typed. labels_in typed ≡ [])
+  goto_has_none place (Declared (Label label)) = refl
+  goto_has_none place binding = tt
 
   goto_adds : (label : Identifier) (progress : Progress) → IfOk (goto label progress) (AddsStatement progress)
   goto_adds label progress =
-      then _ _ (goto_bound (line_of label) (jump_of progress.known.here label.name)) _
-      (goto_has_none (line_of label) (jump_of progress.known.here label.name))
+      then _ _ (goto_bound (place_of label) (jump_of progress.known.here label.name)) _
+      (goto_has_none (place_of label) (jump_of progress.known.here label.name))
       (λ typed none. without (labels_in typed) progress.known none)
 
   step_adds : (tree : Option ExpressionTree) (progress : Progress)
@@ -233,23 +233,23 @@ module _ (n : ℕ) where
       → IfOk (declare_labels labels here) (λ after. after.labels ≡ here.labels)
   declare_labels_keeps [] here = refl
   declare_labels_keeps (label ∷ others) here =
-      then_any _ (require (not (is_label_again here label.name)) DeclaredTwice (line_of label)) _ (λ is_new.
+      then_any _ (require (not (is_label_again here label.name)) DeclaredTwice (place_of label)) _ (λ is_new.
       declare_labels_keeps others (with_label label.name here))
 
   declare_parameters_keeps : (parameters : List Identifier) (here : Here)
       → IfOk (declare_parameters parameters here) (λ after. after.labels ≡ here.labels)
   declare_parameters_keeps [] here = refl
   declare_parameters_keeps (parameter ∷ others) here =
-      then_any _ (require (not (is_parameter_again here parameter.name)) DeclaredTwice (line_of parameter)) _
+      then_any _ (require (not (is_parameter_again here parameter.name)) DeclaredTwice (place_of parameter)) _
       (λ is_new. declare_parameters_keeps others (with_parameter parameter.name here))
 
   declare_names_keeps : (block : Block) (names : List Identifier) (here : Here)
       → IfOk (declare_names block names here) (λ after. after.labels ≡ here.labels)
   declare_names_keeps block [] here = refl
   declare_names_keeps block (name ∷ others) here =
-      then_any _ (require (not (is_declared_again here name.name)) DeclaredTwice (line_of name)) _ (λ is_new.
-      then_any _ (require (not (is_external block.owner) || declares_parameter block name.name) MisplacedAttribute
-      (line_of name)) _ (λ may_stand.
+      then_any _ (require (not (is_declared_again here name.name)) DeclaredTwice (place_of name)) _ (λ is_new.
+      then_any _ (require (not (is_external block.owner) || declares_parameter block name.name) ExternalContents
+      (place_of name)) _ (λ may_stand.
       declare_names_keeps block others (with_object name.name here)))
 
   -- objects that are declared
@@ -258,7 +258,7 @@ module _ (n : ℕ) where
   with_objects_keeps block item [] progress = refl
   with_objects_keeps block item (name ∷ others) progress =
       let after : Progress = with_typed_object item.linkage (object_named block item name.name) progress in
-      then_any _ (require (nat_le after.frame FRAME_LIMIT) TooLarge (line_of name)) _ (λ fits.
+      then_any _ (require (nat_le after.frame FRAME_LIMIT) TooLarge (place_of name)) _ (λ fits.
       with_objects_keeps block item others after)
 
   declare_item_adds : (block : Block) (item : ItemTree) (progress : Progress)
@@ -267,7 +267,7 @@ module _ (n : ℕ) where
       then _ _ (declare_names block (declared_by item.subject) progress.known.here) _
       (declare_names_keeps block (declared_by item.subject) progress.known.here) (λ here labels.
       then_any _ (typed_item progress.known block item) _ (λ typed.
-      then_any _ (require (nat_le (size_of_item typed) OBJECT_LIMIT) TooLarge (line_of_item item)) _ (λ fits.
+      then_any _ (require (nat_le (size_of_item typed) OBJECT_LIMIT) TooLarge (place_of_item item)) _ (λ fits.
       then _ _ (with_objects block typed (declared_by item.subject) progress) _
       (with_objects_keeps block typed (declared_by item.subject) progress) (λ declared procedures.
       same_adds progress.known (record declared.known { here = here }) procedures labels))))
@@ -275,9 +275,9 @@ module _ (n : ℕ) where
   declare_definition_adds : (block : Block) (name : Identifier) (progress : Progress)
       → IfOk (declare_definition block name progress) (AddsNone progress)
   declare_definition_adds block name progress =
-      then_any _ (require (not (is_declared_again progress.known.here name.name)) DeclaredTwice (line_of name)) _
+      then_any _ (require (not (is_declared_again progress.known.here name.name)) DeclaredTwice (place_of name)) _
       (λ is_new.
-      then_any _ (require (not (is_external block.owner)) MisplacedAttribute (line_of name)) _ (λ may_stand.
+      then_any _ (require (not (is_external block.owner)) ExternalContents (place_of name)) _ (λ may_stand.
       stays progress.known))
 
   declare_element_adds : (block : Block) (element : ElementTree) (progress : Progress)
@@ -306,9 +306,9 @@ module _ (n : ℕ) where
       let named : Here = with_procedure heading.name.name progress.known.here in
       let new : TypedProcedure = procedure_with heading (parameter_types declared heading.parameters) [] 0 empty_list in
       then_any _ (require (not (is_declared_again progress.known.here heading.name.name)) DeclaredTwice
-      (line_of heading.name)) _ (λ is_new.
-      then_any _ (require (not (is_reentrant block.owner || is_external block.owner)) MisplacedAttribute
-      (line_of heading.name)) _ (λ may_stand.
+      (place_of heading.name)) _ (λ is_new.
+      then_any _ (require (not (is_reentrant block.owner || is_external block.owner)) NestedProcedure
+      (place_of heading.name)) _ (λ may_stand.
       then _ _ (declare_parameters (take PARAMETER_LIMIT heading.parameters) (into_body named)) _
       (declare_parameters_keeps (take PARAMETER_LIMIT heading.parameters) (into_body named)) (λ here labels.
       then_any _ (no_more_parameters (drop PARAMETER_LIMIT heading.parameters)) _ (λ are_all.
@@ -386,7 +386,7 @@ module _ (n : ℕ) where
     kind_adds block (AssignmentStatement targets source) progress = assignment_adds targets source progress
     kind_adds block (CallStatement place name trees) progress =
         call_adds name (record { trees = trees; typed = arguments progress.known trees }) progress
-    kind_adds block (ReturnStatement place result) progress = return_adds place.line block.owner result progress
+    kind_adds block (ReturnStatement place result) progress = return_adds place block.owner result progress
     kind_adds block (HaltStatement place) progress = stays progress.known
     kind_adds block (GotoStatement place label) progress = goto_adds label progress
     kind_adds block (IfStatement place condition body otherwise) progress =

@@ -1,5 +1,5 @@
 -- Parts of a text that have no fault of names, or a first one, and how far the text is after them.
-use Rattle.typing.proofs.Prelude.{◌≡◌, ◌⊎◌, ℕ, Bool, true, false, List, [], ◌∷◌, ◌++◌, Option, None, Some, Ok, append_assoc, inl, inr, refl, sym, ap, subst, ◌∙◌, Contains, not, Contains-append_left, Contains-append_right, option_or, Identifier, Binding, Here, binding_of, Event, Use, Declaration, Seen, nothing, in_turn, moves, see_all, uses_at, declares, fault_of, first_fault, UnknownName, DeclaredTwice, Fault, Checked, ◌>>=◌, require, found, Known, bound, line_of, as_refusal}
+use Rattle.typing.proofs.Prelude.{◌≡◌, ◌⊎◌, ℕ, Bool, true, false, List, [], ◌∷◌, ◌++◌, Option, None, Some, Ok, append_assoc, inl, inr, refl, sym, ap, subst, ◌∙◌, Contains, not, Contains-append_left, Contains-append_right, option_or, Identifier, Binding, Here, binding_of, Event, Use, Declaration, Seen, nothing, in_turn, moves, see_all, uses_at, declares, fault_of, first_fault, UnknownName, DeclaredTwice, Fault, Checked, ◌>>=◌, require, found, Known, bound, place_of, as_refusal}
 use Rattle.names.specs.declared.fault.Fault as name_fault
 use Rattle.names.specs.declared.fault.Fault.TheVariants as name_faults
 use Rattle.typing.proofs.Names.Meeting.{Meets, Joins, Never, meets_ok, meets_then, meets_more, meets_as, after_other, before_other}
@@ -140,16 +140,16 @@ pub bound-finds : (known : Known) (name : Identifier)
 bound-finds known name = by (binding_of known.here name.name) refl
   where
     by : (option : Option Binding) → binding_of known.here name.name ≡ option
-        → Finds known.here (name ∷ []) [] (found option UnknownName (line_of name))
+        → Finds known.here (name ∷ []) [] (found option UnknownName (place_of name))
     by (Some binding) is =
         meets_ok (subst (λ (option : Option Binding). fault_of (Use name option) ≡ None) (sym is) refl, tt) tt
     by None is = record {
       given = λ a e. absurd cc;
       refused = λ refusal e names.
-          let same : record { cause = UnknownName; line = line_of name } ≡ refusal = cc in
+          let same : record { cause = UnknownName; place = place_of name } ≡ refusal = cc in
           inl (inl (record {
-            fault = name_faults.Unknown (line_of name);
-            is = subst (λ (option : Option Binding). fault_of (Use name option) ≡ Some (name_faults.Unknown (line_of name)))
+            fault = name_faults.Unknown (place_of name);
+            is = subst (λ (option : Option Binding). fault_of (Use name option) ≡ Some (name_faults.Unknown (place_of name)))
                 (sym is) refl;
             same = same;
           }));
@@ -285,13 +285,13 @@ see_all_append see (first ∷ some) others here =
 -- a name that is declared: not again, or it is to blame
 pub declared-once : (name : Identifier) (again : Bool)
     → Meets (NoFault (Declaration name again ∷ [])) (IsWrong (Declaration name again ∷ []) []) (λ (a : Unit {0}). Unit {0})
-    (require (not again) DeclaredTwice (line_of name))
+    (require (not again) DeclaredTwice (place_of name))
 declared-once name false = meets_ok (refl, tt) tt
 declared-once name true = record {
   given = λ a e. absurd cc;
   refused = λ refusal e names.
-      let same : record { cause = DeclaredTwice; line = line_of name } ≡ refusal = cc in
-      inl (inl (record { fault = name_faults.DeclaredTwice (line_of name); is = refl; same = same }));
+      let same : record { cause = DeclaredTwice; place = place_of name } ≡ refusal = cc in
+      inl (inl (record { fault = name_faults.DeclaredTwice (place_of name); is = refl; same = same }));
 }
 
 pub declared-walks : {A B : Type 0} (is_again : Here → List ℕ → Bool) (with_it : List ℕ → Here → Here) (name : Identifier)

@@ -1,5 +1,5 @@
 -- The names in expressions are known where these are typed, and where they are not typed for a name, one is to blame.
-use Rattle.typing.proofs.Prelude.{nat_le, ◌≡◌, ◌==◌, ℕ, List, [], ◌∷◌, ◌++◌, length, Option, None, Some, inl, inr, refl, sym, subst, append-nil, arith, Contains-append_right, Identifier, NumberConstant, StringConstant, ExpressionTree, ConstantLeaf, ReferenceLeaf, LocationLeaf, ListLeaf, ParenthesizedNode, AssignmentNode, UnaryNode, BinaryNode, ReferenceTree, ReferenceTo, MemberTree, NoMember, MemberOf, ArgumentTrees, NoArguments, MoreArguments, Binding, Declared, BuiltInName, BuiltIn, Object, Procedure, Here, names_in_expression, names_in_reference, names_in_member, names_in_arguments, Measure, ShiftFunction, UnaryFunction, Subscript, ObjectType, TypedObject, TypedProcedure, Constants, member_named, size_of_element, UnknownName, WrongUse, WrongConstant, NoLocation, Checked, ◌>>=◌, found, Known, Given, count_of_given, takes_subscripts, members_of, has_location, subscript_of, GivenMember, WithoutMember, WithMember, GivenReference, Extent, AnElement, AlsoTheWhole, line_of, bound, part_with_member, part_of, scalar_part, location_of_bound, location_of, port_of_character, port_of, without_member, destination_of_bound, destination_of, call_arguments, call_of, measured_object, measured_member, measurement, number_of_variable, unary_function, shift_function, input_value, built_in_value, value_of_bound, value_of, expression, given_reference, given_member, arguments, Fault, members_in_expression, members_in_reference, members_in_member, members_in_arguments, unknown_member}
+use Rattle.typing.proofs.Prelude.{nat_le, ◌≡◌, ◌==◌, ℕ, List, [], ◌∷◌, ◌++◌, length, Option, None, Some, inl, inr, refl, sym, subst, append-nil, arith, Contains-append_right, Identifier, Place, NumberConstant, StringConstant, ExpressionTree, ConstantLeaf, ReferenceLeaf, LocationLeaf, ListLeaf, ParenthesizedNode, AssignmentNode, UnaryNode, BinaryNode, ReferenceTree, ReferenceTo, MemberTree, NoMember, MemberOf, ArgumentTrees, NoArguments, MoreArguments, Binding, Declared, BuiltInName, BuiltIn, Object, Procedure, Here, names_in_expression, names_in_reference, names_in_member, names_in_arguments, Measure, ShiftFunction, UnaryFunction, Subscript, ObjectType, TypedObject, TypedProcedure, Constants, member_named, size_of_element, UnknownName, SubscriptMismatch, MemberMismatch, ArgumentCount, ValueOfUntyped, NoVariable, NotMeasurable, PortNotConstant, PortTooLarge, NoLocation, Checked, ◌>>=◌, found, Known, Given, count_of_given, takes_subscripts, members_of, has_location, subscript_of, GivenMember, WithoutMember, WithMember, GivenReference, Extent, AnElement, AlsoTheWhole, place_of, bound, part_with_member, part_of, scalar_part, location_of_bound, location_of, port_of_character, port_of, without_member, destination_of_bound, destination_of, call_arguments, call_of, measured_object, measured_member, measurement, number_of_variable, unary_function, shift_function, input_value, built_in_value, value_of_bound, value_of, expression, given_reference, given_member, arguments, Fault, members_in_expression, members_in_reference, members_in_member, members_in_arguments, unknown_member}
 use Rattle.names.specs.declared.entity.BuiltIn.TheVariants as built_ins
 use Rattle.typed_trees.specs.declared.parts.Measure.TheVariants as measures
 use Rattle.typed_trees.specs.declared.parts.ShiftFunction.TheVariants as shifts
@@ -42,7 +42,7 @@ members_after given = members_in_arguments given.arguments.trees ++ members_of_m
 member-finds : {A B : Type 0} (here : Here) (names : List Identifier) (members : List Fault) (name : Identifier) (option : Option A)
     {next : A → Checked B}
     → ((a : A) → Finds here names members (next a))
-    → Finds here names (unknown_member name ∷ members) (found option UnknownName (line_of name) >>= next)
+    → Finds here names (unknown_member name ∷ members) (found option UnknownName (place_of name) >>= next)
 member-finds here names members name (Some a) then_is =
     meets_as (λ known. known) (λ refusal wrong. more refusal wrong) (then_is a)
   where
@@ -60,22 +60,22 @@ member-finds here names members name None then_is = record {
 without_member-finds : (here : Here) (member : GivenMember)
     → Finds here (names_of_member member) (members_of_member member) (without_member member)
 without_member-finds here WithoutMember = meets_ok tt tt
-without_member-finds here (WithMember name given) = meets_fault WrongUse (line_of name) not_of_names
+without_member-finds here (WithMember name given) = meets_fault MemberMismatch (place_of name) not_of_names
 
 -- a port, in which no name stands
-character-other : (line : ℕ) (characters : List ℕ) → IsOther (port_of_character line characters)
-character-other line (character ∷ []) =
-    after_other (other_required (nat_le character 255) WrongConstant line not_of_names) λ _ _. meets_ok tt tt
-character-other line characters = meets_fault WrongUse line not_of_names
+character-other : (place : Place) (characters : List ℕ) → IsOther (port_of_character place characters)
+character-other place (character ∷ []) =
+    after_other (other_required (nat_le character 255) PortTooLarge place not_of_names) λ _ _. meets_ok tt tt
+character-other place characters = meets_fault PortNotConstant place not_of_names
 
-port_of-finds : (here : Here) (line : ℕ) (trees : ArgumentTrees)
-    → Finds here (names_in_arguments trees) (members_in_arguments trees) (port_of line trees)
-port_of-finds here line (MoreArguments (ConstantLeaf (NumberConstant number)) NoArguments) =
-    after_other (other_required (nat_le number.value 255) WrongConstant number.place.line not_of_names) λ _ _.
+port_of-finds : (here : Here) (place : Place) (trees : ArgumentTrees)
+    → Finds here (names_in_arguments trees) (members_in_arguments trees) (port_of place trees)
+port_of-finds here place (MoreArguments (ConstantLeaf (NumberConstant number)) NoArguments) =
+    after_other (other_required (nat_le number.value 255) PortTooLarge number.place not_of_names) λ _ _.
     meets_ok tt tt
-port_of-finds here line (MoreArguments (ConstantLeaf (StringConstant string)) NoArguments) =
-    meets_as (λ _. tt) (λ refusal never. absurd never) (character-other line string.characters)
-port_of-finds here line trees = meets_fault WrongUse line not_of_names
+port_of-finds here place (MoreArguments (ConstantLeaf (StringConstant string)) NoArguments) =
+    meets_as (λ _. tt) (λ refusal never. absurd never) (character-other place string.characters)
+port_of-finds here place trees = meets_fault PortNotConstant place not_of_names
 
 -- parts of objects
 part_with_member-finds : (here : Here) (number : ℕ) (object_type : ObjectType) (element : Subscript) (extent : Extent)
@@ -85,11 +85,11 @@ part_with_member-finds : (here : Here) (number : ℕ) (object_type : ObjectType)
     (part_with_member number object_type element extent member constants)
 part_with_member-finds here number object_type element extent WithoutMember constants fits = meets_ok tt tt
 part_with_member-finds here number object_type element extent (WithMember name given) constants fits =
-    after_other (other_found (members_of object_type) WrongUse (line_of name) not_of_names) λ members _.
+    after_other (other_found (members_of object_type) MemberMismatch (place_of name) not_of_names) λ members _.
     member-finds here (names_in_arguments given.trees) (members_in_arguments given.trees) name
     (member_named members name.name) λ place.
     after_other
-    (other_required (takes_subscripts extent place.member.dimension (count_of_given given)) WrongUse (line_of name)
+    (other_required (takes_subscripts extent place.member.dimension (count_of_given given)) SubscriptMismatch (place_of name)
     not_of_names) λ _ _.
     before_other (fits constants) λ typed _.
     meets_ok tt tt
@@ -99,36 +99,36 @@ measured_member-finds : (here : Here) (number : ℕ) (object : TypedObject) (par
     → Finds here (names_in_member part) (members_in_member part) (measured_member number object part)
 measured_member-finds here number object NoMember = meets_ok tt tt
 measured_member-finds here number object (MemberOf name NoArguments) =
-    after_other (other_found (members_of object.object_type) WrongUse (line_of name) not_of_names) λ members _.
+    after_other (other_found (members_of object.object_type) MemberMismatch (place_of name) not_of_names) λ members _.
     member-finds here [] [] name (member_named members name.name) λ place.
     meets_ok tt tt
 measured_member-finds here number object (MemberOf name (MoreArguments first others)) =
-    meets_fault WrongUse (line_of name) not_of_names
+    meets_fault NotMeasurable (place_of name) not_of_names
 
 measured_object-finds : (known : Known) (binding : Binding) (name : Identifier) (part : MemberTree)
     → Finds known.here (names_in_member part) (members_in_member part) (measured_object known binding name part)
 measured_object-finds known (Declared (Object number)) name part =
     after_other (object-other known name number) λ object _.
     measured_member-finds known.here number object part
-measured_object-finds known binding name part = meets_fault WrongUse (line_of name) not_of_names
+measured_object-finds known binding name part = meets_fault NoVariable (place_of name) not_of_names
 
-measurement-finds : (known : Known) (measure : Measure) (line : ℕ) (trees : ArgumentTrees)
-    → Finds known.here (names_in_arguments trees) (members_in_arguments trees) (measurement known measure line trees)
-measurement-finds known measure line (MoreArguments (ReferenceLeaf (ReferenceTo name NoArguments part)) NoArguments) =
+measurement-finds : (known : Known) (measure : Measure) (place : Place) (trees : ArgumentTrees)
+    → Finds known.here (names_in_arguments trees) (members_in_arguments trees) (measurement known measure place trees)
+measurement-finds known measure place (MoreArguments (ReferenceLeaf (ReferenceTo name NoArguments part)) NoArguments) =
     subst
     (λ (names : List Identifier). Finds known.here names (members_in_member part ++ [])
-    (measurement known measure line (MoreArguments (ReferenceLeaf (ReferenceTo name NoArguments part)) NoArguments)))
+    (measurement known measure place (MoreArguments (ReferenceLeaf (ReferenceTo name NoArguments part)) NoArguments)))
     (sym (append-nil (name ∷ names_in_member part)))
     (subst
     (λ (members : List Fault). Finds known.here (name ∷ names_in_member part) members
-    (measurement known measure line (MoreArguments (ReferenceLeaf (ReferenceTo name NoArguments part)) NoArguments)))
+    (measurement known measure place (MoreArguments (ReferenceLeaf (ReferenceTo name NoArguments part)) NoArguments)))
     (sym (append-nil (members_in_member part)))
     (meets_then (names_join known.here (name ∷ []) (names_in_member part) [] (members_in_member part))
     (bound-finds known name) λ binding _.
     before_other (measured_object-finds known binding name part) λ measured _.
-    after_other (measure-other measure measured (line_of name)) λ value _.
+    after_other (measure-other measure measured (place_of name)) λ value _.
     meets_ok tt tt))
-measurement-finds known measure line trees = meets_fault WrongUse line not_of_names
+measurement-finds known measure place trees = meets_fault NotMeasurable place not_of_names
 
 -- A reference whose arguments are typed.
 module _ (known : Known) (given : GivenReference) (fits : ReferenceFits known given) where
@@ -148,8 +148,8 @@ module _ (known : Known) (given : GivenReference) (fits : ReferenceFits known gi
       → FindsAfter (part_of number object extent given constants)
   part_of-finds number object extent constants =
       after_other
-      (other_required (takes_subscripts extent object.dimension (count_of_given given.arguments)) WrongUse
-      (line_of given.name) not_of_names) λ _ _.
+      (other_required (takes_subscripts extent object.dimension (count_of_given given.arguments)) SubscriptMismatch
+      (place_of given.name) not_of_names) λ _ _.
       meets_then then_member (fits.arguments constants) λ typed _.
       part_with_member-finds known.here number object.object_type
       (subscript_of (size_of_element object.object_type) object.dimension typed.0) extent given.member typed.1
@@ -159,15 +159,15 @@ module _ (known : Known) (given : GivenReference) (fits : ReferenceFits known gi
       → FindsAfter (scalar_part number object given constants)
   scalar_part-finds number object constants =
       before_other (part_of-finds number object AnElement constants) λ part _.
-      after_other (other_found part.0.scalar WrongUse (line_of given.name) not_of_names) λ scalar _.
+      after_other (other_found part.0.scalar MemberMismatch (place_of given.name) not_of_names) λ scalar _.
       meets_ok tt tt
 
-  call_arguments-finds : (procedure : TypedProcedure) (line : ℕ) (constants : Constants)
+  call_arguments-finds : (procedure : TypedProcedure) (place : Place) (constants : Constants)
       → Finds known.here (names_in_arguments given.arguments.trees) (members_in_arguments given.arguments.trees)
-      (call_arguments procedure line given.arguments constants)
-  call_arguments-finds procedure line constants =
+      (call_arguments procedure place given.arguments constants)
+  call_arguments-finds procedure place constants =
       after_other
-      (other_required (count_of_given given.arguments == length procedure.parameter_types) WrongUse line not_of_names)
+      (other_required (count_of_given given.arguments == length procedure.parameter_types) ArgumentCount place not_of_names)
       λ _ _.
       before_other (fits.arguments constants) λ typed _.
       meets_ok tt tt
@@ -175,8 +175,8 @@ module _ (known : Known) (given : GivenReference) (fits : ReferenceFits known gi
   call_of-finds : (number : ℕ) (procedure : TypedProcedure) (constants : Constants)
       → FindsAfter (call_of number procedure given constants)
   call_of-finds number procedure constants =
-      after_other (other_found procedure.result WrongUse (line_of given.name) not_of_names) λ result _.
-      meets_then then_member (call_arguments-finds procedure (line_of given.name) constants) λ typed _.
+      after_other (other_found procedure.result ValueOfUntyped (place_of given.name) not_of_names) λ result _.
+      meets_then then_member (call_arguments-finds procedure (place_of given.name) constants) λ typed _.
       before_other (without_member-finds known.here given.member) λ _ _.
       meets_ok tt tt
 
@@ -184,39 +184,39 @@ module _ (known : Known) (given : GivenReference) (fits : ReferenceFits known gi
       → FindsAfter (unary_function function given constants)
   unary_function-finds function constants =
       after_other
-      (other_required (count_of_given given.arguments == 1) WrongUse (line_of given.name) not_of_names) λ _ _.
+      (other_required (count_of_given given.arguments == 1) ArgumentCount (place_of given.name) not_of_names) λ _ _.
       meets_then then_member (fits.arguments constants) λ typed _.
       before_other (without_member-finds known.here given.member) λ _ _.
-      after_other (function-other function (line_of given.name) typed.0) λ node _.
+      after_other (function-other function (place_of given.name) typed.0) λ node _.
       meets_ok tt tt
 
   shift_function-finds : (function : ShiftFunction) (constants : Constants)
       → FindsAfter (shift_function function given constants)
   shift_function-finds function constants =
       after_other
-      (other_required (count_of_given given.arguments == 2) WrongUse (line_of given.name) not_of_names) λ _ _.
+      (other_required (count_of_given given.arguments == 2) ArgumentCount (place_of given.name) not_of_names) λ _ _.
       meets_then then_member (fits.arguments constants) λ typed _.
       before_other (without_member-finds known.here given.member) λ _ _.
-      after_other (shift-other function (line_of given.name) typed.0) λ node _.
+      after_other (shift-other function (place_of given.name) typed.0) λ node _.
       meets_ok tt tt
 
   input_value-finds : (constants : Constants) → FindsAfter (input_value given constants)
   input_value-finds constants =
-      meets_then then_member (port_of-finds known.here (line_of given.name) given.arguments.trees) λ port _.
+      meets_then then_member (port_of-finds known.here (place_of given.name) given.arguments.trees) λ port _.
       before_other (without_member-finds known.here given.member) λ _ _.
       meets_ok tt tt
 
   number_of_variable-finds : (measure : Measure) (constants : Constants)
       → FindsAfter (number_of_variable known measure given constants)
   number_of_variable-finds measure constants =
-      meets_then then_member (measurement-finds known measure (line_of given.name) given.arguments.trees) λ node _.
+      meets_then then_member (measurement-finds known measure (place_of given.name) given.arguments.trees) λ node _.
       before_other (without_member-finds known.here given.member) λ _ _.
       meets_ok tt tt
 
   built_in_value-finds : (built_in : BuiltIn) (constants : Constants)
       → FindsAfter (built_in_value known built_in given constants)
   built_in_value-finds built_ins.Input constants = input_value-finds constants
-  built_in_value-finds built_ins.Output constants = meets_fault WrongUse (line_of given.name) not_of_names
+  built_in_value-finds built_ins.Output constants = meets_fault ValueOfUntyped (place_of given.name) not_of_names
   built_in_value-finds built_ins.Low constants = unary_function-finds functions.Low constants
   built_in_value-finds built_ins.High constants = unary_function-finds functions.High constants
   built_in_value-finds built_ins.Double constants = unary_function-finds functions.Double constants
@@ -227,7 +227,7 @@ module _ (known : Known) (given : GivenReference) (fits : ReferenceFits known gi
   built_in_value-finds built_ins.ShiftRight constants = shift_function-finds shifts.ShiftRight constants
   built_in_value-finds built_ins.RotateLeft constants = shift_function-finds shifts.RotateLeft constants
   built_in_value-finds built_ins.RotateRight constants = shift_function-finds shifts.RotateRight constants
-  built_in_value-finds built_ins.Move constants = meets_fault WrongUse (line_of given.name) not_of_names
+  built_in_value-finds built_ins.Move constants = meets_fault ValueOfUntyped (place_of given.name) not_of_names
 
   value_of_bound-finds : (binding : Binding) (constants : Constants)
       → FindsAfter (value_of_bound known binding given constants)
@@ -239,18 +239,18 @@ module _ (known : Known) (given : GivenReference) (fits : ReferenceFits known gi
       after_other (procedure-other known given.name number) λ procedure _.
       call_of-finds number procedure constants
   value_of_bound-finds (BuiltInName built_in) constants = built_in_value-finds built_in constants
-  value_of_bound-finds binding constants = meets_fault WrongUse (line_of given.name) not_of_names
+  value_of_bound-finds binding constants = meets_fault NoVariable (place_of given.name) not_of_names
 
   location_of_bound-finds : (binding : Binding) (constants : Constants)
       → FindsAfter (location_of_bound known binding given constants)
   location_of_bound-finds (Declared (Object number)) constants =
       after_other (object-other known given.name number) λ object _.
-      after_other (other_required (has_location object.home) NoLocation (line_of given.name) not_of_names) λ _ _.
+      after_other (other_required (has_location object.home) NoLocation (place_of given.name) not_of_names) λ _ _.
       before_other (part_of-finds number object AlsoTheWhole constants) λ part _.
       meets_ok tt tt
   location_of_bound-finds (Declared (Procedure number)) constants =
-      meets_fault NoLocation (line_of given.name) not_of_names
-  location_of_bound-finds binding constants = meets_fault WrongUse (line_of given.name) not_of_names
+      meets_fault NoLocation (place_of given.name) not_of_names
+  location_of_bound-finds binding constants = meets_fault NoVariable (place_of given.name) not_of_names
 
   destination_of_bound-finds : (binding : Binding) (constants : Constants)
       → FindsAfter (destination_of_bound known binding given constants)
@@ -260,10 +260,10 @@ module _ (known : Known) (given : GivenReference) (fits : ReferenceFits known gi
       before_other (scalar_part-finds number object constants) λ part _.
       meets_ok tt tt
   destination_of_bound-finds (BuiltInName built_ins.Output) constants =
-      meets_then then_member (port_of-finds known.here (line_of given.name) given.arguments.trees) λ port _.
+      meets_then then_member (port_of-finds known.here (place_of given.name) given.arguments.trees) λ port _.
       before_other (without_member-finds known.here given.member) λ _ _.
       meets_ok tt tt
-  destination_of_bound-finds binding constants = meets_fault WrongUse (line_of given.name) not_of_names
+  destination_of_bound-finds binding constants = meets_fault NoVariable (place_of given.name) not_of_names
 
   -- with its own name, which is bound first
   with_name : {A : Type 0} {next : Binding → Checked A}
@@ -374,12 +374,12 @@ target-finds known reference constants =
 abbrev pub arguments_given : Known → ArgumentTrees → Given
 arguments_given known trees = record { trees = trees; typed = arguments known trees }
 
-pub call-finds : (known : Known) (procedure : TypedProcedure) (line : ℕ) (trees : ArgumentTrees) (constants : Constants)
+pub call-finds : (known : Known) (procedure : TypedProcedure) (place : Place) (trees : ArgumentTrees) (constants : Constants)
     → Finds known.here (names_in_arguments trees) (members_in_arguments trees)
-    (call_arguments procedure line (arguments_given known trees) constants)
-call-finds known procedure line trees constants =
+    (call_arguments procedure place (arguments_given known trees) constants)
+call-finds known procedure place trees constants =
     after_other
-    (other_required (count_of_given (arguments_given known trees) == length procedure.parameter_types) WrongUse line
+    (other_required (count_of_given (arguments_given known trees) == length procedure.parameter_types) ArgumentCount place
     not_of_names) λ _ _.
     before_other (arguments-find known trees constants) λ typed _.
     meets_ok tt tt

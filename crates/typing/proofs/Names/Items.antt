@@ -1,5 +1,5 @@
 -- The names in items are known where these are typed, and where they are not typed for a name, one is to blame.
-use Rattle.typing.proofs.Prelude.{◌≡◌, ℕ, Bool, true, false, inl, inr, sym, subst, append-nil, append_assoc, arith, List, [], ◌∷◌, ◌++◌, Option, None, Some, not, ◌&&◌, is_none, flat_map, Contains-append_right, ScalarType, Identifier, NumberConstant, StringConstant, OriginTree, ConstantOrigin, LocationOrigin, OffsetTree, RestrictedTree, SubjectTree, SingleSubject, GroupSubject, AtTree, ValueListTree, ItemTree, Here, names_in_restricted, names_in_subject, names_in_optional, names_in_item, ObjectType, Known, line_of, Block, Reach, ThisModule, OtherModulesToo, Extents, NoArray, Elements, AsListed, restricted_value, at_address, fill_value, fill, contents, enough_elements, line_of_origin, scalars_of_element, scalars_of_elements, names_parameter, is_base, base_of, typed_base, typed_type, is_plain, typed_at, typed_contents, typed_item, Member, ItemTypeTree, ScalarItem, StructureItem, TypedMember, has_member, DeclaredTwice, WrongUse, MisplacedAttribute, Fault, Checked, ◌>>=◌, require, line_of_item, place_of_storage, typed_members, members_in_type, twice_declared}
+use Rattle.typing.proofs.Prelude.{◌≡◌, ℕ, Bool, true, false, inl, inr, sym, subst, append-nil, append_assoc, arith, List, [], ◌∷◌, ◌++◌, Option, None, Some, not, ◌&&◌, is_none, flat_map, Contains-append_right, ScalarType, Identifier, Place, NumberConstant, StringConstant, OriginTree, ConstantOrigin, LocationOrigin, OffsetTree, RestrictedTree, SubjectTree, SingleSubject, GroupSubject, AtTree, ValueListTree, ItemTree, Here, names_in_restricted, names_in_subject, names_in_optional, names_in_item, ObjectType, Known, place_of, Block, Reach, ThisModule, OtherModulesToo, Extents, NoArray, Elements, AsListed, restricted_value, at_address, fill_value, fill, contents, enough_elements, place_of_origin, scalars_of_element, scalars_of_elements, names_parameter, is_base, base_of, typed_base, typed_type, is_plain, typed_at, typed_contents, typed_item, Member, ItemTypeTree, ScalarItem, StructureItem, TypedMember, has_member, DeclaredTwice, ParameterNotScalar, NoBase, MisplacedAt, MisplacedValues, BasedParameter, Fault, Checked, ◌>>=◌, require, place_of_item, place_of_storage, typed_members, members_in_type, twice_declared}
 use Rattle.typing.proofs.Names.Meeting.{Meets, meets_ok, meets_then, meets_as, after_other, before_other, other_required}
 use Rattle.typing.proofs.Names.Others.{not_of_names, constant-other, offsets-other, object-other, static-other, scalar-other, string-other, as_listed-other, bound-other, extents-other, dimension-other, linkage-other}
 use Rattle.typing.proofs.Names.Bound.{IsUnknown, Finds, names_join, bound-finds}
@@ -26,13 +26,13 @@ fill_value-finds known scalars (ConstantOrigin (StringConstant string)) [] =
 fill_value-finds known scalars (ConstantOrigin (StringConstant string)) (offset ∷ others) =
     before_other (restricted_value-finds OtherModulesToo known (ConstantOrigin (StringConstant string)) (offset ∷ others))
     λ value _.
-    scalar-other (line_of_origin (ConstantOrigin (StringConstant string))) scalars value
+    scalar-other (place_of_origin (ConstantOrigin (StringConstant string))) scalars value
 fill_value-finds known scalars (ConstantOrigin (NumberConstant number)) offsets =
     before_other (restricted_value-finds OtherModulesToo known (ConstantOrigin (NumberConstant number)) offsets) λ value _.
-    scalar-other (line_of_origin (ConstantOrigin (NumberConstant number))) scalars value
+    scalar-other (place_of_origin (ConstantOrigin (NumberConstant number))) scalars value
 fill_value-finds known scalars (LocationOrigin name) offsets =
     before_other (restricted_value-finds OtherModulesToo known (LocationOrigin name) offsets) λ value _.
-    scalar-other (line_of_origin (LocationOrigin name)) scalars value
+    scalar-other (place_of_origin (LocationOrigin name)) scalars value
 
 fill-finds : (known : Known) (values : List RestrictedTree) (scalars : List ScalarType)
     → Finds known.here (flat_map names_in_restricted values) [] (fill known values scalars)
@@ -44,17 +44,17 @@ fill-finds known (restricted ∷ others) scalars =
     before_other (fill-finds known others first.left) λ rest _.
     meets_ok tt tt
 
-contents-finds : (known : Known) (line : ℕ) (object_type : ObjectType) (extents : Extents) (values : List RestrictedTree)
-    → Finds known.here (flat_map names_in_restricted values) [] (contents known line object_type extents values)
-contents-finds known line object_type NoArray values =
+contents-finds : (known : Known) (place : Place) (object_type : ObjectType) (extents : Extents) (values : List RestrictedTree)
+    → Finds known.here (flat_map names_in_restricted values) [] (contents known place object_type extents values)
+contents-finds known place object_type NoArray values =
     before_other (fill-finds known values (scalars_of_element object_type)) λ filled _.
     meets_ok tt tt
-contents-finds known line object_type (Elements count) values =
+contents-finds known place object_type (Elements count) values =
     before_other (fill-finds known values (scalars_of_elements count object_type)) λ filled _.
     meets_ok tt tt
-contents-finds known line object_type AsListed values =
+contents-finds known place object_type AsListed values =
     before_other (fill-finds known values (scalars_of_elements (enough_elements values) object_type)) λ filled _.
-    as_listed-other line _ _ filled.values
+    as_listed-other place _ _ filled.values
 
 -- BASED, AT, and the list of INITIAL or DATA
 base-finds : (known : Known) (block : Block) (subject : SubjectTree)
@@ -62,12 +62,12 @@ base-finds : (known : Known) (block : Block) (subject : SubjectTree)
 base-finds known block (SingleSubject name None) = meets_ok tt tt
 base-finds known block (SingleSubject name (Some base)) =
     after_other
-    (other_required (not (names_parameter block (SingleSubject name (Some base)))) MisplacedAttribute (line_of base)
+    (other_required (not (names_parameter block (SingleSubject name (Some base)))) BasedParameter (place_of base)
     not_of_names) λ _ _.
     before_other (bound-finds known base) λ binding _.
-    after_other (bound-other binding (line_of base)) λ number _.
+    after_other (bound-other binding (place_of base)) λ number _.
     after_other (object-other known base number) λ object _.
-    after_other (other_required (is_base object) WrongUse (line_of base) not_of_names) λ _ _.
+    after_other (other_required (is_base object) NoBase (place_of base) not_of_names) λ _ _.
     meets_ok tt tt
 base-finds known block (GroupSubject names) = meets_ok tt tt
 
@@ -87,24 +87,24 @@ at-finds : (known : Known) (block : Block) (item : ItemTree) (at : Option AtTree
     → Finds known.here (names_at at) [] (typed_at known block item at)
 at-finds known block item None = meets_ok tt tt
 at-finds known block item (Some at) =
-    after_other (other_required (is_plain block item) MisplacedAttribute at.place.line not_of_names) λ _ _.
+    after_other (other_required (is_plain block item) MisplacedAt at.place not_of_names) λ _ _.
     before_other (address-finds known at.address) λ address _.
     meets_ok tt tt
 
 list-finds : (known : Known) (block : Block) (item : ItemTree) (object_type : ObjectType) (extents : Extents)
     (list : Option ValueListTree)
     → Finds known.here (names_in_list list) [] (typed_contents known block item object_type extents list)
-list-finds known block item object_type extents None = contents-finds known (line_of_item item) object_type extents []
+list-finds known block item object_type extents None = contents-finds known (place_of_item item) object_type extents []
 list-finds known block item object_type extents (Some list) =
     after_other
-    (other_required (is_plain block item && is_none item.at) MisplacedAttribute (place_of_storage list.storage).line
+    (other_required (is_plain block item && is_none item.at) MisplacedValues (place_of_storage list.storage)
     not_of_names) λ _ _.
-    contents-finds known (line_of_item item) object_type extents list.values
+    contents-finds known (place_of_item item) object_type extents list.values
 
 -- the members of a structure, which may have the names of others
 once-meets : (member : Member) (test : Bool)
     → Meets (Unit {0}) (λ (refusal : Fault). twice_declared member ≡ refusal) (λ (a : Unit {0}). Unit {0})
-    (require test DeclaredTwice (line_of member.name))
+    (require test DeclaredTwice (place_of member.name))
 once-meets member true = meets_ok tt tt
 once-meets member false = record { given = λ a e. absurd cc; refused = λ refusal e is_name. cc }
 
@@ -136,7 +136,7 @@ type-finds : (here : Here) (block : Block) (item : ItemTree) (type : ItemTypeTre
 type-finds here block item (ScalarItem scalar) = meets_ok tt tt
 type-finds here block item (StructureItem members) =
     after_other
-    (other_required (not (names_parameter block item.subject)) WrongUse (line_of_item item) not_of_names) λ _ _.
+    (other_required (not (names_parameter block item.subject)) ParameterNotScalar (place_of_item item) not_of_names) λ _ _.
     before_other (members-find here [] members) λ typed _.
     meets_ok tt tt
 

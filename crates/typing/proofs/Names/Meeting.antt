@@ -1,5 +1,5 @@
 -- A check beside what it is to find: where it gives something, no name is wrong, and where it is refused for a name, one is.
-use Rattle.typing.proofs.Prelude.{◌≡◌, ℕ, Bool, true, false, Option, Some, None, Ok, Err, refl, sym, subst, Cause, Fault, Checked, ◌>>=◌, refuse, require, found, IsOfNames}
+use Rattle.typing.proofs.Prelude.{◌≡◌, ℕ, Bool, true, false, Option, Some, None, Ok, Err, refl, sym, subst, Cause, Fault, Checked, ◌>>=◌, refuse, require, found, IsOfNames, Place}
 
 -- where a check gives something this holds, and of that; a refusal of names is such a one
 pub record Meets {A : Type 0} (Right : Type 0) (Wrong : Fault → Type 0) (P : A → Type 0) (result : Checked A) : Type 0 where
@@ -21,12 +21,12 @@ meets_ok {P = P} {a = a} right is = record {
   refused = λ refusal e names. absurd cc;
 }
 
-pub meets_fault : {A : Type 0} {Right : Type 0} {Wrong : Fault → Type 0} {P : A → Type 0} (cause : Cause) (line : ℕ)
-    → (IsOfNames cause → ⊥) → Meets Right Wrong P (refuse {A = A} cause line)
-meets_fault {Wrong = Wrong} cause line other = record {
+pub meets_fault : {A : Type 0} {Right : Type 0} {Wrong : Fault → Type 0} {P : A → Type 0} (cause : Cause) (place : Place)
+    → (IsOfNames cause → ⊥) → Meets Right Wrong P (refuse {A = A} cause place)
+meets_fault {Wrong = Wrong} cause place other = record {
   given = λ a e. absurd cc;
   refused = λ refusal e names.
-      let same : record { cause = cause; line = line } ≡ refusal = cc in
+      let same : record { cause = cause; place = place } ≡ refusal = cc in
       absurd (other (subst (λ (f : Fault). IsOfNames f.cause) (sym same) names));
 }
 
@@ -106,12 +106,12 @@ meets_as right wrong is = record {
 }
 
 -- the simple checks
-pub other_required : (test : Bool) (cause : Cause) (line : ℕ) → (IsOfNames cause → ⊥)
-    → IsOther (require test cause line)
-other_required true cause line other = meets_ok tt tt
-other_required false cause line other = meets_fault cause line other
+pub other_required : (test : Bool) (cause : Cause) (place : Place) → (IsOfNames cause → ⊥)
+    → IsOther (require test cause place)
+other_required true cause place other = meets_ok tt tt
+other_required false cause place other = meets_fault cause place other
 
-pub other_found : {A : Type 0} (option : Option A) (cause : Cause) (line : ℕ) → (IsOfNames cause → ⊥)
-    → IsOther (found option cause line)
-other_found (Some a) cause line other = meets_ok tt tt
-other_found None cause line other = meets_fault cause line other
+pub other_found : {A : Type 0} (option : Option A) (cause : Cause) (place : Place) → (IsOfNames cause → ⊥)
+    → IsOther (found option cause place)
+other_found (Some a) cause place other = meets_ok tt tt
+other_found None cause place other = meets_fault cause place other

@@ -1,6 +1,6 @@
 -- The typing of a module goes through its text as its binding does: where it is given no name has a fault, and where it is
 -- refused for one that is none of a member, that is the first fault.
-use Rattle.typing.proofs.Prelude.{◌≡◌, ℕ, ◌+◌, List, [], ◌∷◌, ◌++◌, Option, None, Some, Ok, Err, length, take, drop, refl, sym, ap, subst, ◌∙◌, append_assoc, inl, inr, ◌⊎◌, Contains, not, ◌||◌, nat_le, flat_map, take-append-drop, Identifier, ItemTree, ElementTree, LiterallyElement, ItemElement, HeadingTree, StatementTree, LabelledStatement, StatementKindTree, ElseTree, StatementTrees, DeclarationTree, DeclareTree, ProcedureTree, DeclarationTrees, NoDeclarations, MoreDeclarations, ModuleTree, Here, at_the_start, into_block, out_of_block, into_body, out_of_body, into_list, out_of_list, with_object, with_procedure, with_definition, with_parameter, with_label, is_declared_again, is_parameter_again, is_label_again, Event, Seen, in_turn, see_all, uses_at, see_item, see_element, see_kind, see_statements, see_alone, see_else, see_cases, see_declaration, see_declarations, in_list, moves, declares_object, declares_procedure, declares_label, labels_of, events_of, declared_by, names_in_item, IsFirstFault, TypedStatements, TypedModule, OBJECT_LIMIT, PARAMETER_LIMIT, MisplacedAttribute, MisplacedLabel, TooLarge, WrongConstant, Checked, line_of, Block, Progress, is_external, is_reentrant, declares_its_parameter, declare_names, declare_item, declare_element, declare_elements, size_of_item, line_of_item, with_here, declare_labels, list_of, declare_parameters, no_more_parameters, open_procedure, own_block, inner_block, entered, kind, alone, else_part, cases, statements, declaration, declarations, module_block, at_the_beginning, typing_of, Fault, ◌>>=◌, members_in_kind, members_in_statement, members_in_else, members_in_statements, members_in_element, members_in_type, members_in_declaration, members_in_declarations, members_in_module, IsFaultOfNames, IsOfNames, IsRefusedBeside, NamesAreBound, as_refusal}
+use Rattle.typing.proofs.Prelude.{◌≡◌, ℕ, ◌+◌, List, [], ◌∷◌, ◌++◌, Option, None, Some, Ok, Err, length, take, drop, refl, sym, ap, subst, ◌∙◌, append_assoc, inl, inr, ◌⊎◌, Contains, not, ◌||◌, nat_le, flat_map, take-append-drop, Identifier, ItemTree, ElementTree, LiterallyElement, ItemElement, HeadingTree, StatementTree, LabelledStatement, StatementKindTree, ElseTree, StatementTrees, DeclarationTree, DeclareTree, ProcedureTree, DeclarationTrees, NoDeclarations, MoreDeclarations, ModuleTree, Here, at_the_start, into_block, out_of_block, into_body, out_of_body, into_list, out_of_list, with_object, with_procedure, with_definition, with_parameter, with_label, is_declared_again, is_parameter_again, is_label_again, Event, Seen, in_turn, see_all, uses_at, see_item, see_element, see_kind, see_statements, see_alone, see_else, see_cases, see_declaration, see_declarations, in_list, moves, declares_object, declares_procedure, declares_label, labels_of, events_of, declared_by, names_in_item, IsFirstFault, TypedStatements, TypedModule, OBJECT_LIMIT, PARAMETER_LIMIT, NestedProcedure, ExternalContents, TooManyParameters, MisplacedLabel, TooLarge, Checked, place_of, Block, Progress, is_external, is_reentrant, declares_its_parameter, declare_names, declare_item, declare_element, declare_elements, size_of_item, place_of_item, with_here, declare_labels, list_of, declare_parameters, no_more_parameters, open_procedure, own_block, inner_block, entered, kind, alone, else_part, cases, statements, declaration, declarations, module_block, at_the_beginning, typing_of, Fault, ◌>>=◌, members_in_kind, members_in_statement, members_in_else, members_in_statements, members_in_element, members_in_type, members_in_declaration, members_in_declarations, members_in_module, IsFaultOfNames, IsOfNames, IsRefusedBeside, NamesAreBound, as_refusal}
 use Rattle.trees.specs.Trees as trees
 use Rattle.names.specs.Events.{declares_parameter}
 use Rattle.names.specs.declared.fault.Fault as name_fault
@@ -38,8 +38,8 @@ names-walk block [] here = walks_nothing here refl
 names-walk block (name ∷ others) here =
     declared-walks is_declared_again with_object name here (declared-once name _) λ _.
     after_walks
-    (other_required (not (is_external block.owner) || declares_its_parameter block name.name) MisplacedAttribute
-    (line_of name) not_of_names) λ _ _.
+    (other_required (not (is_external block.owner) || declares_its_parameter block name.name) ExternalContents
+    (place_of name) not_of_names) λ _ _.
     names-walk block others (with_object name.name here)
 
 -- a DECLARE
@@ -54,7 +54,7 @@ item-walks block item progress = record {
       (names-walk block (declared_by item.subject) (here_in progress)).meets λ here is.
       before_other (item-finds progress.known block item) λ typed _.
       after_other
-      (other_required (nat_le (size_of_item typed) OBJECT_LIMIT) TooLarge (line_of_item item) not_of_names) λ _ _.
+      (other_required (nat_le (size_of_item typed) OBJECT_LIMIT) TooLarge (place_of_item item) not_of_names) λ _ _.
       after_other (objects-other block typed (declared_by item.subject) progress) λ declared _.
       meets_ok tt is;
 }
@@ -64,7 +64,7 @@ element-walks : (block : Block) (element : ElementTree) (progress : Progress)
     (declare_element block element progress)
 element-walks block (LiterallyElement name text) progress =
     declared-alone is_declared_again with_definition name (here_in progress) (declared-once name _) λ _.
-    after_other (other_required (not (is_external block.owner)) MisplacedAttribute (line_of name) not_of_names) λ _ _.
+    after_other (other_required (not (is_external block.owner)) ExternalContents (place_of name) not_of_names) λ _ _.
     meets_ok tt refl
 element-walks block (ItemElement item) progress = item-walks block item progress
 
@@ -81,7 +81,7 @@ no_more-walks : (parameters : List Identifier) (here : Here)
     → Walks (see_all declares_parameter parameters) here [] (λ (a : Unit {0}). here) (no_more_parameters parameters)
 no_more-walks [] here = walks_nothing here refl
 no_more-walks (parameter ∷ others) here =
-    record { meets = meets_fault WrongConstant (line_of parameter) not_of_names }
+    record { meets = meets_fault TooManyParameters (place_of parameter) not_of_names }
 
 all-walk : {A : Type 0} {there_of : A → Here} (parameters : List Identifier) (here : Here) {next : Here → Checked A}
     → ((after : Here) → Meets (Unit {0}) Never (λ (a : A). there_of a ≡ after) (next after))
@@ -107,7 +107,7 @@ heading-walks : (block : Block) (heading : HeadingTree) (declared : DeclarationT
 heading-walks block heading declared progress =
     declared-walks is_declared_again with_procedure heading.name (here_in progress) (declared-once heading.name _) λ _.
     after_walks
-    (other_required (not (is_reentrant block.owner || is_external block.owner)) MisplacedAttribute (line_of heading.name)
+    (other_required (not (is_reentrant block.owner || is_external block.owner)) NestedProcedure (place_of heading.name)
     not_of_names) λ _ _.
     walks_in into_body (with_procedure heading.name.name (here_in progress))
     (all-walk heading.parameters (into_body (with_procedure heading.name.name (here_in progress))) λ after.
@@ -173,7 +173,7 @@ mutual
   kind-walks block (trees.CallStatement place name values) progress =
       uses_walk progress _ _ _ (call-uses name values progress)
   kind-walks block (trees.ReturnStatement place result) progress =
-      uses_walk progress _ _ _ (return_from-uses place.line block.owner result progress)
+      uses_walk progress _ _ _ (return_from-uses place block.owner result progress)
   kind-walks block (trees.HaltStatement place) progress = walks_nothing (here_in progress) refl
   kind-walks block (trees.GotoStatement place label) progress = goto-walks label progress
   kind-walks block (trees.IfStatement place condition body otherwise) progress =
@@ -205,7 +205,7 @@ mutual
       → Walks (see_alone tree) (here_in progress) (members_in_statement tree) here_after (alone block tree progress)
   alone-walks block (LabelledStatement [] tree) progress = kind-walks block tree progress
   alone-walks block (LabelledStatement (label ∷ labels) tree) progress =
-      record { meets = meets_fault MisplacedLabel (line_of label) not_of_names }
+      record { meets = meets_fault MisplacedLabel (place_of label) not_of_names }
 
   else-walks : (block : Block) (tree : ElseTree) (progress : Progress)
       → Walks (see_else tree) (here_in progress) (members_in_else tree) here_after (else_part block tree progress)

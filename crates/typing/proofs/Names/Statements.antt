@@ -1,5 +1,5 @@
 -- What statements need beside the statements in them: their names are known, or one is to blame.
-use Rattle.typing.proofs.Prelude.{◌≡◌, ◌==◌, ℕ, List, [], ◌∷◌, ◌++◌, Option, None, Some, refl, sym, subst, append_assoc, is_none, flat_map, option_map_or, ScalarType, Identifier, ExpressionTree, ReferenceTree, ArgumentTrees, IterationTree, Binding, Declared, BuiltInName, Move, Procedure, Here, jump_of, uses_of, jumps_to, names_in_expression, names_in_reference, names_in_arguments, names_in_optional, names_in_iteration, TypedStatement, Constants, Known, line_of, count_of_given, Owner, TheModule, OfProcedure, Progress, value, with_constants, destinations, assignment, call_bound, call, return_with, return_from, goto, step, iteration, WrongUse, Fault, Checked, members_in_expression, members_in_reference, members_in_arguments, members_in_iteration}
+use Rattle.typing.proofs.Prelude.{◌≡◌, ◌==◌, ℕ, List, [], ◌∷◌, ◌++◌, Option, None, Some, refl, sym, subst, append_assoc, is_none, flat_map, option_map_or, ScalarType, Identifier, Place, ExpressionTree, ReferenceTree, ArgumentTrees, IterationTree, Binding, Declared, BuiltInName, Move, Procedure, Here, jump_of, uses_of, jumps_to, names_in_expression, names_in_reference, names_in_arguments, names_in_optional, names_in_iteration, TypedStatement, Constants, Known, place_of, count_of_given, Owner, TheModule, OfProcedure, Progress, value, with_constants, destinations, assignment, call_bound, call, return_with, return_from, goto, step, iteration, ArgumentCount, CallOfTyped, CallOfNoProcedure, ReturnMismatch, ReturnOutside, Fault, Checked, members_in_expression, members_in_reference, members_in_arguments, members_in_iteration}
 use Rattle.typing.proofs.Names.Meeting.{Meets, meets_ok, meets_fault, meets_then, after_other, before_other, other_required}
 use Rattle.typing.proofs.Names.Others.{not_of_names, procedure-other, moved-other, goto-other, counter-other}
 use Rattle.typing.proofs.Names.Bound.{AreKnown, IsUnknown, Walks, names_join, bound-finds}
@@ -68,16 +68,16 @@ call_bound-finds : (known : Known) (binding : Binding) (name : Identifier) (tree
     (call_bound known binding name (arguments_given known trees) constants)
 call_bound-finds known (Declared (Procedure number)) name trees constants =
     after_other (procedure-other known name number) λ procedure _.
-    after_other (other_required (is_none procedure.result) WrongUse (line_of name) not_of_names) λ _ _.
-    before_other (call-finds known procedure (line_of name) trees constants) λ typed _.
+    after_other (other_required (is_none procedure.result) CallOfTyped (place_of name) not_of_names) λ _ _.
+    before_other (call-finds known procedure (place_of name) trees constants) λ typed _.
     meets_ok tt tt
 call_bound-finds known (BuiltInName Move) name trees constants =
     after_other
-    (other_required (count_of_given (arguments_given known trees) == 3) WrongUse (line_of name) not_of_names) λ _ _.
+    (other_required (count_of_given (arguments_given known trees) == 3) ArgumentCount (place_of name) not_of_names) λ _ _.
     before_other (arguments-find known trees constants) λ typed _.
-    after_other (moved-other (line_of name) typed.0) λ moving _.
+    after_other (moved-other (place_of name) typed.0) λ moving _.
     meets_ok tt tt
-call_bound-finds known binding name trees constants = meets_fault WrongUse (line_of name) not_of_names
+call_bound-finds known binding name trees constants = meets_fault CallOfNoProcedure (place_of name) not_of_names
 
 pub call-uses : (name : Identifier) (trees : ArgumentTrees) (progress : Progress)
     → Uses progress (name ∷ names_in_arguments trees) (members_in_arguments trees)
@@ -90,22 +90,22 @@ call-uses name trees progress =
     meets_ok tt refl
 
 -- RETURN
-return_with-uses : (line : ℕ) (result : Option ScalarType) (tree : Option ExpressionTree) (progress : Progress)
+return_with-uses : (place : Place) (result : Option ScalarType) (tree : Option ExpressionTree) (progress : Progress)
     → Uses progress (names_in_optional names_in_expression tree) (option_map_or members_in_expression tree [])
-    (return_with line result tree progress)
-return_with-uses line None None progress = meets_ok tt refl
-return_with-uses line (Some scalar) (Some tree) progress =
+    (return_with place result tree progress)
+return_with-uses place None None progress = meets_ok tt refl
+return_with-uses place (Some scalar) (Some tree) progress =
     before_other (value-uses tree progress) λ typed same.
     meets_ok tt same
-return_with-uses line None (Some tree) progress = meets_fault WrongUse line not_of_names
-return_with-uses line (Some scalar) None progress = meets_fault WrongUse line not_of_names
+return_with-uses place None (Some tree) progress = meets_fault ReturnMismatch place not_of_names
+return_with-uses place (Some scalar) None progress = meets_fault ReturnMismatch place not_of_names
 
-pub return_from-uses : (line : ℕ) (owner : Owner) (tree : Option ExpressionTree) (progress : Progress)
+pub return_from-uses : (place : Place) (owner : Owner) (tree : Option ExpressionTree) (progress : Progress)
     → Uses progress (names_in_optional names_in_expression tree) (option_map_or members_in_expression tree [])
-    (return_from line owner tree progress)
-return_from-uses line TheModule tree progress = meets_fault WrongUse line not_of_names
-return_from-uses line (OfProcedure number heading) tree progress =
-    return_with-uses line heading.result tree progress
+    (return_from place owner tree progress)
+return_from-uses place TheModule tree progress = meets_fault ReturnOutside place not_of_names
+return_from-uses place (OfProcedure number heading) tree progress =
+    return_with-uses place heading.result tree progress
 
 -- GOTO, whose label is no use that could be unknown
 pub goto-walks : (label : Identifier) (progress : Progress)
@@ -113,7 +113,7 @@ pub goto-walks : (label : Identifier) (progress : Progress)
     (goto label progress)
 unfolding jumps_to
 goto-walks label progress = record {
-  meets = after_other (goto-other (line_of label) (jump_of progress.known.here label.name)) λ typed _.
+  meets = after_other (goto-other (place_of label) (jump_of progress.known.here label.name)) λ typed _.
       meets_ok (refl, tt) refl;
 }
 

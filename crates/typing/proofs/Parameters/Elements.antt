@@ -1,5 +1,5 @@
 -- DECLARE in a block: what its elements add to the tables and, where the block is that of a procedure, to its names.
-use Rattle.typing.proofs.Prelude.{◌≡◌, ℕ, ◌+◌, ◌<◌, inr, Bool, true, false, ◌||◌, List, [], ◌∷◌, ◌++◌, length, Option, Some, None, Ok, nat_le, refl, ap, sym, subst, ◌∙◌, append-nil, arith, not, AllByRecursion, list_any, option_or, ScalarType, Identifier, ElementTree, ItemElement, ItemTree, LiterallyElement, Definition, is_declared_again, with_definition, declared_by, OBJECT_LIMIT, InFrame, TypedObject, DeclaredTwice, MisplacedAttribute, TooLarge, require, Block, OfProcedure, Owner, Progress, TheModule, declares_parameter, is_external, TypedItem, declare_definition, declare_element, declare_elements, declare_item, declare_names, line_of_item, names_parameter, object_named, size_of_item, typed_item, with_objects, scalar_in_element, scalar_in_elements, scalar_of_type, Known, line_of, and_parts, or_right}
+use Rattle.typing.proofs.Prelude.{◌≡◌, ℕ, ◌+◌, ◌<◌, inr, Bool, true, false, ◌||◌, List, [], ◌∷◌, ◌++◌, length, Option, Some, None, Ok, nat_le, refl, ap, sym, subst, ◌∙◌, append-nil, arith, not, AllByRecursion, list_any, option_or, ScalarType, Identifier, ElementTree, ItemElement, ItemTree, LiterallyElement, Definition, is_declared_again, with_definition, declared_by, OBJECT_LIMIT, InFrame, TypedObject, DeclaredTwice, ExternalContents, TooLarge, require, Block, OfProcedure, Owner, Progress, TheModule, declares_parameter, is_external, TypedItem, declare_definition, declare_element, declare_elements, declare_item, declare_names, place_of_item, names_parameter, object_named, size_of_item, typed_item, with_objects, scalar_in_element, scalar_in_elements, scalar_of_type, Known, place_of, and_parts, or_right}
 use Rattle.typing.proofs.Types.FramesSummed.{HomeFits, typed_item_home}
 use Rattle.typing.proofs.Kept.{Gives, anything, gives_after, gives_ok, in_turn, required, then_more}
 use Rattle.typing.proofs.Types.TypesOfDeclarations.{made, with_objects-make}
@@ -98,7 +98,7 @@ declare_item-goes block item progress scan stands owned =
     let scalar : ScalarType = scalar_of_type item.item_type in
     in_turn (anything (declare_names block names progress.known.here)) λ here named.
     in_turn (anything (typed_item progress.known block item)) λ typed typed_as.
-    gives_after (require (nat_le (size_of_item typed) OBJECT_LIMIT) TooLarge (line_of_item item)) λ small.
+    gives_after (require (nat_le (size_of_item typed) OBJECT_LIMIT) TooLarge (place_of_item item)) λ small.
     in_turn (anything (with_objects block typed names progress)) λ declared declared_as.
     let is = (with_objects-make block typed names progress).holds declared declared_as in
     let own =
@@ -135,8 +135,8 @@ declare_definition-goes : (block : Block) (name : Identifier) (progress : Progre
     → Owned block scan progress.known.objects progress.known.here.body.block
     → Gives (GoesOn block progress scan) (declare_definition block name progress)
 declare_definition-goes block name progress scan stands owned =
-    in_turn (required (not (is_declared_again progress.known.here name.name)) DeclaredTwice (line_of name)) λ _ once.
-    gives_after (require (not (is_external block.owner)) MisplacedAttribute (line_of name)) λ placed.
+    in_turn (required (not (is_declared_again progress.known.here name.name)) DeclaredTwice (place_of name)) λ _ once.
+    gives_after (require (not (is_external block.owner)) ExternalContents (place_of name)) λ placed.
     gives_ok (
       grown_same progress (record progress {
         known = record progress.known { here = with_definition name.name progress.known.here };

@@ -1,5 +1,5 @@
 -- What a DECLARE adds: objects, of which those that are named as parameters are scalars of the types that the text says.
-use Rattle.typing.proofs.Prelude.{◌≡◌, ℕ, Bool, true, false, ◌&&◌, ◌||◌, List, [], ◌∷◌, ◌++◌, length, map, Option, Some, None, if◌then◌else◌, nat_le, refl, ap, sym, subst, ◌∙◌, append-nil, append_assoc, length-append, arith, is_none, is_some, not, slice_get, AllByRecursion, lookup, option_or, bytes_eq, insert_entry, Dimension, Count, Implied, Linkage, ScalarType, Identifier, AtTree, HeadingTree, ItemTree, ItemTypeTree, ScalarItem, StructureItem, ValueListTree, Entity, Object, Here, Names, is_among, is_declared_again, with_object, AtAddress, home_of_parameters, Elsewhere, Home, InData, InFrame, Nowhere, ObjectType, ScalarObject, TypedObject, DeclaredTwice, MisplacedAttribute, WrongConstant, WrongUse, require, Block, OfProcedure, Owner, TheModule, declares_parameter, is_external, is_external_linkage, Contents, Extents, NoArray, TypedItem, base_of, check_linkage, declare_names, extents_of, home_in, home_of, home_with_values, is_data, is_plain, line_of_item, names_parameter, object_named, typed_at, typed_base, typed_contents, typed_item, typed_type, scalar_of_type, visibility_of, Known, line_of, and_parts}
+use Rattle.typing.proofs.Prelude.{◌≡◌, ℕ, Bool, true, false, ◌&&◌, ◌||◌, List, [], ◌∷◌, ◌++◌, length, map, Option, Some, None, if◌then◌else◌, nat_le, refl, ap, sym, subst, ◌∙◌, append-nil, append_assoc, length-append, arith, is_none, is_some, not, slice_get, AllByRecursion, lookup, option_or, bytes_eq, insert_entry, Dimension, Count, Implied, Linkage, ScalarType, Identifier, AtTree, HeadingTree, ItemTree, ItemTypeTree, ScalarItem, StructureItem, ValueListTree, Entity, Object, Here, Names, is_among, is_declared_again, with_object, AtAddress, home_of_parameters, Elsewhere, Home, InData, InFrame, Nowhere, ObjectType, ScalarObject, TypedObject, DeclaredTwice, ParameterNotScalar, MisplacedAt, BasedParameter, ExternalContents, ZeroDimension, require, Block, OfProcedure, Owner, TheModule, declares_parameter, is_external, is_external_linkage, Contents, Extents, NoArray, TypedItem, base_of, check_linkage, declare_names, extents_of, home_in, home_of, home_with_values, is_data, is_plain, place_of_item, names_parameter, object_named, typed_at, typed_base, typed_contents, typed_item, typed_type, scalar_of_type, visibility_of, Known, place_of, and_parts}
 use Rattle.trees.specs.declared.declaration.Linkage.TheVariants as linkages
 use Rattle.typing.proofs.Kept.{Gives, gives_after, gives_ok, in_turn, required, then_more}
 use Rattle.typing.proofs.Types.TypesOfDeclarations.{made}
@@ -132,9 +132,9 @@ declare_names-own block typed scalar (name ∷ others) here scan objects own cou
     let object : TypedObject = object_named block typed name.name in
     let whole : (objects ++ (object ∷ [])) ++ made block typed others ≡ objects ++ made block typed (name ∷ others) =
     append_assoc objects (object ∷ []) (made block typed others) in
-    in_turn (required (not (is_declared_again here name.name)) DeclaredTwice (line_of name)) λ _ once.
-    gives_after (require (not (is_external block.owner) || declares_parameter block name.name) MisplacedAttribute
-    (line_of name)) λ placed.
+    in_turn (required (not (is_declared_again here name.name)) DeclaredTwice (place_of name)) λ _ once.
+    gives_after (require (not (is_external block.owner) || declares_parameter block name.name) ExternalContents
+    (place_of name)) λ placed.
     let own_next : Owned block (with_type scan name.name scalar) (objects ++ (object ∷ []))
     (with_object name.name here).body.block =
     subst
@@ -171,25 +171,25 @@ module _ (known : Known) (number : ℕ) (heading : HeadingTree) (item : ItemTree
       → Gives (λ (found : Option ℕ). found ≡ None) (typed_base known OwnOf item.subject base)
   base_none names None = gives_ok refl
   base_none names (Some name) =
-      in_turn (required (not (names_parameter OwnOf item.subject)) MisplacedAttribute (line_of name)) λ _ lacks.
+      in_turn (required (not (names_parameter OwnOf item.subject)) BasedParameter (place_of name)) λ _ lacks.
       absurd (no_such (names_parameter OwnOf item.subject) lacks names)
 
   no_array : NamesOne → (dimension : Option Dimension)
       → Gives (λ (extents : Extents). extents ≡ NoArray) (extents_of OwnOf item dimension)
   no_array names None = gives_ok refl
   no_array names (Some (Count count)) =
-      gives_after (require (nat_le 1 count.value) WrongConstant count.place.line) λ _.
-      in_turn (required (not (names_parameter OwnOf item.subject)) WrongUse count.place.line) λ _ lacks.
+      gives_after (require (nat_le 1 count.value) ZeroDimension count.place) λ _.
+      in_turn (required (not (names_parameter OwnOf item.subject)) ParameterNotScalar count.place) λ _ lacks.
       absurd (no_such (names_parameter OwnOf item.subject) lacks names)
   no_array names (Some Implied) =
-      in_turn (required (not (names_parameter OwnOf item.subject)) WrongUse (line_of_item item)) λ _ lacks.
+      in_turn (required (not (names_parameter OwnOf item.subject)) ParameterNotScalar (place_of_item item)) λ _ lacks.
       absurd (no_such (names_parameter OwnOf item.subject) lacks names)
 
   scalar_type : NamesOne → (tree : ItemTypeTree)
       → Gives (λ (object_type : ObjectType). object_type ≡ ScalarObject (scalar_of_type tree)) (typed_type OwnOf item tree)
   scalar_type names (ScalarItem scalar) = gives_ok refl
   scalar_type names (StructureItem members) =
-      in_turn (required (not (names_parameter OwnOf item.subject)) WrongUse (line_of_item item)) λ _ lacks.
+      in_turn (required (not (names_parameter OwnOf item.subject)) ParameterNotScalar (place_of_item item)) λ _ lacks.
       absurd (no_such (names_parameter OwnOf item.subject) lacks names)
 
   no_linkage : (linkage : Option Linkage)
@@ -206,7 +206,7 @@ module _ (known : Known) (number : ℕ) (heading : HeadingTree) (item : ItemTree
       → Gives (λ (found : Option AtAddress). found ≡ None) (typed_at known OwnOf item at)
   at_none names None = gives_ok refl
   at_none names (Some at) =
-      in_turn (required (is_plain OwnOf item) MisplacedAttribute at.place.line) λ _ plain.
+      in_turn (required (is_plain OwnOf item) MisplacedAt at.place) λ _ plain.
       absurd (is_not_plain names plain)
 
   abbrev IsEmpty : Option ValueListTree → Contents → Type 0

@@ -1,5 +1,5 @@
 -- Headings of procedures: where their bodies begin, and what is known of their parameters there.
-use Rattle.typing.proofs.Prelude.{◌≡◌, ℕ, zero, suc, ◌≤◌, Bool, true, false, ◌||◌, List, [], ◌∷◌, ◌++◌, length, take, drop, refl, ap, sym, subst, ◌∙◌, arith, if◌then◌else◌, not, AllByRecursion, bytes_eq, insert_key, Identifier, DeclarationTrees, HeadingTree, Here, into_body, is_among, is_declared_again, is_parameter_again, with_parameter, with_procedure, PARAMETER_LIMIT, DeclaredTwice, require, Block, Progress, is_external, is_reentrant, check_reentrant, check_visibility, declare_parameters, no_more_parameters, open_procedure, line_of, bytes_eq-Decides, not-true, or_assoc, or_parts}
+use Rattle.typing.proofs.Prelude.{◌≡◌, ℕ, zero, suc, ◌≤◌, Bool, true, false, ◌||◌, List, [], ◌∷◌, ◌++◌, length, take, drop, refl, ap, sym, subst, ◌∙◌, arith, if◌then◌else◌, not, AllByRecursion, bytes_eq, insert_key, Identifier, DeclarationTrees, HeadingTree, Here, into_body, is_among, is_declared_again, is_parameter_again, with_parameter, with_procedure, PARAMETER_LIMIT, DeclaredTwice, require, Block, Progress, is_external, is_reentrant, check_reentrant, check_visibility, declare_parameters, no_more_parameters, open_procedure, place_of, bytes_eq-Decides, not-true, or_assoc, or_parts}
 use Rattle.typing.proofs.Kept.{Gives, gives_after, gives_fault, gives_ok, in_turn, required, then_more}
 use Rattle.typing.proofs.Types.TypesOfDeclarations.{heading_procedure}
 use Rattle.typing.proofs.Parameters.Grown.{all_more}
@@ -42,7 +42,7 @@ pub parameters_differ : (parameters : List Identifier) (here : Here)
     → Gives (Differing parameters here) (declare_parameters parameters here)
 parameters_differ [] here = gives_ok (record { differ = tt; new = tt; block = refl; around = refl; count = refl })
 parameters_differ (parameter ∷ others) here =
-    in_turn (required (not (is_parameter_again here parameter.name)) DeclaredTwice (line_of parameter)) λ _ once.
+    in_turn (required (not (is_parameter_again here parameter.name)) DeclaredTwice (place_of parameter)) λ _ once.
     then_more (parameters_differ others (with_parameter parameter.name here)) λ after is.
     let new : is_among here.body.declared parameter.name ≡ false =
     not-true (is_among here.body.declared parameter.name) once in
@@ -95,7 +95,7 @@ pub opens : (block : Block) (heading : HeadingTree) (declared : DeclarationTrees
     → Gives (Opened heading declared progress) (open_procedure block heading declared progress)
 opens block heading declared progress =
     in_turn (required (not (is_declared_again progress.known.here heading.name.name)) DeclaredTwice
-    (line_of heading.name)) λ _ once.
+    (place_of heading.name)) λ _ once.
     gives_after (require (not (is_reentrant block.owner || is_external block.owner)) _ _) λ plain.
     in_turn
     (parameters_differ (take PARAMETER_LIMIT heading.parameters)

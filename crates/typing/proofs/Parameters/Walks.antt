@@ -1,5 +1,5 @@
 -- The parameters of every typed module fit: along the typing of a text.
-use Rattle.typing.proofs.Prelude.{◌≡◌, ℕ, ◌+◌, ◌<◌, true, false, List, [], ◌∷◌, length, Option, Some, None, Ok, refl, ap, sym, subst, ◌∙◌, append-nil, All, not, enumerate_from, option_or, All-from_recursion, ScalarType, Identifier, ArgumentTrees, DeclarationTree, DeclarationTrees, DeclareTree, ElseTree, ExpressionTree, IterationTree, ModuleTree, MoreDeclarations, NoDeclarations, ProcedureTree, ReferenceTree, StatementKindTree, StatementTree, StatementTrees, Here, Names, into_list, is_label_again, out_of_list, with_label, jump_of, labels_of, HasParameters, ParametersFit, TypedList, TypedModule, TypedObject, TypedProcedure, TypedStatements, DeclaredTwice, Block, OfProcedure, Owner, Progress, TheModule, Checked, require, arguments, expression, check_body, own_block, scalar_in_block, scalar_in_declaration, Given, Known, bound, line_of, assignment, call, call_bound, counter_bound, declare_labels, destinations, goto, goto_bound, iteration, labels_before, list_of, return_from, return_with, step, value, with_constants, with_here, without_label, alone, at_the_beginning, cases, declaration, declarations, else_part, entered, inner_block, kind, labelled, left, module_block, module_with, statements, typing_of}
+use Rattle.typing.proofs.Prelude.{◌≡◌, ℕ, ◌+◌, ◌<◌, true, false, List, [], ◌∷◌, length, Option, Some, None, Ok, refl, ap, sym, subst, ◌∙◌, append-nil, All, not, enumerate_from, option_or, All-from_recursion, ScalarType, Identifier, Place, ArgumentTrees, DeclarationTree, DeclarationTrees, DeclareTree, ElseTree, ExpressionTree, IterationTree, ModuleTree, MoreDeclarations, NoDeclarations, ProcedureTree, ReferenceTree, StatementKindTree, StatementTree, StatementTrees, Here, Names, into_list, is_label_again, out_of_list, with_label, jump_of, labels_of, HasParameters, ParametersFit, TypedList, TypedModule, TypedObject, TypedProcedure, TypedStatements, DeclaredTwice, Block, OfProcedure, Owner, Progress, TheModule, Checked, require, arguments, expression, check_body, own_block, scalar_in_block, scalar_in_declaration, Given, Known, bound, place_of, assignment, call, call_bound, counter_bound, declare_labels, destinations, goto, goto_bound, iteration, labels_before, list_of, return_from, return_with, step, value, with_constants, with_here, without_label, alone, at_the_beginning, cases, declaration, declarations, else_part, entered, inner_block, kind, labelled, left, module_block, module_with, statements, typing_of}
 use Rattle.trees.specs.Trees as trees
 use Rattle.typing.proofs.Kept.{Gives, gives_after, gives_fault, gives_ok, in_turn, then_more}
 use Rattle.typing.proofs.Parameters.Closing.{closed_goes, nothing, own_begins, own_stands}
@@ -43,22 +43,22 @@ call_same name given progress =
     gives_after (call_bound progress.known binding name given progress.constants) λ typed.
     gives_ok refl
 
-return_with_same : (line : ℕ) (result : Option ScalarType) (tree : Option ExpressionTree) (progress : Progress)
-    → Gives (λ found. Same progress found.1) (return_with line result tree progress)
-return_with_same line None None progress = gives_ok refl
-return_with_same line (Some scalar) (Some tree) progress =
+return_with_same : (place : Place) (result : Option ScalarType) (tree : Option ExpressionTree) (progress : Progress)
+    → Gives (λ found. Same progress found.1) (return_with place result tree progress)
+return_with_same place None None progress = gives_ok refl
+return_with_same place (Some scalar) (Some tree) progress =
     in_turn (value_same tree progress) λ found same. gives_ok same
-return_with_same line (Some scalar) None progress = gives_fault
-return_with_same line None (Some tree) progress = gives_fault
+return_with_same place (Some scalar) None progress = gives_fault
+return_with_same place None (Some tree) progress = gives_fault
 
-pub return_same : (line : ℕ) (owner : Owner) (tree : Option ExpressionTree) (progress : Progress)
-    → Gives (λ found. Same progress found.1) (return_from line owner tree progress)
-return_same line TheModule tree progress = gives_fault
-return_same line (OfProcedure number heading) tree progress = return_with_same line heading.result tree progress
+pub return_same : (place : Place) (owner : Owner) (tree : Option ExpressionTree) (progress : Progress)
+    → Gives (λ found. Same progress found.1) (return_from place owner tree progress)
+return_same place TheModule tree progress = gives_fault
+return_same place (OfProcedure number heading) tree progress = return_with_same place heading.result tree progress
 
 pub goto_same : (label : Identifier) (progress : Progress) → Gives (λ found. Same progress found.1) (goto label progress)
 goto_same label progress =
-    gives_after (goto_bound (line_of label) (jump_of progress.known.here label.name)) λ typed. gives_ok refl
+    gives_after (goto_bound (place_of label) (jump_of progress.known.here label.name)) λ typed. gives_ok refl
 
 step_same : (tree : Option ExpressionTree) (progress : Progress)
     → Gives (λ found. Same progress found.1) (step tree progress)
@@ -92,7 +92,7 @@ labels_same : (labels : List Identifier) (here : Here)
     (declare_labels labels here)
 labels_same [] here = gives_ok (refl, refl)
 labels_same (label ∷ others) here =
-    gives_after (require (not (is_label_again here label.name)) DeclaredTwice (line_of label)) λ once.
+    gives_after (require (not (is_label_again here label.name)) DeclaredTwice (place_of label)) λ once.
     labels_same others (with_label label.name here)
 
 -- a block that is no procedure's own has nothing to keep
@@ -132,7 +132,7 @@ mutual
   kind_grows block (trees.CallStatement place name values) progress stands =
       from_same (call_same name (record { trees = values; typed = arguments progress.known values }) progress)
   kind_grows block (trees.ReturnStatement place result) progress stands =
-      from_same (return_same place.line block.owner result progress)
+      from_same (return_same place block.owner result progress)
   kind_grows block (trees.HaltStatement place) progress stands = gives_ok (grown_known progress progress refl)
   kind_grows block (trees.GotoStatement place label) progress stands = from_same (goto_same label progress)
   kind_grows block (trees.IfStatement place condition body otherwise) progress stands =

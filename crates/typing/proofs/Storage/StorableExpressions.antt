@@ -1,5 +1,5 @@
 -- Expressions add nothing to the constants but constant lists, with a place each.
-use Rattle.typing.proofs.Prelude.{ℕ, List, IfOk, ◌==◌, length, ExpressionTree, ConstantLeaf, ReferenceLeaf, LocationLeaf, ListLeaf, ParenthesizedNode, AssignmentNode, UnaryNode, BinaryNode, ReferenceTree, ReferenceTo, NoMember, MemberOf, ArgumentTrees, NoArguments, MoreArguments, Binding, Declared, BuiltInName, BuiltIn, Object, Procedure, Measure, ShiftFunction, UnaryFunction, Subscript, ObjectType, TypedObject, TypedProcedure, Constants, member_named, UnknownName, WrongUse, NoLocation, require, found, Known, Given, GivenMember, WithoutMember, WithMember, GivenReference, line_of, count_of_given, bound, object_of, procedure_of, Extent, AnElement, AlsoTheWhole, takes_subscripts, members_of, part_with_member, part_of, scalar_part, has_location, location_of_bound, location_of, port_of, without_member, is_writable, destination_of_bound, destination_of, call_arguments, call_of, function_of, unary_function, shift_of, shift_function, input_value, measurement, number_of_variable, built_in_value, value_of_bound, value_of, number_node, expression, given_reference, arguments}
+use Rattle.typing.proofs.Prelude.{ℕ, List, IfOk, ◌==◌, length, ExpressionTree, ConstantLeaf, ReferenceLeaf, LocationLeaf, ListLeaf, ParenthesizedNode, AssignmentNode, UnaryNode, BinaryNode, ReferenceTree, ReferenceTo, NoMember, MemberOf, ArgumentTrees, NoArguments, MoreArguments, Binding, Declared, BuiltInName, BuiltIn, Object, Procedure, Measure, ShiftFunction, UnaryFunction, Subscript, ObjectType, TypedObject, TypedProcedure, Constants, member_named, UnknownName, SubscriptMismatch, MemberMismatch, ArgumentCount, ValueOfUntyped, NoLocation, require, found, Known, Given, GivenMember, WithoutMember, WithMember, GivenReference, place_of, count_of_given, bound, object_of, procedure_of, Extent, AnElement, AlsoTheWhole, takes_subscripts, members_of, part_with_member, part_of, scalar_part, has_location, location_of_bound, location_of, port_of, without_member, is_writable, destination_of_bound, destination_of, call_arguments, call_of, function_of, unary_function, shift_of, shift_function, input_value, measurement, number_of_variable, built_in_value, value_of_bound, value_of, number_node, expression, given_reference, arguments, Place}
 use Rattle.names.specs.declared.entity.BuiltIn.TheVariants as built_ins
 use Rattle.typed_trees.specs.declared.parts.Measure.TheVariants as measures
 use Rattle.typed_trees.specs.declared.parts.ShiftFunction.TheVariants as shifts
@@ -29,18 +29,18 @@ module _ {objects : List TypedObject} where
       (λ typed. AreStorable objects typed.1)
   part_with_member_is object object_type index extent WithoutMember constants keeps are = are
   part_with_member_is object object_type index extent (WithMember name given) constants keeps are =
-      then_any _ (found (members_of object_type) WrongUse (line_of name)) _ (λ members.
-      then_any _ (found (member_named members name.name) UnknownName (line_of name)) _ (λ place.
-      then_any _ (require (takes_subscripts extent place.member.dimension (count_of_given given)) WrongUse
-      (line_of name)) _ (λ takes.
+      then_any _ (found (members_of object_type) MemberMismatch (place_of name)) _ (λ members.
+      then_any _ (found (member_named members name.name) UnknownName (place_of name)) _ (λ place.
+      then_any _ (require (takes_subscripts extent place.member.dimension (count_of_given given)) SubscriptMismatch
+      (place_of name)) _ (λ takes.
       then _ _ (given.typed constants) _ (keeps constants are) (λ typed is. is))))
 
   part_of_is : (number : ℕ) (object : TypedObject) (extent : Extent) (given : GivenReference) (constants : Constants)
       → ReferenceKeeps objects given → AreStorable objects constants
       → IfOk (part_of number object extent given constants) (λ typed. AreStorable objects typed.1)
   part_of_is number object extent given constants keeps are =
-      then_any _ (require (takes_subscripts extent object.dimension (count_of_given given.arguments)) WrongUse
-      (line_of given.name)) _ (λ takes.
+      then_any _ (require (takes_subscripts extent object.dimension (count_of_given given.arguments)) SubscriptMismatch
+      (place_of given.name)) _ (λ takes.
       then _ _ (given.arguments.typed constants) _ (keeps.arguments constants are) (λ typed is.
       part_with_member_is number object.object_type _ extent given.member typed.1 keeps.member is))
 
@@ -50,7 +50,7 @@ module _ {objects : List TypedObject} where
   scalar_part_is number object given constants keeps are =
       then _ _ (part_of number object AnElement given constants) _
       (part_of_is number object AnElement given constants keeps are) (λ part is.
-      then_any _ (found part.0.scalar WrongUse (line_of given.name)) _ (λ scalar. is))
+      then_any _ (found part.0.scalar MemberMismatch (place_of given.name)) _ (λ scalar. is))
 
   -- locations
   location_of_bound_is : (known : Known) (binding : Binding) (given : GivenReference) (constants : Constants)
@@ -58,7 +58,7 @@ module _ {objects : List TypedObject} where
       → IfOk (location_of_bound known binding given constants) (λ typed. AreStorable objects typed.1)
   location_of_bound_is known (Declared (Object number)) given constants keeps are =
       then_any _ (object_of known given.name number) _ (λ object.
-      then_any _ (require (has_location object.home) NoLocation (line_of given.name)) _ (λ has.
+      then_any _ (require (has_location object.home) NoLocation (place_of given.name)) _ (λ has.
       then _ _ (part_of number object AlsoTheWhole given constants) _
       (part_of_is number object AlsoTheWhole given constants keeps are) (λ part is. is)))
   location_of_bound_is known (Declared (Procedure number)) given constants keeps are = tt
@@ -81,7 +81,7 @@ module _ {objects : List TypedObject} where
       then _ _ (scalar_part number object given constants) _
       (scalar_part_is number object given constants keeps are) (λ part is. is)))
   destination_of_bound_is known (BuiltInName built_ins.Output) given constants keeps are =
-      then_any _ (port_of (line_of given.name) given.arguments.trees) _ (λ port.
+      then_any _ (port_of (place_of given.name) given.arguments.trees) _ (λ port.
       then_any _ (without_member given.member) _ (λ has_none. are))
   destination_of_bound_is known binding given constants keeps are = tt
 
@@ -93,20 +93,20 @@ module _ {objects : List TypedObject} where
       destination_of_bound_is known binding given constants keeps are)
 
   -- calls
-  pub call_arguments_is : (procedure : TypedProcedure) (line : ℕ) (given : Given) (constants : Constants)
+  pub call_arguments_is : (procedure : TypedProcedure) (place : Place) (given : Given) (constants : Constants)
       → GivenKeeps objects given → AreStorable objects constants
-      → IfOk (call_arguments procedure line given constants) (λ typed. AreStorable objects typed.1)
-  call_arguments_is procedure line given constants keeps are =
-      then_any _ (require (count_of_given given == length procedure.parameter_types) WrongUse line) _ (λ are_all.
+      → IfOk (call_arguments procedure place given constants) (λ typed. AreStorable objects typed.1)
+  call_arguments_is procedure place given constants keeps are =
+      then_any _ (require (count_of_given given == length procedure.parameter_types) ArgumentCount place) _ (λ are_all.
       then _ _ (given.typed constants) _ (keeps constants are) (λ typed is. is))
 
   call_of_is : (number : ℕ) (procedure : TypedProcedure) (given : GivenReference) (constants : Constants)
       → ReferenceKeeps objects given → AreStorable objects constants
       → IfOk (call_of number procedure given constants) (λ typed. AreStorable objects typed.1)
   call_of_is number procedure given constants keeps are =
-      then_any _ (found procedure.result WrongUse (line_of given.name)) _ (λ result.
-      then _ _ (call_arguments procedure (line_of given.name) given.arguments constants) _
-      (call_arguments_is procedure (line_of given.name) given.arguments constants keeps.arguments are) (λ typed is.
+      then_any _ (found procedure.result ValueOfUntyped (place_of given.name)) _ (λ result.
+      then _ _ (call_arguments procedure (place_of given.name) given.arguments constants) _
+      (call_arguments_is procedure (place_of given.name) given.arguments constants keeps.arguments are) (λ typed is.
       then_any _ (without_member given.member) _ (λ has_none. is)))
 
   -- built-in functions
@@ -114,31 +114,31 @@ module _ {objects : List TypedObject} where
       → ReferenceKeeps objects given → AreStorable objects constants
       → IfOk (unary_function function given constants) (λ typed. AreStorable objects typed.1)
   unary_function_is function given constants keeps are =
-      then_any _ (require (count_of_given given.arguments == 1) WrongUse (line_of given.name)) _ (λ is_one.
+      then_any _ (require (count_of_given given.arguments == 1) ArgumentCount (place_of given.name)) _ (λ is_one.
       then _ _ (given.arguments.typed constants) _ (keeps.arguments constants are) (λ typed is.
       then_any _ (without_member given.member) _ (λ has_none.
-      then_any _ (function_of function (line_of given.name) typed.0) _ (λ node. is))))
+      then_any _ (function_of function (place_of given.name) typed.0) _ (λ node. is))))
 
   shift_function_is : (function : ShiftFunction) (given : GivenReference) (constants : Constants)
       → ReferenceKeeps objects given → AreStorable objects constants
       → IfOk (shift_function function given constants) (λ typed. AreStorable objects typed.1)
   shift_function_is function given constants keeps are =
-      then_any _ (require (count_of_given given.arguments == 2) WrongUse (line_of given.name)) _ (λ are_two.
+      then_any _ (require (count_of_given given.arguments == 2) ArgumentCount (place_of given.name)) _ (λ are_two.
       then _ _ (given.arguments.typed constants) _ (keeps.arguments constants are) (λ typed is.
       then_any _ (without_member given.member) _ (λ has_none.
-      then_any _ (shift_of function (line_of given.name) typed.0) _ (λ node. is))))
+      then_any _ (shift_of function (place_of given.name) typed.0) _ (λ node. is))))
 
   input_value_is : (given : GivenReference) (constants : Constants) → AreStorable objects constants
       → IfOk (input_value given constants) (λ typed. AreStorable objects typed.1)
   input_value_is given constants are =
-      then_any _ (port_of (line_of given.name) given.arguments.trees) _ (λ port.
+      then_any _ (port_of (place_of given.name) given.arguments.trees) _ (λ port.
       then_any _ (without_member given.member) _ (λ has_none. are))
 
   number_of_variable_is : (known : Known) (measure : Measure) (given : GivenReference) (constants : Constants)
       → AreStorable objects constants
       → IfOk (number_of_variable known measure given constants) (λ typed. AreStorable objects typed.1)
   number_of_variable_is known measure given constants are =
-      then_any _ (measurement known measure (line_of given.name) given.arguments.trees) _ (λ node.
+      then_any _ (measurement known measure (place_of given.name) given.arguments.trees) _ (λ node.
       then_any _ (without_member given.member) _ (λ has_none. are))
 
   built_in_value_is : (known : Known) (built_in : BuiltIn) (given : GivenReference) (constants : Constants)

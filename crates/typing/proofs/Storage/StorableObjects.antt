@@ -1,6 +1,6 @@
 -- Objects that are declared stand among the constants where they have DATA, AT looks back at objects that have a
 -- place, and values have room in their objects.
-use Rattle.typing.proofs.Prelude.{◌≡◌, ℕ, zero, suc, ◌+◌, ◌-◌, ◌*◌, ◌<◌, ◌≤◌, Bool, true, false, List, [], ◌∷◌, ◌++◌, length, take, drop, replicate, flat_map, sum_by, slice_get, Option, Some, None, Ok, Err, refl, sym, ap, ◌∙◌, subst, append_assoc, length-append, cond, arith, zero-le, zero-mul, one-mul, suc-mul, mod-lt, div-add-mod', IfOk, IfSome, IsSomeAnd, is_none, is_some, nat_le, nat_lt, not, ◌&&◌, ◌||◌, repeat, option_map_or, sum_by-append, sum_by-cons, slice_get_within, ScalarType, Byte, Address, Identifier, StringTree, StringConstant, OriginTree, ConstantOrigin, LocationOrigin, OffsetTree, RestrictedTree, AtTree, ValueListTree, ItemTree, ElementTree, LiterallyElement, ItemElement, HeadingTree, DeclarationTrees, Binding, Declared, Object, Procedure, Here, into_body, with_procedure, is_declared_again, declared_by, OBJECT_LIMIT, FRAME_LIMIT, PARAMETER_LIMIT, AtAddress, ByteValue, WordValue, LocationValue, InitialValue, TypedMember, ObjectType, ScalarObject, StructureObject, Home, InData, InConstants, Placed, BasedOn, Elsewhere, Nowhere, InFrame, TypedObject, size_of_scalar, count_of, size_of_member, size_of_element, scalars_of_member, scalars_of_element, scalars_of_elements, LooksBack, HasPlace, LooksAtPlace, size_of_value, bytes_filled, Cause, DeclaredTwice, WrongUse, MisplacedAttribute, WrongConstant, TooLarge, Checked, ◌>>=◌, require, found, number_of_characters, number_of_constant, with_offsets, Known, line_of, bound, object_of, Owner, TheModule, OfProcedure, Block, Progress, is_external, is_external_linkage, is_reentrant, ThisModule, OtherModulesToo, with_address, static_bound, static_object, RestrictedValue, ANumber, FromObject, restricted_value, address_of, at_address, Filled, and_before, fill_scalar, fill_characters, fill_string, line_of_origin, fill_value, fill, Extents, NoArray, Elements, AsListed, Contents, enough_elements, elements_for, contents, TypedItem, declare_names, line_of_item, base_of, typed_base, extents_of, typed_type, check_linkage, is_plain, typed_at, place_of_storage, typed_contents, is_data, home_in, home_with_values, home_of, object_named, with_typed_object, with_objects, typed_item, size_of_item, declare_item, declare_definition, declare_element, declare_elements, declare_parameters, no_more_parameters, check_visibility, check_reentrant, open_procedure}
+use Rattle.typing.proofs.Prelude.{◌≡◌, ℕ, zero, suc, ◌+◌, ◌-◌, ◌*◌, ◌<◌, ◌≤◌, Bool, true, false, List, [], ◌∷◌, ◌++◌, length, take, drop, replicate, flat_map, sum_by, slice_get, Option, Some, None, Ok, Err, refl, sym, ap, ◌∙◌, subst, append_assoc, length-append, cond, arith, zero-le, zero-mul, one-mul, suc-mul, mod-lt, div-add-mod', IfOk, IfSome, IsSomeAnd, is_none, is_some, nat_le, nat_lt, not, ◌&&◌, ◌||◌, repeat, option_map_or, sum_by-append, sum_by-cons, slice_get_within, ScalarType, Byte, Address, Identifier, Place, StringTree, StringConstant, OriginTree, ConstantOrigin, LocationOrigin, OffsetTree, RestrictedTree, AtTree, ValueListTree, ItemTree, ElementTree, LiterallyElement, ItemElement, HeadingTree, DeclarationTrees, Binding, Declared, Object, Procedure, Here, into_body, with_procedure, is_declared_again, declared_by, OBJECT_LIMIT, FRAME_LIMIT, PARAMETER_LIMIT, AtAddress, ByteValue, WordValue, LocationValue, InitialValue, TypedMember, ObjectType, ScalarObject, StructureObject, Home, InData, InConstants, Placed, BasedOn, Elsewhere, Nowhere, InFrame, TypedObject, size_of_scalar, count_of, size_of_member, size_of_element, scalars_of_member, scalars_of_element, scalars_of_elements, LooksBack, HasPlace, LooksAtPlace, size_of_value, bytes_filled, Cause, DeclaredTwice, NoVariable, MisplacedAt, MisplacedValues, NestedProcedure, ExternalContents, StringNotNumber, ImpliedWithoutValues, NotByte, TooLarge, Checked, ◌>>=◌, require, found, number_of_characters, number_of_constant, with_offsets, Known, place_of, bound, object_of, Owner, TheModule, OfProcedure, Block, Progress, is_external, is_external_linkage, is_reentrant, ThisModule, OtherModulesToo, with_address, static_bound, static_object, RestrictedValue, ANumber, FromObject, restricted_value, address_of, at_address, Filled, and_before, fill_scalar, fill_characters, fill_string, place_of_origin, fill_value, fill, Extents, NoArray, Elements, AsListed, Contents, enough_elements, elements_for, contents, TypedItem, declare_names, place_of_item, base_of, typed_base, extents_of, typed_type, check_linkage, is_plain, typed_at, place_of_storage, typed_contents, is_data, home_in, home_with_values, home_of, object_named, with_typed_object, with_objects, typed_item, size_of_item, declare_item, declare_definition, declare_element, declare_elements, declare_parameters, no_more_parameters, check_visibility, check_reentrant, open_procedure}
 use Rattle.typing.proofs.Steps.{then, then_any}
 use Rattle.typing.proofs.Storage.Storable.{AreStorable, object_more, back_later, place_later}
 
@@ -58,27 +58,27 @@ abbrev IsPlaceIn : List TypedObject → (number : ℕ) → Type 0
 IsPlaceIn objects number = (number < length objects)
     × IsSomeAnd (slice_get objects number) (λ (object : TypedObject). HasPlace object.home)
 
-found_is : {A : Type 0} (option : Option A) (cause : Cause) (line : ℕ)
-    → IfOk (found option cause line) (λ found. option ≡ Some found)
-found_is (Some found) cause line = refl
-found_is None cause line = tt
+found_is : {A : Type 0} (option : Option A) (cause : Cause) (place : Place)
+    → IfOk (found option cause place) (λ found. option ≡ Some found)
+found_is (Some found) cause place = refl
+found_is None cause place = tt
 
-with_address_is : (home : Home) (number line : ℕ)
-    → IfOk (with_address ThisModule home number line) (λ found. (found ≡ number) × HasPlace home)
-with_address_is (InData values) number line = (refl, tt)
-with_address_is (InConstants values) number line = (refl, tt)
-with_address_is (Placed address) number line = (refl, tt)
-with_address_is home number line = tt
+with_address_is : (home : Home) (number : ℕ) (place : Place)
+    → IfOk (with_address ThisModule home number place) (λ found. (found ≡ number) × HasPlace home)
+with_address_is (InData values) number place = (refl, tt)
+with_address_is (InConstants values) number place = (refl, tt)
+with_address_is (Placed address) number place = (refl, tt)
+with_address_is home number place = tt
 
 static_bound_is : (known : Known) (binding : Binding) (name : Identifier)
     → IfOk (static_bound ThisModule known binding name) (IsPlaceIn known.objects)
 static_bound_is known (Declared (Object number)) name =
     let table : List TypedObject = known.objects in
     let IsPlace : Option TypedObject → Type 0 = λ found. IsSomeAnd found (λ (object : TypedObject). HasPlace object.home) in
-    then _ _ (object_of known name number) _ (found_is (slice_get table number) WrongUse (line_of name)) (λ object is.
+    then _ _ (object_of known name number) _ (found_is (slice_get table number) NoVariable (place_of name)) (λ object is.
     if_ok_more (λ found. (found ≡ number) × HasPlace object.home) (IsPlaceIn table)
-    (with_address ThisModule object.home number (line_of name))
-    (with_address_is object.home number (line_of name)) (λ found has.
+    (with_address ThisModule object.home number (place_of name))
+    (with_address_is object.home number (place_of name)) (λ found has.
     subst (IsPlaceIn table) (sym has.0)
     (slice_get_within table number object is, subst IsPlace (sym is) has.1)))
 static_bound_is known (Declared (Procedure number)) name = tt
@@ -112,7 +112,7 @@ typed_at_is : (known : Known) (block : Block) (item : ItemTree) (at : Option AtT
     → IfOk (typed_at known block item at) (λ typed. IfSome typed (AddressStands known.objects))
 typed_at_is known block item None = tt
 typed_at_is known block item (Some at) =
-    then_any _ (require (is_plain block item) MisplacedAttribute at.place.line) _ (λ may_stand.
+    then_any _ (require (is_plain block item) MisplacedAt at.place) _ (λ may_stand.
     then _ _ (at_address known at.address) _ (at_address_is known at.address) (λ address stands. stands))
 
 -- The values of a list take as many bytes as the scalars that they fill, which are the first of those given.
@@ -139,39 +139,39 @@ fills_more value scalar scalars filled same fills = record {
   );
 }
 
-fill_scalar_is : (line : ℕ) (scalars : List ScalarType) (value : RestrictedValue)
-    → IfOk (fill_scalar line scalars value) (Fills scalars)
-fill_scalar_is line (Byte ∷ left) (ANumber number) =
-    then_any _ (require (nat_le number 255) WrongConstant line) _ (λ fits.
+fill_scalar_is : (place : Place) (scalars : List ScalarType) (value : RestrictedValue)
+    → IfOk (fill_scalar place scalars value) (Fills scalars)
+fill_scalar_is place (Byte ∷ left) (ANumber number) =
+    then_any _ (require (nat_le number 255) NotByte place) _ (λ fits.
     fills_more (ByteValue number) Byte left _ refl (fills_none left))
-fill_scalar_is line (Address ∷ left) (ANumber number) =
+fill_scalar_is place (Address ∷ left) (ANumber number) =
     fills_more (WordValue number) Address left _ refl (fills_none left)
-fill_scalar_is line (Address ∷ left) (FromObject object offset) =
+fill_scalar_is place (Address ∷ left) (FromObject object offset) =
     fills_more (LocationValue object offset) Address left _ refl (fills_none left)
-fill_scalar_is line scalars value = tt
+fill_scalar_is place scalars value = tt
 
-fill_characters_is : (line : ℕ) (characters : List ℕ) (scalars : List ScalarType)
-    → IfOk (fill_characters line characters scalars) (Fills scalars)
-fill_characters_is line [] scalars = fills_none scalars
-fill_characters_is line (character ∷ others) (Byte ∷ left) =
-    then _ _ (fill_characters line others left) _ (fill_characters_is line others left) (λ filled fills.
+fill_characters_is : (place : Place) (characters : List ℕ) (scalars : List ScalarType)
+    → IfOk (fill_characters place characters scalars) (Fills scalars)
+fill_characters_is place [] scalars = fills_none scalars
+fill_characters_is place (character ∷ others) (Byte ∷ left) =
+    then _ _ (fill_characters place others left) _ (fill_characters_is place others left) (λ filled fills.
     fills_more (ByteValue character) Byte left filled refl fills)
-fill_characters_is line characters scalars = tt
+fill_characters_is place characters scalars = tt
 
 fill_string_is : (string : StringTree) (scalars : List ScalarType)
     → IfOk (fill_string string scalars) (Fills scalars)
-fill_string_is string [] = fill_characters_is string.place.line string.characters []
-fill_string_is string (Byte ∷ left) = fill_characters_is string.place.line string.characters (Byte ∷ left)
+fill_string_is string [] = fill_characters_is string.place string.characters []
+fill_string_is string (Byte ∷ left) = fill_characters_is string.place string.characters (Byte ∷ left)
 fill_string_is string (Address ∷ left) =
-    then_any _ (found (number_of_characters string.characters) WrongConstant string.place.line) _ (λ number.
+    then_any _ (found (number_of_characters string.characters) StringNotNumber string.place) _ (λ number.
     fills_more (WordValue number) Address left _ refl (fills_none left))
 
 fill_restricted_is : (known : Known) (scalars : List ScalarType) (origin : OriginTree) (offsets : List OffsetTree)
     → IfOk (restricted_value OtherModulesToo known origin offsets >>= (λ value.
-    fill_scalar (line_of_origin origin) scalars value)) (Fills scalars)
+    fill_scalar (place_of_origin origin) scalars value)) (Fills scalars)
 fill_restricted_is known scalars origin offsets =
     then_any _ (restricted_value OtherModulesToo known origin offsets) _ (λ value.
-    fill_scalar_is (line_of_origin origin) scalars value)
+    fill_scalar_is (place_of_origin origin) scalars value)
 
 fill_value_is : (known : Known) (scalars : List ScalarType) (origin : OriginTree) (offsets : List OffsetTree)
     → IfOk (fill_value known scalars origin offsets) (Fills scalars)
@@ -332,35 +332,35 @@ abbrev HasRoomIn : ObjectType → Contents → Type 0
 HasRoomIn object_type made =
     sum_by size_of_value made.values ≤ count_of made.dimension * size_of_element object_type
 
-contents_is : (known : Known) (line : ℕ) (object_type : ObjectType) (extents : Extents) (values : List RestrictedTree)
-    → IfOk (contents known line object_type extents values) (HasRoomIn object_type)
-contents_is known line object_type NoArray values =
+contents_is : (known : Known) (place : Place) (object_type : ObjectType) (extents : Extents) (values : List RestrictedTree)
+    → IfOk (contents known place object_type extents values) (HasRoomIn object_type)
+contents_is known place object_type NoArray values =
     let scalars : List ScalarType = scalars_of_element object_type in
     then _ _ (fill known values scalars) _ (fill_is known values scalars) (λ filled fills.
     omega (arith, fills_at_most scalars filled fills, element_bytes object_type, one-mul (size_of_element object_type)))
-contents_is known line object_type (Elements count) values =
+contents_is known place object_type (Elements count) values =
     let scalars : List ScalarType = scalars_of_elements count object_type in
     then _ _ (fill known values scalars) _ (fill_is known values scalars) (λ filled fills.
     omega (arith, fills_at_most scalars filled fills, elements_bytes count object_type))
-contents_is known line object_type AsListed values =
+contents_is known place object_type AsListed values =
     let all : ℕ = enough_elements values in
     let scalars : List ScalarType = scalars_of_elements all object_type in
     then _ _ (fill known values scalars) _ (fill_is known values scalars) (λ filled fills.
     let used : ℕ = length scalars - length filled.left in
     let is : used ≡ length fills.taken =
     omega (arith, ap length fills.are_first, length-append fills.taken filled.left) in
-    then_any _ (require (nat_lt 0 used) WrongConstant line) _ (λ is_some.
+    then_any _ (require (nat_lt 0 used) ImpliedWithoutValues place) _ (λ is_some.
     fills_listed object_type all used filled fills is))
 
 typed_contents_is : (known : Known) (block : Block) (item : ItemTree) (object_type : ObjectType) (extents : Extents)
     (list : Option ValueListTree)
     → IfOk (typed_contents known block item object_type extents list) (HasRoomIn object_type)
 typed_contents_is known block item object_type extents None =
-    contents_is known (line_of_item item) object_type extents []
+    contents_is known (place_of_item item) object_type extents []
 typed_contents_is known block item object_type extents (Some list) =
-    then_any _ (require (is_plain block item && is_none item.at) MisplacedAttribute
-    (place_of_storage list.storage).line) _ (λ may_stand.
-    contents_is known (line_of_item item) object_type extents list.values)
+    then_any _ (require (is_plain block item && is_none item.at) MisplacedValues
+    (place_of_storage list.storage)) _ (λ may_stand.
+    contents_is known (place_of_item item) object_type extents list.values)
 
 -- an item of some size
 abbrev HomeStands : List TypedObject → (size : ℕ) → Home → Type 0
@@ -410,7 +410,7 @@ with_objects_is block item (name ∷ others) progress stands so_far =
     omega (arith, length-append objects (object ∷ [])) in
     let back : LooksBack (length (objects ++ object ∷ [])) item.home =
     subst (λ (count : ℕ). LooksBack count item.home) longer (back_later item.home (length objects) stands.0) in
-    then_any _ (require (nat_le after.frame FRAME_LIMIT) TooLarge (line_of name)) _ (λ fits.
+    then_any _ (require (nat_le after.frame FRAME_LIMIT) TooLarge (place_of name)) _ (λ fits.
     with_objects_is block item others after
     (back, place_later item.home objects (object ∷ []) stands.1, stands.2)
     (object_more object stands.0 stands.1 stands.2 so_far))
@@ -420,16 +420,16 @@ declare_item_is : (block : Block) (item : ItemTree) (progress : Progress)
 declare_item_is block item progress so_far =
     then_any _ (declare_names block (declared_by item.subject) progress.known.here) _ (λ here.
     then _ _ (typed_item progress.known block item) _ (typed_item_is progress.known block item) (λ typed stands.
-    then_any _ (require (nat_le (size_of_item typed) OBJECT_LIMIT) TooLarge (line_of_item item)) _ (λ fits.
+    then_any _ (require (nat_le (size_of_item typed) OBJECT_LIMIT) TooLarge (place_of_item item)) _ (λ fits.
     then _ _ (with_objects block typed (declared_by item.subject) progress) _
     (with_objects_is block typed (declared_by item.subject) progress stands so_far) (λ declared after. after))))
 
 declare_definition_is : (block : Block) (name : Identifier) (progress : Progress)
     → StandsSoFar progress → IfOk (declare_definition block name progress) StandsSoFar
 declare_definition_is block name progress so_far =
-    then_any _ (require (not (is_declared_again progress.known.here name.name)) DeclaredTwice (line_of name)) _
+    then_any _ (require (not (is_declared_again progress.known.here name.name)) DeclaredTwice (place_of name)) _
     (λ is_new.
-    then_any _ (require (not (is_external block.owner)) MisplacedAttribute (line_of name)) _ (λ may_stand. so_far))
+    then_any _ (require (not (is_external block.owner)) ExternalContents (place_of name)) _ (λ may_stand. so_far))
 
 declare_element_is : (block : Block) (element : ElementTree) (progress : Progress)
     → StandsSoFar progress → IfOk (declare_element block element progress) StandsSoFar
@@ -449,9 +449,9 @@ pub open_procedure_is : (block : Block) (heading : HeadingTree) (declared : Decl
 open_procedure_is block heading declared progress so_far =
     let named : Here = with_procedure heading.name.name progress.known.here in
     then_any _ (require (not (is_declared_again progress.known.here heading.name.name)) DeclaredTwice
-    (line_of heading.name)) _ (λ is_new.
-    then_any _ (require (not (is_reentrant block.owner || is_external block.owner)) MisplacedAttribute
-    (line_of heading.name)) _ (λ may_stand.
+    (place_of heading.name)) _ (λ is_new.
+    then_any _ (require (not (is_reentrant block.owner || is_external block.owner)) NestedProcedure
+    (place_of heading.name)) _ (λ may_stand.
     then_any _ (declare_parameters (take PARAMETER_LIMIT heading.parameters) (into_body named)) _ (λ here.
     then_any _ (no_more_parameters (drop PARAMETER_LIMIT heading.parameters)) _ (λ are_all.
     then_any _ (check_visibility block heading.linkage) _ (λ is_visible.

@@ -1,6 +1,6 @@
 -- In a typed module the objects with DATA and the constant lists stand among the constants in their order, AT looks
 -- back at objects that have a place, and values have room in their objects.
-use Rattle.typing.proofs.Prelude.{◌≡◌, ℕ, ◌+◌, List, [], ◌∷◌, length, Option, None, Some, Ok, subst, IfOk, is_none, ◌==◌, ScalarType, Identifier, ExpressionTree, ReferenceTree, IterationTree, StatementTree, LabelledStatement, StatementKindTree, NullStatement, AssignmentStatement, CallStatement, ReturnStatement, HaltStatement, GotoStatement, IfStatement, DoStatement, WhileStatement, IterateStatement, CaseStatement, ElseTree, NoElse, ElseStatement, StatementTrees, NoStatements, MoreStatements, DeclarationTree, DeclareTree, ProcedureTree, DeclarationTrees, NoDeclarations, MoreDeclarations, ModuleTree, Binding, Declared, BuiltInName, Move, Procedure, jump_of, into_list, labels_of, TypedObject, TypedStatements, TypedModule, Constants, IsStorable, WrongUse, Checked, require, Known, Given, line_of, count_of_given, bound, procedure_of, destination_of, call_arguments, expression, given_reference, arguments, Owner, TheModule, OfProcedure, Block, Progress, with_here, with_constants, value, destinations, assignment, moved, call_bound, call, return_with, return_from, goto_bound, goto, counter_bound, step, iteration, labels_before, declare_labels, without_label, list_of, open_procedure, own_block, parameter_objects, check_body, inner_block, entered, kind, labelled, alone, else_part, cases, statements, declaration, declarations, module_block, at_the_beginning, typing_of}
+use Rattle.typing.proofs.Prelude.{◌≡◌, ℕ, ◌+◌, List, [], ◌∷◌, length, Option, None, Some, Ok, subst, IfOk, is_none, ◌==◌, ScalarType, Identifier, Place, ExpressionTree, ReferenceTree, IterationTree, StatementTree, LabelledStatement, StatementKindTree, NullStatement, AssignmentStatement, CallStatement, ReturnStatement, HaltStatement, GotoStatement, IfStatement, DoStatement, WhileStatement, IterateStatement, CaseStatement, ElseTree, NoElse, ElseStatement, StatementTrees, NoStatements, MoreStatements, DeclarationTree, DeclareTree, ProcedureTree, DeclarationTrees, NoDeclarations, MoreDeclarations, ModuleTree, Binding, Declared, BuiltInName, Move, Procedure, jump_of, into_list, labels_of, TypedObject, TypedStatements, TypedModule, Constants, IsStorable, ArgumentCount, CallOfTyped, Checked, require, Known, Given, place_of, count_of_given, bound, procedure_of, destination_of, call_arguments, expression, given_reference, arguments, Owner, TheModule, OfProcedure, Block, Progress, with_here, with_constants, value, destinations, assignment, moved, call_bound, call, return_with, return_from, goto_bound, goto, counter_bound, step, iteration, labels_before, declare_labels, without_label, list_of, open_procedure, own_block, parameter_objects, check_body, inner_block, entered, kind, labelled, alone, else_part, cases, statements, declaration, declarations, module_block, at_the_beginning, typing_of}
 use Rattle.typing.proofs.Steps.{then, then_any}
 use Rattle.typing.proofs.Storage.Storable.{AreStorable, none_yet}
 use Rattle.typing.proofs.Storage.StorableExpressions.{GivenKeeps, call_arguments_is, expression_is, arguments_is, destination_is}
@@ -37,13 +37,13 @@ call_bound_is : {objects : List TypedObject} (known : Known) (binding : Binding)
     → IfOk (call_bound known binding name given constants) (λ typed. AreStorable objects typed.1)
 call_bound_is known (Declared (Procedure number)) name given constants keeps are =
     then_any _ (procedure_of known name number) _ (λ procedure.
-    then_any _ (require (is_none procedure.result) WrongUse (line_of name)) _ (λ is_untyped.
-    then _ _ (call_arguments procedure (line_of name) given constants) _
-    (call_arguments_is procedure (line_of name) given constants keeps are) (λ typed is. is)))
+    then_any _ (require (is_none procedure.result) CallOfTyped (place_of name)) _ (λ is_untyped.
+    then _ _ (call_arguments procedure (place_of name) given constants) _
+    (call_arguments_is procedure (place_of name) given constants keeps are) (λ typed is. is)))
 call_bound_is known (BuiltInName Move) name given constants keeps are =
-    then_any _ (require (count_of_given given == 3) WrongUse (line_of name)) _ (λ are_three.
+    then_any _ (require (count_of_given given == 3) ArgumentCount (place_of name)) _ (λ are_three.
     then _ _ (given.typed constants) _ (keeps constants are) (λ typed is.
-    then_any _ (moved (line_of name) typed.0) _ (λ moving. is)))
+    then_any _ (moved (place_of name) typed.0) _ (λ moving. is)))
 call_bound_is known binding name given constants keeps are = tt
 
 call_is : (name : Identifier) (given : Given) (progress : Progress)
@@ -54,23 +54,23 @@ call_is name given progress keeps so_far =
     then _ _ (call_bound progress.known binding name given progress.constants) _
     (call_bound_is progress.known binding name given progress.constants keeps so_far) (λ typed is. is))
 
-return_with_is : (line : ℕ) (result : Option ScalarType) (tree : Option ExpressionTree) (progress : Progress)
-    → StandsSoFar progress → IfOk (return_with line result tree progress) (λ typed. StandsSoFar typed.1)
-return_with_is line None None progress so_far = so_far
-return_with_is line (Some scalar) (Some tree) progress so_far =
+return_with_is : (place : Place) (result : Option ScalarType) (tree : Option ExpressionTree) (progress : Progress)
+    → StandsSoFar progress → IfOk (return_with place result tree progress) (λ typed. StandsSoFar typed.1)
+return_with_is place None None progress so_far = so_far
+return_with_is place (Some scalar) (Some tree) progress so_far =
     then _ _ (value tree progress) _ (value_is tree progress so_far) (λ typed after. after)
-return_with_is line result tree progress so_far = tt
+return_with_is place result tree progress so_far = tt
 
-return_is : (line : ℕ) (owner : Owner) (tree : Option ExpressionTree) (progress : Progress)
-    → StandsSoFar progress → IfOk (return_from line owner tree progress) (λ typed. StandsSoFar typed.1)
-return_is line TheModule tree progress so_far = tt
-return_is line (OfProcedure number heading) tree progress so_far =
-    return_with_is line heading.result tree progress so_far
+return_is : (place : Place) (owner : Owner) (tree : Option ExpressionTree) (progress : Progress)
+    → StandsSoFar progress → IfOk (return_from place owner tree progress) (λ typed. StandsSoFar typed.1)
+return_is place TheModule tree progress so_far = tt
+return_is place (OfProcedure number heading) tree progress so_far =
+    return_with_is place heading.result tree progress so_far
 
 goto_is : (label : Identifier) (progress : Progress)
     → StandsSoFar progress → IfOk (goto label progress) (λ typed. StandsSoFar typed.1)
 goto_is label progress so_far =
-    then_any _ (goto_bound (line_of label) (jump_of progress.known.here label.name)) _ (λ typed. so_far)
+    then_any _ (goto_bound (place_of label) (jump_of progress.known.here label.name)) _ (λ typed. so_far)
 
 step_is : (tree : Option ExpressionTree) (progress : Progress)
     → StandsSoFar progress → IfOk (step tree progress) (λ typed. StandsSoFar typed.1)
@@ -107,7 +107,7 @@ mutual
   kind_is block (CallStatement place name trees) progress so_far =
       call_is name (record { trees = trees; typed = arguments progress.known trees }) progress
       (λ constants are. arguments_is progress.known trees constants are) so_far
-  kind_is block (ReturnStatement place result) progress so_far = return_is place.line block.owner result progress so_far
+  kind_is block (ReturnStatement place result) progress so_far = return_is place block.owner result progress so_far
   kind_is block (HaltStatement place) progress so_far = so_far
   kind_is block (GotoStatement place label) progress so_far = goto_is label progress so_far
   kind_is block (IfStatement place condition body otherwise) progress so_far =

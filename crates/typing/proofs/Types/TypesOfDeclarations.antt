@@ -1,5 +1,5 @@
 -- Declared objects can be referred to where their names are known, and declarations only add to what is known.
-use Rattle.typing.proofs.Prelude.{◌≡◌, ℕ, zero, suc, ◌+◌, ◌<◌, ◌≤◌, Bool, true, false, List, [], ◌∷◌, ◌++◌, map, take, drop, length, Option, Some, None, slice_get, nat_le, refl, sym, ap, ◌∙◌, subst, cond, append_assoc, append-nil, length-append, arith, IfSome, IsSomeAnd, is_some, not, ◌||◌, option_map_or, length-map, ScalarType, Address, Identifier, SubjectTree, ItemTree, ElementTree, LiterallyElement, ItemElement, HeadingTree, DeclarationTrees, Binding, Declared, Object, Body, into_body, is_declared_again, with_procedure, with_definition, declared_by, OBJECT_LIMIT, FRAME_LIMIT, PARAMETER_LIMIT, AtAddress, InitialValue, ObjectType, ScalarObject, StructureObject, Home, InData, InConstants, Placed, BasedOn, Elsewhere, Nowhere, InFrame, TypedObject, TypedProcedure, TypedModule, IsScalar, Within, WithinProcedure, WithinMain, LiesFor, IsSeen, DeclaredTwice, MisplacedAttribute, TooLarge, require, Known, line_of, GlobalProcedure, with_global, Owner, TheModule, OfProcedure, Block, Progress, is_external, is_external_linkage, is_reentrant, TypedItem, declare_names, line_of_item, base_of, is_not_based, is_address, is_base, object_bound, names_parameter, typed_base, extents_of, typed_type, check_linkage, typed_at, typed_contents, is_data, home_in, home_with_values, home_of, object_named, with_typed_object, with_objects, typed_item, size_of_item, declare_item, declare_definition, declare_element, declare_elements, no_more_parameters, check_visibility, check_reentrant, parameter_types, procedure_with, empty_list, open_procedure, and_parts, some_and}
+use Rattle.typing.proofs.Prelude.{◌≡◌, ℕ, zero, suc, ◌+◌, ◌<◌, ◌≤◌, Bool, true, false, List, [], ◌∷◌, ◌++◌, map, take, drop, length, Option, Some, None, slice_get, nat_le, refl, sym, ap, ◌∙◌, subst, cond, append_assoc, append-nil, length-append, arith, IfSome, IsSomeAnd, is_some, not, ◌||◌, option_map_or, length-map, ScalarType, Address, Identifier, Place, SubjectTree, ItemTree, ElementTree, LiterallyElement, ItemElement, HeadingTree, DeclarationTrees, Binding, Declared, Object, Body, into_body, is_declared_again, with_procedure, with_definition, declared_by, OBJECT_LIMIT, FRAME_LIMIT, PARAMETER_LIMIT, AtAddress, InitialValue, ObjectType, ScalarObject, StructureObject, Home, InData, InConstants, Placed, BasedOn, Elsewhere, Nowhere, InFrame, TypedObject, TypedProcedure, TypedModule, IsScalar, Within, WithinProcedure, WithinMain, LiesFor, IsSeen, DeclaredTwice, BasedParameter, ExternalContents, TooLarge, require, Known, place_of, GlobalProcedure, with_global, Owner, TheModule, OfProcedure, Block, Progress, is_external, is_external_linkage, is_reentrant, TypedItem, declare_names, place_of_item, base_of, is_not_based, is_address, is_base, object_bound, names_parameter, typed_base, extents_of, typed_type, check_linkage, typed_at, typed_contents, is_data, home_in, home_with_values, home_of, object_named, with_typed_object, with_objects, typed_item, size_of_item, declare_item, declare_definition, declare_element, declare_elements, no_more_parameters, check_visibility, check_reentrant, parameter_types, procedure_with, empty_list, open_procedure, and_parts, some_and}
 use Rattle.typing.proofs.Kept.{Gives, then_more, anything, gives_ok, gives_fault, gives_after, in_turn, required, is_found}
 use Rattle.typing.proofs.NamesBack.{is_bound, Binds, bound_entity}
 use Rattle.typing.proofs.Tables.{Keeps, keeps_append}
@@ -41,19 +41,19 @@ HomeSeen owner known home =
 abbrev BaseSeen : Owner → Known → Option ℕ → Type 0
 BaseSeen owner known base = IfSome base (λ (number : ℕ). HomeSeen owner known (BasedOn number))
 
-object_bound_is : (binding : Binding) (line : ℕ)
-    → Gives (λ number. binding ≡ Declared (Object number)) (object_bound binding line)
-object_bound_is (Declared (Object number)) line = gives_ok refl
-object_bound_is binding line = gives_fault
+object_bound_is : (binding : Binding) (place : Place)
+    → Gives (λ number. binding ≡ Declared (Object number)) (object_bound binding place)
+object_bound_is (Declared (Object number)) place = gives_ok refl
+object_bound_is binding place = gives_fault
 
 typed_base_is : (known : Known) (block : Block) (subject : SubjectTree) (base : Option Identifier)
     → Stands block.owner known.objects known.here
     → Gives (BaseSeen block.owner known) (typed_base known block subject base)
 typed_base_is known block subject None stands = gives_ok tt
 typed_base_is known block subject (Some name) stands =
-    gives_after (require (not (names_parameter block subject)) MisplacedAttribute (line_of name)) λ plain.
+    gives_after (require (not (names_parameter block subject)) BasedParameter (place_of name)) λ plain.
     in_turn (is_bound known name) λ binding bound_to.
-    in_turn (object_bound_is binding (line_of name)) λ number is.
+    in_turn (object_bound_is binding (place_of name)) λ number is.
     in_turn (is_found (slice_get known.objects number) _ _) λ object entry.
     in_turn (required (is_base object) _ _) λ _ base.
     gives_ok (λ is_here tables keeps.
@@ -127,7 +127,7 @@ with_objects-make block item [] progress =
 with_objects-make block item (name ∷ others) progress =
     let object : TypedObject = object_named block item name.name in
     gives_after (require (nat_le (with_typed_object item.linkage object progress).frame FRAME_LIMIT) TooLarge
-    (line_of name)) λ small.
+    (place_of name)) λ small.
     then_more (with_objects-make block item others (with_typed_object item.linkage object progress)) λ after rest.
     record {
       objects = rest.objects ∙ append_assoc progress.known.objects (object ∷ []) (made block item others);
@@ -185,7 +185,7 @@ declare_item-goes block item progress stands =
     in_turn (anything (typed_item progress.known block item)) λ typed typed_as.
     let seen = (typed_item_is progress.known block item stands.0).holds typed typed_as in
     let fits = (typed_item_fits progress.known block item).holds typed typed_as in
-    gives_after (require (nat_le (size_of_item typed) OBJECT_LIMIT) TooLarge (line_of_item item)) λ small.
+    gives_after (require (nat_le (size_of_item typed) OBJECT_LIMIT) TooLarge (place_of_item item)) λ small.
     in_turn (anything (with_objects block typed (declared_by item.subject) progress)) λ after declared.
     let is = (with_objects-make block typed (declared_by item.subject) progress).holds after declared in
     let listed = (with_objects-listed block typed (declared_by item.subject) progress fits stands.1).holds after declared in
@@ -217,8 +217,8 @@ declare_item-goes block item progress stands =
 declare_definition-goes : (block : Block) (name : Identifier) (progress : Progress) → StandsAt block.owner progress
     → Gives (λ after. Goes block.owner progress after Nothing) (declare_definition block name progress)
 declare_definition-goes block name progress stands =
-    gives_after (require (not (is_declared_again progress.known.here name.name)) DeclaredTwice (line_of name)) λ once.
-    gives_after (require (not (is_external block.owner)) MisplacedAttribute (line_of name)) λ placed.
+    gives_after (require (not (is_declared_again progress.known.here name.name)) DeclaredTwice (place_of name)) λ once.
+    gives_after (require (not (is_external block.owner)) ExternalContents (place_of name)) λ placed.
     gives_ok
     (goes_to (with_definition name.name progress.known.here) refl (with_definition-stands stands.0 name.name)
     (goes_nowhere progress stands (λ tables reaches. tt)))
@@ -265,7 +265,7 @@ pub open_procedure-opens : (block : Block) (heading : HeadingTree) (declared : D
 open_procedure-opens block heading declared progress stands =
     let number : ℕ = length progress.known.procedures in
     gives_after (require (not (is_declared_again progress.known.here heading.name.name)) DeclaredTwice
-    (line_of heading.name)) λ once.
+    (place_of heading.name)) λ once.
     in_turn (required (not (is_reentrant block.owner || is_external block.owner)) _ _) λ _ plain.
     let free = neither _ _ plain in
     in_turn

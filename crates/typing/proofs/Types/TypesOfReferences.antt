@@ -1,5 +1,5 @@
 -- References, calls and targets have the types that are asked of their parts.
-use Rattle.typing.proofs.Prelude.{◌≡◌, ℕ, ◌+◌, ◌<◌, ◌==◌, Bool, true, false, List, [], ◌∷◌, length, take, Option, Some, None, nat_le, sum_by, slice_get, refl, sym, ap, ap₂, subst, ◌∙◌, arith, if◌then◌else◌, IsSomeAnd, option_map, bytes_eq, eqb-true, leb-true, sum_by-cons, slice_get-map, ScalarType, Byte, Address, Identifier, NumberConstant, StringConstant, ConstantLeaf, ReferenceLeaf, ReferenceTo, ArgumentTrees, NoArguments, MoreArguments, Binding, Declared, BuiltInName, BuiltIn, Object, Procedure, entity_of, FoundMember, TypedMember, ShiftFunction, UnaryFunction, Measure, TypedExpression, TypedReference, PartOf, Subscript, NoSubscript, TypedArguments, NoTyped, MoreTyped, ObjectType, ScalarObject, StructureObject, Home, InFrame, TypedObject, TypedProcedure, TypedModule, Constants, member_named, after_member, size_of_scalar, size_of_member, size_of_element, IsSubscriptOf, IsMemberOf, IsInElement, IsPartOf, IsOneOf, IsScalarIn, IsScalarOf, type_of, Within, IsSeen, RefersToScalar, HasLocation, RefersToLocation, IsNumberOf, ShiftsIn, types_of, Takes, TypesHold, TypesHoldInReference, TypesHoldInSubscript, TypesHoldInTarget, TypesHoldInArguments, HasType, type_of_number, converted, as_type, arguments_as, type_of_shift, shift_node, Destination, target_of, Known, Given, GivenMember, WithoutMember, WithMember, GivenReference, line_of, number_of_arguments, count_of_given, Extent, AnElement, AlsoTheWhole, takes_subscripts, subscript_of, members_of, scalar_of, FoundPart, whole_part, part_with_member, bound, part_of, scalar_part, without_member, port_from, port_of_character, port_of, has_location, location_of_bound, location_of, is_writable, destination_of_bound, destination_of, call_arguments, function_of, unary_function, shift_of, shift_function, measured_object, measure_of, measurement, number_of_variable, built_in_value, value_of_bound, value_of, WrongUse, Checked, require, some_and}
+use Rattle.typing.proofs.Prelude.{◌≡◌, ℕ, ◌+◌, ◌<◌, ◌==◌, Bool, true, false, List, [], ◌∷◌, length, take, Option, Some, None, nat_le, sum_by, slice_get, refl, sym, ap, ap₂, subst, ◌∙◌, arith, if◌then◌else◌, IsSomeAnd, option_map, bytes_eq, eqb-true, leb-true, sum_by-cons, slice_get-map, ScalarType, Byte, Address, Identifier, Place, NumberConstant, StringConstant, ConstantLeaf, ReferenceLeaf, ReferenceTo, ArgumentTrees, NoArguments, MoreArguments, Binding, Declared, BuiltInName, BuiltIn, Object, Procedure, entity_of, FoundMember, TypedMember, ShiftFunction, UnaryFunction, Measure, TypedExpression, TypedReference, PartOf, Subscript, NoSubscript, TypedArguments, NoTyped, MoreTyped, ObjectType, ScalarObject, StructureObject, Home, InFrame, TypedObject, TypedProcedure, TypedModule, Constants, member_named, after_member, size_of_scalar, size_of_member, size_of_element, IsSubscriptOf, IsMemberOf, IsInElement, IsPartOf, IsOneOf, IsScalarIn, IsScalarOf, type_of, Within, IsSeen, RefersToScalar, HasLocation, RefersToLocation, IsNumberOf, ShiftsIn, types_of, Takes, TypesHold, TypesHoldInReference, TypesHoldInSubscript, TypesHoldInTarget, TypesHoldInArguments, HasType, type_of_number, converted, as_type, arguments_as, type_of_shift, shift_node, Destination, target_of, Known, Given, GivenMember, WithoutMember, WithMember, GivenReference, place_of, number_of_arguments, count_of_given, Extent, AnElement, AlsoTheWhole, takes_subscripts, subscript_of, members_of, scalar_of, FoundPart, whole_part, part_with_member, bound, part_of, scalar_part, without_member, port_from, port_of_character, port_of, has_location, location_of_bound, location_of, is_writable, destination_of_bound, destination_of, call_arguments, function_of, unary_function, shift_of, shift_function, measured_object, measure_of, measurement, number_of_variable, built_in_value, value_of_bound, value_of, ArgumentCount, Checked, require, some_and}
 use Rattle.names.specs.declared.entity.BuiltIn.TheVariants as built_in_names
 use Rattle.typed_trees.specs.declared.parts.ShiftFunction.TheVariants as shifts
 use Rattle.typed_trees.specs.declared.parts.UnaryFunction.TheVariants as functions
@@ -10,20 +10,20 @@ use Rattle.typing.proofs.Tables.{Keeps}
 use Rattle.typing.proofs.Types.TypesKept.{Heading, heading_of, Has, Holding, holding_at, holding_more, holding_both, of_some}
 
 -- a port
-port_is_low : (line number : ℕ) → Gives (λ port. port < 256) (port_from line number)
-port_is_low line number =
+port_is_low : (place : Place) (number : ℕ) → Gives (λ port. port < 256) (port_from place number)
+port_is_low place number =
     in_turn (required (nat_le number 255) _ _) (λ _ is.
     gives_ok (let low = leb-true number 255 is in omega (arith, low)))
 
-port_holds : (line : ℕ) (trees : ArgumentTrees) → Gives (λ port. port < 256) (port_of line trees)
-port_holds line (MoreArguments (ConstantLeaf (NumberConstant number)) NoArguments) =
-    port_is_low number.place.line number.value
-port_holds line (MoreArguments (ConstantLeaf (StringConstant string)) NoArguments) = by string.characters
+port_holds : (place : Place) (trees : ArgumentTrees) → Gives (λ port. port < 256) (port_of place trees)
+port_holds place (MoreArguments (ConstantLeaf (NumberConstant number)) NoArguments) =
+    port_is_low number.place number.value
+port_holds place (MoreArguments (ConstantLeaf (StringConstant string)) NoArguments) = by string.characters
   where
-    by : (characters : List ℕ) → Gives (λ port. port < 256) (port_of_character line characters)
-    by (character ∷ []) = port_is_low line character
+    by : (characters : List ℕ) → Gives (λ port. port < 256) (port_of_character place characters)
+    by (character ∷ []) = port_is_low place character
     by characters = gives_fault
-port_holds line trees = gives_fault
+port_holds place trees = gives_fault
 
 -- a conversion to a type
 converted_holds : (tables : TypedModule) (within : Within) (to from : ScalarType) (typed : TypedExpression)
@@ -331,38 +331,38 @@ TargetHolds within known before found =
     Holding known before found.1
     (λ tables. (from : ScalarType) → TypesHoldInTarget tables within from (target_of found.0 from))
 
-function_holds : (within : Within) (function : UnaryFunction) (line : ℕ) (trees : ArgumentTrees) (values : TypedArguments)
+function_holds : (within : Within) (function : UnaryFunction) (place : Place) (trees : ArgumentTrees) (values : TypedArguments)
     → Gives (λ node. (tables : TypedModule) → AreSo within trees values tables → TypesHold tables within node)
-    (function_of function line values)
-function_holds within function line trees (MoreTyped operand NoTyped) = gives_ok (λ tables so. so.1.0)
-function_holds within function line trees values = gives_fault
+    (function_of function place values)
+function_holds within function place trees (MoreTyped operand NoTyped) = gives_ok (λ tables so. so.1.0)
+function_holds within function place trees values = gives_fault
 
-shift_of_holds : (within : Within) (function : ShiftFunction) (line : ℕ) (trees : ArgumentTrees) (values : TypedArguments)
+shift_of_holds : (within : Within) (function : ShiftFunction) (place : Place) (trees : ArgumentTrees) (values : TypedArguments)
     → Gives (λ node. (tables : TypedModule) → AreSo within trees values tables → TypesHold tables within node)
-    (shift_of function line values)
-shift_of_holds within function line trees (MoreTyped value (MoreTyped count NoTyped)) =
+    (shift_of function place values)
+shift_of_holds within function place trees (MoreTyped value (MoreTyped count NoTyped)) =
     gives_ok (λ tables so. shift_holds tables within function value count so.1.0 so.1.1.0)
-shift_of_holds within function line trees values = gives_fault
+shift_of_holds within function place trees values = gives_fault
 
-measurement_holds : (within : Within) (known : Known) (measure : Measure) (line : ℕ) (trees : ArgumentTrees)
-    → Gives (λ node. (tables : TypedModule) → TypesHold tables within node) (measurement known measure line trees)
-measurement_holds within known measure line (MoreArguments (ReferenceLeaf (ReferenceTo name NoArguments part)) NoArguments) =
+measurement_holds : (within : Within) (known : Known) (measure : Measure) (place : Place) (trees : ArgumentTrees)
+    → Gives (λ node. (tables : TypedModule) → TypesHold tables within node) (measurement known measure place trees)
+measurement_holds within known measure place (MoreArguments (ReferenceLeaf (ReferenceTo name NoArguments part)) NoArguments) =
     gives_after (bound known name) λ binding.
     gives_after (measured_object known binding name part) λ measured.
-    gives_after (measure_of measure measured (line_of name)) λ value.
+    gives_after (measure_of measure measured (place_of name)) λ value.
     gives_ok (λ tables. number_holds value)
-measurement_holds within known measure line trees = gives_fault
+measurement_holds within known measure place trees = gives_fault
 
 -- arguments of a call
 pub call_arguments_hold : (within : Within) (known : Known) (number : ℕ) (procedure : TypedProcedure)
-    (result : Option ScalarType) (line : ℕ) (given : Given) (constants : Constants)
+    (result : Option ScalarType) (place : Place) (given : Given) (constants : Constants)
     → slice_get known.procedures number ≡ Some procedure → procedure.result ≡ result
     → GivenHolds within known given
     → Gives
     (λ (found : TypedArguments × Constants). Holding known constants found.1
     (λ tables. Takes tables number result found.0 × TypesHoldInArguments tables within found.0))
-    (call_arguments procedure line given constants)
-call_arguments_hold within known number procedure result line given constants entry is holds =
+    (call_arguments procedure place given constants)
+call_arguments_hold within known number procedure result place given constants entry is holds =
     in_turn (required (count_of_given given == length procedure.parameter_types) _ _) (λ _ are_all.
     in_turn (holds constants) (λ typed so.
     gives_ok (holding_more so (λ tables has are_so.
@@ -412,29 +412,29 @@ module _ (within : Within) (known : Known) (sees : Sees within known) (given : G
 
   unary_holds : (function : UnaryFunction) → ValueSays (unary_function function given constants)
   unary_holds function =
-      gives_after (require (count_of_given given.arguments == 1) WrongUse (line_of given.name)) λ is_one.
+      gives_after (require (count_of_given given.arguments == 1) ArgumentCount (place_of given.name)) λ is_one.
       in_turn (holds.0 constants) (λ typed so.
       gives_after (without_member given.member) λ none.
-      in_turn (function_holds within function (line_of given.name) given.arguments.trees typed.0) (λ node is.
+      in_turn (function_holds within function (place_of given.name) given.arguments.trees typed.0) (λ node is.
       gives_ok (holding_more so (λ tables has are_so. is tables are_so))))
 
   shifted_holds : (function : ShiftFunction) → ValueSays (shift_function function given constants)
   shifted_holds function =
-      gives_after (require (count_of_given given.arguments == 2) WrongUse (line_of given.name)) λ are_two.
+      gives_after (require (count_of_given given.arguments == 2) ArgumentCount (place_of given.name)) λ are_two.
       in_turn (holds.0 constants) (λ typed so.
       gives_after (without_member given.member) λ none.
-      in_turn (shift_of_holds within function (line_of given.name) given.arguments.trees typed.0) (λ node is.
+      in_turn (shift_of_holds within function (place_of given.name) given.arguments.trees typed.0) (λ node is.
       gives_ok (holding_more so (λ tables has are_so. is tables are_so))))
 
   variable_holds : (measure : Measure) → ValueSays (number_of_variable known measure given constants)
   variable_holds measure =
-      in_turn (measurement_holds within known measure (line_of given.name) given.arguments.trees) (λ node is.
+      in_turn (measurement_holds within known measure (place_of given.name) given.arguments.trees) (λ node is.
       gives_after (without_member given.member) λ none.
       gives_ok (holding_at (λ tables has. is tables)))
 
   built_in_holds : (built_in : BuiltIn) → ValueSays (built_in_value known built_in given constants)
   built_in_holds built_in_names.Input =
-      in_turn (port_holds (line_of given.name) given.arguments.trees) λ port low.
+      in_turn (port_holds (place_of given.name) given.arguments.trees) λ port low.
       gives_after (without_member given.member) λ none.
       gives_ok (holding_at (λ tables has. low))
   built_in_holds built_in_names.Low = unary_holds functions.Low
@@ -458,7 +458,7 @@ module _ (within : Within) (known : Known) (sees : Sees within known) (given : G
   value_of_bound_holds (Declared (Procedure number)) bound_to =
       in_turn (is_found (slice_get known.procedures number) _ _) (λ procedure entry.
       in_turn (is_found procedure.result _ _) (λ result is.
-      in_turn (call_arguments_hold within known number procedure (Some result) (line_of given.name) given.arguments
+      in_turn (call_arguments_hold within known number procedure (Some result) (place_of given.name) given.arguments
       constants entry is holds.0) (λ typed says.
       gives_after (without_member given.member) λ none.
       gives_ok says)))
@@ -493,7 +493,7 @@ module _ (within : Within) (known : Known) (sees : Sees within known) (given : G
       in_turn (scalar_holds number object (seen_object given.name sees bound_to entry)) (λ part is.
       gives_ok (holding_more is (λ tables has part_is from. (refl, part_is.0, part_is.1)))))
   destination_of_bound_holds (BuiltInName built_in_names.Output) bound_to =
-      in_turn (port_holds (line_of given.name) given.arguments.trees) λ port low.
+      in_turn (port_holds (place_of given.name) given.arguments.trees) λ port low.
       gives_after (without_member given.member) λ none.
       gives_ok (holding_at (λ tables has from. (refl, low)))
   destination_of_bound_holds binding bound_to = gives_fault

@@ -1,5 +1,5 @@
 -- Every typed module is well typed and lists its globals, and its frames fit.
-use Rattle.typing.proofs.Prelude.{◌≡◌, ℕ, ◌+◌, true, false, List, [], ◌∷◌, ◌++◌, length, map, Option, None, Some, Ok, slice_get, slice_set, refl, sym, ap, ◌∙◌, subst, length-append, arith, append_assoc, IfSome, IsSomeAnd, is_none, not, ◌&&◌, ◌==◌, enumerate_from, All-from_recursion, ScalarType, Address, Identifier, ExpressionTree, ReferenceTree, IterationTree, ArgumentTrees, StatementTree, LabelledStatement, StatementKindTree, ElseTree, StatementTrees, HeadingTree, DeclarationTree, DeclareTree, ProcedureTree, DeclarationTrees, NoDeclarations, MoreDeclarations, ModuleTree, Binding, Declared, BuiltInName, Move, Object, Procedure, Label, jump_of, out_of_block, into_list, out_of_list, labels_of, TypedArguments, NoTyped, MoreTyped, TypedObject, TypedStatement, TypedStatements, TypedList, TypedProcedure, TypedModule, Constants, IsScalar, type_of, Within, WithinProcedure, WithinMain, LiesFor, TypesHold, TypesHoldInArguments, TypesHoldInTargets, TypesHoldInHead, TypesHoldIn, TypesHoldInElse, TypesHoldInStatements, TypesHoldInList, TypesHoldInProcedure, IsWellTyped, WrongUse, ListsGlobals, FramesFit, Destination, target_of, Known, Given, line_of, count_of_given, bound, is_writable, scalar_of, arguments, Owner, TheModule, OfProcedure, Block, Progress, is_external, is_external_linkage, is_not_based, with_here, with_constants, value, destinations, assignment, moved, call_bound, call, return_with, return_from, goto_bound, goto, Counter, counter_bound, step, iteration, labels_before, after_labels, list_of, parameter_types, procedure_with, parameter_objects, own_block, check_body, close_procedure, inner_block, entered, kind, labelled, alone, else_part, cases, statements, declaration, declarations, module_block, at_the_beginning, module_with, typing_of, Checked, require, and_parts, not-true, some_and}
+use Rattle.typing.proofs.Prelude.{◌≡◌, ℕ, ◌+◌, true, false, List, [], ◌∷◌, ◌++◌, length, map, Option, None, Some, Ok, slice_get, slice_set, refl, sym, ap, ◌∙◌, subst, length-append, arith, append_assoc, IfSome, IsSomeAnd, is_none, not, ◌&&◌, ◌==◌, enumerate_from, All-from_recursion, ScalarType, Address, Identifier, Place, ExpressionTree, ReferenceTree, IterationTree, ArgumentTrees, StatementTree, LabelledStatement, StatementKindTree, ElseTree, StatementTrees, HeadingTree, DeclarationTree, DeclareTree, ProcedureTree, DeclarationTrees, NoDeclarations, MoreDeclarations, ModuleTree, Binding, Declared, BuiltInName, Move, Object, Procedure, Label, jump_of, out_of_block, into_list, out_of_list, labels_of, TypedArguments, NoTyped, MoreTyped, TypedObject, TypedStatement, TypedStatements, TypedList, TypedProcedure, TypedModule, Constants, IsScalar, type_of, Within, WithinProcedure, WithinMain, LiesFor, TypesHold, TypesHoldInArguments, TypesHoldInTargets, TypesHoldInHead, TypesHoldIn, TypesHoldInElse, TypesHoldInStatements, TypesHoldInList, TypesHoldInProcedure, IsWellTyped, ArgumentCount, ListsGlobals, FramesFit, Destination, target_of, Known, Given, place_of, count_of_given, bound, is_writable, scalar_of, arguments, Owner, TheModule, OfProcedure, Block, Progress, is_external, is_external_linkage, is_not_based, with_here, with_constants, value, destinations, assignment, moved, call_bound, call, return_with, return_from, goto_bound, goto, Counter, counter_bound, step, iteration, labels_before, after_labels, list_of, parameter_types, procedure_with, parameter_objects, own_block, check_body, close_procedure, inner_block, entered, kind, labelled, alone, else_part, cases, statements, declaration, declarations, module_block, at_the_beginning, module_with, typing_of, Checked, require, and_parts, not-true, some_and}
 use Rattle.trees.specs.Trees as trees
 use Rattle.typing.proofs.Kept.{Gives, then_more, gives_ok, gives_fault, gives_after, in_turn, required, is_found}
 use Rattle.typing.proofs.NamesBack.{is_bound, Binds}
@@ -34,16 +34,16 @@ destinations_hold within known sees (first ∷ others) constants =
     gives_ok (holding_both to more (λ tables has one others from. (one from, others from)))
 
 -- calls
-moved_holds : (within : Within) (line : ℕ) (values : TypedArguments)
+moved_holds : (within : Within) (place : Place) (values : TypedArguments)
     → Gives (λ statement. (tables : TypedModule) → TypesHoldInArguments tables within values
-    → TypesHoldIn tables within statement) (moved line values)
-moved_holds within line (MoreTyped count (MoreTyped source (MoreTyped destination NoTyped))) =
+    → TypesHoldIn tables within statement) (moved place values)
+moved_holds within place (MoreTyped count (MoreTyped source (MoreTyped destination NoTyped))) =
     gives_ok (λ tables hold. (
       as_type_holds tables within Address count hold.0,
       as_type_holds tables within Address source hold.1.0,
       as_type_holds tables within Address destination hold.1.1.0,
     ))
-moved_holds within line values = gives_fault
+moved_holds within place values = gives_fault
 
 no_result : (result : Option ScalarType) → is_none result ≡ true → result ≡ None
 no_result None is = refl
@@ -58,13 +58,13 @@ call_bound_holds : (within : Within) (known : Known) (binding : Binding) (name :
 call_bound_holds within known (Declared (Procedure number)) name given constants holds =
     in_turn (is_found (slice_get known.procedures number) _ _) λ procedure entry.
     in_turn (required (is_none procedure.result) _ _) λ _ none.
-    in_turn (call_arguments_hold within known number procedure None (line_of name) given constants entry
+    in_turn (call_arguments_hold within known number procedure None (place_of name) given constants entry
     (no_result procedure.result none) holds) λ values says.
     gives_ok says
 call_bound_holds within known (BuiltInName Move) name given constants holds =
-    gives_after (require (count_of_given given == 3) WrongUse (line_of name)) λ three.
+    gives_after (require (count_of_given given == 3) ArgumentCount (place_of name)) λ three.
     in_turn (holds constants) λ values so.
-    in_turn (moved_holds within (line_of name) values.0) λ moving is.
+    in_turn (moved_holds within (place_of name) values.0) λ moving is.
     gives_ok (holding_more so (λ tables has are_so. is tables are_so.1))
 call_bound_holds within known binding name given constants holds = gives_fault
 
@@ -144,18 +144,18 @@ module _ (owner : Owner) (is_here : is_external owner ≡ false) where
       gives_ok (goes_as (goes_then w₀ (goes_then w₁ (goes_then w₂ w₃)))
       (λ tables says. (says.0, says.1.0, says.1.1.0, says.1.1.1)))
 
-return_goes : (line : ℕ) (owner : Owner) (tree : Option ExpressionTree) (progress : Progress)
+return_goes : (place : Place) (owner : Owner) (tree : Option ExpressionTree) (progress : Progress)
     → is_external owner ≡ false → StandsAt owner progress
-    → GoesOn owner progress (λ tables. TypesHoldIn tables (within_of owner)) (return_from line owner tree progress)
-return_goes line TheModule tree progress is_here stands = gives_fault
-return_goes line (OfProcedure number heading) tree progress is_here stands =
+    → GoesOn owner progress (λ tables. TypesHoldIn tables (within_of owner)) (return_from place owner tree progress)
+return_goes place TheModule tree progress is_here stands = gives_fault
+return_goes place (OfProcedure number heading) tree progress is_here stands =
     go heading.result tree refl
   where
     own : Owner
     own = OfProcedure number heading
 
     go : (result : Option ScalarType) (tree : Option ExpressionTree) → heading.result ≡ result
-        → GoesOn own progress (λ tables. TypesHoldIn tables (WithinProcedure number result)) (return_with line result tree progress)
+        → GoesOn own progress (λ tables. TypesHoldIn tables (WithinProcedure number result)) (return_with place result tree progress)
     go None None e = gives_ok (goes_nowhere progress stands (λ tables reaches. tt))
     go (Some scalar) (Some tree) e =
         in_turn (value_goes own is_here tree progress stands) λ found is.
@@ -165,16 +165,16 @@ return_goes line (OfProcedure number heading) tree progress is_here stands =
     go (Some scalar) None e = gives_fault
     go None (Some tree) e = gives_fault
 
-goto_bound_holds : (line : ℕ) (binding : Binding)
+goto_bound_holds : (place : Place) (binding : Binding)
     → Gives (λ statement. (tables : TypedModule) (within : Within) → TypesHoldIn tables within statement)
-    (goto_bound line binding)
-goto_bound_holds line (Declared (Label label)) = gives_ok (λ tables within. tt)
-goto_bound_holds line binding = gives_fault
+    (goto_bound place binding)
+goto_bound_holds place (Declared (Label label)) = gives_ok (λ tables within. tt)
+goto_bound_holds place binding = gives_fault
 
 goto_goes : (label : Identifier) (owner : Owner) (progress : Progress) → StandsAt owner progress
     → GoesOn owner progress (λ tables. TypesHoldIn tables (within_of owner)) (goto label progress)
 goto_goes label owner progress stands =
-    in_turn (goto_bound_holds (line_of label) (jump_of progress.known.here label.name)) λ statement is.
+    in_turn (goto_bound_holds (place_of label) (jump_of progress.known.here label.name)) λ statement is.
     gives_ok (goes_nowhere progress stands (λ tables reaches. is tables (within_of owner)))
 
 -- labels before a statement
@@ -278,7 +278,7 @@ mutual
   kind_goes block (trees.CallStatement place name values) progress is stands =
       call_goes block.owner is name values progress stands
   kind_goes block (trees.ReturnStatement place result) progress is stands =
-      return_goes place.line block.owner result progress is stands
+      return_goes place block.owner result progress is stands
   kind_goes block (trees.HaltStatement place) progress is stands =
       gives_ok (goes_nowhere progress stands (λ tables reaches. tt))
   kind_goes block (trees.GotoStatement place label) progress is stands = goto_goes label block.owner progress stands

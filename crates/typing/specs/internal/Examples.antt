@@ -5,7 +5,7 @@ use Rattle.trees.specs.declared.expression.BinaryOperator.TheVariants.{Add, Mult
 use Rattle.trees.specs.declared.expression.UnaryOperator.TheVariants.{Negate}
 use Rattle.trees.specs.Trees.{ConstantLeaf, LocationLeaf, ListLeaf, UnaryNode as Unary, BinaryNode as Binary, LabelledStatement, NullStatement as Null, AssignmentStatement as AssignmentTree, GotoStatement as Goto, WhileStatement as While, CaseStatement as Case, ModuleTree, DeclareTree}
 use Rattle.names.specs.BuiltIns.{built_in_of}
-use Rattle.typing.specs.declared.fault.Cause.TheVariants.{UnknownName, DeclaredTwice, WrongUse, WrongConstant, ConstantWritten, MisplacedLabel, UnknownLabel}
+use Rattle.typing.specs.declared.fault.Cause.TheVariants.{UnknownName, DeclaredTwice, SubscriptMismatch, PortTooLarge, ConstantWritten, MisplacedLabel, UnknownLabel}
 use Rattle.typed_trees.specs.declared.parts.NumberOrigin.TheVariants.{FromDigits}
 use Rattle.typed_trees.specs.TypedTrees.{NumberNode, ValueNode, LocationNode, ListNode, ConversionNode, UnaryNode, BinaryNode, InputNode, TypedReference, PartOf, NoSubscript, At, StoredIn, SentTo, TypedStatement, LabelStatement, NullStatement, AssignmentStatement, GotoStatement, NoStatements, MoreStatements, TypedList, ListOf, TypedModule}
 use Rattle.typing.specs.Checks.{Checked, ◌>>=◌, refuse}
@@ -95,25 +95,25 @@ loop = refl
 -- A = V: an array without a subscript has no value
 pub array_as_value :
     main_of (doing (assigns (plain 3 (codes "A") ∷ []) (value_of (plain 3 (codes "V"))) ∷ []))
-    ≡ refuse WrongUse 3
+    ≡ refuse SubscriptMismatch (on_line 3)
 unfolding typing_of built_in_of
 array_as_value = refl
 
 -- Z = 1: a name that is not declared; the name of the module is in no scope
-pub unknown : main_of (doing (assigns (plain 3 (codes "M") ∷ []) (a_number 3 1) ∷ [])) ≡ refuse UnknownName 3
+pub unknown : main_of (doing (assigns (plain 3 (codes "M") ∷ []) (a_number 3 1) ∷ [])) ≡ refuse UnknownName (on_line 3)
 unfolding typing_of built_in_of
 unknown = refl
 
 -- K = 1, where K has DATA
 pub written :
-    main_of (doing (assigns (plain 3 (codes "K") ∷ []) (a_number 3 1) ∷ [])) ≡ refuse ConstantWritten 3
+    main_of (doing (assigns (plain 3 (codes "K") ∷ []) (a_number 3 1) ∷ [])) ≡ refuse ConstantWritten (on_line 3)
 unfolding typing_of built_in_of
 written = refl
 
 -- OUTPUT(256) = 1
 pub port_too_great :
     main_of (doing (assigns (at_subscript 3 (codes "OUTPUT") (a_number 4 256 ∷ []) ∷ []) (a_number 3 1) ∷ []))
-    ≡ refuse WrongConstant 4
+    ≡ refuse PortTooLarge (on_line 4)
 unfolding typing_of built_in_of
 port_too_great = refl
 
@@ -124,7 +124,7 @@ pub jump_into_a_loop :
     ∷ unlabelled (While (on_line 4) (a_number 4 1)
     (statements_of (LabelledStatement (name_on 5 (codes "L") ∷ []) (Null (on_line 5)) ∷ [])))
     ∷ []))
-    ≡ refuse UnknownLabel 3
+    ≡ refuse UnknownLabel (on_line 3)
 unfolding typing_of built_in_of
 jump_into_a_loop = refl
 
@@ -134,14 +134,14 @@ pub label_in_a_case :
     unlabelled (Case (on_line 3) (a_number 3 0)
     (statements_of (LabelledStatement (name_on 4 (codes "L") ∷ []) (Null (on_line 4)) ∷ [])))
     ∷ []))
-    ≡ refuse MisplacedLabel 4
+    ≡ refuse MisplacedLabel (on_line 4)
 unfolding typing_of built_in_of
 label_in_a_case = refl
 
 -- A: ;, where A is declared
 pub label_named_as_a_variable :
     main_of (doing (LabelledStatement (name_on 3 (codes "A") ∷ []) (Null (on_line 3)) ∷ []))
-    ≡ refuse DeclaredTwice 3
+    ≡ refuse DeclaredTwice (on_line 3)
 unfolding typing_of built_in_of
 label_named_as_a_variable = refl
 
@@ -150,6 +150,6 @@ pub declared_twice :
     typing_of (module_of (
     DeclareTree (scalar_item 2 (codes "A") Byte ∷ []) ∷ DeclareTree
     (scalar_item 3 (codes "A") Byte ∷ []) ∷ []) [])
-    ≡ refuse DeclaredTwice 3
+    ≡ refuse DeclaredTwice (on_line 3)
 unfolding typing_of built_in_of
 declared_twice = refl

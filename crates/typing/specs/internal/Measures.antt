@@ -8,7 +8,7 @@ use Rattle.trees.specs.declared.declaration.Storage.TheVariants.{Data}
 use Rattle.trees.specs.declared.expression.BinaryOperator.TheVariants.{Subtract, Equal}
 use Rattle.trees.specs.Trees.{ExpressionTree, ReferenceTo, MemberOf, BinaryNode as Binary, LocationOrigin, RestrictedTree, ItemTypeTree, ScalarItem, StructureItem, ElementTree, ItemElement, HeadingTree, StatementTree, CallStatement as Call, ReturnStatement as Return, IfStatement as If, NoElse, DeclarationTree, DeclareTree, ModuleTree}
 use Rattle.names.specs.BuiltIns.{built_in_of}
-use Rattle.typing.specs.declared.fault.Cause.TheVariants.{WrongConstant, TooLarge}
+use Rattle.typing.specs.declared.fault.Cause.TheVariants.{NotByte, TooLarge}
 use Rattle.typed_trees.specs.declared.parts.Measure.TheVariants.{Size, Last}
 use Rattle.typed_trees.specs.declared.parts.AtAddress.TheVariants.{AtObject}
 use Rattle.typed_trees.specs.declared.parts.InitialValue.TheVariants.{ByteValue, WordValue, LocationValue}
@@ -147,14 +147,14 @@ implied_dimensions = refl
 pub value_too_great :
     typing_of (module_of (DeclareTree
     (data_item 2 (codes "X") Byte (alone (number_on 3 256) ∷ []) ∷ []) ∷ []) [])
-    ≡ refuse WrongConstant 3
+    ≡ refuse NotByte (on_line 3)
 unfolding typing_of built_in_of
 value_too_great = refl
 
 -- DECLARE X(65535) ADDRESS;
 pub object_too_large :
     typing_of (module_of (DeclareTree (array_item 2 (codes "X") 65535 (ScalarItem Address) ∷ []) ∷ []) [])
-    ≡ refuse TooLarge 2
+    ≡ refuse TooLarge (on_line 2)
 unfolding typing_of built_in_of
 object_too_large = refl
 

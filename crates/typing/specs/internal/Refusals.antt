@@ -6,7 +6,7 @@ use Rattle.trees.specs.declared.declaration.Storage.TheVariants.{Initial}
 use Rattle.trees.specs.declared.expression.BinaryOperator.TheVariants.{Add, Subtract, Equal}
 use Rattle.trees.specs.Trees.{ExpressionTree, LocationLeaf, ReferenceTree, BinaryNode as Binary, ScalarItem, SingleSubject, ElementTree, ItemElement, HeadingTree, NullStatement as Null, ReturnStatement as Return, IfStatement as If, NoElse, DeclareTree, ModuleTree}
 use Rattle.names.specs.BuiltIns.{built_in_of}
-use Rattle.typing.specs.declared.fault.Cause.TheVariants.{UnknownName, DeclaredTwice, WrongUse, MisplacedAttribute, WrongConstant, NoLocation, TooLarge}
+use Rattle.typing.specs.declared.fault.Cause.TheVariants.{UnknownName, DeclaredTwice, ParameterNotScalar, ParameterNotDeclared, NoBase, MisplacedLinkage, MisplacedValues, ExternalContents, ZeroDimension, NoLocation, TooLarge}
 use Rattle.typed_trees.specs.TypedTrees.{BasedOn, InData, InFrame}
 use Rattle.typing.specs.Checks.{refuse}
 use Rattle.typed_trees.specs.Charge.{charge_of}
@@ -46,23 +46,23 @@ based = refl
 -- DECLARE P BYTE, X BASED P BYTE;: a base is an ADDRESS
 pub base_of_a_byte :
     typing_of (declares (scalar_item 2 (codes "P") Byte ∷ based_item 3 (codes "X") (codes "P") ∷ []))
-    ≡ refuse WrongUse 3
+    ≡ refuse NoBase (on_line 3)
 unfolding typing_of built_in_of
 base_of_a_byte = refl
 
 -- DECLARE X BASED X BYTE;: a name is known from the end of its element on
-pub base_of_itself : typing_of (declares (based_item 2 (codes "X") (codes "X") ∷ [])) ≡ refuse UnknownName 2
+pub base_of_itself : typing_of (declares (based_item 2 (codes "X") (codes "X") ∷ [])) ≡ refuse UnknownName (on_line 2)
 unfolding typing_of built_in_of
 base_of_itself = refl
 
 -- DECLARE X(0) BYTE;
 pub no_elements :
-    typing_of (declares (array_item 2 (codes "X") 0 (ScalarItem Byte) ∷ [])) ≡ refuse WrongConstant 2
+    typing_of (declares (array_item 2 (codes "X") 0 (ScalarItem Byte) ∷ [])) ≡ refuse ZeroDimension (on_line 2)
 unfolding typing_of built_in_of
 no_elements = refl
 
 -- P: PROCEDURE(N); END P;: a parameter that is not declared
-pub undeclared_parameter : typing_of (module_of (procedure_of heading_p [] [] ∷ []) []) ≡ refuse WrongUse 3
+pub undeclared_parameter : typing_of (module_of (procedure_of heading_p [] [] ∷ []) []) ≡ refuse ParameterNotDeclared (on_line 3)
 unfolding typing_of built_in_of
 undeclared_parameter = refl
 
@@ -70,14 +70,14 @@ undeclared_parameter = refl
 pub parameter_array :
     typing_of (module_of (procedure_of heading_p
     (DeclareTree (array_item 4 (codes "N") 2 (ScalarItem Byte) ∷ []) ∷ []) [] ∷ []) [])
-    ≡ refuse WrongUse 4
+    ≡ refuse ParameterNotScalar (on_line 4)
 unfolding typing_of built_in_of
 parameter_array = refl
 
 -- P: PROCEDURE(N); DECLARE N BYTE; DECLARE N BYTE; END P;
 pub parameter_twice :
     typing_of (module_of (procedure_of heading_p (a_parameter 4 ∷ a_parameter 5 ∷ []) [] ∷ []) [])
-    ≡ refuse DeclaredTwice 5
+    ≡ refuse DeclaredTwice (on_line 5)
 unfolding typing_of built_in_of
 parameter_twice = refl
 
@@ -86,7 +86,7 @@ pub nested_public :
     typing_of (module_of (procedure_of (heading_on 2 (codes "Q") [] None)
     (procedure_of (record heading_p { linkage = Some (Public (on_line 3)) }) (a_parameter 4 ∷ []) [] ∷ [])
     [] ∷ []) [])
-    ≡ refuse MisplacedAttribute 3
+    ≡ refuse MisplacedLinkage (on_line 3)
 unfolding typing_of built_in_of
 nested_public = refl
 
@@ -94,7 +94,7 @@ nested_public = refl
 pub initial_in_a_frame :
     typing_of (module_of (procedure_of reentrant_p
     (a_parameter 4 ∷ DeclareTree (initial_byte 5 (codes "A") ∷ []) ∷ []) [] ∷ []) [])
-    ≡ refuse MisplacedAttribute 5
+    ≡ refuse MisplacedValues (on_line 5)
 unfolding typing_of built_in_of
 initial_in_a_frame = refl
 
@@ -103,7 +103,7 @@ pub statement_in_an_external :
     typing_of (module_of (procedure_of (record heading_p { linkage = Some (External (on_line 3)) })
     (a_parameter 4 ∷ [])
     (unlabelled (Null (on_line 5)) ∷ []) ∷ []) [])
-    ≡ refuse MisplacedAttribute 5
+    ≡ refuse ExternalContents (on_line 5)
 unfolding typing_of built_in_of
 statement_in_an_external = refl
 
@@ -111,7 +111,7 @@ statement_in_an_external = refl
 pub variable_in_an_external :
     typing_of (module_of (procedure_of (record heading_p { linkage = Some (External (on_line 3)) })
     (DeclareTree (scalar_item 4 (codes "N") Byte ∷ scalar_item 5 (codes "A") Byte ∷ []) ∷ []) [] ∷ []) [])
-    ≡ refuse MisplacedAttribute 5
+    ≡ refuse ExternalContents (on_line 5)
 unfolding typing_of built_in_of
 variable_in_an_external = refl
 
@@ -120,7 +120,7 @@ pub location_in_a_frame :
     typing_of (module_of (procedure_of reentrant_p
     (DeclareTree (scalar_item 4 (codes "N") Byte ∷ scalar_item 4 (codes "W") Address ∷ []) ∷ [])
     (assigns (plain 5 (codes "W") ∷ []) (LocationLeaf (plain 5 (codes "N"))) ∷ []) ∷ []) [])
-    ≡ refuse NoLocation 5
+    ≡ refuse NoLocation (on_line 5)
 unfolding typing_of built_in_of
 location_in_a_frame = refl
 
@@ -130,7 +130,7 @@ pub frame_too_large :
     (DeclareTree (scalar_item 4 (codes "N") Byte ∷ array_item 4 (codes "A") 1024 (ScalarItem Byte)
     ∷ scalar_item 5 (codes "B") Byte ∷ []) ∷ [])
     [] ∷ []) [])
-    ≡ refuse TooLarge 5
+    ≡ refuse TooLarge (on_line 5)
 unfolding typing_of built_in_of
 frame_too_large = refl
 

@@ -3,7 +3,7 @@ use Rattle.std.specs.Prelude.{◌≡◌, ℕ, List, [], ◌∷◌, map, None, Ok
 use Rattle.trees.specs.declared.declaration.ScalarType.TheVariants.{Byte, Address}
 use Rattle.trees.specs.Trees.{NullStatement as Null, AssignmentStatement as AssignmentTree, WhileStatement as While, DoStatement as Do, CallStatement as Call, GotoStatement as Goto, LabelledStatement, DeclareTree, ModuleTree}
 use Rattle.names.specs.BuiltIns.{built_in_of}
-use Rattle.typing.specs.declared.fault.Cause.TheVariants.{UnknownName, WrongUse, UnknownLabel}
+use Rattle.typing.specs.declared.fault.Cause.TheVariants.{UnknownName, NoVariable, UnknownLabel}
 use Rattle.typed_trees.specs.declared.parts.NumberOrigin.TheVariants.{FromDigits}
 use Rattle.typed_trees.specs.TypedTrees.{NumberNode, ValueNode, ConversionNode, StoredIn, NoArguments, MoreArguments, LabelStatement, NullStatement, AssignmentStatement, CallStatement, DoStatement, WhileStatement, NoStatements, MoreStatements, TypedList, ListOf, TypedProcedure, TypedModule}
 use Rattle.typing.specs.Checks.{refuse}
@@ -89,7 +89,7 @@ pub outside_of_its_block :
     (declarations_of (procedure_of (heading_on 2 (codes "P") [] None) [] [] ∷ [])) (statements_of []))
     ∷ calls 3 (codes "P")
     ∷ []))
-    ≡ refuse UnknownName 3
+    ≡ refuse UnknownName (on_line 3)
 unfolding typing_of built_in_of
 outside_of_its_block = refl
 
@@ -107,7 +107,7 @@ pub jump_out_of_a_procedure :
     (procedure_of (heading_on 2 (codes "P") [] None) []
     (unlabelled (Goto (on_line 2) (name_on 2 (codes "L"))) ∷ []) ∷ [])
     (LabelledStatement (name_on 3 (codes "L") ∷ []) (Null (on_line 3)) ∷ []))
-    ≡ refuse UnknownLabel 2
+    ≡ refuse UnknownLabel (on_line 2)
 unfolding typing_of built_in_of
 jump_out_of_a_procedure = refl
 
@@ -115,6 +115,6 @@ jump_out_of_a_procedure = refl
 pub label_as_value :
     main_of (doing (LabelledStatement (name_on 3 (codes "L") ∷ [])
     (AssignmentTree (plain 3 (codes "A") ∷ []) (value_of (plain 4 (codes "L")))) ∷ []))
-    ≡ refuse WrongUse 4
+    ≡ refuse NoVariable (on_line 4)
 unfolding typing_of built_in_of
 label_as_value = refl

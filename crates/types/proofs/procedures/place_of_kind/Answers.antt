@@ -1,9 +1,9 @@
 use Rattle.types.proofs.Prelude.{arith, if_is, do_is, while_is, iterate_is, case_is}
-use Rattle.types.proofs.Lines.{line_of_first}
-use Rattle.types.proofs.procedures.line_of_kind.Goals as goal
+use Rattle.types.proofs.Places.{place_of_first}
+use Rattle.types.proofs.procedures.place_of_kind.Goals as goal
 
 pub returns-in-Assignment : goal.returns-in-Assignment
-returns-in-Assignment c = grind (arith, line_of_first)
+returns-in-Assignment c = grind (arith, place_of_first)
 
 pub returns-in-If : goal.returns-in-If
 returns-in-If c = grind (arith, if_is)
