@@ -8,6 +8,7 @@ use std::alloc::{AllocError, Global};
 
 // The word that asks for an explanation, and the one after which no word does.
 const ASKING: &str = "--explain";
+
 const END: &str = "--";
 
 /// Whether one of the words, the first of which is the program's name, asks for an explanation.

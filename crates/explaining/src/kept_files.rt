@@ -41,7 +41,7 @@ fn copy_of(alloc: Global, bytes: &[u8]) -> Option<Vec<u8>> {
 }
 
 // The file of a name among those that were kept.
-fn find_kept<'a>(files: &'a [KeptFile], name: &[u8]) -> Option<&'a KeptFile> {
+pub(crate) fn find_kept<'a>(files: &'a [KeptFile], name: &[u8]) -> Option<&'a KeptFile> {
     let mut rest = files;
     while let [file, more @ ..] = rest {
         if file.name.as_slice() == name {

@@ -74,10 +74,8 @@ fn part_of(line: &[u8], from: usize, to: usize) -> &[u8] {
     line.get(from..to).unwrap_or(&[])
 }
 
-// Adds the number of a line, with what comes before it, and the part of it that is shown.
-fn show_part(page: &mut Page, before: &str, number: u32, line: &[u8], range: Range) {
-    page.begin();
-    page.text(before);
+// Adds the number of a line, and the part of it that is shown.
+fn show_part(page: &mut Page, number: u32, line: &[u8], range: Range) {
     page.number(number);
     page.text(if range.from > 0 { " | .. " } else { " | " });
     page.shown(part_of(line, range.from, range.to));
@@ -93,10 +91,24 @@ fn show_mark(page: &mut Page, number: u32, line: &[u8], range: Range, column: us
     page.text("^\n");
 }
 
-/// Shows the line of this number, counted from 1, with what comes before the number.
-pub(crate) fn show_line(page: &mut Page, before: &str, text: &[u8], number: u32) {
+// Adds the number of a line, counted from 1, and the first part of it.
+fn show_number(page: &mut Page, text: &[u8], number: u32) {
     let line = line_at(text, start_of(text, number));
-    show_part(page, before, number, line, range_of(line.len(), 0));
+    show_part(page, number, line, range_of(line.len(), 0));
+}
+
+/// Shows the line of this number, counted from 1.
+pub(crate) fn show_line(page: &mut Page, text: &[u8], number: u32) {
+    page.begin();
+    show_number(page, text, number);
+}
+
+/// Shows the line of this number, counted from 1, of a file of this name.
+pub(crate) fn show_line_of(page: &mut Page, file: &[u8], text: &[u8], number: u32) {
+    page.begin();
+    page.shown(file);
+    page.text(" ");
+    show_number(page, text, number);
 }
 
 /// Shows the line of this number, and a mark below the byte at a place of the text. The mark is left out where the place
@@ -106,7 +118,8 @@ pub(crate) fn show_place(page: &mut Page, text: &[u8], number: u32, place: usize
     let line = line_at(text, start);
     let column = place.saturating_sub(start);
     let range = range_of(line.len(), column);
-    show_part(page, "", number, line, range);
+    page.begin();
+    show_part(page, number, line, range);
     if place >= start && column < line.len() {
         show_mark(page, number, line, range, column);
     }

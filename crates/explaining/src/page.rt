@@ -64,18 +64,46 @@ impl Page {
         self.text(".\n");
     }
 
-    /// Adds a sentence on a line of its own. It is given without its point.
+    /// Adds a text with a capital letter for its first one.
+    pub(crate) fn capital(&mut self, text: &str) {
+        match text.as_bytes() {
+            [first, rest @ ..] => {
+                self.add(&[first.to_ascii_uppercase()]);
+                self.add(rest);
+            }
+            [] => {}
+        }
+    }
+
+    /// Adds a sentence on a line of its own. It is given without its point, and its first letter may be a small one.
     pub(crate) fn sentence(&mut self, sentence: &str) {
         self.begin();
-        self.text(sentence);
+        self.capital(sentence);
         self.end();
     }
 
-    /// Adds a sentence of three parts, the second of which is a name or a word.
-    pub(crate) fn sentence_of(&mut self, before: &str, word: &[u8], after: &str) {
+    /// Adds what a fault means, and where to read more. The first letter may be a small one.
+    pub(crate) fn cause(&mut self, sentence: &str, number: &str) {
+        self.begin();
+        self.capital(sentence);
+        self.text(". See plm explain ");
+        self.text(number);
+        self.end();
+    }
+
+    /// Adds a sentence of a text and a word or a name.
+    pub(crate) fn sentence_with(&mut self, text: &str, word: &[u8]) {
+        self.begin();
+        self.text(text);
+        self.shown(word);
+        self.end();
+    }
+
+    /// Adds a sentence of a text, the number of a line and another text.
+    pub(crate) fn sentence_of_line(&mut self, before: &str, line: u32, after: &str) {
         self.begin();
         self.text(before);
-        self.shown(word);
+        self.number(line);
         self.text(after);
         self.end();
     }
