@@ -1,12 +1,9 @@
 //! Carrying out a command line, and explaining how it ended.
 
-ghost use Rattle.std.specs.Prelude.{◌≡◌, ◌≤◌, [], false};
+ghost use Rattle.std.specs.Prelude.{◌≡◌, false, true, IfOk, OnErr};
 ghost use Rattle.clap.specs.Walk.{texts};
-ghost use Rattle.clap.specs.Words.{fault_of};
-ghost use Rattle.host.specs.Files.{KeepsFiles};
-ghost use Rattle.command_line.specs.Command.{plm_app, wanted_by};
-ghost use Rattle.commands.specs.Orders.{ChangesByWords, PrintsByWords, StopsByWords, WritesByWords};
 ghost use Rattle.explaining.specs.Asking.{asks, plain_words};
+ghost use Rattle.explaining.specs.Ending.{Ends, EndsExplained};
 ghost use Rattle.explaining.specs.Growing.{Grows};
 
 use crate::asking::{asks, plain_words};
@@ -15,24 +12,54 @@ use crate::kept_files::KeptFiles;
 use crate::kept_lines::KeptLines;
 use commands::run_command;
 use failure::write_bytes;
-use host::{Files, refuse_memory};
-use std::alloc::Global;
+use host::Files;
+use std::alloc::{AllocError, Global};
 use std::io::Write;
 
-/// Carries out the words of a command line, as `run_command` does. Where one of them is `--explain`, before a word `--`, it
-/// carries out the others, and then explains on `err` how they ended.
+/// Carries out the words of a command line, as `run_command` does, and answers the exit status. Where one of them is
+/// `--explain`, before a word `--`, it carries out the others, and then explains on `err` how they ended: `err` has what
+/// `run_command` leaves there, and maybe something after it. It fails only if memory runs out for the words, before
+/// anything is done.
 pub fn run_words<F: Files, O: Write, E: Write>(
     alloc: Global,
     words: &[&str],
     files: &mut KeptFiles<F>,
     out: &mut O,
     err: &mut KeptLines<E>,
-) -> u8 {
+) -> Result<u8, AllocError>
+    ensures plain { IfOk result (λ status. asks (texts words.now) ≡ false → Ends
+        (texts words.now) status (F.files files.old.inner) (F.files files.new.inner)
+        (F.failures files.old.inner) (F.failures files.new.inner)
+        (E.contents err.old.inner) (E.contents err.new.inner) (O.contents out.old) (O.contents out.new)) }
+    ensures explained { IfOk result (λ status. asks (texts words.now) ≡ true → EndsExplained
+        (plain_words (texts words.now)) status (F.files files.old.inner) (F.files files.new.inner)
+        (F.failures files.old.inner) (F.failures files.new.inner)
+        (E.contents err.old.inner) (E.contents err.new.inner) (O.contents out.old) (O.contents out.new)) }
+    ensures files { OnErr result (files.new ≡ files.old) }
+    ensures err { OnErr result (err.new ≡ err.old) }
+    ensures out { OnErr result (out.new ≡ out.old) }
+{
     if asks(words) {
         run_asked(alloc, words, files, out, err)
     } else {
-        run_command(alloc, words, files, out, err)
+        Ok(run_whole(alloc, words, files, out, err))
     }
+}
+
+// Carries out words. What `run_command` promises is one fact here.
+fn run_whole<F: Files, O: Write, E: Write>(
+    alloc: Global,
+    words: &[&str],
+    files: &mut KeptFiles<F>,
+    out: &mut O,
+    err: &mut KeptLines<E>,
+) -> u8
+    ensures { Ends
+        (texts words.now) result (F.files files.old.inner) (F.files files.new.inner)
+        (F.failures files.old.inner) (F.failures files.new.inner)
+        (E.contents err.old.inner) (E.contents err.new.inner) (O.contents out.old) (O.contents out.new) }
+{
+    run_command(alloc, words, files, out, err)
 }
 
 // Carries out the words without those that ask for an explanation, and explains how they ended.
@@ -42,11 +69,17 @@ fn run_asked<F: Files, O: Write, E: Write>(
     files: &mut KeptFiles<F>,
     out: &mut O,
     err: &mut KeptLines<E>,
-) -> u8 {
-    match plain_words(alloc, words) {
-        Ok(plain) => run_explained(alloc, plain.as_slice(), files, out, err),
-        Err(_) => refuse_memory(err).status(),
-    }
+) -> Result<u8, AllocError>
+    ensures explained { IfOk result (λ status. EndsExplained
+        (plain_words (texts words.now)) status (F.files files.old.inner) (F.files files.new.inner)
+        (F.failures files.old.inner) (F.failures files.new.inner)
+        (E.contents err.old.inner) (E.contents err.new.inner) (O.contents out.old) (O.contents out.new)) }
+    ensures files { OnErr result (files.new ≡ files.old) }
+    ensures err { OnErr result (err.new ≡ err.old) }
+    ensures out { OnErr result (out.new ≡ out.old) }
+{
+    let plain = plain_words(alloc, words)?;
+    Ok(run_explained(alloc, plain.as_slice(), files, out, err))
 }
 
 // Carries out words, and explains how they ended.
@@ -56,10 +89,15 @@ fn run_explained<F: Files, O: Write, E: Write>(
     files: &mut KeptFiles<F>,
     out: &mut O,
     err: &mut KeptLines<E>,
-) -> u8 {
+) -> u8
+    ensures { EndsExplained
+        (texts words.now) result (F.files files.old.inner) (F.files files.new.inner)
+        (F.failures files.old.inner) (F.failures files.new.inner)
+        (E.contents err.old.inner) (E.contents err.new.inner) (O.contents out.old) (O.contents out.new) }
+{
     files.keep();
     err.keep();
-    let status = run_command(alloc, words, files, out, err);
+    let status = run_whole(alloc, words, files, out, err);
     explain(alloc, words, files, status, err);
     status
 }
@@ -71,7 +109,9 @@ fn explain<F, E: Write>(
     files: &KeptFiles<F>,
     status: u8,
     err: &mut KeptLines<E>,
-) {
+)
+    ensures { Grows (E.contents err.old.inner) (E.contents err.new.inner) }
+{
     let page = explanation(alloc, words, files.kept(), status, err.kept());
     let _ = write_bytes(err, page.bytes());
 }

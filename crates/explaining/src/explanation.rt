@@ -67,12 +67,10 @@ fn explain_object(page: &mut Page, seen: &Seen, told: Told) {
 
 // Whether bytes have others in them.
 fn has_bytes(bytes: &[u8], wanted: &[u8]) -> bool {
-    let mut rest = bytes;
-    while let [_, more @ ..] = rest {
-        if rest.starts_with(wanted) {
+    for (at, _) in bytes.iter().enumerate() {
+        if bytes.get(at..).unwrap_or(&[]).starts_with(wanted) {
             return true;
         }
-        rest = more;
     }
     false
 }

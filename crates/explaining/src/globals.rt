@@ -80,12 +80,10 @@ fn shared_in(alloc: Global, files: &[KeptFile]) -> Result<Shared, AllocError> {
 
 // Whether a name is among others.
 fn has_name(names: &[Name], name: &Name) -> bool {
-    let mut rest = names;
-    while let [other, more @ ..] = rest {
+    for other in names {
         if *other == *name {
             return true;
         }
-        rest = more;
     }
     false
 }
@@ -138,39 +136,49 @@ fn is_sharing(word: &Word) -> bool {
         || word.kind == Kind::Reserved(ReservedWord::External)
 }
 
-// The line on which a name stands first in a declaration that has PUBLIC or EXTERNAL.
-fn line_in(words: &[Word], name: &[u8]) -> Option<u32> {
-    let mut line = None;
-    let mut is_shared = false;
-    for word in words {
-        if line.is_none() && is_same_name(word.text, name) {
-            line = Some(word.line);
-        }
-        is_shared = is_shared || is_sharing(word);
-    }
-    if is_shared { line } else { None }
+// What is known of a statement as far as it was read: the line on which a name stands first, and whether it has PUBLIC or
+// EXTERNAL.
+#[derive(Clone, Copy)]
+struct Statement {
+    line: Option<u32>,
+    is_shared: bool,
 }
 
-// How many words stand before the first semicolon.
-fn statement_length(words: &[Word]) -> usize {
-    for (at, word) in words.iter().enumerate() {
-        if word.kind == Kind::Mark(Mark::Semicolon) {
-            return at;
+impl Statement {
+    // Of one that was not read yet.
+    fn new() -> Statement {
+        Statement {
+            line: None,
+            is_shared: false,
         }
     }
-    words.len()
+
+    // Takes a word in.
+    fn take(&mut self, word: &Word, name: &[u8]) {
+        if self.line.is_none() && is_same_name(word.text, name) {
+            self.line = Some(word.line);
+        }
+        self.is_shared = self.is_shared || is_sharing(word);
+    }
+
+    // The line of the name, where the statement is a declaration that has PUBLIC or EXTERNAL.
+    fn declared(&self) -> Option<u32> {
+        if self.is_shared { self.line } else { None }
+    }
 }
 
 // Shows the lines of a source that declare a name as PUBLIC or EXTERNAL.
 fn show_in(page: &mut Page, alloc: Global, file: &KeptFile, text: &[u8], name: &[u8]) {
     let words = words_of(alloc, text);
-    let mut rest = words.as_slice();
-    while !rest.is_empty() {
-        let length = statement_length(rest);
-        if let Some(line) = line_in(rest.get(..length).unwrap_or(&[]), name) {
-            show_line_of(page, file.name.as_slice(), text, line);
+    let mut statement = Statement::new();
+    for word in &words {
+        statement.take(word, name);
+        if word.kind == Kind::Mark(Mark::Semicolon) {
+            if let Some(line) = statement.declared() {
+                show_line_of(page, file.name.as_slice(), text, line);
+            }
+            statement = Statement::new();
         }
-        rest = rest.get(length.saturating_add(1)..).unwrap_or(&[]);
     }
 }
 

@@ -1,6 +1,7 @@
 //! Files that are remembered as they are read.
 
-ghost use Rattle.std.specs.Prelude.{◌≡◌};
+ghost use Rattle.std.specs.Prelude.{◌≡◌, IfErr, IfOk, OnOk, option_map};
+ghost use Rattle.host.specs.Files.{Counts, FindsFile, HasFile, KeepsFiles};
 
 use failure::Failure;
 use host::{FileFault, Files};
@@ -42,12 +43,10 @@ fn copy_of(alloc: Global, bytes: &[u8]) -> Option<Vec<u8>> {
 
 // The file of a name among those that were kept.
 pub(crate) fn find_kept<'a>(files: &'a [KeptFile], name: &[u8]) -> Option<&'a KeptFile> {
-    let mut rest = files;
-    while let [file, more @ ..] = rest {
+    for file in files {
         if file.name.as_slice() == name {
             return Some(file);
         }
-        rest = more;
     }
     None
 }
@@ -113,8 +112,15 @@ impl<F> KeptFiles<F> {
 }
 
 impl<F: Files> KeptFiles<F> {
-    // The bytes of a file that is to be read, where they are kept.
-    fn read_kept(&mut self, name: &str) -> Result<Vec<u8>, Failure<FileFault>> {
+    // The bytes of a file that is to be read, which are kept.
+    #[tactic(auto, using(host::proofs::FilesRead::stays_on, host::proofs::FilesRead::was_there))]
+    fn read_kept(&mut self, name: &str) -> Result<Vec<u8>, Failure<FileFault>>
+        ensures bytes { IfOk result (λ bytes. HasFile (F.files self.old.inner) name.now bytes.items) }
+        ensures kept { KeepsFiles (F.files self.old.inner) (F.files self.new.inner) }
+        ensures count { OnOk result (F.failures self.new.inner ≡ F.failures self.old.inner) }
+        ensures failed { IfErr result
+            (λ failure. Counts failure (F.failures self.old.inner) (F.failures self.new.inner)) }
+    {
         match self.inner.find_file(name) {
             Ok(Some(bytes)) => {
                 self.add_bytes(name.as_bytes(), bytes.as_slice());
@@ -131,8 +137,15 @@ impl<F: Files> KeptFiles<F> {
         }
     }
 
-    // The bytes of a file that may be there, where they are kept.
-    fn find_kept(&mut self, name: &str) -> Result<Option<Vec<u8>>, Failure<FileFault>> {
+    // The bytes of a file that may be there, which are kept.
+    fn find_kept(&mut self, name: &str) -> Result<Option<Vec<u8>>, Failure<FileFault>>
+        ensures found { IfOk result (λ found.
+            FindsFile (F.files self.old.inner) name.now (option_map (λ bytes. bytes.items) found)) }
+        ensures kept { KeepsFiles (F.files self.old.inner) (F.files self.new.inner) }
+        ensures count { OnOk result (F.failures self.new.inner ≡ F.failures self.old.inner) }
+        ensures failed { IfErr result
+            (λ failure. Counts failure (F.failures self.old.inner) (F.failures self.new.inner)) }
+    {
         let found = self.inner.find_file(name)?;
         if let Some(bytes) = &found {
             self.add_bytes(name.as_bytes(), bytes.as_slice());

@@ -39,19 +39,18 @@ fn length_of(text: &[u8]) -> usize {
     text.len()
 }
 
-// A line without the carriage returns that end it.
-fn without_returns(line: &[u8]) -> &[u8] {
-    let mut rest = line;
-    while let [before @ .., b'\r'] = rest {
-        rest = before;
+// A line without the carriage return that ends it.
+fn without_return(line: &[u8]) -> &[u8] {
+    match line {
+        [before @ .., b'\r'] => before,
+        _ => line,
     }
-    rest
 }
 
 // The line that begins at a place, without its end.
 fn line_at(text: &[u8], start: usize) -> &[u8] {
     let rest = text.get(start..).unwrap_or(&[]);
-    without_returns(rest.get(..length_of(rest)).unwrap_or(rest))
+    without_return(rest.get(..length_of(rest)).unwrap_or(rest))
 }
 
 // What is shown of a line of so many bytes: all of a short one, else what stands around a column.

@@ -19,12 +19,11 @@ fn is_named(words: &[Word], name: &[u8], is_procedure: bool) -> bool {
 
 // The words from the first procedure of a name on, or from the first label.
 fn from_named<'w, 'a>(words: &'w [Word<'a>], name: &[u8], is_procedure: bool) -> &'w [Word<'a>] {
-    let mut rest = words;
-    while let [_, more @ ..] = rest {
+    for (at, _) in words.iter().enumerate() {
+        let rest = words.get(at..).unwrap_or(&[]);
         if is_named(rest, name, is_procedure) {
             return rest;
         }
-        rest = more;
     }
     &[]
 }
@@ -39,14 +38,13 @@ pub(crate) fn find_named(words: &[Word], name: &[u8], is_procedure: bool) -> Opt
 
 // The line of the innermost procedure of those that are open.
 fn innermost(open: &[Opener]) -> Option<u32> {
-    let mut rest = open;
-    while let [before @ .., last] = rest {
-        if matches!(last.opened, Opened::Procedure) {
-            return Some(last.line);
+    let mut line = None;
+    for opener in open {
+        if matches!(opener.opened, Opened::Procedure) {
+            line = Some(opener.line);
         }
-        rest = before;
     }
-    None
+    line
 }
 
 // The line of the innermost procedure around what comes after words.

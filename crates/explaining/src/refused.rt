@@ -212,12 +212,10 @@ fn add_ended(page: &mut Page, text: &[u8], open: &[Opener], name: &Word) {
 
 // Whether one of those that are open has a name.
 fn has_name(open: &[Opener], name: &[u8]) -> bool {
-    let mut rest = open;
-    while let [opener, more @ ..] = rest {
+    for opener in open {
         if opener.has_name(name) {
             return true;
         }
-        rest = more;
     }
     false
 }

@@ -168,7 +168,7 @@ impl Answer {
         let mut files = KeptFiles::new(alloc, files);
         let mut out: Vec<u8> = Vec::new(alloc);
         let mut err = KeptLines::new(alloc, Vec::new(alloc));
-        let status = run_words(alloc, words, &mut files, &mut out, &mut err);
+        let status = run_words(alloc, words, &mut files, &mut out, &mut err).unwrap_or(1);
         let files = files.into_inner();
         Answer {
             status,
