@@ -45,12 +45,13 @@ def rt():
 
 class Help:
     """what `--help` prints of the program or of one of its commands: the sentence, the usage, the lists of commands, arguments and options
-    as pairs of a form and a line, and the paragraphs after them"""
+    as pairs of a form and a line, those of options that each command takes, and the paragraphs after them"""
 
-    LISTS = {'Commands:': 'commands', 'Arguments:': 'arguments', 'Options:': 'options'}
+    LISTS = {'Commands:': 'commands', 'Arguments:': 'arguments', 'Options:': 'options',
+             'With each command, before or after its name:': 'shared'}
 
     def __init__(self, text):
-        self.about, self.usage, self.commands, self.arguments, self.options, self.rest = '', '', [], [], [], []
+        self.about, self.usage, self.commands, self.arguments, self.options, self.shared, self.rest = '', '', [], [], [], [], []
         for paragraph in text.strip('\n').split('\n\n'):
             self.take(paragraph)
 

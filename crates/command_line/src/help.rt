@@ -144,6 +144,9 @@ Both `plm run FILE` and `plm interpret FILE` print
   OUT 01 2A
   HALT
 
+With each command, before or after its name:
+  --explain  shows where a fault is, what it means and what is likely wrong
+
 Numbers, where X is the name or the text that is printed with one:
 " TEXTS CODE MODULES SEGMENTS MERGES OBJECTS PLACES IMAGES COUNTS LENGTHS FILES VALUES MEMORY "\n\
 Read more in the folder docs:
@@ -272,6 +275,9 @@ prints
   OUT 01 2A
   HALT
 
+With each command, before or after its name:
+  --explain  shows where a fault is, what it means and what is likely wrong
+
 Numbers, where X is the name or the text that is printed with one:
 " TEXTS CODE MODULES SEGMENTS PLACES COUNTS LENGTHS FILES VALUES MEMORY "\n\
 Read more in the folder docs: faults.md (each number with an example and its cure), commands.md");
@@ -322,6 +328,9 @@ Example: a file with the line
 prints
   OUT 01 2A
   HALT
+
+With each command, before or after its name:
+  --explain  shows where a fault is, what it means and what is likely wrong
 
 Numbers, where X is the name or the text that is printed with one:
 " TEXTS CODE MODULES SEGMENTS PLACES COUNTS LENGTHS FILES VALUES MEMORY "\n\

@@ -24,7 +24,7 @@ use failure::Failure;
 use layout::Layout;
 use std::alloc::Global;
 use thiserror::Error;
-use trees::Module;
+use trees::{Module, Place};
 use typed_trees::Typed;
 use words::{LONGEST_SOURCE, Word};
 
@@ -53,7 +53,7 @@ pub enum ReadFault {
 
 impl ReadFault {
     ghost use Rattle.std.specs.Prelude.{◌≡◌};
-    ghost use Rattle.sources.specs.Faults.{line_of, number_of};
+    ghost use Rattle.sources.specs.Faults.{line_of, number_of, place_of};
 
     /// The number of the fault, as `plm` prints it.
     pub fn number(&self) -> &'static str
@@ -80,6 +80,25 @@ impl ReadFault {
             ReadFault::Syntax(fault) => fault.line(),
             ReadFault::Typing(fault) => fault.line(),
             ReadFault::Storage(_) => 0,
+        }
+    }
+
+    /// The place of the word at fault; none if the whole source is refused, or its segments.
+    pub fn place(&self) -> Option<Place>
+        ensures { result ≡ place_of self.now }
+    {
+        match self {
+            ReadFault::Words(fault) => Some(Place {
+                start: fault.start(),
+                line: fault.line(),
+            }),
+            ReadFault::Expansion(fault) => Some(Place {
+                start: fault.start(),
+                line: fault.line(),
+            }),
+            ReadFault::Syntax(fault) => Some(fault.place()),
+            ReadFault::Typing(fault) => Some(fault.place()),
+            ReadFault::TooLong | ReadFault::Storage(_) => None,
         }
     }
 }

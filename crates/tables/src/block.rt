@@ -4,7 +4,7 @@ use crate::memory_files::{File, MemoryFiles};
 use crate::page::Page;
 use crate::texts::Bytes;
 use anyhow::Result;
-use commands::run_command;
+use explaining::{KeptFiles, KeptLines, run_words};
 use std::alloc::Global;
 
 /// A command line as far as it was read, with the line of standard input on which it stands.
@@ -165,16 +165,18 @@ impl Answer {
     pub fn of(alloc: Global, block: &Block, words: &[&str], failing_call: u64) -> Answer {
         let mut files = MemoryFiles::new(alloc, block.files.as_slice());
         files.failing_call = failing_call;
+        let mut files = KeptFiles::new(alloc, files);
         let mut out: Vec<u8> = Vec::new(alloc);
-        let mut err: Vec<u8> = Vec::new(alloc);
-        let status = run_command(alloc, words, &mut files, &mut out, &mut err);
+        let mut err = KeptLines::new(alloc, Vec::new(alloc));
+        let status = run_words(alloc, words, &mut files, &mut out, &mut err).unwrap_or(1);
+        let files = files.into_inner();
         Answer {
             status,
             calls: files.calls(),
             failed: files.failed(),
             written: files.into_written(),
             out,
-            err,
+            err: err.into_inner(),
         }
     }
 

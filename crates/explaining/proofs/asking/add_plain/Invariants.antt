@@ -1,0 +1,13 @@
+use Rattle.std.proofs.Common.{◌≡◌, ◌++◌, length}
+use Rattle.clap.specs.Walk.{texts}
+use Rattle.explaining.specs.Asking.{plain_after}
+use Rattle.explaining.proofs.asking.add_plain.Given as goal
+
+-- what was added, with what the words that are left add, is what all add
+abbrev pub invariant-loop-rest : goal.invariant-loop-rest
+invariant-loop-rest l =
+    texts l.plain.items ++ plain_after (texts l.rest)
+    ≡ texts l.initial.plain.items ++ plain_after (texts l.initial.rest)
+
+abbrev pub decreases-loop-rest : goal.decreases-loop-rest
+decreases-loop-rest l = length l.rest

@@ -1,0 +1,3 @@
+pub mod Asking
+pub mod Growing
+pub mod Ending

@@ -1,0 +1,157 @@
+//! What is printed of how a command ended.
+
+use crate::globals::{add_missing, show_declarations};
+use crate::kept_files::{Content, KeptFile, find_kept};
+use crate::kinds::{as_object, kind_of};
+use crate::options::{add_plan, add_values};
+use crate::page::Page;
+use crate::refused::explain_source;
+use crate::sentences::{meaning_of, meaning_of_end};
+use crate::told::{Told, told_in};
+use std::alloc::Global;
+
+// What is looked at beside the line of a fault: the words of the command line, and the files that were read.
+#[derive(Clone, Copy)]
+struct Seen<'s> {
+    alloc: Global,
+    words: &'s [&'s str],
+    files: &'s [KeptFile],
+}
+
+// Whether a number is that of a group: it begins with a letter.
+fn is_of_group(number: &str, letter: u8) -> bool {
+    match number.as_bytes() {
+        [first, ..] => *first == letter,
+        [] => false,
+    }
+}
+
+// What a file could not be read or written for.
+fn cause_of_file(seen: &Seen, name: &str) -> &'static str {
+    match find_kept(seen.files, name.as_bytes()) {
+        Some(file) => match file.content {
+            Content::Missing => "No such file is there",
+            Content::Closed =>
+                "It is there and can't be read: a folder, or its permissions do not allow it",
+            Content::Bytes(_) => meaning_of("U3"),
+        },
+        None => meaning_of("U3"),
+    }
+}
+
+// The bytes of a file that was read.
+fn bytes_of<'s>(seen: &Seen<'s>, name: &str) -> Option<&'s [u8]> {
+    match find_kept(seen.files, name.as_bytes()) {
+        Some(file) => match &file.content {
+            Content::Bytes(bytes) => Some(bytes.as_slice()),
+            Content::Missing | Content::Closed => None,
+        },
+        None => None,
+    }
+}
+
+// Adds why a text of an option is refused.
+fn explain_value(page: &mut Page, seen: &Seen, told: Told) {
+    page.begin();
+    add_values(page, seen.words, told.place);
+    page.text(". See plm explain U4");
+    page.end();
+}
+
+// Adds why an object file is refused.
+fn explain_object(page: &mut Page, seen: &Seen, told: Told) {
+    let bytes = bytes_of(seen, told.place).unwrap_or(&[]);
+    let cause = as_object(kind_of(bytes)).unwrap_or(meaning_of(told.number));
+    page.cause(cause, told.number);
+}
+
+// Whether bytes have others in them.
+fn has_bytes(bytes: &[u8], wanted: &[u8]) -> bool {
+    for (at, _) in bytes.iter().enumerate() {
+        if bytes.get(at..).unwrap_or(&[]).starts_with(wanted) {
+            return true;
+        }
+    }
+    false
+}
+
+// Adds the object files that have a name.
+fn add_objects(page: &mut Page, files: &[KeptFile], name: &str) {
+    for file in files {
+        if let Content::Bytes(bytes) = &file.content
+            && has_bytes(bytes.as_slice(), name.as_bytes())
+        {
+            page.begin();
+            page.shown(file.name.as_slice());
+            page.text(" has the name ");
+            page.text(name);
+            page.text("\n");
+        }
+    }
+}
+
+// Adds what a fault of the whole program means, with what is known of its names and places.
+fn explain_program(page: &mut Page, seen: &Seen, told: Told) {
+    match told.number {
+        "J1" | "J2" | "J3" => {
+            show_declarations(page, seen.alloc, seen.files, told.place.as_bytes());
+        }
+        "L1" | "L2" => add_objects(page, seen.files, told.place),
+        _ => {}
+    }
+    page.cause(meaning_of(told.number), told.number);
+    match told.number {
+        "J1" => add_missing(page, seen.alloc, seen.files),
+        "P1" | "P2" => add_plan(page, seen.alloc, seen.words),
+        _ => {}
+    }
+}
+
+// Adds what a fault means.
+fn explain_fault(page: &mut Page, seen: &Seen, told: Told) {
+    if told.number == "U4" {
+        explain_value(page, seen, told);
+    } else if told.number == "U3" {
+        page.cause(cause_of_file(seen, told.place), "U3");
+    } else if is_of_group(told.number, b'O') {
+        explain_object(page, seen, told);
+    } else if is_of_group(told.number, b'C')
+        && let Some(text) = bytes_of(seen, told.place)
+    {
+        explain_source(page, seen.alloc, told, text);
+    } else {
+        explain_program(page, seen, told);
+    }
+}
+
+// Adds how a run ended that did not halt.
+fn explain_end(page: &mut Page, status: u8) {
+    if let Some(meaning) = meaning_of_end(status) {
+        page.begin();
+        page.text(meaning);
+        page.text(". See docs/faults.md, \"How a run ends\"");
+        page.end();
+    }
+}
+
+/// What is said of how a command ended, by its words, the files that it read, its status, and what it printed on standard
+/// error.
+pub(crate) fn explanation(
+    alloc: Global,
+    words: &[&str],
+    files: &[KeptFile],
+    status: u8,
+    printed: &[u8],
+) -> Page {
+    let mut page = Page::new(alloc);
+    let seen = Seen {
+        alloc,
+        words,
+        files,
+    };
+    match told_in(printed) {
+        Some(told) if status == 1 || status == 2 => explain_fault(&mut page, &seen, told),
+        _ => explain_end(&mut page, status),
+    }
+    page
+}

@@ -1,0 +1,76 @@
+//! A writer that remembers what it was given.
+
+ghost use Rattle.std.specs.Prelude.{◌≡◌};
+
+use std::alloc::Global;
+use std::io;
+use std::io::Write;
+
+/// A writer that is given, and the bytes that it took since `keep` was called. Each call is handed on.
+#[derive(Drop)]
+pub struct KeptLines<E> {
+    inner: E,
+    is_keeping: bool,
+    kept: Vec<u8>,
+}
+
+impl<E> KeptLines<E> {
+    /// A writer, of which nothing is kept yet.
+    pub fn new(alloc: Global, inner: E) -> KeptLines<E>
+        ensures { result.inner ≡ inner }
+    {
+        KeptLines {
+            inner,
+            is_keeping: false,
+            kept: Vec::new(alloc),
+        }
+    }
+
+    /// The writer that was given.
+    pub fn into_inner(self) -> E
+        ensures { result ≡ self.inner }
+    {
+        let KeptLines {
+            inner,
+            is_keeping: _,
+            kept: _,
+        } = self;
+        inner
+    }
+
+    // Keeps what is written from now on.
+    pub(crate) fn keep(&mut self)
+        ensures { self.new.inner ≡ self.old.inner }
+    {
+        self.is_keeping = true;
+    }
+
+    /// What was kept. Where memory ran out, nothing is.
+    pub(crate) fn kept(&self) -> &[u8] {
+        self.kept.as_slice()
+    }
+
+    // Keeps bytes that were taken.
+    fn add(&mut self, bytes: &[u8])
+        ensures { self.new.inner ≡ self.old.inner }
+    {
+        if self.is_keeping && self.kept.extend_from_slice(bytes).is_err() {
+            self.is_keeping = false;
+            self.kept.clear();
+        }
+    }
+}
+
+impl<E: Write> Write for KeptLines<E> {
+    ghost contents = { λ kept. E.contents kept.inner };
+
+    fn write(&mut self, buf: &[u8]) -> io::Result<usize> {
+        let count = self.inner.write(buf)?;
+        self.add(buf.get(..count).unwrap_or(&[]));
+        Ok(count)
+    }
+
+    fn flush(&mut self) -> io::Result<()> {
+        self.inner.flush()
+    }
+}

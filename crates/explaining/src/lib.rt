@@ -1,0 +1,25 @@
+//! Commands that are carried out, and explained where they are refused.
+#![tactic(auto)]
+
+mod asking;
+mod console;
+mod explanation;
+mod globals;
+mod hints;
+mod kept_files;
+mod kept_lines;
+mod kinds;
+mod left_out;
+mod lines;
+mod meanings;
+mod named;
+mod openers;
+mod options;
+mod page;
+mod refused;
+mod sentences;
+mod told;
+
+pub use console::run_words;
+pub use kept_files::KeptFiles;
+pub use kept_lines::KeptLines;
