@@ -5,9 +5,8 @@ use crate::left_out::is_same_name;
 use crate::lines::show_line_of;
 use crate::page::Page;
 use crate::refused::words_of;
-use sources::read_source;
+use sources::{Name, read_source};
 use std::alloc::{AllocError, Global};
-use trees::Name;
 use typed_trees::{GlobalItem, Home, Typed, TypedObject, TypedProcedure, Visibility};
 use words::{Kind, Mark, ReservedWord, Word};
 

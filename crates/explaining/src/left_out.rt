@@ -1,6 +1,6 @@
 //! Words of PL/M-80 and its relatives that this language has not, or has not everywhere.
 
-use trees::Name;
+use sources::Name;
 
 // A word, and what to write.
 #[derive(Clone, Copy)]

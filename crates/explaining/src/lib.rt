@@ -20,6 +20,7 @@ mod refused;
 mod sentences;
 mod told;
 
+pub use commands::run_command;
 pub use console::run_words;
 pub use kept_files::KeptFiles;
 pub use kept_lines::KeptLines;

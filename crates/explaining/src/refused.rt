@@ -10,11 +10,10 @@ use crate::page::Page;
 use crate::sentences::meaning_of;
 use crate::told::Told;
 use failure::Failure;
-use sources::{LONGEST_SOURCE, ReadFault, read_source};
+use sources::{LONGEST_SOURCE, Place, ReadFault, read_source};
 use std::alloc::Global;
 use std::fmt;
 use std::fmt::Write;
-use trees::Place;
 use words::{Kind, Word};
 
 // Why a text is refused, where it is, and not for memory.

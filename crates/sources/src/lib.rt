@@ -11,4 +11,5 @@ pub use mem80::Plan;
 pub use placed::{Placed, place_program};
 pub use read::{ReadFault, SourceModule, read_source};
 pub use sources::{MOST_SOURCES, Source};
+pub use trees::{Name, Place};
 pub use words::LONGEST_SOURCE;

@@ -3,18 +3,17 @@
 use crate::memory_files::MemoryFiles;
 use crate::page::Page;
 use command_line::ValueFault;
-use commands::run_command;
+use explaining::run_command;
 use failure::Failure;
 use host::FileFault;
 use link::LinkFault;
 use locate::LocateFault;
 use objmod::Name;
-use sources::ReadFault;
+use sources::{Place, ReadFault};
 use std::alloc::Global;
 use std::fmt;
 use std::fmt::Write;
 use tool::ToolFault;
-use trees::Place;
 use typing::Cause;
 
 // What comes before the words of a fault that has a line.
