@@ -5,5 +5,7 @@ pub mod Walks
 pub mod Places
 pub mod Modules
 pub mod Headings
+pub mod Counters
+pub mod Bodies
 pub mod ItemLemmas
 pub mod Declares

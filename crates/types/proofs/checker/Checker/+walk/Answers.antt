@@ -1,5 +1,7 @@
-use Rattle.types.proofs.Prelude.{arith, rules, if_is, do_is, while_is, iterate_is, case_is, procedure_is, fault_in, listed_view, block_view, progress_view}
+use Rattle.types.proofs.Prelude.{arith, rules, if_is, do_is, while_is, iterate_is, case_is, procedure_is, fault_in, leaves_fault, Leaves, subst, sym, ◌∙◌, length-map, ap, declaration_trees, procedure_view, listed_view, block_view, progress_view}
 use Rattle.types.proofs.Walks.{cases_go_on, cases_fail, cases_ended, statements_go_on, places_go_on, statements_ended}
+use Rattle.types.proofs.Bodies.{procedure_fails, procedure_whole}
+use Rattle.types.specs.internal.Walking.{inside_view}
 use Rattle.types.proofs.checker.Checker.+walk.Goals as goal
 
 pub cases-loop-tree-preserved : goal.cases-loop-tree-preserved
@@ -47,3 +49,17 @@ cases-returns-in_err-typed t c =
     let failed = cases_fail (block_view c.args.block) c.args.trees.now c.loop-tree.tree-index c.tree-item.result c.loop-tree.made.items (progress_view c.loop-tree.self) _
     (fault_in c.in_err-typed.field-0.0) c.loop-tree-test.true c.tree-item.is c.loop-tree.invariant c.in_err-typed.ensures in
     search rules
+
+pub procedure-returns-in_err-inside : goal.procedure-returns-in_err-inside
+procedure-returns-in_err-inside t c =
+    leaves_fault c.from_residual-in_err-inside.result c.in_err-inside.field-0.0 (progress_view c.procedure_inside.new.self) _ (search rules)
+    (procedure_fails (block_view c.args.block) c.args.procedure.now _ (ap declaration_trees c.as_slice-declared.ensures.value) (progress_view c.args.self.now) (progress_view c.open_procedure.new.self) c.in_ok-number.number
+    (c.in_ok-number.ensures.number ∙ sym (length-map c.args.self.now.known.procedures.items procedure_view)) c.in_ok-number.ensures.opened _ c.in_err-inside.ensures)
+
+pub procedure-returns : goal.procedure-returns
+procedure-returns t c =
+    subst (Leaves c.close_procedure.result (progress_view c.close_procedure.new.self))
+    (procedure_whole (block_view c.args.block) c.args.procedure.now _ (ap declaration_trees c.as_slice-declared.ensures.value) (progress_view c.args.self.now) (progress_view c.open_procedure.new.self) c.in_ok-number.number
+    (c.in_ok-number.ensures.number ∙ sym (length-map c.args.self.now.known.procedures.items procedure_view)) c.in_ok-number.ensures.opened
+    (inside_view c.in_ok-inside.inside) (progress_view c.procedure_inside.new.self) c.in_ok-inside.ensures)
+    c.close_procedure.ensures
