@@ -20,8 +20,7 @@ fn run<R: rt::Env + rt::Files + AllocGlobal, O: Write, E: Write>(
         words.push(arg.as_str())?;
     }
     let mut files = KeptFiles::new(rt.alloc(), HostFiles::new(rt));
-    let status = run_words(rt.alloc(), words.as_slice(), &mut files, out, err)?;
-    Ok(status)
+    Ok(run_words(rt.alloc(), words.as_slice(), &mut files, out, err)?)
 }
 
 fn main(rt: HostRuntime) -> ExitCode {
