@@ -1,5 +1,5 @@
 -- What INITIAL and DATA locate is an object of the table that is not BASED, in a frame or nowhere.
-use Rattle.meaning_laws.proofs.Prelude.{◌≡◌, ℕ, ◌-◌, Bool, true, false, List, [], ◌∷◌, length, slice_get, Option, Some, None, IsSomeAnd, nat_le, nat_lt, refl, sym, subst, cond, All, is_none, is_some, ◌&&◌, option_map_or, All-append, All-cons, All-nil, All-weaker, ScalarType, Byte, Address, Identifier, Place, StringTree, StringConstant, OriginTree, ConstantOrigin, LocationOrigin, OffsetTree, RestrictedTree, ValueListTree, ItemTree, Binding, Declared, Object, Procedure, AtAddress, ByteValue, WordValue, LocationValue, InitialValue, scalars_of_element, scalars_of_elements, ObjectType, Home, InData, InConstants, Placed, BasedOn, Elsewhere, Nowhere, InFrame, TypedObject, values_in, NoVariable, MisplacedValues, StringNotNumber, NotByte, Block, Owner, OfProcedure, TheModule, is_external_linkage, ◌>>=◌, found, require, number_of_characters, number_of_constant, with_offsets, OtherModulesToo, with_address, static_bound, static_object, RestrictedValue, ANumber, FromObject, restricted_value, Filled, fill_scalar, fill_characters, fill_string, place_of_origin, fill_value, fill, Extents, NoArray, Elements, AsListed, Contents, enough_elements, contents, TypedItem, base_of, check_linkage, extents_of, home_with_values, is_data, is_plain, place_of_item, place_of_storage, typed_at, typed_base, typed_contents, typed_item, typed_type, Known, bound, place_of, Gives, gives_after, gives_fault, gives_ok, in_turn, is_found, required, then_more, HasAddress, LocatesObject}
+use Rattle.meaning_laws.proofs.Prelude.{◌≡◌, ℕ, ◌-◌, Bool, true, false, List, [], ◌∷◌, length, slice_get, Option, Some, None, IsSomeAnd, nat_le, nat_lt, refl, sym, subst, cond, All, is_none, is_some, ◌&&◌, option_map_or, All-append, All-cons, All-nil, All-weaker, ScalarType, Byte, Address, Identifier, WordPlace, StringTree, StringConstant, OriginTree, ConstantOrigin, LocationOrigin, OffsetTree, RestrictedTree, ValueListTree, ItemTree, Binding, Declared, Object, Procedure, AtAddress, ByteValue, WordValue, LocationValue, InitialValue, scalars_of_element, scalars_of_elements, ObjectType, Home, InData, InConstants, Placed, BasedOn, Elsewhere, Nowhere, InFrame, TypedObject, values_in, NoVariable, MisplacedValues, StringNotNumber, NotByte, Block, Owner, OfProcedure, TheModule, is_external_linkage, ◌>>=◌, found, require, number_of_characters, number_of_constant, with_offsets, OtherModulesToo, with_address, static_bound, static_object, RestrictedValue, ANumber, FromObject, restricted_value, Filled, fill_scalar, fill_characters, fill_string, place_of_origin, fill_value, fill, Extents, NoArray, Elements, AsListed, Contents, enough_elements, contents, TypedItem, base_of, check_linkage, extents_of, home_with_values, is_data, is_plain, place_of_item, place_of_storage, typed_at, typed_base, typed_contents, typed_item, typed_type, Known, bound, place_of_word, Gives, gives_after, gives_fault, gives_ok, in_turn, is_found, required, then_more, HasAddress, LocatesObject}
 use Rattle.typing.specs.Items.{home_in, home_of}
 use Rattle.typing.proofs.Tables.{Keeps}
 
@@ -8,7 +8,7 @@ abbrev MayBeLocated : (objects : List TypedObject) → (number : ℕ) → Type 0
 MayBeLocated objects number =
     IsSomeAnd (slice_get objects number) (λ (found : TypedObject). HasAddress found.home)
 
-address_is : (home : Home) (number : ℕ) (place : Place)
+address_is : (home : Home) (number : ℕ) (place : WordPlace)
     → Gives (λ found. (found ≡ number) × HasAddress home) (with_address OtherModulesToo home number place)
 address_is (InData values) number place = gives_ok (refl, tt)
 address_is (InConstants values) number place = gives_ok (refl, tt)
@@ -21,8 +21,8 @@ address_is (InFrame procedure) number place = gives_fault
 bound_is : (known : Known) (binding : Binding) (name : Identifier)
     → Gives (MayBeLocated known.objects) (static_bound OtherModulesToo known binding name)
 bound_is known (Declared (Object number)) name =
-    in_turn (is_found (slice_get known.objects number) NoVariable (place_of name)) λ object is.
-    then_more (address_is object.home number (place_of name)) λ found has.
+    in_turn (is_found (slice_get known.objects number) NoVariable (place_of_word name)) λ object is.
+    then_more (address_is object.home number (place_of_word name)) λ found has.
     subst (MayBeLocated known.objects) (sym has.0)
     (subst (λ (entry : Option TypedObject). IsSomeAnd entry (λ (found : TypedObject). HasAddress found.home)) (sym is)
     has.1)
@@ -58,7 +58,7 @@ one_value : (objects : List TypedObject) (value : InitialValue) → LocatesObjec
 one_value objects value locates =
     All-cons (LocatesObject objects) value [] locates (All-nil (LocatesObject objects))
 
-scalar_locates : (objects : List TypedObject) (place : Place) (scalars : List ScalarType) (value : RestrictedValue)
+scalar_locates : (objects : List TypedObject) (place : WordPlace) (scalars : List ScalarType) (value : RestrictedValue)
     → ValueLocates objects value
     → Gives (FilledLocate objects) (fill_scalar place scalars value)
 scalar_locates objects place (Byte ∷ left) (ANumber number) is =
@@ -70,7 +70,7 @@ scalar_locates objects place (Address ∷ left) (FromObject object offset) is =
 scalar_locates objects place (Byte ∷ left) (FromObject object offset) is = gives_fault
 scalar_locates objects place [] value is = gives_fault
 
-characters_locate : (objects : List TypedObject) (place : Place) (characters : List ℕ) (scalars : List ScalarType)
+characters_locate : (objects : List TypedObject) (place : WordPlace) (characters : List ℕ) (scalars : List ScalarType)
     → Gives (FilledLocate objects) (fill_characters place characters scalars)
 characters_locate objects place [] scalars = gives_ok (All-nil (LocatesObject objects))
 characters_locate objects place (character ∷ others) (Byte ∷ left) =
@@ -112,7 +112,7 @@ values_locate known (value ∷ others) scalars =
 abbrev ContentsLocate : (objects : List TypedObject) → Contents → Type 0
 ContentsLocate objects made = All (LocatesObject objects) made.values
 
-contents_locate : (known : Known) (place : Place) (object_type : ObjectType) (extents : Extents)
+contents_locate : (known : Known) (place : WordPlace) (object_type : ObjectType) (extents : Extents)
     (values : List RestrictedTree)
     → Gives (ContentsLocate known.objects) (contents known place object_type extents values)
 contents_locate known place object_type NoArray values =

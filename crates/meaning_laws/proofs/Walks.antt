@@ -1,6 +1,6 @@
 -- In each part of a text the PUBLIC objects that are declared so far have a place, and INITIAL and DATA locate objects
 -- that have one or are of another module.
-use Rattle.meaning_laws.proofs.Prelude.{ℕ, ◌+◌, List, [], ◌∷◌, ◌++◌, length, nat_le, subst, sym, All, not, All-append, All-cons, All-nil, All-weaker, Identifier, DeclarationTree, DeclarationTrees, DeclareTree, ElementTree, ElseTree, ItemElement, ItemTree, LiterallyElement, ModuleTree, MoreDeclarations, NoDeclarations, ProcedureTree, StatementKindTree, StatementTree, StatementTrees, is_declared_again, into_list, labels_of, declared_by, FRAME_LIMIT, OBJECT_LIMIT, TypedObject, TypedStatements, DeclaredTwice, ExternalContents, TooLarge, Block, Progress, is_external, Checked, require, TypedItem, declare_element, declare_elements, declare_item, declare_names, place_of_item, object_named, size_of_item, typed_item, with_objects, with_typed_object, arguments, check_body, own_block, parameter_objects, Known, place_of, declare_labels, labels_before, list_of, with_here, without_label, alone, at_the_beginning, cases, declaration, declarations, else_part, inner_block, kind, labelled, module_block, statements, typing_of, values_in, Gives, gives_after, gives_ok, in_turn, then_more, keeps_append, opens, Same, assignment_same, call_same, goto_same, iteration_same, return_same, value_same, ArePlaceable, IsPlaceable, LiesIfPublic, LocatesObjects}
+use Rattle.meaning_laws.proofs.Prelude.{ℕ, ◌+◌, List, [], ◌∷◌, ◌++◌, length, nat_le, subst, sym, All, not, All-append, All-cons, All-nil, All-weaker, Identifier, DeclarationTree, DeclarationTrees, DeclareTree, ElementTree, ElseTree, ItemElement, ItemTree, LiterallyElement, ModuleTree, MoreDeclarations, NoDeclarations, ProcedureTree, StatementKindTree, StatementTree, StatementTrees, is_declared_again, into_list, labels_of, declared_by, FRAME_LIMIT, OBJECT_LIMIT, TypedObject, TypedStatements, DeclaredTwice, ExternalContents, TooLarge, Block, Progress, is_external, Checked, require, TypedItem, declare_element, declare_elements, declare_item, declare_names, place_of_item, object_named, size_of_item, typed_item, with_objects, with_typed_object, arguments, check_body, own_block, parameter_objects, Known, place_of_word, declare_labels, labels_before, list_of, with_here, without_label, alone, at_the_beginning, cases, declaration, declarations, else_part, inner_block, kind, labelled, module_block, statements, typing_of, values_in, Gives, gives_after, gives_ok, in_turn, then_more, keeps_append, opens, Same, assignment_same, call_same, goto_same, iteration_same, return_same, value_same, ArePlaceable, IsPlaceable, LiesIfPublic, LocatesObjects}
 use Rattle.trees.specs.Trees as trees
 use Rattle.typing.specs.Typing.{entered}
 use Rattle.typing.proofs.Tables.{Keeps}
@@ -42,7 +42,7 @@ objects_lie block item (name ∷ others) progress lies locates lie =
     let objects : List TypedObject = progress.known.objects in
     let object : TypedObject = object_named block item name.name in
     let after : Progress = with_typed_object item.linkage object progress in
-    gives_after (require (nat_le after.frame FRAME_LIMIT) TooLarge (place_of name)) λ small.
+    gives_after (require (nat_le after.frame FRAME_LIMIT) TooLarge (place_of_word name)) λ small.
     objects_lie block item others after lies
     (values_later objects (objects ++ object ∷ []) (keeps_append objects (object ∷ [])) (values_in item.home) locates)
     (one_more objects object lie lies locates)
@@ -68,8 +68,8 @@ item_lies block item progress lie =
 element_lies : (block : Block) (element : ElementTree) (progress : Progress) → Lie progress
     → Gives Lie (declare_element block element progress)
 element_lies block (LiterallyElement name text) progress lie =
-    gives_after (require (not (is_declared_again progress.known.here name.name)) DeclaredTwice (place_of name)) λ once.
-    gives_after (require (not (is_external block.owner)) ExternalContents (place_of name)) λ placed.
+    gives_after (require (not (is_declared_again progress.known.here name.name)) DeclaredTwice (place_of_word name)) λ once.
+    gives_after (require (not (is_external block.owner)) ExternalContents (place_of_word name)) λ placed.
     gives_ok lie
 element_lies block (ItemElement item) progress lie = item_lies block item progress lie
 

@@ -1,6 +1,6 @@
 -- A typed expression is at most 17 times as high as the levels that it takes in the text, and so is what is highest in a
 -- statement.
-use Rattle.typed_laws.proofs.Prelude.{◌≡◌, ℕ, suc, ◌+◌, ◌*◌, ◌≤◌, List, [], ◌∷◌, length, map, Option, None, Some, IsSomeAnd, slice_get, refl, ap, arith, IfSome, option_map, ScalarType, Identifier, arguments_height, else_height, expression_height, iteration_height, kind_height, optional_height, reference_height, statements_height, targets_height, FromDigits, FromString, FromMeasure, count_of_arguments, height_of, height_of_arguments, height_of_else, height_of_iteration, height_of_list, height_of_optional, height_of_reference, height_of_statement, height_of_statements, height_of_subscript, height_of_target, height_of_targets, type_of, IsInElement, IsPartOf, IsScalarOf, TypedExpression, NumberNode, ValueNode, LocationNode, ListNode, ConversionNode, CallNode, FunctionNode, ShiftNode, InputNode, TypedReference, PartOf, Subscript, NoSubscript, At, TypedTarget, StoredIn, SentTo, TypedArguments, TypedIteration, TypedStatement, LabelStatement, MoveStatement, TypedElse, TypedStatements, TypedList, ListOf, ObjectType, ScalarObject, StructureObject, TypedObject, TypedProcedure, TypedModule, HasLocation, IsReturned, IsSeen, RefersToLocation, RefersToScalar, Takes, TypesHold, TypesHoldIn, TypesHoldInArguments, TypesHoldInElse, TypesHoldInHead, TypesHoldInList, TypesHoldInReference, TypesHoldInStatements, TypesHoldInSubscript, TypesHoldInTarget, TypesHoldInTargets, Within, WithinProcedure, WithinMain, types_of, nameless, untyped_arguments, untyped_else, untyped_expression, untyped_iteration, untyped_kind, untyped_list, untyped_reference, untyped_statements, untyped_subscript, untyped_target, HasFewParameters, types_count}
+use Rattle.typed_laws.proofs.Prelude.{◌≡◌, ℕ, ◌+◌, ◌*◌, ◌≤◌, List, [], ◌∷◌, length, map, Option, None, Some, IsSomeAnd, slice_get, refl, ap, arith, IfSome, option_map, ScalarType, Identifier, arguments_height, else_height, expression_height, iteration_height, kind_height, optional_height, reference_height, statements_height, targets_height, FromDigits, FromString, FromMeasure, count_of_arguments, height_of, height_of_arguments, height_of_else, height_of_iteration, height_of_list, height_of_optional, height_of_reference, height_of_statement, height_of_statements, height_of_subscript, height_of_target, height_of_targets, type_of, IsInElement, IsPartOf, IsScalarOf, TypedExpression, NumberNode, ValueNode, LocationNode, ListNode, ConversionNode, CallNode, FunctionNode, ShiftNode, InputNode, TypedReference, PartOf, Subscript, NoSubscript, At, TypedTarget, StoredIn, SentTo, TypedArguments, TypedIteration, TypedStatement, LabelStatement, MoveStatement, TypedElse, TypedStatements, TypedList, ListOf, ObjectType, ScalarObject, StructureObject, TypedObject, TypedProcedure, TypedModule, HasLocation, IsReturned, IsSeen, RefersToLocation, RefersToScalar, Takes, TypesHold, TypesHoldIn, TypesHoldInArguments, TypesHoldInElse, TypesHoldInHead, TypesHoldInList, TypesHoldInReference, TypesHoldInStatements, TypesHoldInSubscript, TypesHoldInTarget, TypesHoldInTargets, Within, WithinProcedure, WithinMain, types_of, nameless, untyped_arguments, untyped_else, untyped_expression, untyped_iteration, untyped_kind, untyped_list, untyped_reference, untyped_statements, untyped_subscript, untyped_target, HasFewParameters, types_count}
 use Rattle.typed_trees.specs.TypedTrees.{AssignmentNode, UnaryNode, BinaryNode, NoArguments, MoreArguments, NullStatement, AssignmentStatement, CallStatement, ReturnStatement, HaltStatement, GotoStatement, IfStatement, DoStatement, WhileStatement, IterateStatement, CaseStatement, NoElse, ElseStatement, NoStatements, MoreStatements}
 
 -- where no member is named there is no subscript of one

@@ -1,5 +1,5 @@
 -- The bodies of a text, without what typed trees do not keep, nest no deeper than the text.
-use Rattle.typed_laws.proofs.Prelude.{ℕ, ◌+◌, ◌≤◌, List, [], ◌∷◌, ◌++◌, map, Option, None, Some, arith, option_map, AllByRecursion, ExpressionTree, ConstantLeaf, ReferenceLeaf, LocationLeaf, ListLeaf, ParenthesizedNode, AssignmentNode, UnaryNode, BinaryNode, ReferenceTree, ReferenceTo, MemberTree, NoMember, MemberOf, ArgumentTrees, NoArguments, MoreArguments, IterationTree, StatementTree, LabelledStatement, StatementKindTree, NullStatement, AssignmentStatement, CallStatement, ReturnStatement, HaltStatement, GotoStatement, IfStatement, DoStatement, WhileStatement, IterateStatement, CaseStatement, ElseTree, NoElse, ElseStatement, StatementTrees, NoStatements, MoreStatements, DeclarationTree, DeclareTree, ProcedureTree, DeclarationTrees, NoDeclarations, MoreDeclarations, ModuleTree, arguments_height, declaration_height, declarations_height, else_height, expression_height, iteration_height, kind_height, member_height, module_height, optional_height, reference_height, statement_height, statements_height, targets_height, bodies_in, bodies_in_declaration, bodies_in_else, bodies_in_kind, bodies_in_statement, bodies_in_statements, plain_arguments, plain_bodies, plain_else, plain_expression, plain_iteration, plain_kind, plain_member, plain_reference, plain_statement, plain_statements}
+use Rattle.typed_laws.proofs.Prelude.{ℕ, ◌≤◌, List, [], ◌∷◌, ◌++◌, map, Option, None, Some, arith, option_map, AllByRecursion, ExpressionTree, ConstantLeaf, ReferenceLeaf, LocationLeaf, ListLeaf, ParenthesizedNode, AssignmentNode, UnaryNode, BinaryNode, ReferenceTree, ReferenceTo, MemberTree, NoMember, MemberOf, ArgumentTrees, NoArguments, MoreArguments, IterationTree, StatementTree, LabelledStatement, StatementKindTree, NullStatement, AssignmentStatement, CallStatement, ReturnStatement, HaltStatement, GotoStatement, IfStatement, DoStatement, WhileStatement, IterateStatement, CaseStatement, ElseTree, NoElse, ElseStatement, StatementTrees, NoStatements, MoreStatements, DeclarationTree, DeclareTree, ProcedureTree, DeclarationTrees, NoDeclarations, MoreDeclarations, ModuleTree, arguments_height, declaration_height, declarations_height, else_height, expression_height, iteration_height, kind_height, member_height, module_height, optional_height, reference_height, statement_height, statements_height, targets_height, bodies_in, bodies_in_declaration, bodies_in_else, bodies_in_kind, bodies_in_statement, bodies_in_statements, plain_arguments, plain_bodies, plain_else, plain_expression, plain_iteration, plain_kind, plain_member, plain_reference, plain_statement, plain_statements}
 
 mutual
   expression_lower : (tree : ExpressionTree) → expression_height (plain_expression tree) ≤ expression_height tree

@@ -3,7 +3,7 @@ pub use Rattle.std.proofs.{Common.{Bool, IsSomeAnd, List, None, Ok, Option, Some
 pub use Rattle.std.specs.{List.{AllByRecursion, enumerate_from}, Option.{option_map_or}, Prelude.{All, IfSome, is_none, is_some, not, option_map, slice_set, ◌&&◌}}
 pub use Rattle.words.specs.Spelling.{Lexeme}
 pub use Rattle.trees.proofs.Lists.{got_first}
-pub use Rattle.trees.specs.{Trees.{ArgumentTrees, AssignmentNode, AssignmentStatement, AtTree, BinaryNode, CallStatement, CaseStatement, ConstantLeaf, ConstantOrigin, DeclarationTree, DeclarationTrees, DeclareTree, DoStatement, ElementTree, ElseStatement, ElseTree, ExpressionTree, GotoStatement, HaltStatement, HeadingTree, IfStatement, ItemElement, ItemTree, ItemTypeTree, IterateStatement, IterationTree, LabelledStatement, ListLeaf, LiterallyElement, LocationLeaf, LocationOrigin, MemberOf, MemberTree, ModuleTree, MoreArguments, MoreDeclarations, MoreStatements, NoArguments, NoDeclarations, NoElse, NoMember, NoStatements, NullStatement, OffsetTree, OriginTree, ParenthesizedNode, ProcedureTree, ReferenceLeaf, ReferenceTo, ReferenceTree, RestrictedTree, ReturnStatement, ScalarItem, StatementKindTree, StatementTree, StatementTrees, StringConstant, StringTree, StructureItem, SubjectTree, UnaryNode, ValueListTree, WhileStatement}, declared.declaration.Dimension.{Dimension, TheVariants.{Count, Implied}}, declared.declaration.Member.{Member}, declared.declaration.ScalarType.{ScalarType, TheVariants.{Address, Byte}}, declared.declaration.Sign.{Sign, TheVariants.{Minus, Plus}}, declared.identifier.Identifier.{Identifier}, declared.identifier.Number.{Number}}
+pub use Rattle.trees.specs.{Trees.{ArgumentTrees, AssignmentNode, AssignmentStatement, AtTree, BinaryNode, CallStatement, CaseStatement, ConstantLeaf, ConstantOrigin, DeclarationTree, DeclarationTrees, DeclareTree, DoStatement, ElementTree, ElseStatement, ElseTree, ExpressionTree, GotoStatement, HaltStatement, HeadingTree, IfStatement, ItemElement, ItemTree, ItemTypeTree, IterateStatement, IterationTree, LabelledStatement, ListLeaf, LiterallyElement, LocationLeaf, LocationOrigin, MemberOf, MemberTree, ModuleTree, MoreArguments, MoreDeclarations, MoreStatements, NoArguments, NoDeclarations, NoElse, NoMember, NoStatements, NullStatement, OffsetTree, OriginTree, ParenthesizedNode, ProcedureTree, ReferenceLeaf, ReferenceTo, ReferenceTree, RestrictedTree, ReturnStatement, ScalarItem, StatementKindTree, StatementTree, StatementTrees, StringConstant, StringTree, StructureItem, SubjectTree, UnaryNode, ValueListTree, WhileStatement}, declared.declaration.Dimension.{Dimension, TheVariants.{Count, Implied}}, declared.declaration.Member.{Member}, declared.declaration.ScalarType.{ScalarType, TheVariants.{Address, Byte}}, declared.declaration.Sign.{Sign, TheVariants.{Minus, Plus}}, declared.identifier.Identifier.{Identifier}, declared.identifier.Number.{Number}, declared.identifier.Place.{Place}}
 pub use Rattle.grammar.specs.{Derivation.{Derives, DerivesDeclaration, DerivesDeclarations, DerivesKind, DerivesModule, DerivesStatement, DerivesStatements, assignment, call, declare, do_case, do_while, goto, halt, if_then, if_then_else, iterative_do, iterative_do_by, labelled, next_declaration, next_statement, no_declaration, no_statement, null, procedure, return, return_value, simple_do, unlabelled, whole_module}, Forms.{IsElement, IsItem, IsItemType, IsNotEmpty}, Nesting.{IsNestedWithin, arguments_height, declaration_height, declarations_height, else_height, expression_height, iteration_height, kind_height, member_height, module_height, optional_height, reference_height, statement_height, statements_height, targets_height}, Symbols.{Symbol}}
 pub use Rattle.typed_trees.proofs.Counted.{types_count}
 pub use Rattle.typed_trees.specs.{Charge.{count_of_arguments, height_of, height_of_arguments, height_of_else, height_of_iteration, height_of_list, height_of_optional, height_of_reference, height_of_statement, height_of_statements, height_of_subscript, height_of_target, height_of_targets}, ExpressionTypes.{type_of}, Frames.{AreParameters, FrameFits, FramesFit, HasParameters, ParametersFit, home_of_parameters}, ObjectParts.{IsInElement, IsPartOf, IsScalarOf}, Sizes.{count_of, has_member, scalars_of_element, scalars_of_elements, scalars_of_member, size_of_element, size_of_member, size_of_object, size_of_scalar}, TypedTrees.{At, BasedOn, CallNode, ConversionNode, Elsewhere, FunctionNode, Home, InConstants, InData, InFrame, InputNode, LabelStatement, ListNode, ListOf, LocationNode, MoveStatement, NoSubscript, Nowhere, NumberNode, ObjectType, PartOf, Placed, ScalarObject, SentTo, ShiftNode, StoredIn, StructureObject, Subscript, TypedArguments, TypedElse, TypedExpression, TypedIteration, TypedList, TypedModule, TypedObject, TypedProcedure, TypedReference, TypedStatement, TypedStatements, TypedTarget, ValueNode}, WellTyped.{HasLocation, IsReturned, IsSeen, IsWellTyped, RefersToLocation, RefersToScalar, Takes, TypesHold, TypesHoldIn, TypesHoldInArguments, TypesHoldInElse, TypesHoldInHead, TypesHoldInList, TypesHoldInProcedure, TypesHoldInReference, TypesHoldInStatements, TypesHoldInSubscript, TypesHoldInTarget, TypesHoldInTargets, Within, WithinMain, WithinProcedure, types_of}, declared.limits.TheConstants.{FRAME_LIMIT, OBJECT_LIMIT}, declared.parts.AtAddress.{AtAddress, TheVariants.{AtNumber, AtObject}}, declared.parts.InitialValue.{InitialValue, TheVariants.{ByteValue, LocationValue, WordValue}}, declared.parts.NumberOrigin.TheVariants.{FromDigits, FromMeasure, FromString}, declared.parts.TypedMember.{TypedMember}}
