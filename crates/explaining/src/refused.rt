@@ -45,17 +45,19 @@ fn plain_words<'a>(alloc: Global, text: &'a [u8]) -> Vec<Word<'a>> {
     }
 }
 
-// The words before the first one that begins at a place, and this one with what comes after it.
-fn split_at_place<'w, 'a>(words: &'w [Word<'a>], start: u32) -> (&'w [Word<'a>], &'w [Word<'a>]) {
+// How many words stand before the first one that begins at a place.
+fn count_before(words: &[Word], start: u32) -> usize {
     for (at, word) in words.iter().enumerate() {
         if word.start == start {
-            return (
-                words.get(..at).unwrap_or(&[]),
-                words.get(at..).unwrap_or(&[]),
-            );
+            return at;
         }
     }
-    (words, &[])
+    words.len()
+}
+
+// The words before the first one that begins at a place, and this one with what comes after it.
+fn split_at_place<'w, 'a>(words: &'w [Word<'a>], start: u32) -> (&'w [Word<'a>], &'w [Word<'a>]) {
+    words.split_at(count_before(words, start).min(words.len()))
 }
 
 // A text that is refused, its words as they stand, and with those of its LITERALLY definitions, and the place of the word
@@ -129,16 +131,20 @@ fn add_words(page: &mut Page, plain: &Word, words: &[Word]) {
     page.end();
 }
 
-// What a fault says, without the line before it.
+// What a fault says without the line, which a colon ends.
+fn without_line(said: &str) -> &str {
+    match said.split_once(": ") {
+        Some((_, sentence)) => sentence,
+        None => said,
+    }
+}
+
+// Adds what a fault says.
 fn add_said<T: fmt::Display>(page: &mut Page, alloc: Global, fault: &T, number: &str) {
     let mut said = String::new(alloc);
     let is_written = write!(said, "{fault}").is_ok();
     page.note(is_written);
-    let sentence = match said.as_str().split_once(": ") {
-        Some((_, sentence)) => sentence,
-        None => said.as_str(),
-    };
-    page.cause(sentence, number);
+    page.cause(without_line(said.as_str()), number);
 }
 
 // Adds what is likely wrong at a word that cannot stand where it stands, below the line that comes before, if that is at
