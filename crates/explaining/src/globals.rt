@@ -168,7 +168,7 @@ impl Statement {
 
 // Shows the lines of a source that declare a name as PUBLIC or EXTERNAL.
 fn show_in(page: &mut Page, alloc: Global, file: &KeptFile, text: &[u8], name: &[u8]) {
-    let words = words_of(alloc, text);
+    let words = words_of(page, alloc, text);
     let mut statement = Statement::new();
     for word in &words {
         statement.take(word, name);

@@ -17,23 +17,20 @@ fn is_named(words: &[Word], name: &[u8], is_procedure: bool) -> bool {
     }
 }
 
-// The words from the first procedure of a name on, or from the first label.
-fn from_named<'w, 'a>(words: &'w [Word<'a>], name: &[u8], is_procedure: bool) -> &'w [Word<'a>] {
+// How many words stand before the first procedure of a name, or the first label.
+fn count_before(words: &[Word], name: &[u8], is_procedure: bool) -> usize {
     for (at, _) in words.iter().enumerate() {
-        let rest = words.get(at..).unwrap_or(&[]);
-        if is_named(rest, name, is_procedure) {
-            return rest;
+        if is_named(words.get(at..).unwrap_or(&[]), name, is_procedure) {
+            return at;
         }
     }
-    &[]
+    words.len()
 }
 
 /// The line of the first procedure of a name, or of the first label.
 pub(crate) fn find_named(words: &[Word], name: &[u8], is_procedure: bool) -> Option<u32> {
-    match from_named(words, name, is_procedure) {
-        [first, ..] => Some(first.line),
-        [] => None,
-    }
+    let word = words.get(count_before(words, name, is_procedure))?;
+    Some(word.line)
 }
 
 // The line of the innermost procedure of those that are open.
@@ -60,9 +57,8 @@ pub(crate) fn leaves_procedure(
     before: &[Word],
     name: &[u8],
 ) -> bool {
-    let after = from_named(words, name, false);
-    let until = words.len().saturating_sub(after.len());
-    let there = procedure_after(alloc, words.get(..until).unwrap_or(&[]));
+    let label = count_before(words, name, false);
+    let there = procedure_after(alloc, words.get(..label).unwrap_or(&[]));
     match (procedure_after(alloc, before), there) {
         (Ok(Some(from)), Ok(to)) => to != Some(from),
         _ => false,

@@ -14,47 +14,64 @@ use sources::{LONGEST_SOURCE, Place, ReadFault, read_source};
 use std::alloc::Global;
 use std::fmt;
 use std::fmt::Write;
-use words::{Kind, Word};
+use words::Word;
 
-// Why a text is refused, where it is, and not for memory.
-fn fault_of(alloc: Global, text: &[u8]) -> Option<ReadFault> {
+// Why a text is refused, where it is, and there is memory to tell.
+fn fault_of(page: &mut Page, alloc: Global, text: &[u8]) -> Option<ReadFault> {
     match read_source(alloc, text) {
         Err(Failure::Fault(fault)) => Some(fault),
-        Err(Failure::Memory) | Ok(_) => None,
+        Err(Failure::Memory) => {
+            page.note(false);
+            None
+        }
+        Ok(_) => None,
     }
 }
 
-/// The words of a text, with those of its LITERALLY definitions; none where the text is refused for one of them.
-pub(crate) fn words_of<'a>(alloc: Global, text: &'a [u8]) -> Vec<Word<'a>> {
-    let plain = plain_words(alloc, text);
-    match literally::expand(alloc, plain.as_slice()) {
-        Ok(expanded) => expanded,
-        Err(_) => Vec::new(alloc),
+// The words that LITERALLY makes of others; none where these are refused.
+fn expanded<'a>(page: &mut Page, alloc: Global, plain: &[Word<'a>]) -> Vec<Word<'a>> {
+    match literally::expand(alloc, plain) {
+        Ok(words) => words,
+        Err(failure) => {
+            page.note(!matches!(failure, Failure::Memory));
+            Vec::new(alloc)
+        }
     }
 }
 
 // The words of a text as they stand; none where it is refused for one of them.
-fn plain_words<'a>(alloc: Global, text: &'a [u8]) -> Vec<Word<'a>> {
+fn plain_words<'a>(page: &mut Page, alloc: Global, text: &'a [u8]) -> Vec<Word<'a>> {
     if text.len() > LONGEST_SOURCE {
         return Vec::new(alloc);
     }
     match words::scan(alloc, text) {
         Ok(words) => words,
-        Err(_) => Vec::new(alloc),
+        Err(failure) => {
+            page.note(!matches!(failure, Failure::Memory));
+            Vec::new(alloc)
+        }
     }
+}
+
+/// The words of a text, with those of its LITERALLY definitions; none where the text is refused for one of them.
+pub(crate) fn words_of<'a>(page: &mut Page, alloc: Global, text: &'a [u8]) -> Vec<Word<'a>> {
+    let plain = plain_words(page, alloc, text);
+    expanded(page, alloc, plain.as_slice())
+}
+
+// How many words stand before the first one that begins at a place.
+fn count_before(words: &[Word], start: u32) -> usize {
+    for (at, word) in words.iter().enumerate() {
+        if word.start == start {
+            return at;
+        }
+    }
+    words.len()
 }
 
 // The words before the first one that begins at a place, and this one with what comes after it.
 fn split_at_place<'w, 'a>(words: &'w [Word<'a>], start: u32) -> (&'w [Word<'a>], &'w [Word<'a>]) {
-    for (at, word) in words.iter().enumerate() {
-        if word.start == start {
-            return (
-                words.get(..at).unwrap_or(&[]),
-                words.get(at..).unwrap_or(&[]),
-            );
-        }
-    }
-    (words, &[])
+    words.split_at(count_before(words, start).min(words.len()))
 }
 
 // A text that is refused, its words as they stand, and with those of its LITERALLY definitions, and the place of the word
@@ -80,10 +97,13 @@ impl<'w, 'a> Refused<'w, 'a> {
     }
 
     // What is open after words.
-    fn open_after(&self, words: &[Word<'a>]) -> Vec<Opener<'a>> {
+    fn open_after(&self, page: &mut Page, words: &[Word<'a>]) -> Vec<Opener<'a>> {
         match openers(self.alloc, words) {
             Ok(open) => open,
-            Err(_) => Vec::new(self.alloc),
+            Err(_) => {
+                page.note(false);
+                Vec::new(self.alloc)
+            }
         }
     }
 
@@ -128,16 +148,20 @@ fn add_words(page: &mut Page, plain: &Word, words: &[Word]) {
     page.end();
 }
 
-// What a fault says, without the line before it.
+// What a fault says without the line, which a colon ends.
+fn without_line(said: &str) -> &str {
+    match said.split_once(": ") {
+        Some((_, sentence)) => sentence,
+        None => said,
+    }
+}
+
+// Adds what a fault says.
 fn add_said<T: fmt::Display>(page: &mut Page, alloc: Global, fault: &T, number: &str) {
     let mut said = String::new(alloc);
     let is_written = write!(said, "{fault}").is_ok();
     page.note(is_written);
-    let sentence = match said.as_str().split_once(": ") {
-        Some((_, sentence)) => sentence,
-        None => said.as_str(),
-    };
-    page.cause(sentence, number);
+    page.cause(without_line(said.as_str()), number);
 }
 
 // Adds what is likely wrong at a word that cannot stand where it stands, below the line that comes before, if that is at
@@ -146,7 +170,7 @@ fn explain_word(page: &mut Page, refused: &Refused) {
     let (before, _) = refused.split();
     let hint = match (before, refused.word()) {
         ([earlier @ .., _], Some(word)) => {
-            let open = refused.open_after(earlier);
+            let open = refused.open_after(page, earlier);
             hint_at(before, &word, open.as_slice())
         }
         ([], Some(word)) => hint_at(before, &word, &[]),
@@ -169,7 +193,7 @@ fn explain_end(page: &mut Page, refused: &Refused) {
         page.cause("The text has no words, and is no module", "C7");
         return;
     }
-    let open = refused.open_after(refused.words);
+    let open = refused.open_after(page, refused.words);
     refused.show(page);
     page.cause("The text ends before its module does", "C7");
     if let [.., last] = open.as_slice() {
@@ -188,7 +212,7 @@ fn explain_end_name(page: &mut Page, refused: &Refused) {
     page.cause(meaning_of("C9"), "C9");
     let (before, after) = refused.split();
     if let ([earlier @ .., _], [name, ..]) = (before, after) {
-        let open = refused.open_after(earlier);
+        let open = refused.open_after(page, earlier);
         add_ended(page, refused.text, open.as_slice(), name);
     }
 }
@@ -328,8 +352,8 @@ fn explain_fault(page: &mut Page, refused: &Refused, fault: &ReadFault) {
 
 // Adds why a text is refused at a place.
 fn explain_at(page: &mut Page, alloc: Global, text: &[u8], place: Place, fault: &ReadFault) {
-    let plain = plain_words(alloc, text);
-    let words = words_of(alloc, text);
+    let plain = plain_words(page, alloc, text);
+    let words = expanded(page, alloc, plain.as_slice());
     let refused = Refused {
         alloc,
         text,
@@ -362,7 +386,7 @@ pub(crate) fn explain_source(page: &mut Page, alloc: Global, told: Told, text: &
         page.cause(other, told.number);
         return;
     }
-    match fault_of(alloc, text) {
+    match fault_of(page, alloc, text) {
         Some(fault) if fault.number() == told.number && fault.line() == told.line => {
             explain_at(page, alloc, text, place_of(&fault), &fault);
         }
