@@ -1,7 +1,4 @@
-use Rattle.commands.proofs.Prelude.{refl, tells_no_file}
-use Rattle.commands.proofs.InputFiles.{told_by_names}
-use Rattle.commands.proofs.Untold.{refuses_memory, refuses_values, runs_out}
-use Rattle.commands.proofs.Delivered.{plain_program}
+use Rattle.commands.proofs.{Prelude.{refl, tells_no_file}, InputFiles.{told_by_names}, Untold.{refuses_memory, refuses_values, runs_out}, Delivered.{plain_program}}
 use Rattle.commands.proofs.console.carry_out_plainly.Goals as goal
 
 pub returns-in-Ok-clause-told : goal.returns-in-Ok-clause-told

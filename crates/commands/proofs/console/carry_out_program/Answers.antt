@@ -1,5 +1,4 @@
-use Rattle.commands.proofs.Prelude.{◌∙◌, sym}
-use Rattle.commands.proofs.Delivered.{but_changes, kept_changes, no_words, with_words, without_words}
+use Rattle.commands.proofs.{Prelude.{◌∙◌, sym}, Delivered.{but_changes, kept_changes, no_words, with_words, without_words}}
 use Rattle.commands.proofs.console.carry_out_program.Goals as goal
 
 pub returns-then-is_empty-clause-unchanged : goal.returns-then-is_empty-clause-unchanged

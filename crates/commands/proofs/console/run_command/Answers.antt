@@ -1,7 +1,4 @@
-use Rattle.commands.proofs.Prelude.{◌≤◌, ℕ, subst, sym, ◌∙◌}
-use Rattle.commands.proofs.ProgramsTold.{runs_by_status}
-use Rattle.commands.proofs.OrdersKept.{converts_with_status, refused_is}
-use Rattle.commands.proofs.TextsTold.{wrong_is}
+use Rattle.commands.proofs.{Prelude.{◌≤◌, ℕ, subst, sym, ◌∙◌}, ProgramsTold.{runs_by_status}, OrdersKept.{converts_with_status, refused_is}, TextsTold.{wrong_is}}
 use Rattle.commands.proofs.console.run_command.Goals as goal
 
 pub returns-clause-not_wrong : goal.returns-clause-not_wrong

@@ -1,5 +1,4 @@
-use Rattle.commands.proofs.Prelude.{None, ap, status_of, stays_on}
-use Rattle.commands.proofs.Converted.{file_converted, file_unheld, file_unread}
+use Rattle.commands.proofs.{Prelude.{None, ap, status_of, stays_on}, Converted.{file_converted, file_unheld, file_unread}}
 use Rattle.commands.proofs.converting.convert_file.Goals as goal
 
 pub returns-in-Err-Fault-clause-converted : goal.returns-in-Err-Fault-clause-converted

@@ -1,5 +1,4 @@
-use Rattle.commands.proofs.Prelude.{[], None, ap, refl, status_of, ◌∙◌}
-use Rattle.commands.proofs.Converted.{are_put, held_converted, held_stopped, old_converted, stops_including, text_unheld}
+use Rattle.commands.proofs.{Prelude.{[], None, ap, refl, status_of, ◌∙◌}, Converted.{are_put, held_converted, held_stopped, old_converted, stops_including, text_unheld}}
 use Rattle.commands.proofs.converting.convert_old.Goals as goal
 
 pub returns-in_default-clause-converted : goal.returns-in_default-clause-converted

@@ -1,5 +1,4 @@
-use Rattle.commands.proofs.Prelude.{None, ap, arith, refl, status_of}
-use Rattle.commands.proofs.Converted.{held_converted, module_printed, rewritten_printed, text_too_long, text_unheld}
+use Rattle.commands.proofs.{Prelude.{None, ap, arith, refl, status_of}, Converted.{held_converted, module_printed, rewritten_printed, text_too_long, text_unheld}}
 use Rattle.commands.proofs.converting.convert_text.Goals as goal
 
 pub returns-in-Ok-Module-clause-converted : goal.returns-in-Ok-Module-clause-converted

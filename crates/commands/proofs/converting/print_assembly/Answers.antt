@@ -1,5 +1,4 @@
-use Rattle.commands.proofs.Prelude.{None, ap, status_of}
-use Rattle.commands.proofs.Converted.{parts_printed, parts_refused, parts_unheld}
+use Rattle.commands.proofs.{Prelude.{None, ap, status_of}, Converted.{parts_printed, parts_refused, parts_unheld}}
 use Rattle.commands.proofs.converting.print_assembly.Goals as goal
 
 pub returns-in-Ok-clause-converted : goal.returns-in-Ok-clause-converted

@@ -1,7 +1,4 @@
-use Rattle.commands.proofs.Prelude.{◌∙◌, ap, status_of}
-use Rattle.commands.proofs.Printed.{nothing_begun}
-use Rattle.commands.proofs.Untold.{memory_unwritten, output_unwritten}
-use Rattle.commands.proofs.Converted.{noted_unwritten, noted_written}
+use Rattle.commands.proofs.{Prelude.{◌∙◌, ap, status_of}, Printed.{nothing_begun}, Untold.{memory_unwritten, output_unwritten}, Converted.{noted_unwritten, noted_written}}
 use Rattle.commands.proofs.converting.print_noted.Goals as goal
 
 pub returns-in_default-clause-printed : goal.returns-in_default-clause-printed

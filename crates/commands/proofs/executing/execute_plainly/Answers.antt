@@ -1,8 +1,4 @@
-use Rattle.commands.proofs.Prelude.{refl, tells_no_file}
-use Rattle.commands.proofs.InputFiles.{told_by_names}
-use Rattle.commands.proofs.Untold.{runs_out}
-use Rattle.commands.proofs.Delivered.{plain_execution}
-use Rattle.commands.proofs.Executed.{refuses_memory, refuses_values}
+use Rattle.commands.proofs.{Prelude.{refl, tells_no_file}, InputFiles.{told_by_names}, Untold.{runs_out}, Delivered.{plain_execution}, Executed.{refuses_memory, refuses_values}}
 use Rattle.commands.proofs.executing.execute_plainly.Goals as goal
 
 pub returns-in-Ok-clause-told : goal.returns-in-Ok-clause-told

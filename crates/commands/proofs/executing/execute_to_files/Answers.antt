@@ -1,8 +1,4 @@
-use Rattle.commands.proofs.Prelude.{inl, refl, stays, tells_no_file, Some, []}
-use Rattle.commands.proofs.Delivered.{but_written, delivered_as, told_as_written}
-use Rattle.commands.proofs.Executed.{prints_execution, refuses_memory, refuses_values}
-use Rattle.commands.proofs.RefusedRuns.{refused_as, refused_unended}
-use Rattle.commands.proofs.Untold.{runs_out}
+use Rattle.commands.proofs.{Prelude.{inl, refl, stays, tells_no_file, Some, []}, Delivered.{but_written, delivered_as, told_as_written}, Executed.{prints_execution, refuses_memory, refuses_values}, RefusedRuns.{refused_as, refused_unended}, Untold.{runs_out}}
 use Rattle.commands.proofs.executing.execute_to_files.Goals as goal
 
 pub returns-in-Ok-clause-unchanged : goal.returns-in-Ok-clause-unchanged

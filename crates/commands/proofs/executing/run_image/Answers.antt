@@ -1,6 +1,4 @@
-use Rattle.commands.proofs.Prelude.{refl, stops_as, tells_file, tells_no_file}
-use Rattle.commands.proofs.Executed.{prints_read, stops_read}
-use Rattle.commands.proofs.Untold.{for_file, for_memory, for_reason}
+use Rattle.commands.proofs.{Prelude.{refl, stops_as, tells_file, tells_no_file}, Executed.{prints_read, stops_read}, Untold.{for_file, for_memory, for_reason}}
 use Rattle.commands.proofs.executing.run_image.Goals as goal
 
 pub returns-in-Ok-clause-told : goal.returns-in-Ok-clause-told

@@ -1,5 +1,4 @@
-use Rattle.commands.proofs.Prelude.{◌≡◌, length, map, KeepsFiles}
-use Rattle.commands.proofs.Included.{LooksOn}
+use Rattle.commands.proofs.{Prelude.{◌≡◌, length, map, KeepsFiles}, Included.{LooksOn}}
 use Rattle.commands.proofs.including.look_at.Given as goal
 
 -- the files are as they were, no call failed, and there is no file of the names before those that are left

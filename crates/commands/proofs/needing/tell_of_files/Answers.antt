@@ -1,7 +1,4 @@
-use Rattle.commands.proofs.Prelude.{refl, ap, ◌∙◌, stops_as, tells_file, tells_no_file, texts_of}
-use Rattle.commands.proofs.Names.{stops_in_files}
-use Rattle.commands.proofs.Untold.{for_file, for_memory, for_reason}
-use Rattle.commands.proofs.NeedTold.{prints_by, prints_need_of, refuses_need_of}
+use Rattle.commands.proofs.{Prelude.{refl, ap, ◌∙◌, stops_as, tells_file, tells_no_file, texts_of}, Names.{stops_in_files}, Untold.{for_file, for_memory, for_reason}, NeedTold.{prints_by, prints_need_of, refuses_need_of}}
 use Rattle.commands.proofs.needing.tell_of_files.Goals as goal
 
 pub returns-in-Err-Fault-clause-told : goal.returns-in-Err-Fault-clause-told

@@ -1,5 +1,4 @@
-use Rattle.commands.proofs.Prelude.{values_in}
-use Rattle.commands.proofs.InputFiles.{has_input, input_stops, same_texts}
+use Rattle.commands.proofs.{Prelude.{values_in}, InputFiles.{has_input, input_stops, same_texts}}
 use Rattle.commands.proofs.port_inputs.read_input.Goals as goal
 
 pub returns-in-Ok-add_texts-clause-input : goal.returns-in-Ok-add_texts-clause-input

@@ -1,6 +1,4 @@
-use Rattle.commands.proofs.Prelude.{inl, inr}
-use Rattle.commands.proofs.OutputFiles.{ended_or_told, output_told}
-use Rattle.commands.proofs.RefusedRuns.{file_stops, memory_stops, showing_stops}
+use Rattle.commands.proofs.{Prelude.{inl, inr}, OutputFiles.{ended_or_told, output_told}, RefusedRuns.{file_stops, memory_stops, showing_stops}}
 use Rattle.commands.proofs.port_outputs.deliver.Goals as goal
 
 pub returns-in-Ok-clause-told : goal.returns-in-Ok-clause-told

@@ -1,5 +1,4 @@
-use Rattle.commands.proofs.Prelude.{inl, inr, refl}
-use Rattle.commands.proofs.Untold.{memory_unwritten, output_unwritten}
+use Rattle.commands.proofs.{Prelude.{inl, inr, refl}, Untold.{memory_unwritten, output_unwritten}}
 use Rattle.commands.proofs.port_outputs.show_run.Goals as goal
 
 pub returns-in-Ok-clause-told : goal.returns-in-Ok-clause-told

@@ -1,6 +1,5 @@
-use Rattle.commands.proofs.Prelude.{◌≡◌, length, map}
+use Rattle.commands.proofs.{Prelude.{◌≡◌, length, map}, OutputFiles.{WrittenSoFar}}
 use Rattle.command_line.specs.Settings.{file_names, port_file_in}
-use Rattle.commands.proofs.OutputFiles.{WrittenSoFar}
 use Rattle.commands.proofs.port_outputs.write_outputs.Given as goal
 
 -- no call failed, and the files before those that are left were written

@@ -1,5 +1,4 @@
-use Rattle.commands.proofs.Prelude.{◌<◌, length, texts_of, passed, past_texts, text_at, within_texts}
-use Rattle.commands.proofs.NeedLemmas.{all_read, first_of_all, none_read, one_more_read, views_go_on}
+use Rattle.commands.proofs.{Prelude.{◌<◌, length, texts_of, passed, past_texts, text_at, within_texts}, NeedLemmas.{all_read, first_of_all, none_read, one_more_read, views_go_on}}
 use Rattle.commands.proofs.needs.need.read_all.Goals as goal
 
 pub loop-file-init : goal.loop-file-init

@@ -1,5 +1,4 @@
-use Rattle.commands.proofs.Prelude.{map, module_view, texts_of}
-use Rattle.commands.proofs.NeedLemmas.{AreRead, GoesOn}
+use Rattle.commands.proofs.{Prelude.{map, module_view, texts_of}, NeedLemmas.{AreRead, GoesOn}}
 use Rattle.commands.proofs.needs.need.read_all.Given as goal
 
 -- what is left decides, and the texts so far were read

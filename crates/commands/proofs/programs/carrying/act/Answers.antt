@@ -1,5 +1,4 @@
-use Rattle.commands.proofs.Printed.{by_action}
-use Rattle.commands.proofs.Untold.{refused_by_action}
+use Rattle.commands.proofs.{Printed.{by_action}, Untold.{refused_by_action}}
 use Rattle.commands.proofs.programs.carrying.act.Goals as goal
 
 pub returns-in-Run-clause-ran : goal.returns-in-Run-clause-ran

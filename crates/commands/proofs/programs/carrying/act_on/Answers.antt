@@ -1,6 +1,4 @@
-use Rattle.commands.proofs.Prelude.{ap, ◌∙◌, texts_of}
-use Rattle.commands.proofs.Printed.{prints_texts}
-use Rattle.commands.proofs.Untold.{refuses_texts}
+use Rattle.commands.proofs.{Prelude.{ap, ◌∙◌, texts_of}, Printed.{prints_texts}, Untold.{refuses_texts}}
 use Rattle.commands.proofs.programs.carrying.act_on.Goals as goal
 
 pub returns-in-Ok-clause-ran : goal.returns-in-Ok-clause-ran

@@ -1,6 +1,4 @@
-use Rattle.commands.proofs.Prelude.{refl, stops_as, tells_file, tells_no_file}
-use Rattle.commands.proofs.Printed.{prints_read}
-use Rattle.commands.proofs.Untold.{for_file, for_memory, for_reason, refuses_read}
+use Rattle.commands.proofs.{Prelude.{refl, stops_as, tells_file, tells_no_file}, Printed.{prints_read}, Untold.{for_file, for_memory, for_reason, refuses_read}}
 use Rattle.commands.proofs.programs.carrying.carry_out_texts.Goals as goal
 
 pub returns-in-Ok-clause-told : goal.returns-in-Ok-clause-told

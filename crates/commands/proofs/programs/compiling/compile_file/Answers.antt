@@ -1,6 +1,4 @@
-use Rattle.commands.proofs.Prelude.{refl, ◌∙◌, tells_file, tells_no_file, kept_others, kept_then_others, kept_then_stopped, written_others}
-use Rattle.commands.proofs.Compiled.{compiles, not_compiled, stops_at_object, stops_at_source, stops_compiling}
-use Rattle.commands.proofs.Untold.{for_fault, for_object, for_source, without_memory}
+use Rattle.commands.proofs.{Prelude.{refl, ◌∙◌, tells_file, tells_no_file, kept_others, kept_then_others, kept_then_stopped, written_others}, Compiled.{compiles, not_compiled, stops_at_object, stops_at_source, stops_compiling}, Untold.{for_fault, for_object, for_source, without_memory}}
 use Rattle.commands.proofs.programs.compiling.compile_file.Goals as goal
 
 pub returns-in-Err-Fault-clause-told : goal.returns-in-Err-Fault-clause-told

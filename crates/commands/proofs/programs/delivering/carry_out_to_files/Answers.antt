@@ -1,8 +1,4 @@
-use Rattle.commands.proofs.Prelude.{inl, refl, stays, tells_no_file, Some, []}
-use Rattle.commands.proofs.Delivered.{but_written, delivered_as, told_as_written}
-use Rattle.commands.proofs.ProgramsTold.{prints_program}
-use Rattle.commands.proofs.RefusedRuns.{refused_as, refused_unended}
-use Rattle.commands.proofs.Untold.{refuses_memory, refuses_values, runs_out}
+use Rattle.commands.proofs.{Prelude.{inl, refl, stays, tells_no_file, Some, []}, Delivered.{but_written, delivered_as, told_as_written}, ProgramsTold.{prints_program}, RefusedRuns.{refused_as, refused_unended}, Untold.{refuses_memory, refuses_values, runs_out}}
 use Rattle.commands.proofs.programs.delivering.carry_out_to_files.Goals as goal
 
 pub returns-in-Ok-clause-unchanged : goal.returns-in-Ok-clause-unchanged

@@ -1,5 +1,4 @@
-use Rattle.commands.proofs.Interpreted.{has_table}
-use Rattle.commands.proofs.Printed.{ends_so, fails_so, same_source}
+use Rattle.commands.proofs.{Interpreted.{has_table}, Printed.{ends_so, fails_so, same_source}}
 use Rattle.commands.proofs.programs.interpreting.interpret_built.Goals as goal
 
 pub interpret-requires-clause-table : goal.interpret-requires-clause-table

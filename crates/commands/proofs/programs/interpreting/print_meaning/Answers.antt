@@ -1,5 +1,4 @@
-use Rattle.commands.proofs.Prelude.{◌∙◌, on_err, values_in}
-use Rattle.commands.proofs.Printed.{begins_meaning}
+use Rattle.commands.proofs.{Prelude.{◌∙◌, on_err, values_in}, Printed.{begins_meaning}}
 use Rattle.commands.proofs.programs.interpreting.print_meaning.Goals as goal
 
 pub returns-in_err-report-clause-err : goal.returns-in_err-report-clause-err

@@ -1,5 +1,4 @@
-use Rattle.commands.proofs.Prelude.{length}
-use Rattle.commands.proofs.StartMemory.{PutIn}
+use Rattle.commands.proofs.{Prelude.{length}, StartMemory.{PutIn}}
 use Rattle.commands.proofs.programs.loading.put_bytes.Given as goal
 
 abbrev pub invariant-loop-rest : goal.invariant-loop-rest

@@ -1,5 +1,4 @@
-use Rattle.commands.proofs.Prelude.{◌≡◌, [], length}
-use Rattle.commands.proofs.Inputs.{PutSoFar}
+use Rattle.commands.proofs.{Prelude.{◌≡◌, [], length}, Inputs.{PutSoFar}}
 use Rattle.commands.proofs.programs.loading.script_of.Given as goal
 
 -- nothing was done at the ports yet, and what was put is what comes before the rest of the input

@@ -1,5 +1,4 @@
-use Rattle.commands.proofs.Prelude.{same_line}
-use Rattle.commands.proofs.Refused.{sources_told}
+use Rattle.commands.proofs.{Prelude.{same_line}, Refused.{sources_told}}
 use Rattle.commands.proofs.programs.refusals.refuse_sources_at.Goals as goal
 
 pub returns-clause-line : goal.returns-clause-line

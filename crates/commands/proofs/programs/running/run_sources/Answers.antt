@@ -1,6 +1,4 @@
-use Rattle.commands.proofs.Prelude.{refl}
-use Rattle.commands.proofs.Printed.{run_of_texts}
-use Rattle.commands.proofs.Untold.{few_built, few_but, tells_cause, tells_unwritten}
+use Rattle.commands.proofs.{Prelude.{refl}, Printed.{run_of_texts}, Untold.{few_built, few_but, tells_cause, tells_unwritten}}
 use Rattle.commands.proofs.programs.running.run_sources.Goals as goal
 
 pub returns-in-Ok-clause-ran : goal.returns-in-Ok-clause-ran
