@@ -2,7 +2,7 @@
 use Rattle.std.proofs.Common.{◌≡◌, ◌≢◌, ◌<◌, ℕ, zero, suc, Bool, true, false, All, Err, IfOk, Ok, Result, List, [], ◌∷◌, refl, sym, ap, subst, ◌∙◌}
 use Rattle.std.proofs.lemmas.Bool.{eqb-true, eqb-false}
 use Rattle.std.specs.Prelude.{◌==◌, slice_index_or}
-use Rattle.ports.specs.{declared.event.Event.{Event}, Input.{IsScript, input_value, queue_of, reads_of}}
+use Rattle.ports.specs.{declared.event.Event.{Event}, Input.{IsScript, input_value, queue_of, reads_of}, Session.{Session}}
 use Rattle.command_line.specs.declared.values.InputByte.{InputByte}
 use Rattle.commands.specs.Ends.{GivesInput, bytes_to}
 use Rattle.commands.specs.internal.Scripts.{script_in, with_first}
@@ -58,10 +58,14 @@ module _ (input : List InputByte) (script : List (List ℕ)) (gives : GivesInput
   pub same_value : (value : ℕ) (events : List Event) (port : ℕ) → value ≡ input_value script events port → value ≡ input_value (script_in input) events port
   same_value value events port is = is ∙ ap (λ (q : List ℕ). slice_index_or q (reads_of events port) 255) (same_queue port)
 
-  pub holds_bytes : IsScript script → IsScript (script_in input)
+  holds_bytes : IsScript script → IsScript (script_in input)
   holds_bytes holds port = subst (λ (q : List ℕ). All (λ byte. byte < 256) q) (same_queue port) (holds port)
 
   -- the same of an answer
   pub read_value : {E : Type 0} (answer : Result ℕ E) (events : List Event) (port : ℕ) → IfOk answer (λ v. v ≡ input_value script events port) → IfOk answer (λ v. v ≡ input_value (script_in input) events port)
   read_value (Ok value) events port is = same_value value events port is
   read_value (Err error) events port is = tt
+
+-- a script that gives the input holds bytes, so that of the input does
+pub given_bytes : (input : List InputByte) (session : Session) → GivesInput input session.script → IsScript (script_in input)
+given_bytes input session gives = holds_bytes input session.script gives session.bytes

@@ -113,7 +113,7 @@ module _ (until_dry : Bool) (limit : ℕ) (start : Machine) (done : ℕ) (here :
         (dry, (at.0, omega (arith, at.1, fits), subst (λ (es : List Event). ComesBeforeDry start.script (take shown new.state.events) es) (ap (λ (s : State). s.events) at.2) before))
 
     -- and it was the read of the next step
-    pub dry_counted : (shown : ℕ) → n ≡ 1 → until_dry ≡ true → IsShown new.script new.state.events shown → CarriesOut until_dry limit start None done
+    pub dry_counted : (shown : ℕ) → n ≡ 1 → until_dry ≡ true → IsShown new.script new.state.events shown → IsLeastWithout (GoesOn until_dry start) (suc done)
     dry_counted shown one dry is_shown = record { fails = λ on. past why run all_run on; below = below_next }
       where
         here_past : new.state.events ≡ here.state.events → ⊥
@@ -146,7 +146,7 @@ module _ (until_dry : Bool) (limit : ℕ) (start : Machine) (done : ℕ) (here :
     dry_exit answer shown is some = let met = met_dry answer shown is some in dry_does shown met.0 met.1
 
     pub dry_exit_counted : (answer : Option ℕ) (shown : ℕ) → n ≡ 1 → answer ≡ Some shown → IfSome answer (λ count. (until_dry ≡ true) × IsShown new.script new.state.events count)
-        → CarriesOut until_dry limit start None done
+        → CarriesOut until_dry limit start None (take shown new.state.events) done
     dry_exit_counted answer shown one is some = let met = met_dry answer shown is some in dry_counted shown one met.0 met.1
 
     -- the run ended
@@ -184,21 +184,22 @@ module _ (until_dry : Bool) (limit : ℕ) (start : Machine) (done : ℕ) (here :
         let runs : new.state.status ≡ status.Running = ap (λ (s : State). s.status) (e ∙ ap (λ k. state_from start k) (sym count)) ∙ on.0 in
         other (sym is ∙ runs)
 
-    pub halt_counted : (end : Option End) (steps : ℕ) → n ≡ 1 → why ≡ ends.Halted → end ≡ Some ends.Halted → steps ≡ done + 1 → CarriesOut until_dry limit start end steps
-    halt_counted end steps one found is count =
+    pub halt_counted : (end : Option End) (events : List Event) (steps : ℕ) → n ≡ 1 → why ≡ ends.Halted → end ≡ Some ends.Halted → steps ≡ done + 1 → CarriesOut until_dry limit start end events steps
+    halt_counted end events steps one found is count =
         let all : IsRun (n + done) start ends.Halted new = subst (λ (e : End). IsRun (n + done) start e new) found all_run in
         let least : IsLeastWithout (GoesOn until_dry start) (suc done) = record { fails = stopped_by status.Halted (λ h. cc) one all.state all.status_is; below = below_next } in
         let same : steps ≡ suc done = omega (arith, count) in
         rw (is, same) least
 
-    pub illegal_counted : (end : Option End) (steps : ℕ) → n ≡ 1 → why ≡ ends.Illegal → end ≡ Some ends.Illegal → steps ≡ done → CarriesOut until_dry limit start end steps
-    illegal_counted end steps one found is count =
+    pub illegal_counted : (end : Option End) (events : List Event) (steps : ℕ) → n ≡ 1 → why ≡ ends.Illegal → end ≡ Some ends.Illegal → steps ≡ done → CarriesOut until_dry limit start end events steps
+    illegal_counted end events steps one found is count =
         let all : IsRun (n + done) start ends.Illegal new = subst (λ (e : End). IsRun (n + done) start e new) found all_run in
         let least : IsLeastWithout (GoesOn until_dry start) (suc done) = record { fails = stopped_by status.Illegal (λ h. cc) one all.state all.status_is; below = below_next } in
         rw (is, count) least
 
-    pub fault_counted : (end : Option End) (steps : ℕ) → n ≡ 1 → why ≡ ends.PortFault → end ≡ Some ends.PortFault → steps ≡ done → CarriesOut until_dry limit start end steps
-    fault_counted end steps one found is count =
+    pub fault_counted : (end : Option End) (shown steps : ℕ) → n ≡ 1 → why ≡ ends.PortFault → end ≡ Some ends.PortFault → shown ≡ length new.state.events → steps ≡ done
+        → CarriesOut until_dry limit start end (take shown new.state.events) steps
+    fault_counted end shown steps one found is all count =
         let first : IsRun n here ends.PortFault new = subst (λ (e : End). IsRun n here e new) found run in
         let none : first.0 ≡ 0 = omega (arith, first.1, one) in
         let state : new.state ≡ here.state = first.2.state ∙ ap (λ k. state_from here k) none ∙ none_after here in
@@ -208,7 +209,8 @@ module _ (until_dry : Bool) (limit : ℕ) (start : Machine) (done : ℕ) (here :
           next = subst (λ (script : List (List ℕ)). (event : Event) × AddsEvent new.state.events (step_of script new.state).events event) so_far.made.script first.2.next;
           failures = subst (λ k. CountsFailure k new.failures) so_far.made.failures first.2.failures;
         } in
-        rw (is, count) (new, fails)
+        let taken : take shown new.state.events ≡ new.state.events = ap (λ k. take k new.state.events) all ∙ take-length new.state.events in
+        rw (is, count) (new, fails, taken)
 
   -- all steps of the limit were made
   pub limit_does : (end : Option End) (shown : ℕ) → done ≡ limit → end ≡ Some ends.Limit → shown ≡ length here.state.events → DoesOnMachine until_dry limit start end (take shown here.state.events)
@@ -222,5 +224,5 @@ module _ (until_dry : Bool) (limit : ℕ) (start : Machine) (done : ℕ) (here :
             (subst (λ (es : List Event). IsWithinInput here.script es) (sym taken) (left_within here.script here.state.events left (so_far.kept dry))),
       )
 
-  pub limit_counted : (end : Option End) (steps : ℕ) → done ≡ limit → end ≡ Some ends.Limit → steps ≡ done → CarriesOut until_dry limit start end steps
-  limit_counted end steps all is count = rw is (count ∙ all)
+  pub limit_counted : (end : Option End) (events : List Event) (steps : ℕ) → done ≡ limit → end ≡ Some ends.Limit → steps ≡ done → CarriesOut until_dry limit start end events steps
+  limit_counted end events steps all is count = rw is (count ∙ all)

@@ -76,7 +76,7 @@ no_report values events steps word known = nothing_begun known (watched_report v
 
 -- what a machine does, as it was sent
 module _ (values : Values) (start : Machine) (end : Option End) (shown steps : ℕ) (all seen : List Event) (same : seen ≡ all) (does : DoesOnMachine values.watch.until_dry values.limit start end (take shown all))
-    (counted : values.watch.count ≡ true → CarriesOut values.watch.until_dry values.limit start end steps) (word : List ℕ) (last : word ≡ watched_word end) where
+    (counted : values.watch.count ≡ true → CarriesOut values.watch.until_dry values.limit start end (take shown all) steps) (word : List ℕ) (last : word ≡ watched_word end) where
   sent : (P : List Event → List ℕ → Type 0) → P (take shown seen) (watched_report values (take shown seen) steps word) → SendsRun P values start (watched_status end)
   sent P printed = record {
     end = end;
@@ -114,7 +114,7 @@ module _ (values : Values) (image : Absolute) (memory : List ℕ) (script : Sess
     events = run.events;
     does = subst (λ (m : Machine). DoesOnMachine values.watch.until_dry values.limit m run.end run.events) same_start run.does;
     steps = run.steps;
-    counted = λ counts. subst (λ (m : Machine). CarriesOut values.watch.until_dry values.limit m run.end run.steps) same_start (run.counted counts);
+    counted = λ counts. subst (λ (m : Machine). CarriesOut values.watch.until_dry values.limit m run.end run.events run.steps) same_start (run.counted counts);
     ended = run.ended;
     printed = run.printed;
   }

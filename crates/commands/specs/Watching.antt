@@ -104,16 +104,19 @@ GoesOn until_dry start steps =
     × IsWithinIf until_dry start.script (state_from start steps).events
 
 -- So many instructions were carried out: as many as the limit; up to HLT, with that; or those before the
--- illegal code, the instruction whose port failed, or the read past the input.
+-- illegal code, before the instruction whose port failed, after which these are the events, or before the read past
+-- the input.
 abbrev pub CarriesOut :
-    (until_dry : Bool) → (limit : ℕ) → (start : Machine) → Option End → (steps : ℕ) → Type 0
-CarriesOut until_dry limit start (Some ends.Limit) steps = steps ≡ limit
-CarriesOut until_dry limit start (Some ends.Halted) steps = IsLeastWithout (GoesOn until_dry start) steps
-CarriesOut until_dry limit start (Some ends.Illegal) steps =
+    (until_dry : Bool) → (limit : ℕ) → (start : Machine) → Option End → (events : List Event) → (steps : ℕ)
+    → Type 0
+CarriesOut until_dry limit start (Some ends.Limit) events steps = steps ≡ limit
+CarriesOut until_dry limit start (Some ends.Halted) events steps =
+    IsLeastWithout (GoesOn until_dry start) steps
+CarriesOut until_dry limit start (Some ends.Illegal) events steps =
     IsLeastWithout (GoesOn until_dry start) (suc steps)
-CarriesOut until_dry limit start (Some ends.PortFault) steps =
-    (machine : Machine) × FailsAfter start steps machine
-CarriesOut until_dry limit start None steps = IsLeastWithout (GoesOn until_dry start) (suc steps)
+CarriesOut until_dry limit start (Some ends.PortFault) events steps =
+    (machine : Machine) × FailsAfter start steps machine × (events ≡ machine.state.events)
+CarriesOut until_dry limit start None events steps = IsLeastWithout (GoesOn until_dry start) (suc steps)
 
 -- the events and the text of what an image does on a memory as these values start it, with their input and their
 -- limit, were sent
@@ -128,7 +131,7 @@ pub record WatchesMachine (sends : List Event → List ℕ → Type 0) (values :
   pub does : DoesOnMachine values.watch.until_dry values.limit (started image memory script [] 0) end events
   pub steps : ℕ
   pub counted : values.watch.count ≡ true
-      → CarriesOut values.watch.until_dry values.limit (started image memory script [] 0) end steps
+      → CarriesOut values.watch.until_dry values.limit (started image memory script [] 0) end events steps
   pub ended : status ≡ watched_status end
   pub printed : sends events (watched_report values events steps (watched_word end))
 

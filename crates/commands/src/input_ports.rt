@@ -37,7 +37,7 @@ impl<'a> Model for InputPorts<'a> {
 
 impl<'a> InputPorts<'a> {
     /// The ports before any event.
-    #[tactic(auto, using(crate::proofs::Scripts::holds_bytes))]
+    #[tactic(auto, using(crate::proofs::Scripts::given_bytes))]
     pub(crate) fn new(alloc: Global, input: &'a [InputByte]) -> Result<InputPorts<'a>, PortFault>
         ensures script { IfOk result (λ ports. ports.script ≡ script_in input.entry.now) }
         ensures events { IfOk result (λ ports. ports.events ≡ []) }

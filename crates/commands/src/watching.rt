@@ -26,7 +26,7 @@ use std::alloc::{AllocError, Global};
 use std::io::Write;
 
 // How many steps are made at once, where they are not counted.
-const SLICE: u64 = 1_000_000;
+const SLICE: u64 = 10_000;
 
 /// Whether a run is watched.
 pub(crate) fn watches(values: &Settings) -> bool
@@ -169,8 +169,8 @@ fn run_watched(
     ensures shown { result.shown ≤ length machine.new.state.events }
     ensures does { DoesOnMachine watch.until_dry limit machine.old result.end
         (take result.shown machine.new.state.events) }
-    ensures counted { watch.count ≡ true →
-        CarriesOut watch.until_dry limit machine.old result.end result.steps }
+    ensures counted { watch.count ≡ true → CarriesOut watch.until_dry limit machine.old result.end
+        (take result.shown machine.new.state.events) result.steps }
 {
     let mut done = 0;
     while done < limit {

@@ -13,7 +13,8 @@ pub record SendsRun (sends : List Event → List ℕ → Type 0) (values : Value
   pub events : List Event
   pub does : DoesOnMachine values.watch.until_dry values.limit start end events
   pub steps : ℕ
-  pub counted : values.watch.count ≡ true → CarriesOut values.watch.until_dry values.limit start end steps
+  pub counted : values.watch.count ≡ true
+      → CarriesOut values.watch.until_dry values.limit start end events steps
   pub ended : status ≡ watched_status end
   pub printed : sends events (watched_report values events steps (watched_word end))
 

@@ -33,7 +33,7 @@ pub returns-in-Halted-clause-counted : goal.returns-in-Halted-clause-counted
 returns-in-Halted-clause-counted c = λ counts.
     halt_counted c.args.watch.until_dry c.args.limit c.args.machine.now c.loop-done.done c.loop-done.machine c.loop-done.left c.loop-done.invariant c.next_steps-steps.result c.run_slice-slice.new.machine c.run_slice-slice.result.end c.run_slice-slice.ensures.run c.run_slice-slice.ensures.script
     (omega (arith, c.next_steps-steps.ensures.most, c.loop-done-test.true))
-    c.ended.result.end c.ended.result.steps (c.next_steps-steps.ensures.one counts) c.in-Halted.is c.ended.ensures.end c.ended.ensures.steps
+    c.ended.result.end _ c.ended.result.steps (c.next_steps-steps.ensures.one counts) c.in-Halted.is c.ended.ensures.end c.ended.ensures.steps
 
 pub returns-in-Illegal-clause-does : goal.returns-in-Illegal-clause-does
 returns-in-Illegal-clause-does c =
@@ -45,7 +45,7 @@ pub returns-in-Illegal-clause-counted : goal.returns-in-Illegal-clause-counted
 returns-in-Illegal-clause-counted c = λ counts.
     illegal_counted c.args.watch.until_dry c.args.limit c.args.machine.now c.loop-done.done c.loop-done.machine c.loop-done.left c.loop-done.invariant c.next_steps-steps.result c.run_slice-slice.new.machine c.run_slice-slice.result.end c.run_slice-slice.ensures.run c.run_slice-slice.ensures.script
     (omega (arith, c.next_steps-steps.ensures.most, c.loop-done-test.true))
-    c.ended-in-Illegal.result.end c.ended-in-Illegal.result.steps (c.next_steps-steps.ensures.one counts) c.in-Illegal.is c.ended-in-Illegal.ensures.end c.ended-in-Illegal.ensures.steps
+    c.ended-in-Illegal.result.end _ c.ended-in-Illegal.result.steps (c.next_steps-steps.ensures.one counts) c.in-Illegal.is c.ended-in-Illegal.ensures.end c.ended-in-Illegal.ensures.steps
 
 pub returns-in-PortFault-clause-does : goal.returns-in-PortFault-clause-does
 returns-in-PortFault-clause-does c =
@@ -57,4 +57,5 @@ pub returns-in-PortFault-clause-counted : goal.returns-in-PortFault-clause-count
 returns-in-PortFault-clause-counted c = λ counts.
     fault_counted c.args.watch.until_dry c.args.limit c.args.machine.now c.loop-done.done c.loop-done.machine c.loop-done.left c.loop-done.invariant c.next_steps-steps.result c.run_slice-slice.new.machine c.run_slice-slice.result.end c.run_slice-slice.ensures.run c.run_slice-slice.ensures.script
     (omega (arith, c.next_steps-steps.ensures.most, c.loop-done-test.true))
-    c.ended-in-PortFault.result.end c.ended-in-PortFault.result.steps (c.next_steps-steps.ensures.one counts) c.in-PortFault.is c.ended-in-PortFault.ensures.end c.ended-in-PortFault.ensures.steps
+    c.ended-in-PortFault.result.end c.ended-in-PortFault.result.shown c.ended-in-PortFault.result.steps (c.next_steps-steps.ensures.one counts) c.in-PortFault.is c.ended-in-PortFault.ensures.end c.ended-in-PortFault.ensures.shown
+    c.ended-in-PortFault.ensures.steps
