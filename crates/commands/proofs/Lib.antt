@@ -19,6 +19,7 @@ pub mod Untold
 pub mod Executed
 pub mod Explained
 pub mod Included
+pub mod Tables
 pub mod Converted
 pub mod NeedsPrinted
 pub mod NeedRefused
