@@ -1,4 +1,5 @@
 mod Prelude
+pub mod Tables
 pub mod OrdersKept
 pub mod NeedTold
 pub mod TextsTold
@@ -19,7 +20,6 @@ pub mod Untold
 pub mod Executed
 pub mod Explained
 pub mod Included
-pub mod Tables
 pub mod Converted
 pub mod NeedsPrinted
 pub mod NeedRefused

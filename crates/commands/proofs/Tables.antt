@@ -1,12 +1,17 @@
 -- Tables of lines that were written, or not.
-use Rattle.commands.proofs.Prelude.{◌≡◌, ℕ, List, [], Option, None, Some, inl, inr, sym, ap, subst, ◌∙◌, append-nil, ChangesFiles, Directory, KeepsFiles, with_file, stays_on, StopsWriting, kept_others, kept_then_others, kept_then_written, written_others, kept_then_stopped}
+use Rattle.commands.proofs.Prelude.{◌≡◌, ℕ, List, [], Bor, Option, None, Some, inl, inr, refl, sym, ap, subst, ◌∙◌, append-nil, ChangesFiles, Directory, KeepsFiles, with_file, stays_on, StopsWriting, kept_others, kept_then_others, kept_then_written, written_others, kept_then_stopped}
 use Rattle.host.proofs.FilesRead.{stays}
+use Rattle.command_line.specs.Command.{convert_in}
+use Rattle.command_line.specs.declared.orders.ConvertOrder.{ConvertOrder}
 use Rattle.commands.specs.Tables.{BeginsTable, KeepsAllBut, WritesTable}
 use Rattle.commands.specs.internal.Converting.{table_if}
 
 pub kept_all_but : (name : Option (List ℕ)) (old new : Option Directory) → KeepsFiles old new → KeepsAllBut name old new
 kept_all_but None old new kept = kept
 kept_all_but (Some name) old new kept = kept_others old new name kept
+
+pub kept_same : (name : Option (List ℕ)) (files : Option Directory) → KeepsAllBut name files files
+kept_same name files = kept_all_but name files files (stays files)
 
 -- after files that stayed none changes but that of the table
 pub kept_then_all_but : (name : Option (List ℕ)) (old now new : Option Directory) → KeepsFiles old now → KeepsAllBut name now new → KeepsAllBut name old new
@@ -58,3 +63,10 @@ pub table_stopped : (wanted : Option (List ℕ)) (name : List ℕ) (files later 
     → StopsWriting files later name table → StopsWriting files later name full
 table_stopped wanted name files later full table is wanted_is stopped =
     subst (λ (t : List ℕ). StopsWriting files later name t) (is ∙ ap (λ (o : Option (List ℕ)). table_if o full) wanted_is) stopped
+
+-- the file that an order names
+pub none_wanted : (order : ConvertOrder) → order.lines ≡ None → (convert_in order).lines ≡ None
+none_wanted order none = rw none refl
+
+pub one_wanted : (order : ConvertOrder) (name : Bor (List ℕ)) → order.lines ≡ Some name → (convert_in order).lines ≡ Some name.now
+one_wanted order name one = rw one refl

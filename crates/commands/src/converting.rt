@@ -61,6 +61,7 @@ pub(crate) fn convert_by_tables<F: Files, O: Write, E: Write>(
 }
 
 // Converts the source of an order.
+#[tactic(auto, using(crate::proofs::Tables::kept_same, crate::proofs::Tables::kept_all_but))]
 fn convert_file<F: Files, O: Write, E: Write>(
     alloc: Global,
     rules: &[Rule],
@@ -110,6 +111,7 @@ fn medium_of(order: &ConvertOrder) -> Medium
 }
 
 // Converts the source of the file of an order, after what was told before.
+#[tactic(auto, using(crate::proofs::Tables::kept_same, crate::proofs::Tables::kept_all_but))]
 fn convert_text<F: Files, O: Write, E: Write>(
     alloc: Global,
     rules: &[Rule],
@@ -166,6 +168,7 @@ fn form_of_fault(fault: ReadFault) -> Form
 }
 
 // Prints a module as it is.
+#[tactic(auto, using(crate::proofs::Tables::kept_same, crate::proofs::Tables::kept_all_but))]
 fn print_module<F: Files, O: Write, E: Write>(
     alloc: Global,
     order: &ConvertOrder,
@@ -219,6 +222,7 @@ fn module_table(
 }
 
 // Changes the words of a text that would be a module but for a fault of names or of types.
+#[tactic(auto, using(crate::proofs::Tables::kept_same, crate::proofs::Tables::kept_all_but))]
 fn rewrite<F: Files, O: Write, E: Write>(
     alloc: Global,
     rules: &[Rule],
@@ -244,6 +248,7 @@ fn rewrite<F: Files, O: Write, E: Write>(
 }
 
 // Converts a text that is no module.
+#[tactic(auto, using(crate::proofs::Tables::kept_same, crate::proofs::Tables::kept_all_but))]
 fn convert_old<F: Files, O: Write, E: Write>(
     alloc: Global,
     rules: &[Rule],
@@ -296,6 +301,7 @@ fn convert_old<F: Files, O: Write, E: Write>(
 }
 
 // Prints what was put together, converted.
+#[tactic(auto, using(crate::proofs::Tables::kept_same, crate::proofs::Tables::kept_all_but))]
 fn print_assembly<F: Files, O: Write, E: Write>(
     alloc: Global,
     rules: &[Rule],
@@ -324,6 +330,7 @@ fn print_assembly<F: Files, O: Write, E: Write>(
 }
 
 // Prints what was converted.
+#[tactic(auto, using(crate::proofs::Tables::kept_same, crate::proofs::Tables::kept_all_but))]
 fn print_converted<F: Files, O: Write, E: Write>(
     alloc: Global,
     order: &ConvertOrder,
@@ -421,6 +428,7 @@ fn refuse_fault<E: Write>(
 }
 
 // Writes the table of a text if it is wanted, prints the text, and tells its notes.
+#[tactic(auto, using(crate::proofs::Tables::kept_same, crate::proofs::Tables::kept_all_but))]
 fn print_tabled<F: Files, O: Write, E: Write>(
     alloc: Global,
     order: &ConvertOrder,

@@ -48,6 +48,7 @@ fn before(source: &[u8], place: usize) -> &[u8]
 }
 
 // The line of a place. Takes the time of the way from a place that is marked, where that comes no later.
+#[tactic(auto, using(crate::proofs::LinesOfPlaces::further, crate::proofs::LinesOfPlaces::countable, crate::proofs::LinesOfPlaces::from_the_top))]
 fn line_from(source: &[u8], mark: Mark, place: usize) -> usize
     requires { mark.line ≡ line_at source.now mark.place }
     ensures { result ≡ line_at source.now place }
