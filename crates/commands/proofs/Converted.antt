@@ -12,7 +12,7 @@ use Rattle.convert.specs.{Advice.{advice_view, usual_advice}, Assembly.{Parts, a
 use Rattle.commands.specs.Including.{IsIncluded, StopsLookingForNext}
 use Rattle.commands.specs.Converting.{Converts, ConvertsByTables, HasNoConversion, IsMistyped, IsModule, IsNoModule, IsPutTogether, StopsIncluding, StopsSource, StopsTable, changed, fault_line_at, medium_of, rewritten, stays}
 use Rattle.commands.specs.Refusing.{TellsFile}
-use Rattle.commands.specs.Tables.{BeginsTable, KeepsAllBut, WritesTable}
+use Rattle.commands.specs.Tables.{BeginsTable, WritesTable}
 use Rattle.commands.specs.internal.Converting.{IsOfForm, PrintsModule, form_of_fault, table_if}
 unfoldable use Rattle.commands.specs.Converting.{ConvertsFile, ConvertsText, RefusesText}
 unfoldable use Rattle.commands.specs.internal.Converting.{ConvertsHeld, ConvertsParts, PrintsConverted, PrintsNoted, PrintsTabled}
