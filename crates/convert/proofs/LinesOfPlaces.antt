@@ -1,5 +1,5 @@
 -- The lines of places in a text.
-use Rattle.std.proofs.Common.{◌≡◌, ◌≤◌, ◌<◌, ◌+◌, ◌-◌, ◌∙◌, ◌==◌, ℕ, Bool, true, false, if◌then◌else◌, List, [], ◌∷◌, ◌++◌, length, take, drop, slice_range, refl, ap, sym, subst, arith, length-take, take-add}
+use Rattle.std.proofs.Common.{◌≡◌, ◌≤◌, ◌<◌, ◌+◌, ◌-◌, ◌∙◌, ◌==◌, ℕ, suc, Bool, true, false, if◌then◌else◌, List, [], ◌∷◌, ◌++◌, length, take, drop, slice_range, refl, ap, sym, subst, arith, length-take, take-add}
 use Rattle.std.proofs.lemmas.List.{take_all}
 use Rattle.convert.specs.Origins.{line_at, line_feeds}
 
@@ -8,8 +8,11 @@ counted_once : (is : Bool) (n m : ℕ) → (if is then 1 + (n + m) else (n + m))
 counted_once true n m = omega arith
 counted_once false n m = refl
 
+none_before : (n : ℕ) → n ≡ 0 + n
+none_before n = omega arith
+
 feeds_append : (front back : List ℕ) → line_feeds (front ++ back) ≡ line_feeds front + line_feeds back
-feeds_append [] back = refl
+feeds_append [] back = none_before (line_feeds back)
 feeds_append (c ∷ front) back =
     ap (λ (n : ℕ). if c == 10 then 1 + n else n) (feeds_append front back) ∙ counted_once (c == 10) (line_feeds front) (line_feeds back)
 
