@@ -8,7 +8,7 @@ use Rattle.std.specs.List.{range_with_len}
 use Rattle.ports.specs.declared.event.Event.{Event}
 use Rattle.ports.specs.Events.{read_event}
 use Rattle.ports.specs.Input.{input_value, reads_of}
-use Rattle.example_machine.specs.Counter.{counter_script}
+use Rattle.example_libraries.specs.Counter.{counter_script}
 
 -- the numbers from 0 on, and 255 past their end
 at_most_255 : (n : ℕ) → (n < 255) ⊎ (255 ≤ n) → min n 255 ≡ get_or (range_with_len 0 255) n 255

@@ -9,8 +9,8 @@ use Rattle.object_modules.specs.Spelling.{HasFirstFault, Spells}
 use Rattle.link_laws.specs.Faults as linking
 use Rattle.locate.specs.Locating.{Absolute, IsPlaced}
 use Rattle.locate.specs.Locating as placing
-use Rattle.example_objects.specs.declared.images.ImageFault.{ImageFault}
-use Rattle.example_objects.specs.declared.images.ImageFault.TheVariants.{Object, Link, Place}
+use Rattle.example_libraries.specs.declared.images.ImageFault.{ImageFault}
+use Rattle.example_libraries.specs.declared.images.ImageFault.TheVariants.{Object, Link, Place}
 
 -- files spell modules, and the merge of these in this order is placed by a plan
 pub record IsImageOf (files : List (List ℕ)) (plan : Plan) (absolute : Absolute) : Type 0 where

@@ -3,7 +3,7 @@ use Rattle.std.proofs.Common.{◌≡◌, zero, suc, ◌+◌, ◌<◌, get_or, ar
 use Rattle.std.proofs.lemmas.List.FromFn.{get_or-range_with_len, length-range_with_len}
 use Rattle.std.specs.List.{range_with_len}
 use Rattle.ports.specs.Input.{IsScript}
-use Rattle.example_machine.specs.Counter.{counter_script}
+use Rattle.example_libraries.specs.Counter.{counter_script}
 
 -- each queue holds bytes
 pub counter_holds_bytes : IsScript counter_script

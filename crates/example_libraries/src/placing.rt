@@ -1,12 +1,9 @@
-//! Uses the libraries of object files: two object files, which stand below as bytes, are read, linked and placed, and the
-//! image is printed, as addresses and as Intel HEX, which is read again.
-#![tactic(auto)]
+//! Two object files, which stand below as bytes, are read, linked and placed, and the image is printed, as addresses and as
+//! Intel HEX, which is read again.
 
-mod images;
-
+use crate::images::place_files;
 use anyhow::Result;
 use hex80::{read_hex, write_hex};
-use images::place_files;
 use locate::{Absolute, Plan};
 use std::str;
 
@@ -26,7 +23,7 @@ const SHOW: [u8; 46] = [
 ];
 
 // Where the code, the data and the stack are to lie.
-const PLAN: Plan = Plan {
+pub const PLAN: Plan = Plan {
     code: 0x100,
     data_base: 0x4000,
     stack: 0xF000,
@@ -57,8 +54,9 @@ fn print_hex(rt: &HostRuntime, image: &Absolute) -> Result<()> {
     Ok(())
 }
 
-fn main(rt: HostRuntime) -> Result<()> {
+/// Prints the image of the two files.
+pub fn print_image(rt: &HostRuntime) -> Result<()> {
     let image = place_files(rt.alloc(), &[&MAIN, &SHOW], &PLAN)?;
-    print_places(&rt, &image)?;
-    print_hex(&rt, &image)
+    print_places(rt, &image)?;
+    print_hex(rt, &image)
 }

@@ -1,5 +1,5 @@
 use Rattle.std.proofs.Common.{◌+◌, ◌*◌, ◌≤◌}
-use Rattle.example_machine.proofs.put_program.Given as goal
+use Rattle.example_libraries.proofs.counting.put_program.Given as goal
 
 -- each instruction took at most three bytes
 abbrev pub invariant-loop-instr : goal.invariant-loop-instr

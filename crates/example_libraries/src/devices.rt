@@ -3,8 +3,8 @@
 ghost use Rattle.std.specs.Prelude.{◌≡◌, [], min, OnOk, OnErr};
 ghost use Rattle.ports.specs.Events.{AddsEvent, CountsFailure};
 ghost use Rattle.ports.specs.Input.{reads_of};
-ghost use Rattle.example_machine.specs.Counter.{counter_script};
-ghost use Rattle.example_machine.specs.internal.CounterBytes.{counter_holds_bytes};
+ghost use Rattle.example_libraries.specs.Counter.{counter_script};
+ghost use Rattle.example_libraries.specs.internal.CounterBytes.{counter_holds_bytes};
 
 use ports::{Event, PortFault, Ports};
 use std::alloc::Global;

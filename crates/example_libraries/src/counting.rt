@@ -1,15 +1,11 @@
-//! Drives an 8080 with devices of one's own: a program that counts is put in memory and run, and what it
-//! printed is shown.
-#![tactic(auto)]
-
-mod devices;
+//! An 8080 with devices of one's own: a program that counts is put in memory and run, and what it printed is shown.
 
 ghost use Rattle.std.specs.Prelude.{◌+◌, ◌*◌, ◌<◌, length};
 ghost use Rattle.mem80.specs.declared.memory.TheConstants.{MEMORY_SIZE};
 
 use anyhow::Result;
+use crate::devices::{COUNTER, Devices, PRINTER};
 use cpu8080::{End, Machine};
-use devices::{COUNTER, Devices, PRINTER};
 use isa8080::{Condition, Instr, Operation, encode};
 use mem80::Memory;
 
@@ -59,10 +55,11 @@ fn print_end(rt: &HostRuntime, devices: &Devices, end: End) -> Result<()> {
     Ok(())
 }
 
-fn main(rt: HostRuntime) -> Result<()> {
+/// Runs the program, and prints what it printed.
+pub fn print_count(rt: &HostRuntime) -> Result<()> {
     let mut memory = Memory::new(rt.alloc())?;
     put_program(&mut memory, START, &PROGRAM);
     let mut machine = Machine::new(memory, Devices::new(rt.alloc()), START);
     let end = machine.run(1000);
-    print_end(&rt, machine.ports(), end)
+    print_end(rt, machine.ports(), end)
 }

@@ -6,7 +6,7 @@ ghost use Rattle.std.specs.List.{AllZip};
 ghost use Rattle.failure.specs.Failure.{IfFault};
 ghost use Rattle.locate.specs.Locating.{plan_view};
 ghost use Rattle.object_modules.specs.Spelling.{Spells};
-ghost use Rattle.example_objects.specs.Images.{FirstIsFaulty, HasNoImage, IsImageOf};
+ghost use Rattle.example_libraries.specs.Images.{FirstIsFaulty, HasNoImage, IsImageOf};
 
 use failure::Failure;
 use link::{LinkFault, link};
