@@ -7,7 +7,7 @@ ghost use Rattle.resolving.specs.Views.{program_view};
 ghost use Rattle.stack_need.specs.StackNeed.{TellsNeed};
 
 use crate::call_graph::call_graph;
-use crate::search::need_in;
+use call_graphs::need_in;
 use join::Joined;
 use mem80::Range;
 use placing::Placement;

@@ -1,6 +1,6 @@
 -- The need of a body: its charge, and the greatest need of the bodies that are called in it.
-use Rattle.std.specs.Prelude.{◌≡◌, ℕ, ◌+◌, List, [], ◌∷◌, max, min}
-use Rattle.stack_need.specs.CallGraph.{Body, callees_of, charge_in}
+use Rattle.std.specs.Prelude.{◌≡◌, ℕ, ◌+◌, List, [], ◌∷◌, max, min, Option, Some, None}
+use Rattle.call_graphs.specs.Chains.{Body, callees_of, charge_in}
 
 mutual
   pub data NeedOf (graph : List Body) : (body need : ℕ) → Type 0 where
@@ -31,3 +31,8 @@ HasGreatest graph bodies shown =
 -- a graph whose charges stop at the greatest number of 32 bits
 abbrev pub capped : Body → Body
 capped body = record { charge = min body.charge 4294967295; callees = body.callees }
+
+-- the answer for a graph: None exactly if it has a cycle, and else the need of its first body
+unfoldable pub Answers : List Body → Option ℕ → Type 0
+Answers graph None = HasCycle graph
+Answers graph (Some need) = HasNeed graph 0 need × (HasCycle graph → ⊥)

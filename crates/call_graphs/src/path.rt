@@ -19,7 +19,7 @@ pub(crate) struct Path {
 
 impl Model for Path {
     ghost use Rattle.std.specs.Prelude.{List, reverse};
-    ghost use Rattle.stack_need.specs.declared.path.Visit.{Visit};
+    ghost use Rattle.call_graphs.specs.declared.path.Visit.{Visit};
 
     ghost Value = { List Visit };
 
@@ -28,7 +28,7 @@ impl Model for Path {
 
 impl Path {
     ghost use Rattle.std.specs.Prelude.{◌≡◌, [], ◌∷◌, OnOk, MatchOption};
-    ghost use Rattle.stack_need.specs.internal.Path.{is_ended};
+    ghost use Rattle.call_graphs.specs.internal.Path.{is_ended};
 
     /// No visits.
     pub(crate) fn new(alloc: Global) -> Path

@@ -1,6 +1,6 @@
 -- Lists whose last element comes first.
-use Rattle.stack_need.proofs.Prelude.{◌≡◌, List, [], ◌∷◌, ◌++◌, length, ◌==◌, refl, sym, ap, ◌∙◌, arith, reverse, eqb-suc-zero, reverse-append, length-reverse, Visit}
-use Rattle.stack_need.specs.internal.Path.{is_ended}
+use Rattle.call_graphs.proofs.Prelude.{◌≡◌, List, [], ◌∷◌, ◌++◌, length, ◌==◌, refl, sym, ap, ◌∙◌, arith, reverse, eqb-suc-zero, reverse-append, length-reverse, Visit}
+use Rattle.call_graphs.specs.internal.Path.{is_ended}
 
 pub pushed : (visits : List Visit) (visit : Visit) → reverse (visits ++ visit ∷ []) ≡ visit ∷ reverse visits
 pushed visits visit = reverse-append visits (visit ∷ [])

@@ -1,9 +1,9 @@
 -- A step of a search: what holds along it, and what it comes to.
-use Rattle.stack_need.proofs.Prelude.{◌≡◌, ℕ, zero, suc, ◌+◌, ◌<◌, ◌≤◌, List, [], ◌∷◌, ◌++◌, length, take, max, slice_get, slice_set, Option, Some, None, Contains, arith, refl, ap, sym, subst, ◌∙◌, inl, inr, AllByRecursion, length-set, Visit, Mark, New, Open, Done, Progress, Body, HasCycle, IsChain, callees_of, charge_in, end_of_chain, NeedOf, of_body, GreatestOf, of_none, of_more, HasNeed, Searched, begun, finished, mark_of, need_shown, passed, stepped, stepped_to, GoesTo, HasPassed, IsOnPath, IsTrueOf, Leads, Searches, left, waiting, slice_get_within, take_found}
-use Rattle.stack_need.specs.internal.Search.{called}
-use Rattle.stack_need.proofs.Elements.{at_head, in_tail}
-use Rattle.stack_need.proofs.Marks.{done_is_not_open, known, mark_set, opened}
-use Rattle.stack_need.proofs.Needs.{chain_more, end_more}
+use Rattle.call_graphs.proofs.Prelude.{◌≡◌, ℕ, zero, suc, ◌+◌, ◌<◌, ◌≤◌, List, [], ◌∷◌, ◌++◌, length, take, max, slice_get, slice_set, Option, Some, None, Contains, arith, refl, ap, sym, subst, ◌∙◌, inl, inr, AllByRecursion, length-set, Visit, Mark, New, Open, Done, Progress, Body, HasCycle, IsChain, callees_of, charge_in, end_of_chain, NeedOf, of_body, GreatestOf, of_none, of_more, HasNeed, Searched, begun, finished, mark_of, need_shown, passed, stepped, stepped_to, GoesTo, HasPassed, IsOnPath, IsTrueOf, Leads, Searches, left, waiting, slice_get_within, take_found}
+use Rattle.call_graphs.specs.internal.Search.{called}
+use Rattle.call_graphs.proofs.Elements.{at_head, in_tail}
+use Rattle.call_graphs.proofs.Marks.{done_is_not_open, known, mark_set, opened}
+use Rattle.call_graphs.proofs.Needs.{chain_more, end_more}
 
 past_list : {A : Type 0} (items : List A) (place : ℕ) → slice_get items place ≡ None → take place items ≡ items
 past_list [] zero is = refl

@@ -1,6 +1,6 @@
-use Rattle.stack_need.proofs.Prelude.{◌∙◌, map, refl, sym, arith, length-map, body_view, graph_view, search_view}
-use Rattle.stack_need.proofs.AllBodies.{all_answers, cycle_answers, known_at_first, need_added, need_found, no_needs, path_ended, still_known}
-use Rattle.stack_need.proofs.search.need_in.Goals as goal
+use Rattle.call_graphs.proofs.Prelude.{◌∙◌, map, refl, sym, arith, length-map, body_view, graph_view, search_view}
+use Rattle.call_graphs.proofs.AllBodies.{all_answers, cycle_answers, known_at_first, need_added, need_found, no_needs, path_ended, still_known}
+use Rattle.call_graphs.proofs.search.need_in.Goals as goal
 
 pub need_of-requires-clause-known : goal.need_of-requires-clause-known
 need_of-requires-clause-known c =

@@ -1,6 +1,6 @@
-use Rattle.stack_need.proofs.Prelude.{◌∙◌, ap, sym, Going, Finished, Cyclic, graph_view, mark_of, search_view, left}
-use Rattle.stack_need.proofs.Turns.{begins_with, has_cycle, has_finished, known_before, turned}
-use Rattle.stack_need.proofs.search.Search.need_of.Goals as goal
+use Rattle.call_graphs.proofs.Prelude.{◌∙◌, ap, sym, Going, Finished, Cyclic, graph_view, mark_of, search_view, left}
+use Rattle.call_graphs.proofs.Turns.{begins_with, has_cycle, has_finished, known_before, turned}
+use Rattle.call_graphs.proofs.search.Search.need_of.Goals as goal
 
 pub returns-in-Done-clause-found : goal.returns-in-Done-clause-found
 returns-in-Done-clause-found c =

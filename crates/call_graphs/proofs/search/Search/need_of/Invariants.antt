@@ -1,5 +1,5 @@
-use Rattle.stack_need.proofs.Prelude.{◌≡◌, graph_view, search_view, Searches, left}
-use Rattle.stack_need.proofs.search.Search.need_of.Given as goal
+use Rattle.call_graphs.proofs.Prelude.{◌≡◌, graph_view, search_view, Searches, left}
+use Rattle.call_graphs.proofs.search.Search.need_of.Given as goal
 
 abbrev pub invariant-loop-visit : goal.invariant-loop-visit
 invariant-loop-visit l = record {

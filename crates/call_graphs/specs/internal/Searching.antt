@@ -1,14 +1,14 @@
 -- What holds along a search.
 use Rattle.std.specs.Prelude.{◌≡◌, ℕ, ◌+◌, ◌-◌, ◌<◌, List, [], ◌∷◌, length, slice_get, take, Option, Some, None, ◌⊎◌}
 use Rattle.std.specs.List.{AllByRecursion}
-use Rattle.stack_need.specs.declared.path.Visit.{Visit}
-use Rattle.stack_need.specs.declared.search.Mark.{Mark}
-use Rattle.stack_need.specs.declared.search.Mark.TheVariants.{New, Open, Done}
-use Rattle.stack_need.specs.declared.search.Progress.{Progress}
-use Rattle.stack_need.specs.declared.search.Progress.TheVariants.{Going, Finished, Cyclic}
-use Rattle.stack_need.specs.CallGraph.{Body, HasCycle, callees_of}
-use Rattle.stack_need.specs.internal.Needs.{HasGreatest, HasNeed}
-use Rattle.stack_need.specs.internal.Search.{Searched, mark_of}
+use Rattle.call_graphs.specs.declared.path.Visit.{Visit}
+use Rattle.call_graphs.specs.declared.search.Mark.{Mark}
+use Rattle.call_graphs.specs.declared.search.Mark.TheVariants.{New, Open, Done}
+use Rattle.call_graphs.specs.declared.search.Progress.{Progress}
+use Rattle.call_graphs.specs.declared.search.Progress.TheVariants.{Going, Finished, Cyclic}
+use Rattle.call_graphs.specs.Chains.{Body, HasCycle, callees_of}
+use Rattle.call_graphs.specs.Needs.{HasGreatest, HasNeed}
+use Rattle.call_graphs.specs.internal.Search.{Searched, mark_of}
 
 -- a body is on a path
 abbrev pub IsOnPath : (body : ℕ) → List Visit → Type 0
@@ -67,11 +67,6 @@ GoesTo graph root before s Cyclic = HasCycle graph
 unfoldable pub Finds : List Body → (root : ℕ) → Option ℕ → Searched → Type 0
 Finds graph root None s = HasCycle graph
 Finds graph root (Some need) s = HasNeed graph root need × (IsTrueOf graph s × (s.path ≡ []))
-
--- the result of searches for the needs of all bodies
-unfoldable pub Answers : List Body → Option ℕ → Type 0
-Answers graph None = HasCycle graph
-Answers graph (Some need) = HasNeed graph 0 need × (HasCycle graph → ⊥)
 
 -- the first `count` bodies have needs
 abbrev pub HaveNeeds : List Body → (count : ℕ) → Type 0

@@ -1,6 +1,6 @@
 -- What the need of a body says of chains of calls.
-use Rattle.stack_need.proofs.Prelude.{◌≡◌, ℕ, zero, suc, ◌+◌, ◌<◌, ◌≤◌, Bool, true, false, List, [], ◌∷◌, ◌++◌, length, map, max, min, slice_get, slice_index_or, nat_le, option_map, leb-true, leb-false, Option, Some, None, Contains, arith, refl, ap, sym, subst, ◌∙◌, ◌⊎◌, inl, inr, option_map_or, slice_get-map, Body, IsChain, callees_of, charge_in, charges_of_chain, end_of_chain, NeedOf, of_body, GreatestOf, of_none, of_more, capped}
-use Rattle.stack_need.proofs.Elements.{at_head, in_tail}
+use Rattle.call_graphs.proofs.Prelude.{◌≡◌, ℕ, zero, suc, ◌+◌, ◌<◌, ◌≤◌, Bool, true, false, List, [], ◌∷◌, ◌++◌, length, map, max, min, slice_get, slice_index_or, nat_le, option_map, leb-true, leb-false, Option, Some, None, Contains, arith, refl, ap, sym, subst, ◌∙◌, ◌⊎◌, inl, inr, option_map_or, slice_get-map, Body, IsChain, callees_of, charge_in, charges_of_chain, end_of_chain, NeedOf, of_body, GreatestOf, of_none, of_more, capped}
+use Rattle.call_graphs.proofs.Elements.{at_head, in_tail}
 
 -- an element is the first or one of the others
 in_either : {A : Type 0} (item : A) (others : List A) (one : A) → Contains (item ∷ others) one → (item ≡ one) ⊎ Contains others one

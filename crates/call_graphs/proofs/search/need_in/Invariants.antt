@@ -1,5 +1,5 @@
-use Rattle.stack_need.proofs.Prelude.{◌≡◌, map, [], HasNeed, body_view, graph_view, search_view, HaveNeeds, IsTrueOf}
-use Rattle.stack_need.proofs.search.need_in.Given as goal
+use Rattle.call_graphs.proofs.Prelude.{◌≡◌, map, [], HasNeed, body_view, graph_view, search_view, HaveNeeds, IsTrueOf}
+use Rattle.call_graphs.proofs.search.need_in.Given as goal
 
 abbrev pub invariant-loop-body : goal.invariant-loop-body
 invariant-loop-body l = record {

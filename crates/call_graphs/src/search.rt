@@ -1,8 +1,9 @@
 //! The search for the needs of bodies.
 
 ghost use Rattle.std.specs.Prelude.{◌≡◌, map, slice_set, IfOk};
-ghost use Rattle.stack_need.specs.internal.Search.{body_view, mark_of};
-ghost use Rattle.stack_need.specs.internal.Searching.{Answers};
+ghost use Rattle.call_graphs.specs.Views.{body_view};
+ghost use Rattle.call_graphs.specs.internal.Search.{mark_of};
+ghost use Rattle.call_graphs.specs.Needs.{Answers};
 
 use crate::body::Body;
 use crate::path::{Path, Visit};
@@ -53,9 +54,10 @@ pub(crate) struct Search<'a> {
 
 impl<'a> Search<'a> {
     ghost use Rattle.std.specs.Prelude.{◌≡◌, ◌<◌, [], ◌∷◌, length, map, replicate, slice_get, Some, IfOk, IfSome, OnOk};
-    ghost use Rattle.stack_need.specs.CallGraph.{callees_of};
-    ghost use Rattle.stack_need.specs.internal.Search.{begun, body_view, called, finished, graph_view, mark_of, need_shown, passed, search_view, stepped};
-    ghost use Rattle.stack_need.specs.internal.Searching.{Finds, IsTrueOf};
+    ghost use Rattle.call_graphs.specs.Chains.{callees_of};
+    ghost use Rattle.call_graphs.specs.Views.{body_view};
+    ghost use Rattle.call_graphs.specs.internal.Search.{begun, called, finished, graph_view, mark_of, need_shown, passed, search_view, stepped};
+    ghost use Rattle.call_graphs.specs.internal.Searching.{Finds, IsTrueOf};
 
     /// A search that knows nothing yet.
     pub(crate) fn new(alloc: Global, graph: &'a [Body]) -> Result<Search<'a>, AllocError>
@@ -189,8 +191,8 @@ impl<'a> Search<'a> {
     }
 }
 
-/// The need of the first body, or None if the graph has a cycle.
-pub(crate) fn need_in(alloc: Global, graph: &[Body]) -> Result<Option<u32>, AllocError>
+/// The need of the first body (4,294,967,295 if it is more), or None if the graph has a cycle. Fails only if memory runs out.
+pub fn need_in(alloc: Global, graph: &[Body]) -> Result<Option<u32>, AllocError>
     ensures { IfOk result (λ found. Answers (map body_view graph.now) found) }
 {
     let mut search = Search::new(alloc, graph)?;

@@ -1,8 +1,8 @@
 -- The loop over the bodies of a graph.
-use Rattle.stack_need.proofs.Prelude.{◌≡◌, ℕ, zero, suc, ◌+◌, ◌<◌, ◌≤◌, Bool, true, false, List, [], ◌∷◌, length, map, replicate, slice_get, Option, Some, None, Contains, nat_le, leb-true, leb-false, arith, refl, ap, sym, subst, ◌∙◌, inl, inr, option_map_or, length-map, length-replicate, New, Open, Done, Body, HasCycle, IsChain, callees_of, charge_in, end_of_chain, of_body, GreatestOf, of_none, HasNeed, Searched, body_view, Answers, Finds, HaveNeeds, IsTrueOf}
-use Rattle.stack_need.specs.declared.body.Body.{Body as CodeBody}
-use Rattle.stack_need.proofs.Marks.{all_new}
-use Rattle.stack_need.proofs.Needs.{never_back, nothing_in_none}
+use Rattle.call_graphs.proofs.Prelude.{◌≡◌, ℕ, zero, suc, ◌+◌, ◌<◌, ◌≤◌, Bool, true, false, List, [], ◌∷◌, length, map, replicate, slice_get, Option, Some, None, Contains, nat_le, leb-true, leb-false, arith, refl, ap, sym, subst, ◌∙◌, inl, inr, option_map_or, length-map, length-replicate, New, Open, Done, Body, HasCycle, IsChain, callees_of, charge_in, end_of_chain, of_body, GreatestOf, of_none, HasNeed, Searched, body_view, Answers, Finds, HaveNeeds, IsTrueOf}
+use Rattle.call_graphs.specs.declared.body.Body.{Body as CodeBody}
+use Rattle.call_graphs.proofs.Marks.{all_new}
+use Rattle.call_graphs.proofs.Needs.{never_back, nothing_in_none}
 
 module _ (graph : List Body) where
   -- a body that is not there calls nothing

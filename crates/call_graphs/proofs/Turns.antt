@@ -1,6 +1,6 @@
 -- The turns of the loop of a search.
-use Rattle.stack_need.proofs.Prelude.{◌≡◌, ℕ, List, [], ◌∷◌, Some, None, ap, sym, subst, ◌∙◌, Visit, Mark, Done, Progress, Finished, Cyclic, Body, HasCycle, HasNeed, Searched, begun, mark_of, stepped, Finds, GoesTo, IsTrueOf, Searches, left}
-use Rattle.stack_need.proofs.Searching.{starts, steps}
+use Rattle.call_graphs.proofs.Prelude.{◌≡◌, ℕ, List, [], ◌∷◌, Some, None, ap, sym, subst, ◌∙◌, Visit, Mark, Done, Progress, Finished, Cyclic, Body, HasCycle, HasNeed, Searched, begun, mark_of, stepped, Finds, GoesTo, IsTrueOf, Searches, left}
+use Rattle.call_graphs.proofs.Searching.{starts, steps}
 
 -- what a turn comes to, with the graph that it had before and after
 pub turned : (graph after_graph : List Body) (root : ℕ) (marks : List Mark) (path below : List Visit) (visit : Visit) (after : Searched) (found progress : Progress) → after_graph ≡ graph

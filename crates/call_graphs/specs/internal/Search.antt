@@ -1,19 +1,15 @@
 -- A search through the bodies of a call graph, step by step.
 use Rattle.std.specs.Prelude.{ℕ, ◌+◌, List, ◌∷◌, map, max, min, slice_get, slice_set, Option, Some, None, if◌then◌else◌}
 use Rattle.std.specs.Option.{option_map_or}
-use Rattle.stack_need.specs.declared.body.Body.{Body as CodeBody}
-use Rattle.stack_need.specs.declared.path.Visit.{Visit}
-use Rattle.stack_need.specs.declared.search.Mark.{Mark}
-use Rattle.stack_need.specs.declared.search.Mark.TheVariants.{New, Open, Done}
-use Rattle.stack_need.specs.declared.search.Progress.{Progress}
-use Rattle.stack_need.specs.declared.search.Progress.TheVariants.{Going, Finished, Cyclic}
-use Rattle.stack_need.specs.declared.search.Search.{Search}
-use Rattle.stack_need.specs.internal.Path.{is_ended}
-use Rattle.stack_need.specs.CallGraph.{Body, callees_of, charge_in}
-
--- a body of the code's graph
-abbrev pub body_view : CodeBody → Body
-body_view body = record { charge = body.charge; callees = body.callees.items }
+use Rattle.call_graphs.specs.declared.path.Visit.{Visit}
+use Rattle.call_graphs.specs.declared.search.Mark.{Mark}
+use Rattle.call_graphs.specs.declared.search.Mark.TheVariants.{New, Open, Done}
+use Rattle.call_graphs.specs.declared.search.Progress.{Progress}
+use Rattle.call_graphs.specs.declared.search.Progress.TheVariants.{Going, Finished, Cyclic}
+use Rattle.call_graphs.specs.declared.search.Search.{Search}
+use Rattle.call_graphs.specs.internal.Path.{is_ended}
+use Rattle.call_graphs.specs.Chains.{Body, callees_of, charge_in}
+use Rattle.call_graphs.specs.Views.{body_view}
 
 -- what is known of a body; one that is not there calls nothing
 abbrev pub mark_of : List Mark → (body : ℕ) → Mark

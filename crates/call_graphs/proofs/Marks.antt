@@ -1,5 +1,5 @@
 -- What is known of bodies, and what is left to do.
-use Rattle.stack_need.proofs.Prelude.{◌≡◌, ℕ, zero, suc, ◌+◌, ◌≤◌, List, [], ◌∷◌, length, slice_set, replicate, arith, refl, ap, ◌⊎◌, inl, inr, Mark, New, Open, Done, Body, callees_of, mark_of, waiting, weight}
+use Rattle.call_graphs.proofs.Prelude.{◌≡◌, ℕ, zero, suc, ◌+◌, ◌≤◌, List, [], ◌∷◌, length, slice_set, replicate, arith, refl, ap, ◌⊎◌, inl, inr, Mark, New, Open, Done, Body, callees_of, mark_of, waiting, weight}
 
 -- where one mark changes, another body keeps its own
 pub mark_set : (marks : List Mark) (place body : ℕ) (mark : Mark) → ((mark_of (slice_set marks place mark) body ≡ mark) × (place ≡ body)) ⊎ (mark_of (slice_set marks place mark) body ≡ mark_of marks body)
