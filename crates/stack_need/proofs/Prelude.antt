@@ -3,8 +3,8 @@ pub use Rattle.std.proofs.Common.{Bool, Contains, List, None, Option, Some, [], 
 pub use Rattle.std.proofs.lemmas.Iterator.Adapters.{position_from-zero}
 pub use Rattle.std.specs.List.{AllByRecursion, cons_option, position_from}
 pub use Rattle.std.specs.Option.{option_and_then, option_map_or}
-pub use Rattle.trees.specs.declared.declaration.ScalarType.{ScalarType}
-pub use Rattle.trees.specs.declared.declaration.ScalarType.TheVariants.{Address, Byte}
+pub use Rattle.typed_trees.specs.ScalarType.{ScalarType}
+pub use Rattle.typed_trees.specs.ScalarType.TheVariants.{Address, Byte}
 pub use Rattle.typed_trees.specs.TypedTrees.{AssignmentNode, AssignmentStatement, At, BasedOn, BinaryNode, CallNode, CallStatement, CaseStatement, ConversionNode, DoStatement, ElseStatement, Elsewhere, FunctionNode, GotoStatement, HaltStatement, Home, IfStatement, InConstants, InData, InFrame, InputNode, IterateStatement, LabelStatement, ListNode, ListOf, LocationNode, MoreArguments, MoreStatements, MoveStatement, NoArguments, NoElse, NoStatements, NoSubscript, Nowhere, NullStatement, NumberNode, PartOf, Placed, ReturnStatement, SentTo, ShiftNode, StoredIn, Subscript, TypedArguments, TypedElse, TypedExpression, TypedIteration, TypedList, TypedModule, TypedProcedure, TypedReference, TypedStatement, TypedStatements, TypedTarget, UnaryNode, ValueNode, WhileStatement}
 pub use Rattle.typed_trees.specs.Views.{arguments_view, module_view, procedure_view, statements_view, target_view}
 unfoldable pub use Rattle.typed_trees.specs.Charge.{charge_of}
