@@ -24,7 +24,8 @@ fn kind_of(
     ensures constant { is_constant_at (modules_in joined.now) (placement_view placement.now) address
         ≡ says_constant result }
 {
-    let _program = (joined, placement);
+    let _program = joined;
+    let _placement = placement;
     kinds.kind_at(address)
 }
 
