@@ -1,6 +1,6 @@
 -- The need of a body: its charge, and the greatest need of the bodies that are called in it.
 use Rattle.std.specs.Prelude.{◌≡◌, ℕ, ◌+◌, List, [], ◌∷◌, max, min, Option, Some, None}
-use Rattle.call_graphs.specs.Chains.{Body, callees_of, charge_in}
+use Rattle.call_graphs.specs.Chains.{Body, HasCycle, callees_of, charge_in}
 
 mutual
   pub data NeedOf (graph : List Body) : (body need : ℕ) → Type 0 where
