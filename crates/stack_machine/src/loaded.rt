@@ -8,16 +8,16 @@ use placing::{ByteKinds, Placement};
 use stack_code::{Instruction, ModuleTable};
 use trees::ScalarType;
 
-/// What a run reads and never changes: the program, where it lies, what each byte is to it there, the slots of its frames, and
-/// its code with the tables.
+/// What a run reads and never changes: the program, where it lies, the slots of its frames, its code with the tables, and what
+/// each byte of memory is to it.
 #[derive(Clone, Copy)]
 pub struct Loaded<'a> {
     pub joined: &'a Joined,
     pub placement: &'a Placement,
-    pub kinds: &'a ByteKinds,
     pub slots: &'a [FrameSlots],
     pub code: &'a [Instruction],
     pub tables: &'a [ModuleTable],
+    pub kinds: &'a ByteKinds,
 }
 
 impl Loaded<'_> {
