@@ -12,12 +12,7 @@ use placing::{ByteKind, ByteKinds, Placement};
 
 // What the byte at an address is to the program.
 #[inline(always)]
-fn kind_of(
-    joined: &Joined,
-    placement: &Placement,
-    kinds: &ByteKinds,
-    address: u16,
-) -> ByteKind
+fn kind_of(joined: &Joined, placement: &Placement, kinds: &ByteKinds, address: u16) -> ByteKind
     requires { AreKindsOf joined.now placement.now kinds.now }
     ensures declared { is_declared_at (modules_in joined.now) (placement_view placement.now) address
         ≡ says_declared result }

@@ -53,12 +53,26 @@ pub fn write_scalar(
     ensures memory { memory.new ≡ (scalar_written (modules_in joined.now) (placement_view placement.now)
         memory.old scalar address number).memory }
 {
-    write_byte(joined, placement, kinds, memory, address, (number % 256) as u8)?;
+    write_byte(
+        joined,
+        placement,
+        kinds,
+        memory,
+        address,
+        (number % 256) as u8,
+    )?;
     match scalar {
         ScalarType::Byte => Ok(()),
         ScalarType::Address => {
             let high = (number / 256) as u8;
-            write_byte(joined, placement, kinds, memory, address.wrapping_add(1), high)
+            write_byte(
+                joined,
+                placement,
+                kinds,
+                memory,
+                address.wrapping_add(1),
+                high,
+            )
         }
     }
 }

@@ -3,8 +3,8 @@
 ghost use Rattle.std.specs.Prelude.{◌+◌, ◌*◌, ◌<◌, length};
 ghost use Rattle.mem80.specs.declared.memory.TheConstants.{MEMORY_SIZE};
 
-use anyhow::Result;
 use crate::devices::{COUNTER, Devices, PRINTER};
+use anyhow::Result;
 use cpu8080::{End, Machine};
 use isa8080::{Condition, Instr, Operation, encode};
 use mem80::Memory;

@@ -33,7 +33,14 @@ impl Loaded<'_> {
             ≡ scalar_read (modules_in (self.now).joined.now) (placement_view (self.now).placement.now)
             memory.now scalar address }
     {
-        read_scalar(self.joined, self.placement, self.kinds, memory, scalar, address)
+        read_scalar(
+            self.joined,
+            self.placement,
+            self.kinds,
+            memory,
+            scalar,
+            address,
+        )
     }
 
     /// Writes a number to an address of the memory.
@@ -53,6 +60,14 @@ impl Loaded<'_> {
             ≡ (scalar_written (modules_in (self.now).joined.now) (placement_view (self.now).placement.now)
             memory.old scalar address number).memory }
     {
-        write_scalar(self.joined, self.placement, self.kinds, memory, scalar, address, number)
+        write_scalar(
+            self.joined,
+            self.placement,
+            self.kinds,
+            memory,
+            scalar,
+            address,
+            number,
+        )
     }
 }
