@@ -53,26 +53,14 @@ pub fn write_scalar(
     ensures memory { memory.new ≡ (scalar_written (modules_in joined.now) (placement_view placement.now)
         memory.old scalar address number).memory }
 {
-    write_byte(
-        joined,
-        placement,
-        kinds,
-        memory,
-        address,
-        (number % 256) as u8,
-    )?;
+    let low = (number % 256) as u8;
+    write_byte(joined, placement, kinds, memory, address, low)?;
     match scalar {
         ScalarType::Byte => Ok(()),
         ScalarType::Address => {
             let high = (number / 256) as u8;
-            write_byte(
-                joined,
-                placement,
-                kinds,
-                memory,
-                address.wrapping_add(1),
-                high,
-            )
+            let next = address.wrapping_add(1);
+            write_byte(joined, placement, kinds, memory, next, high)
         }
     }
 }
