@@ -13,8 +13,8 @@ returns-in_default-compile-clause-beginning g c =
     started (modules_in c.args.joined.now) (placement_view c.args.placement.now) c.args.room c.args.memory
     (g.P.Ports.script c.args.ports.now) (g.P.Ports.events c.args.ports.now) c.args.budget
 
-pub returns-in_default-kinds-clause-beginning : goal.returns-in_default-kinds-clause-beginning
-returns-in_default-kinds-clause-beginning g c =
+pub returns-in_default-new-clause-beginning : goal.returns-in_default-new-clause-beginning
+returns-in_default-new-clause-beginning g c =
     started (modules_in c.args.joined.now) (placement_view c.args.placement.now) c.args.room c.args.memory
     (g.P.Ports.script c.args.ports.now) (g.P.Ports.events c.args.ports.now) c.args.budget
 
@@ -50,8 +50,8 @@ returns-in_default-clause-kept g c = begins_itself (g.P.Ports.events c.args.port
 pub returns-in_default-compile-clause-kept : goal.returns-in_default-compile-clause-kept
 returns-in_default-compile-clause-kept g c = begins_itself (g.P.Ports.events c.args.ports.now)
 
-pub returns-in_default-kinds-clause-kept : goal.returns-in_default-kinds-clause-kept
-returns-in_default-kinds-clause-kept g c = begins_itself (g.P.Ports.events c.args.ports.now)
+pub returns-in_default-new-clause-kept : goal.returns-in_default-new-clause-kept
+returns-in_default-new-clause-kept g c = begins_itself (g.P.Ports.events c.args.ports.now)
 
 pub returns-in-None-clause-kept : goal.returns-in-None-clause-kept
 returns-in-None-clause-kept g c = begins_itself (g.P.Ports.events c.args.ports.now)
