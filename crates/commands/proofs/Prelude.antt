@@ -8,9 +8,9 @@ pub use Rattle.failure.specs.{Failure.{IfFault}, Writing.{AppendsBeginning, IsBe
 pub use Rattle.mem80.specs.declared.plan.Plan.{Plan}
 pub use Rattle.ports.specs.{Events.{CountsFailure}, Input.{AddsByte, queue_of}, Session.{Session}, declared.event.Event.{Event}}
 pub use Rattle.typed_trees.specs.{Jumps.{JumpsAreSound}, TypedTrees.{TypedModule}, Views.{module_view, object_view}, declared.module.Typed.{Typed}}
-pub use Rattle.layout.specs.{Joined.{IsJoined}, Placement.{ModulePlacement, Placement, pieces_of}}
+pub use Rattle.layout.specs.{Joined.{IsJoined}, Placement.{ModulePlacement, Placement}}
 pub use Rattle.join.specs.{Views.{modules_of}, declared.joined.Joined.{Joined}}
-pub use Rattle.placing.specs.{Tables.{IsTableOf}, Views.{module_placement_view, placement_view}, declared.placement.ModulePlacement.{ModulePlacement as CodeModulePlacement}, declared.placement.Placement.{Placement as CodePlacement}}
+pub use Rattle.placing.specs.{Views.{module_placement_view, placement_view}, declared.placement.ModulePlacement.{ModulePlacement as CodeModulePlacement}, declared.placement.Placement.{Placement as CodePlacement}}
 pub use Rattle.object_modules.specs.{Image.{placement_number}, Merge.{link_number}, Module.{ObjectModule}, Text.{text_of}}
 pub use Rattle.sources.specs.{Programs.{AreSourcesOf, IsProgramOf, program_modules, texts_of}, Reading.{IsSourceOf}, declared.read.ReadFault.{ReadFault}, declared.sources.TheConstants.{MOST_SOURCES}}
 pub use Rattle.tool.proofs.CompiledLemmas.{passed, past_texts, text_at, within_texts}

@@ -3,7 +3,7 @@ use Rattle.declared.proofs.Prelude.{◌≡◌, ℕ, ◌<◌, ◌≤◌, ◌+◌,
 use Rattle.mem80.specs.{declared.memory.TheConstants.{MEMORY_SIZE}, Range.{IsIn}}
 use Rattle.layout.specs.Placement.{Placement, PlacedPiece, IsOneOf, holds_byte, is_constant_piece, pieces_of}
 use Rattle.layout.proofs.Declared.{Decides-one_of}
-use Rattle.placing.specs.declared.placement.ByteKind.TheVariants.{Constant}
+use Rattle.placing.specs.declared.table.ByteKind.TheVariants.{Constant}
 use Rattle.declared.specs.internal.Kinds.{says_declared, says_constant}
 
 -- what holds of one that passes a test holds of one

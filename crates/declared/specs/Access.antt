@@ -11,6 +11,7 @@ use Rattle.layout.specs.Placement as placements
 use Rattle.join.specs.declared.joined.Joined.{Joined}
 use Rattle.join.specs.Views.{modules_of}
 use Rattle.placing.specs.declared.placement.Placement.{Placement as CodePlacement}
+use Rattle.placing.specs.declared.table.ByteKinds.{ByteKinds}
 use Rattle.placing.specs.Tables.{IsTableOf}
 use Rattle.placing.specs.Views.{placement_view}
 use Rattle.meaning.specs.declared.reason.Reason.{Reason}
@@ -20,10 +21,10 @@ use Rattle.meaning.specs.declared.reason.Reason.TheVariants.{Byte as UndeclaredB
 abbrev pub modules_in : Joined → List TypedModule
 modules_in joined = map module_view (modules_of joined)
 
--- the table of a placement says what each byte of memory is to a program
-abbrev pub HasTable : Joined → CodePlacement → Type 0
-HasTable joined placement =
-    IsTableOf (pieces_of (modules_in joined) (placement_view placement)) placement.kinds.value
+-- the kinds of bytes are those of a program at a placement
+abbrev pub AreKindsOf : Joined → CodePlacement → ByteKinds → Type 0
+AreKindsOf joined placement table =
+    IsTableOf (pieces_of (modules_in joined) (placement_view placement)) table.kinds.value
 
 -- whether something that modules declare has an address, and whether a constant has it
 unfoldable pub is_declared_at : List TypedModule → Placement → (address : ℕ) → Bool

@@ -5,7 +5,7 @@ ghost use Rattle.ports.specs.Events.{IsBeginning};
 ghost use Rattle.typed_trees.specs.Jumps.{JumpsAreSound};
 ghost use Rattle.layout.specs.StartingMemory.{starting_memory};
 ghost use Rattle.placing.specs.Views.{placement_view};
-ghost use Rattle.declared.specs.Access.{HasTable, modules_in};
+ghost use Rattle.declared.specs.Access.{modules_in};
 ghost use Rattle.meaning.specs.Run.{source_run};
 ghost use Rattle.stack_machine.specs.Runs.{FaultCounts, stop_of};
 
@@ -13,7 +13,7 @@ use crate::contents::fill;
 use crate::main_module::main_module;
 use join::Joined;
 use mem80::Memory;
-use placing::Placement;
+use placing::{ByteKinds, Placement};
 use ports::Ports;
 use resolving::Program;
 use stack_compiler::compile;
@@ -34,7 +34,6 @@ pub fn interpret<P: Ports>(
     ports: &mut P,
     budget: u64,
 ) -> Result<SourceEnd, RunFault>
-    requires table { HasTable joined.now placement.now }
     requires jumps { All JumpsAreSound (modules_in joined.now) }
     ensures meaning { IfOk result (λ end.
         source_run (modules_in joined.now) (placement_view placement.now) room memory
@@ -55,12 +54,16 @@ pub fn interpret<P: Ports>(
     let Ok(program) = compile(alloc, joined, placement) else {
         return Err(RunFault::Memory);
     };
+    let Ok(kinds) = ByteKinds::new(alloc, joined, placement) else {
+        return Err(RunFault::Memory);
+    };
     match main_module(joined.modules()) {
         Some(found) => run(
             alloc,
             &program,
             joined,
             placement,
+            &kinds,
             found.typed,
             found.number,
             room,

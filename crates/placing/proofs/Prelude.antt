@@ -13,7 +13,7 @@ unfoldable pub use Rattle.layout.specs.Placing.{placement_by, placing_refusal}
 pub use Rattle.join.specs.Views.{modules_of}
 pub use Rattle.placing.specs.Segments.{HaveStorage, HoldsConstants}
 pub use Rattle.placing.specs.Views.{module_placement_view, placement_view, plan_view, refusal_of}
-pub use Rattle.placing.specs.declared.placement.ByteKind.TheVariants.{Undeclared}
+pub use Rattle.placing.specs.declared.table.ByteKind.TheVariants.{Undeclared}
 pub use Rattle.placing.specs.declared.placement.ModulePlacement.{ModulePlacement as CodeModulePlacement}
 pub use Rattle.placing.specs.internal.Claims.{are_claimed, claim_by_kind, claim_bytes, claim_found, claim_if, claim_lists, claim_modules, claim_objects, claim_pieces, home_fits, may_hold_constants, may_hold_variables, modules_fit, objects_fit}
 unfoldable pub use Rattle.placing.specs.internal.Claims.{all_fit, claim_between, claim_module, claim_object, claim_piece, claimed_between, ends_in_memory, is_lawful, is_within, may_lie_at, module_fits, object_fits, ranges_fit, ranges_meet, unclaimed}

@@ -2,8 +2,8 @@
 use Rattle.std.specs.Prelude.{◌≡◌, ℕ, ◌<◌, List, length, filter, slice_index_or}
 use Rattle.mem80.specs.declared.memory.TheConstants.{MEMORY_SIZE}
 use Rattle.layout.specs.Placement.{PlacedPiece, IsOneOf, is_constant_piece}
-use Rattle.placing.specs.declared.placement.ByteKind.{ByteKind}
-use Rattle.placing.specs.declared.placement.ByteKind.TheVariants.{Undeclared, Writable, Constant}
+use Rattle.placing.specs.declared.table.ByteKind.{ByteKind}
+use Rattle.placing.specs.declared.table.ByteKind.TheVariants.{Undeclared, Writable, Constant}
 
 -- a byte is a constant if a constant piece has it, writable if only others have it, and undeclared if none has
 abbrev pub IsKind : List PlacedPiece → (address : ℕ) → ByteKind → Type 0

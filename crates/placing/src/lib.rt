@@ -16,5 +16,6 @@ mod table;
 pub use fault::Fault;
 pub use lawfulness::lawful;
 pub use mem80::Plan;
-pub use placement::{ByteKind, ModulePlacement, Placement};
+pub use placement::{ModulePlacement, Placement};
 pub use placer::place;
+pub use table::{ByteKind, ByteKinds};

@@ -4,13 +4,11 @@ ghost use Rattle.std.specs.Prelude.{◌≡◌, None, Some, map, length, All, IfO
 ghost use Rattle.failure.specs.Failure.{IfFault};
 ghost use Rattle.typed_trees.specs.Views.{module_view};
 ghost use Rattle.layout.specs.Lawful.{IsLawful};
-ghost use Rattle.layout.specs.Placement.{pieces_of};
 ghost use Rattle.layout.specs.Placing.{placement_by, placing_refusal};
 ghost use Rattle.layout.specs.Storage.{storage_with};
 ghost use Rattle.layout.specs.Views.{layout_view};
 ghost use Rattle.join.specs.Views.{modules_of};
 ghost use Rattle.placing.specs.Segments.{HaveStorage};
-ghost use Rattle.placing.specs.Tables.{IsTableOf};
 ghost use Rattle.placing.specs.Views.{placement_view, plan_view, refusal_of};
 
 use crate::addresses::{Bases, module_placements};
@@ -41,9 +39,6 @@ pub fn place(
         placing_refusal (plan_view plan.now) (map module_view (modules_of joined.now)) code_lengths.now ≡ None) }
     ensures placed { IfOk result (λ placement. placement_view placement
         ≡ placement_by (plan_view plan.now) (map module_view (modules_of joined.now)) code_lengths.now) }
-    ensures table { IfOk result (λ placement.
-        IsTableOf (pieces_of (map module_view (modules_of joined.now)) (placement_view placement))
-        placement.kinds.value) }
     ensures lawful { HaveStorage (map module_view (modules_of joined.now)) code_lengths.now
         → IfOk result (λ placement.
         IsLawful (map module_view (modules_of joined.now)) (placement_view placement)) }
@@ -64,6 +59,5 @@ pub fn place(
     if let Some(name) = first_misplaced(ranges, modules, placements.as_slice()) {
         return Err(Failure::Fault(Fault::ObjectMisplaced { name }));
     }
-    let placement = Placement::new(alloc, joined, placements, ranges.code, ranges.stack)?;
-    Ok(placement)
+    Ok(Placement::new(placements, ranges.code, ranges.stack))
 }

@@ -4,12 +4,10 @@ use Rattle.typed_trees.specs.TypedTrees.{TypedModule}
 use Rattle.typed_trees.specs.Views.{module_view}
 use Rattle.layout.specs.Joined.{IsJoined, join_refusal}
 use Rattle.layout.specs.Lawful.{IsLawful}
-use Rattle.layout.specs.Placement.{pieces_of}
 use Rattle.layout.specs.Placing.{placement_by, placing_refusal}
 use Rattle.join.specs.declared.joined.Joined.{Joined}
 use Rattle.join.specs.Views as of_joining
 use Rattle.mem80.specs.declared.plan.Plan.{Plan}
-use Rattle.placing.specs.Tables.{IsTableOf}
 use Rattle.placing.specs.Views as of_placement
 use Rattle.sources.specs.Reading.{IsSourceOf}
 use Rattle.sources.specs.declared.fault.ProgramFault.{ProgramFault}
@@ -41,7 +39,7 @@ abbrev pub program_modules : Joined → List TypedModule
 program_modules program = map module_view (of_joining.modules_of program)
 
 -- A program of these modules, with these lengths of code segments, lies as planned: the modules make a program, the plan
--- is not refused, the placement is lawful, and its table is of the bytes of the program.
+-- is not refused, and the placement is lawful.
 pub record IsPlacedBy (modules : List TypedModule) (lengths : List ℕ) (plan : Plan) (placed : Placed) : Type 0 where
   pub program : program_modules placed.program ≡ modules
   pub joined : IsJoined modules
@@ -49,8 +47,6 @@ pub record IsPlacedBy (modules : List TypedModule) (lengths : List ℕ) (plan : 
   pub as_planned : of_placement.placement_view placed.placement
       ≡ placement_by (of_placement.plan_view plan) modules lengths
   pub lawful : IsLawful modules (of_placement.placement_view placed.placement)
-  pub table : IsTableOf (pieces_of modules (of_placement.placement_view placed.placement))
-      placed.placement.kinds.value
 
 -- modules do not make a program, or one that can't lie as planned with code segments of these lengths
 abbrev pub HasProgramCause : ProgramFault → List TypedModule → (lengths : List ℕ) → Plan → Type 0

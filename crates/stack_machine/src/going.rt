@@ -1,7 +1,7 @@
 //! Instructions one after another.
 
 ghost use Rattle.std.specs.Prelude.{◌≡◌, IfErr, IfOk, OnErr, OnOk, map};
-ghost use Rattle.declared.specs.Access.{HasTable, modules_in};
+ghost use Rattle.declared.specs.Access.{AreKindsOf, modules_in};
 ghost use Rattle.declared.specs.Frames.{module_frames};
 ghost use Rattle.stack_code.specs.Machine.{steps};
 ghost use Rattle.stack_code.specs.Program.{AreTablesOf};
@@ -21,7 +21,7 @@ impl<'a> StackMachine<'a> {
         loaded: Loaded<'a>,
         ports: &mut P,
     ) -> Result<SourceEnd, RunFault>
-        requires table { HasTable loaded.joined.now loaded.placement.now }
+        requires kinds { AreKindsOf loaded.joined.now loaded.placement.now loaded.kinds.now }
         requires slots { loaded.slots.now ≡ map module_frames (modules_in loaded.joined.now) }
         requires tables { AreTablesOf (modules_in loaded.joined.now) loaded.code.now loaded.tables.now }
         ensures ended { IfOk result (λ end. Stops (λ count. steps loaded.entry.code.now count

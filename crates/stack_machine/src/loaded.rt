@@ -4,11 +4,12 @@ use declared::{FrameSlots, read_scalar, write_scalar};
 use join::Joined;
 use meaning::Reason;
 use mem80::Memory;
-use placing::Placement;
+use placing::{ByteKinds, Placement};
 use stack_code::{Instruction, ModuleTable};
 use trees::ScalarType;
 
-/// What a run reads and never changes: the program, where it lies, the slots of its frames, and its code with the tables.
+/// What a run reads and never changes: the program, where it lies, the slots of its frames, its code with the tables, and what
+/// each byte of memory is to it.
 #[derive(Clone, Copy)]
 pub struct Loaded<'a> {
     pub joined: &'a Joined,
@@ -16,22 +17,30 @@ pub struct Loaded<'a> {
     pub slots: &'a [FrameSlots],
     pub code: &'a [Instruction],
     pub tables: &'a [ModuleTable],
+    pub kinds: &'a ByteKinds,
 }
 
 impl Loaded<'_> {
     ghost use Rattle.std.specs.Prelude.{◌≡◌};
     ghost use Rattle.placing.specs.Views.{placement_view};
-    ghost use Rattle.declared.specs.Access.{HasTable, modules_in, scalar_read, scalar_written};
+    ghost use Rattle.declared.specs.Access.{AreKindsOf, modules_in, scalar_read, scalar_written};
 
     /// Reads the scalar at an address of the memory.
     #[inline(always)]
     pub fn read(&self, memory: &Memory, scalar: ScalarType, address: u16) -> Result<u16, Reason>
-        requires { HasTable (self.now).joined.now (self.now).placement.now }
+        requires { AreKindsOf (self.now).joined.now (self.now).placement.now (self.now).kinds.now }
         ensures { result
             ≡ scalar_read (modules_in (self.now).joined.now) (placement_view (self.now).placement.now)
             memory.now scalar address }
     {
-        read_scalar(self.joined, self.placement, memory, scalar, address)
+        read_scalar(
+            self.joined,
+            self.placement,
+            self.kinds,
+            memory,
+            scalar,
+            address,
+        )
     }
 
     /// Writes a number to an address of the memory.
@@ -43,7 +52,7 @@ impl Loaded<'_> {
         address: u16,
         number: u16,
     ) -> Result<(), Reason>
-        requires { HasTable (self.now).joined.now (self.now).placement.now }
+        requires { AreKindsOf (self.now).joined.now (self.now).placement.now (self.now).kinds.now }
         ensures answer { result
             ≡ (scalar_written (modules_in (self.now).joined.now) (placement_view (self.now).placement.now)
             memory.old scalar address number).answer }
@@ -51,6 +60,14 @@ impl Loaded<'_> {
             ≡ (scalar_written (modules_in (self.now).joined.now) (placement_view (self.now).placement.now)
             memory.old scalar address number).memory }
     {
-        write_scalar(self.joined, self.placement, memory, scalar, address, number)
+        write_scalar(
+            self.joined,
+            self.placement,
+            self.kinds,
+            memory,
+            scalar,
+            address,
+            number,
+        )
     }
 }

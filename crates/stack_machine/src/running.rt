@@ -3,7 +3,7 @@
 ghost use Rattle.std.specs.Prelude.{◌≡◌, IfErr, IfOk, OnErr, OnOk};
 ghost use Rattle.typed_trees.specs.Views.{module_view};
 ghost use Rattle.placing.specs.Views.{placement_view};
-ghost use Rattle.declared.specs.Access.{HasTable, modules_in};
+ghost use Rattle.declared.specs.Access.{AreKindsOf, modules_in};
 ghost use Rattle.stack_code.specs.Program.{AreTablesOf};
 ghost use Rattle.stack_code.specs.Run.{stack_run, start_surroundings};
 ghost use Rattle.stack_machine.specs.Runs.{FaultCounts, Reaches, Stops, state_at_start, stop_of};
@@ -18,20 +18,22 @@ use declared::Frames;
 use join::Joined;
 use meaning::Reason;
 use mem80::Memory;
-use placing::Placement;
+use placing::{ByteKinds, Placement};
 use ports::Ports;
 use stack_code::StackProgram;
 use std::alloc::Global;
 use typed_trees::{Typed, charge_of};
 
 /// Runs a program from its main module on, which has this number: from a memory, with room on the stack and a budget
-/// of turns of loops, jumps and calls. The charge of the main module is taken first.
+/// of turns of loops, jumps and calls. The charge of the main module is taken first. `kinds` tells each byte of memory apart at
+/// the placement.
 #[tactic(auto, using(crate::proofs::Starts::refused, crate::proofs::Starts::given_up, crate::proofs::Starts::runs_on, crate::proofs::Starts::stays))]
 pub fn run<'a, P: Ports>(
     alloc: Global,
     program: &'a StackProgram,
     joined: &'a Joined,
     placement: &'a Placement,
+    kinds: &'a ByteKinds,
     main: &Typed,
     number_of_main: usize,
     room: u16,
@@ -39,7 +41,7 @@ pub fn run<'a, P: Ports>(
     budget: u64,
     ports: &mut P,
 ) -> Result<SourceEnd, RunFault>
-    requires table { HasTable joined.now placement.now }
+    requires kinds { AreKindsOf joined.now placement.now kinds.now }
     requires tables { AreTablesOf
         (modules_in joined.now)
         (program.now).instructions.items
@@ -79,6 +81,7 @@ pub fn run<'a, P: Ports>(
     let loaded = Loaded {
         joined,
         placement,
+        kinds,
         slots: slots.as_slice(),
         code: program.instructions.as_slice(),
         tables: program.modules.as_slice(),

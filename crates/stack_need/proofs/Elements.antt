@@ -1,5 +1,6 @@
 -- Elements of lists.
 use Rattle.stack_need.proofs.Prelude.{◌≡◌, ℕ, suc, List, [], ◌∷◌, ◌++◌, Option, Some, None, Contains, arith, refl, sym, subst, ◌∙◌, AllByRecursion, cons_option, filter_map}
+use Rattle.call_graphs.proofs.Elements.{at_head, in_tail}
 
 -- what holds of all of two lists
 module _ {A : Type 0} (P : A → Type 0) where
@@ -10,12 +11,6 @@ module _ {A : Type 0} (P : A → Type 0) where
   pub all_right : (left right : List A) → AllByRecursion P (left ++ right) → AllByRecursion P right
   all_right [] right all = all
   all_right (item ∷ others) right all = all_right others right all.1
-
-pub at_head : {A : Type 0} (item : A) (others : List A) → Contains (item ∷ others) item
-at_head item others = (0, omega arith, refl)
-
-pub in_tail : {A : Type 0} (item : A) (others : List A) (one : A) → Contains others one → Contains (item ∷ others) one
-in_tail item others one found = (suc found.0, omega (arith, found.1), found.2)
 
 -- the elements of what is made of a list
 module _ (make : ℕ → Option ℕ) where

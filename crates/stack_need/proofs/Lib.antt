@@ -2,12 +2,6 @@ mod Prelude
 mod Elements
 mod Graph
 mod Bodies
-mod Needs
-mod Reversed
-mod Marks
-mod Searching
-mod Turns
-mod AllBodies
 mod Within
 mod WithinStatements
 mod WithinRuns

@@ -1,7 +1,7 @@
 -- What the search answers is the need of the program.
 use Rattle.stack_need.proofs.Prelude.{◌≡◌, ℕ, List, [], ◌∷◌, map, Option, Some, None, Contains, sym, subst, ◌∙◌, TypedModule, Body, HasCycle, IsChain, call_graph, end_of_chain, capped, Answers}
 use Rattle.stack_need.specs.StackNeed.{TellsNeed}
-use Rattle.stack_need.proofs.Needs.{attained, chains_within, from_stopped, same_callees}
+use Rattle.call_graphs.proofs.Needs.{attained, chains_within, from_stopped, same_callees}
 use Rattle.stack_need.proofs.WithinRuns.{is_enough}
 
 -- charges that stop change no chain

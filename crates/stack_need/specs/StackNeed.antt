@@ -6,7 +6,8 @@ use Rattle.layout.specs.Placement.{Placement}
 use Rattle.meaning.specs.declared.reason.Reason.TheVariants.{Stack}
 use Rattle.meaning.specs.Outcomes.{Outside}
 use Rattle.meaning.specs.Run.{source_run}
-use Rattle.stack_need.specs.CallGraph.{HasCycle, IsChain, call_graph, charges_of_chain}
+use Rattle.call_graphs.specs.Chains.{HasCycle, IsChain, charges_of_chain}
+use Rattle.stack_need.specs.CallGraph.{call_graph}
 
 -- no run with this room or more goes outside for the stack, wherever the program lies
 abbrev pub IsEnough : List TypedModule → (need : ℕ) → Type 0

@@ -6,11 +6,11 @@ ghost use Rattle.layout.specs.Joined.{is_main};
 ghost use Rattle.resolving.specs.Views.{program_view, site_view};
 ghost use Rattle.stack_need.specs.CallGraph.{bodies_from, body_of as body_of_procedure, call_graph as graph_of, first_numbers, main_body as body_of_main};
 ghost use Rattle.stack_need.specs.internal.Graph.{callee_at, main_from, modules_at};
-ghost use Rattle.stack_need.specs.internal.Needs.{capped};
-ghost use Rattle.stack_need.specs.internal.Search.{body_view};
+ghost use Rattle.call_graphs.specs.Needs.{capped};
+ghost use Rattle.call_graphs.specs.Views.{body_view};
 
-use crate::body::Body;
 use crate::calls::calls_in;
+use call_graphs::Body;
 use resolving::{Found, Program, Site};
 use std::alloc::{AllocError, Global};
 use typed_trees::{Typed, TypedProcedure, charge_of};

@@ -7,7 +7,7 @@ ghost use Rattle.resolving.specs.Views.{program_view};
 ghost use Rattle.stack_need.specs.StackNeed.{TellsNeed};
 
 use crate::call_graph::call_graph;
-use crate::search::need_in;
+use call_graphs::need_in;
 use join::Joined;
 use mem80::Range;
 use placing::Placement;
@@ -33,7 +33,7 @@ pub fn need(alloc: Global, joined: &Joined) -> Result<Option<u32>, AllocError>
     ensures { IfOk result (TellsNeed (map module_view (modules_of joined.now))) }
 {
     // The meaning of a call does not depend on where the program lies.
-    let placement = Placement::new(alloc, joined, Vec::new(alloc), NOWHERE, NOWHERE)?;
+    let placement = Placement::new(Vec::new(alloc), NOWHERE, NOWHERE);
     let program = Program::new(alloc, joined, &placement)?;
     let need = need_at(alloc, &program)?;
     Ok(need)

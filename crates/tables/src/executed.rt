@@ -63,7 +63,7 @@ fn print_executed_with(page: &mut Page, built: &Built, table: DecodeTable) {
 }
 
 // The program with its variable at an address, its code from 0100H to 011FH, and its stack from F000H to F3FFH.
-fn placed_at(alloc: Global, built: &Built, address: u16) -> Result<Placement, AllocError> {
+fn placed_at(alloc: Global, address: u16) -> Result<Placement, AllocError> {
     let module = ModulePlacement {
         objects: vec![in alloc; address]?,
         lists: Vec::new(alloc),
@@ -76,12 +76,13 @@ fn placed_at(alloc: Global, built: &Built, address: u16) -> Result<Placement, Al
         start: 0xF000,
         len: 1024,
     };
-    Placement::new(alloc, built.program(), vec![in alloc; module]?, code, stack)
+    let modules = vec![in alloc; module]?;
+    Ok(Placement::new(modules, code, stack))
 }
 
 // Whether the program may run with its variable at an address.
 fn print_lawful(page: &mut Page, built: &Built, address: u16) {
-    match placed_at(page.alloc(), built, address) {
+    match placed_at(page.alloc(), address) {
         Ok(placement) => {
             page.word("a variable at ", address);
             let is_lawful = lawful(built.program(), &placement);

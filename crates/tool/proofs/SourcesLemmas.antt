@@ -181,7 +181,6 @@ is_construction plan modules lengths placed objects image is its made linked giv
       may_lie = rw (is.program, sym its) is.may_lie;
       lawful = rw is.program is.lawful;
       as_planned = rw is.program as_planned;
-      table = rw is.program is.table;
     }
 
 -- a text without a fault is not too long

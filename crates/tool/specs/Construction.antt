@@ -10,12 +10,10 @@ use Rattle.typed_trees.specs.WellTyped.{IsWellTyped}
 use Rattle.typed_trees.specs.Numbers.{NumbersFitInModule}
 use Rattle.layout.specs.Joined.{IsJoined}
 use Rattle.layout.specs.Lawful.{IsLawful}
-use Rattle.layout.specs.Placement.{Placement, pieces_of}
+use Rattle.layout.specs.Placement.{Placement}
 use Rattle.layout.specs.Placing.{placement_by, placing_refusal}
 use Rattle.join.specs.declared.joined.Joined.{Joined}
-use Rattle.placing.specs.declared.placement.ByteKind.{ByteKind}
 use Rattle.mem80.specs.declared.plan.Plan.{Plan}
-use Rattle.placing.specs.Tables.{IsTableOf}
 use Rattle.placing.specs.Views.{plan_view}
 use Rattle.object_modules.specs.Module.{ObjectModule}
 use Rattle.locate.specs.Locating.{Absolute}
@@ -26,13 +24,11 @@ use Rattle.sources.specs.Programs.{program_modules}
 use Rattle.tool.specs.Headline.{DoesWhatItSays}
 use Rattle.tool.specs.Made.{IsImageOfFiles, IsImageOfObjects, StartsAsItsSource, code_lengths}
 
--- the joined program, the plan, the placement with what each byte of memory is by its table, the object modules of
--- the modules, and the image
+-- the joined program, the plan, the placement, the object modules of the modules, and the image
 pub record Construction : Type 0 where
   pub program : Joined
   pub plan : Plan
   pub placement : Placement
-  pub kinds : List ByteKind
   pub objects : List ObjectModule
   pub image : Absolute
 
@@ -45,8 +41,8 @@ IsTyped typed = IsWellTyped typed × NumbersFitInModule typed × ListsGlobals ty
 -- begins as the program has it; it is the merge of the object modules, placed by the plan, and their files, linked
 -- and placed by hand, give it too. The modules make a program, which is well typed, whose jumps go to labels that
 -- are known, and whose storage fits; there is an object module made of each, within its code bound, which keeps
--- what `generate` promises: so it does what its module says. The plan is not refused for their code segments, the
--- program lies lawfully where it puts it, and the table is of its bytes there.
+-- what `generate` promises: so it does what its module says. The plan is not refused for their code segments, and the
+-- program lies lawfully where it puts it.
 pub record IsConstruction (built : Construction) : Type 0 where
   pub headline : DoesWhatItSays (program_modules built.program) built.placement built.plan.stack_size built.image
   pub starts : StartsAsItsSource (program_modules built.program) built.placement built.image
@@ -65,4 +61,3 @@ pub record IsConstruction (built : Construction) : Type 0 where
   pub lawful : IsLawful (program_modules built.program) built.placement
   pub as_planned : built.placement
       ≡ placement_by (plan_view built.plan) (program_modules built.program) (code_lengths built.objects)
-  pub table : IsTableOf (pieces_of (program_modules built.program) built.placement) built.kinds

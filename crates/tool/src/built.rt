@@ -80,7 +80,6 @@ impl Built {
     /// Where its modules, its code and its stack lie.
     pub fn placement(&self) -> &Placement
         ensures shown { placement_view result.now ≡ self.now.placement }
-        ensures kinds { result.now.kinds.value ≡ self.now.kinds }
         ensures construction { IsConstruction self.now }
     {
         &self.placement

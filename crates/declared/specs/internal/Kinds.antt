@@ -1,7 +1,7 @@
 -- What the kind of a byte says.
 use Rattle.std.specs.Prelude.{Bool, true, false}
-use Rattle.placing.specs.declared.placement.ByteKind.{ByteKind}
-use Rattle.placing.specs.declared.placement.ByteKind.TheVariants.{Undeclared, Writable, Constant}
+use Rattle.placing.specs.declared.table.ByteKind.{ByteKind}
+use Rattle.placing.specs.declared.table.ByteKind.TheVariants.{Undeclared, Writable, Constant}
 
 -- whether something that is declared has the byte, and whether a constant has it
 abbrev pub says_declared : ByteKind → Bool

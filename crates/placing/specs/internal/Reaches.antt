@@ -3,8 +3,8 @@ use Rattle.std.specs.Prelude.{ℕ, ◌+◌, min, max, Bool, true, false, List, f
 use Rattle.mem80.specs.declared.memory.TheConstants.{MEMORY_SIZE}
 use Rattle.mem80.specs.declared.range.Range.{Range}
 use Rattle.layout.specs.Placement.{PlacedPiece, is_constant_piece}
-use Rattle.placing.specs.declared.placement.ByteKind.{ByteKind}
-use Rattle.placing.specs.declared.placement.ByteKind.TheVariants.{Undeclared, Writable, Constant}
+use Rattle.placing.specs.declared.table.ByteKind.{ByteKind}
+use Rattle.placing.specs.declared.table.ByteKind.TheVariants.{Undeclared, Writable, Constant}
 
 -- for each address the greatest end of the pieces that start there, 0 if none starts: of all pieces, and
 -- of the constants

@@ -4,7 +4,8 @@ use Rattle.typed_trees.specs.TypedTrees.{TypedModule}
 use Rattle.layout.specs.Joined.{InProgram, is_main}
 use Rattle.meaning.specs.Access.{Surroundings}
 use Rattle.meaning.specs.Meaning.{callee_in}
-use Rattle.stack_need.specs.CallGraph.{Body, body_of}
+use Rattle.call_graphs.specs.Chains.{Body}
+use Rattle.stack_need.specs.CallGraph.{body_of}
 
 abbrev pub modules_at : Surroundings → List TypedModule
 modules_at around = around.program.modules

@@ -8,7 +8,8 @@ use Rattle.meaning.specs.Outcomes.{State, Stop, Ended, More, Outside, Outcome, G
 use Rattle.meaning.specs.Access.{Surroundings}
 use Rattle.meaning.specs.Meaning.{Later, Turn, WhileTurn, IterateTurn, callee_in}
 use Rattle.stack_need.specs.Calls.{calls_in, calls_in_iteration, calls_in_list, calls_in_statements}
-use Rattle.stack_need.specs.CallGraph.{IsChain, call_graph, charges_of_chain, number_of_body}
+use Rattle.call_graphs.specs.Chains.{IsChain, charges_of_chain}
+use Rattle.stack_need.specs.CallGraph.{call_graph, number_of_body}
 
 -- a run does not go outside for the stack
 abbrev pub IsNotStack : Stop → Type 0

@@ -13,7 +13,6 @@ construction_of b = record {
   program = b.program;
   plan = b.plan;
   placement = placement_view b.placement;
-  kinds = b.placement.kinds.value;
   objects = b.objects.items;
   image = b.image;
 }
@@ -27,7 +26,6 @@ construction_with placed plan objects image = record {
   program = placed.program;
   plan = plan;
   placement = placement_view placed.placement;
-  kinds = placed.placement.kinds.value;
   objects = objects;
   image = image;
 }

@@ -13,6 +13,11 @@ returns-in_default-compile-clause-beginning g c =
     started (modules_in c.args.joined.now) (placement_view c.args.placement.now) c.args.room c.args.memory
     (g.P.Ports.script c.args.ports.now) (g.P.Ports.events c.args.ports.now) c.args.budget
 
+pub returns-in_default-new-clause-beginning : goal.returns-in_default-new-clause-beginning
+returns-in_default-new-clause-beginning g c =
+    started (modules_in c.args.joined.now) (placement_view c.args.placement.now) c.args.room c.args.memory
+    (g.P.Ports.script c.args.ports.now) (g.P.Ports.events c.args.ports.now) c.args.budget
+
 pub run-requires-clause-tables : goal.run-requires-clause-tables
 run-requires-clause-tables g c =
     let found : found_from 0 (modules_in c.args.joined.now) ≡ Some (c.in-Some.found.number, module_view c.in-Some.found.typed.now) =
@@ -44,6 +49,9 @@ returns-in_default-clause-kept g c = begins_itself (g.P.Ports.events c.args.port
 
 pub returns-in_default-compile-clause-kept : goal.returns-in_default-compile-clause-kept
 returns-in_default-compile-clause-kept g c = begins_itself (g.P.Ports.events c.args.ports.now)
+
+pub returns-in_default-new-clause-kept : goal.returns-in_default-new-clause-kept
+returns-in_default-new-clause-kept g c = begins_itself (g.P.Ports.events c.args.ports.now)
 
 pub returns-in-None-clause-kept : goal.returns-in-None-clause-kept
 returns-in-None-clause-kept g c = begins_itself (g.P.Ports.events c.args.ports.now)

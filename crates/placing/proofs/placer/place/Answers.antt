@@ -33,7 +33,7 @@ returns-clause-ok c =
 
 pub returns-clause-placed : goal.returns-clause-placed
 returns-clause-placed c =
-    c.in_ok-placement.ensures.placed
+    c.new.ensures
     ∙ placed_is (modules_of c.args.joined.now) c.modules-modules.result.now c.args.layouts.now
     c.args.code_lengths.now c.args.plan.now c.ranges_by-ranges.result c.requires.storage c.modules-modules.ensures
     c.ranges_by-ranges.ensures.code c.ranges_by-ranges.ensures.variables c.ranges_by-ranges.ensures.stack
@@ -43,4 +43,4 @@ returns-clause-placed c =
 pub returns-clause-lawful : goal.returns-clause-lawful
 returns-clause-lawful c =
     lawful_placement c.args.plan.now (modules_of c.args.joined.now) c.args.code_lengths.now
-    (placement_view c.in_ok-placement.placement) c.requires.lengths (returns-clause-ok c) (returns-clause-placed c)
+    (placement_view c.new.result) c.requires.lengths (returns-clause-ok c) (returns-clause-placed c)

@@ -1,9 +1,5 @@
-use Rattle.commands.proofs.{Interpreted.{has_table}, Printed.{ends_so, fails_so, same_source}}
+use Rattle.commands.proofs.Printed.{ends_so, fails_so, same_source}
 use Rattle.commands.proofs.programs.interpreting.interpret_built.Goals as goal
-
-pub interpret-requires-clause-table : goal.interpret-requires-clause-table
-interpret-requires-clause-table c =
-    has_table c.args.built.now c.program.result.now c.placement.result.now c.placement.ensures.construction c.program.ensures.shown c.placement.ensures.shown c.placement.ensures.kinds
 
 pub returns-in-Ok : goal.returns-in-Ok
 returns-in-Ok c =

@@ -1,0 +1,4 @@
+pub mod Chains
+pub mod Needs
+pub mod Views
+pub mod internal

@@ -1,0 +1,3 @@
+pub mod Path
+pub mod Search
+pub mod Searching

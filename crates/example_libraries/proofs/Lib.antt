@@ -1,0 +1,3 @@
+mod Prelude
+pub mod FilesRead
+pub mod DevicesLemmas

@@ -1,2 +1,0 @@
-pub mod Counter
-pub mod internal

@@ -1,2 +1,0 @@
-mod Prelude
-pub mod FilesRead
