@@ -124,14 +124,15 @@ execute_app name =
 abbrev pub explain_app : Text → App
 explain_app name = with_rule (new_app name) (file_rule (codes "NUMBER"))
 
--- the command `name [--listing] [--cards] [--folder DIR]... [--set NAME]... FILE`
+-- the command `name [--listing] [--cards] [--folder DIR]... [--set NAME]... [--lines TABLE] FILE`
 abbrev pub convert_app : Text → App
 convert_app name =
-    with_rule (with_rule (with_rule (with_rule (with_rule (new_app name)
+    with_rule (with_rule (with_rule (with_rule (with_rule (with_rule (new_app name)
     (flag_rule (codes "listing")))
     (flag_rule (codes "cards")))
     (many_rule (codes "folder")))
     (many_rule (codes "set")))
+    (option_rule (codes "lines")))
     (file_rule (codes "FILE"))
 
 -- the program, which has to have a command, and which knows its version
@@ -217,14 +218,15 @@ pub record NeedWanted : Type 0 where
 pub record ExplainWanted : Type 0 where
   pub number : Text
 
--- the source that is converted; whether it is a listing, and on cards; the folders of the files that it includes; and the
--- switches that are set
+-- the source that is converted; whether it is a listing, and on cards; the folders of the files that it includes; the
+-- switches that are set; and the file to which the table of lines goes, where one is wanted
 pub record ConvertWanted : Type 0 where
   pub file : Text
   pub listing : Bool
   pub cards : Bool
   pub folders : List Text
   pub sets : List Text
+  pub lines : Option Text
 
 -- what the words want, as texts
 pub data Wanted : Type 0 where
@@ -327,6 +329,7 @@ convert_of rows = record {
   cards = is_set (codes "cards") rows;
   folders = texts_of (codes "folder") rows;
   sets = texts_of (codes "set") rows;
+  lines = first_of (codes "lines") rows;
 }
 
 -- what `locate` wants: the places of an object or, with its flag, the need of sources
@@ -414,6 +417,7 @@ convert_in order = record {
   cards = order.cards;
   folders = texts order.folders.items;
   sets = texts order.sets.items;
+  lines = option_map (λ text. text.now) order.lines;
 }
 
 abbrev pub wanted_in : Order → Wanted
@@ -646,7 +650,7 @@ medium_words listing cards =
 -- what `convert` wants with this file and these flags, where no other option is given
 abbrev pub usual_convert : Text → (listing cards : Bool) → ConvertWanted
 usual_convert file listing cards =
-    record { file = file; listing = listing; cards = cards; folders = []; sets = [] }
+    record { file = file; listing = listing; cards = cards; folders = []; sets = []; lines = None }
 
 -- `convert` with a bare word, after these flags or none, wants that file converted
 abbrev pub OrdersConvert : List Text → Result Order (Failure LineFault) → Type 0

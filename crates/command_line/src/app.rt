@@ -383,7 +383,14 @@ fn convert<'a>(alloc: Global) -> Built<'a>
     let with_cards = add(with_listing, cards);
     let with_folder = add(with_cards, folder);
     let with_set = add(with_folder, set);
-    add(with_set, file(alloc, "FILE", "The source to convert"))
+    let lines = option(
+        alloc,
+        "lines",
+        "TABLE",
+        "A file to write, which tells where each line comes from",
+    );
+    let with_lines = add(with_set, lines);
+    add(with_lines, file(alloc, "FILE", "The source to convert"))
 }
 
 // The program `plm`, which has to have a command.

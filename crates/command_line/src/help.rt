@@ -525,12 +525,16 @@ The file of an INCLUDE is put in, but not into a listing: it is looked for in ea
 FILE, as written, in capital and in small letters. Lines of an IF that do not apply become empty;
 switches are set by --set and by SET.
 
+With --lines it also writes TABLE, which tells of each line that is printed, in order, the file and
+the line from which it comes:
+  NAME LINE
+
 What has no cure is left, and told on standard error, a line each:
   FILE LINE: what, and what to write
 
 Exit status:
   0  it was printed with nothing told, or help was asked for
-  1  something was told, or the source was refused, or standard output can't be written
+  1  something was told, or the source was refused, or TABLE or standard output can't be written
   2  the command line is wrong
 
 Example: convert a source of the time, and run what comes out

@@ -139,6 +139,8 @@ pub struct ConvertOrder<'a> {
     pub folders: Vec<&'a str>,
     /// The switches that are set.
     pub sets: Vec<&'a str>,
+    /// The file to which the table of lines goes, where that was said.
+    pub lines: Option<&'a str>,
 }
 
 /// What the command line asks for.

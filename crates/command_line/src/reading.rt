@@ -232,6 +232,7 @@ fn convert<'a>(alloc: Global, matches: &ArgMatches<'a>) -> Result<Option<Order<'
         cards: flag(matches, "cards"),
         folders,
         sets,
+        lines: first(matches, "lines"),
     })))
 }
 

@@ -1,4 +1,5 @@
 mod Prelude
+pub mod Tables
 pub mod OrdersKept
 pub mod NeedTold
 pub mod TextsTold

@@ -13,6 +13,7 @@ pub mod Explaining
 pub mod Needing
 pub mod Orders
 pub mod Including
+pub mod Tables
 pub mod Converting
 pub mod internal
 pub use Rattle.commands.specs.NeedFaults as NeedFaults

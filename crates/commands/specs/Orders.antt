@@ -23,10 +23,11 @@ use Rattle.commands.specs.RefusedRuns.{RefusesRun}
 use Rattle.commands.specs.Refusing.{RefusesCompiling, RefusesFor, RefusesProgram, RunsOut}
 use Rattle.commands.specs.Running.{PrintsProgram}
 use Rattle.commands.specs.Needing.{PrintsNeedOf, RefusesNeedOf}
+use Rattle.commands.specs.Tables.{KeepsAllBut}
 use Rattle.mem80.specs.declared.plan.Plan.{Plan}
 
--- an order to compile or to link changes no file but the one that it names, and one to run or to interpret none but
--- those of ports that it names; others change none
+-- an order to compile or to link changes no file but the one that it names, one to run or to interpret none but those of
+-- ports that it names, and one to convert none but that of the table that it names, if it does; others change none
 abbrev pub ChangesAsWanted : Wanted → Option Directory → Option Directory → Type 0
 ChangesAsWanted (wants_compile compile) old new = KeepsOthers old new compile.object
 ChangesAsWanted (wants_link link) old new = KeepsOthers old new link.out
@@ -35,10 +36,10 @@ ChangesAsWanted (wants_place place) old new = KeepsFiles old new
 ChangesAsWanted (wants_need need) old new = KeepsFiles old new
 ChangesAsWanted (wants_execute execute) old new = ChangesOutputs (outputs_in execute.output_files) old new
 ChangesAsWanted (wants_explain explain) old new = KeepsFiles old new
-ChangesAsWanted (wants_convert convert) old new = KeepsFiles old new
+ChangesAsWanted (wants_convert convert) old new = KeepsAllBut convert.lines old new
 
 -- the objects that an order to link names are merged in its file, and the source of an order to compile is
--- compiled to its object
+-- compiled to its object; of the table of an order to convert Converting says all
 abbrev pub WritesAsWanted : Wanted → Option Directory → Option Directory → Type 0
 WritesAsWanted (wants_compile compile) old new = CompilesFile old new compile.source compile.object
 WritesAsWanted (wants_link link) old new = LinksFiles old new link.objects link.out
@@ -50,7 +51,8 @@ WritesAsWanted (wants_explain explain) old new = Unit {0}
 WritesAsWanted (wants_convert convert) old new = Unit {0}
 
 -- where an order ends with another status than 0, no file changes, but that of an order to compile or to link may have
--- a beginning of its object, and those of ports may change, of which more is said below
+-- a beginning of its object, and those of ports may change, of which more is said below; and so may that of a table, of
+-- which Converting says all
 abbrev pub StopsAsWanted : Wanted → Option Directory → Option Directory → Type 0
 StopsAsWanted (wants_compile compile) old new = StopsCompiling old new compile.source compile.object
 StopsAsWanted (wants_link link) old new = StopsLinking old new link.objects link.out
@@ -59,7 +61,7 @@ StopsAsWanted (wants_place place) old new = KeepsFiles old new
 StopsAsWanted (wants_need need) old new = KeepsFiles old new
 StopsAsWanted (wants_execute execute) old new = ChangesOutputs (outputs_in execute.output_files) old new
 StopsAsWanted (wants_explain explain) old new = KeepsFiles old new
-StopsAsWanted (wants_convert convert) old new = KeepsFiles old new
+StopsAsWanted (wants_convert convert) old new = KeepsAllBut convert.lines old new
 
 -- what a command on an object file prints of the file of this name, placed by this plan, where a jump may be wanted
 abbrev pub PrintsPlaced :

@@ -31,7 +31,8 @@ use std::io::Write;
 /// Carries out the words of a command line, the first of which is the program's name, and answers the exit status. What it
 /// prints goes to `out`, and faults go to `err`, which has nothing more where the status is neither 1 nor 2; a failure of
 /// `err` changes no status. It changes no file but that of `link --out`, which has the merge of the objects where the status
-/// is 0, and that of `compile`, which has an object module then; both may have a beginning of it otherwise. None changes
+/// is 0, that of `compile`, which has an object module then, and that of `convert --lines`, which has the table of the text
+/// that is printed; each may have a beginning of it otherwise. None changes
 /// where the words have a fault or ask for help or the version. Sources that are run or interpreted, where the status is
 /// neither 1 nor 2, have had printed what the machine does with their image, or what they mean, and the status tells how
 /// that ended; any other command ends with status 0 then, and `compile` and `link` print nothing. A file that can't be read
@@ -75,7 +76,8 @@ pub fn run_command<F: Files, O: Write, E: Write>(
         (TellsRefusal (F.files files.old) (names_by_words (wanted_by (texts words.now)))
         (F.failures files.old) (F.failures files.new) (E.contents err.old) (E.contents err.new)) }
     ensures converted { fault_of plm_app (texts words.now) ≡ [] → ConvertsByWords
-        (wanted_by (texts words.now)) (F.files files.old) result (F.failures files.old) (F.failures files.new)
+        (wanted_by (texts words.now)) (F.files files.old) (F.files files.new) result
+        (F.failures files.old) (F.failures files.new)
         (E.contents err.old) (E.contents err.new) (O.contents out.old) (O.contents out.new) }
     ensures refused { fault_of plm_app (texts words.now) ≡ [] → result ≡ 1 → RefusesByWords
         (wanted_by (texts words.now)) (F.files files.old) (F.files files.new)
@@ -125,7 +127,7 @@ fn end_words<F: Files, O: Write, E: Write>(
         (TellsRefusal (F.files files.old) (names_by_words (wanted_by (texts words.now)))
         (F.failures files.old) (F.failures files.new) (E.contents err.old) (E.contents err.new)) }
     ensures converted { fault_of plm_app (texts words.now) ≡ [] → ConvertsByWords
-        (wanted_by (texts words.now)) (F.files files.old) (status_of result)
+        (wanted_by (texts words.now)) (F.files files.old) (F.files files.new) (status_of result)
         (F.failures files.old) (F.failures files.new)
         (E.contents err.old) (E.contents err.new) (O.contents out.old) (O.contents out.new) }
     ensures refused { fault_of plm_app (texts words.now) ≡ [] → result ≡ Ending.Refused → RefusesByWords
@@ -194,7 +196,7 @@ fn carry_out<F: Files, O: Write, E: Write>(
         (TellsRefusal (F.files files.old) (names_of (wanted_in order.now))
         (F.failures files.old) (F.failures files.new) (E.contents err.old) (E.contents err.new)) }
     ensures converted { ConvertsAsWanted (wanted_in order.now) (F.files files.old)
-        (status_of result) (F.failures files.old) (F.failures files.new)
+        (F.files files.new) (status_of result) (F.failures files.old) (F.failures files.new)
         (E.contents err.old) (E.contents err.new) (O.contents out.old) (O.contents out.new) }
     ensures refused { result ≡ Ending.Refused → RefusesAsWanted (wanted_in order.now)
         (F.files files.old) (F.files files.new) (F.failures files.old) (F.failures files.new)

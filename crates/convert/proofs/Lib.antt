@@ -1,3 +1,4 @@
 pub mod Short
 pub mod Taken
 pub mod Deeper
+pub mod LinesOfPlaces

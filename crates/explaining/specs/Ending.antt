@@ -30,7 +30,7 @@ pub record Ends
   pub told : status ≡ 1 → TellsByWords (wanted_by words) (TellsOutput before after err_old err_new)
       (TellsRefusal files (names_by_words (wanted_by words)) before after err_old err_new)
   pub converted : fault_of plm_app words ≡ [] → ConvertsByWords
-      (wanted_by words) files status before after err_old err_new out_old out_new
+      (wanted_by words) files new status before after err_old err_new out_old out_new
   pub refused : fault_of plm_app words ≡ [] → status ≡ 1 → RefusesByWords
       (wanted_by words) files new before after err_old err_new out_old out_new
   pub silent : fault_of plm_app words ≡ [] → status ≡ 2 → out_new ≡ out_old
