@@ -16,10 +16,9 @@ use Rattle.commands.specs.Tables.{BeginsTable, WritesTable}
 use Rattle.commands.specs.internal.Converting.{IsOfForm, PrintsModule, form_of_fault, table_if}
 unfoldable use Rattle.commands.specs.Converting.{ConvertsFile, ConvertsText, RefusesText}
 unfoldable use Rattle.commands.specs.internal.Converting.{ConvertsHeld, ConvertsParts, PrintsConverted, PrintsNoted, PrintsTabled}
-use Rattle.commands.proofs.Printed.{nothing_begun, stays_written}
+use Rattle.commands.proofs.Printed.{stays_written}
 use Rattle.commands.proofs.Included.{was_included, was_stopped_for_next}
-use Rattle.commands.proofs.Untold.{memory_unwritten}
-use Rattle.commands.proofs.Tables.{kept_begins, table_begun, table_stopped, table_written, was_begun, was_stopped_writing, was_written, written_begins}
+use Rattle.commands.proofs.Tables.{kept_begins, table_begun, table_stopped, table_written, was_begun, was_stopped_writing, was_written}
 use Rattle.host.proofs.FilesRead.{stays as unchanged}
 use Rattle.host.specs.Files.{with_file}
 use Rattle.object_commands.specs.Linking.{StopsWriting}
@@ -91,14 +90,13 @@ module _ (wanted : ConvertWanted) (entries : List Entry) (text : List ℕ) (note
     one,
     same,
     subst (λ (o : Option (List ℕ)). BeginsTable o files later table) (sym is) stopped,
-    memory_unwritten old new told,
-    nothing_begun out text,
+    told,
+    stays_written out,
   ))
 
   pub tabled_unheld : (status : ℕ) → status ≡ 1 → Tells memory_line old new → PrintsTabled wanted entries text notes table files files status before before old new out out
   unfolding PrintsTabled
-  tabled_unheld status one told =
-      inr (inr (one, refl, kept_begins wanted.lines files files table (unchanged files), memory_unwritten old new told, nothing_begun out text))
+  tabled_unheld status one told = inr (inr (one, refl, kept_begins wanted.lines files files table (unchanged files), told, stays_written out))
 
   -- with the table that is wanted, or none
   pub tabled_as_wanted : (status : ℕ) (some : List ℕ) → some ≡ table_if wanted.lines table → PrintsTabled wanted entries text notes some files later status before after old new out now
@@ -115,8 +113,8 @@ module _ (wanted : ConvertWanted) (entries : List Entry) (text : List ℕ) (note
       told = told.told;
     },
   ))
-  tabled_as_wanted status some is (inr (inr (one, same, begun, told, beginning))) =
-      inr (inr (one, same, table_begun wanted.lines files later table some is begun, told, beginning))
+  tabled_as_wanted status some is (inr (inr (one, same, begun, told, nothing))) =
+      inr (inr (one, same, table_begun wanted.lines files later table some is begun, told, nothing))
 
 -- what was put together was converted and printed, or not
 module _ (wanted : ConvertWanted) (entries : List Entry) (rules : List Rule) (parts : Parts) (files later : Option Directory) (before after : ℕ) (old new out now : Option (List ℕ)) where
@@ -152,8 +150,8 @@ module _ (was files later : Option Directory) (kept : KeepsFiles was files) (wan
       told = told.told;
     },
   ))
-  was_tabled status text notes table (inr (inr (one, same, begun, told, beginning))) =
-      inr (inr (one, same ∙ uncounted, was_begun wanted.lines was files later table kept begun, told, beginning))
+  was_tabled status text notes table (inr (inr (one, same, begun, told, nothing))) =
+      inr (inr (one, same ∙ uncounted, was_begun wanted.lines was files later table kept begun, told, nothing))
 
   pub parts_before : (status : ℕ) (rules : List Rule) (parts : Parts) → ConvertsParts wanted entries rules parts files later status middle after old new out now
       → ConvertsParts wanted entries rules parts was later status before after old new out now
@@ -200,16 +198,16 @@ module _ (rules : List Rule) (advice : Advice) (wanted : ConvertWanted) (files l
   )
   text_printed status entries printed told table converts written (inr (inr (one, telling, begun))) = inr (
     one,
-    inr (inr (record {
+    inr (inr (inl (record {
       entries = entries;
       printed = printed;
       notes = told;
       table = table;
       converts = converts;
+      tabled = written;
       told = telling;
       begun = begun;
-      tabled = written_begins wanted.lines files later table written;
-    })),
+    }))),
   )
 
   held_printed : (status : ℕ) (entries : List Entry) (printed : List ℕ) (told : List PlacedNote) (table : List ℕ)
@@ -237,20 +235,20 @@ module _ (rules : List Rule) (advice : Advice) (wanted : ConvertWanted) (files l
       told = telling.told;
     },
   )
-  held_printed status entries printed told table converts (inr (inr (one, same, begun, telling, beginning))) = inr (
+  held_printed status entries printed told table converts (inr (inr (one, same, begun, telling, nothing))) = inr (
     same,
     inr (
       one,
-      inr (inr (record {
+      inr (inr (inr (record {
         entries = entries;
         printed = printed;
         notes = told;
         table = table;
         converts = converts;
-        told = telling;
-        begun = beginning;
         tabled = begun;
-      })),
+        told = telling;
+        nothing = nothing;
+      }))),
     ),
   )
 
@@ -399,18 +397,31 @@ module _ (was files later : Option Directory) (kept : KeepsFiles was files) (rul
       told = told.told;
     })),
   )
-  was_converted status old new out now (inr (one, inr (inr told))) = inr (
+  was_converted status old new out now (inr (one, inr (inr (inl told)))) = inr (
     one,
-    inr (inr (record {
+    inr (inr (inl (record {
       entries = told.entries;
       printed = told.printed;
       notes = told.notes;
       table = told.table;
       converts = was_changed told.converts;
+      tabled = was_written wanted.lines was files later told.table kept told.tabled;
       told = told.told;
       begun = told.begun;
+    }))),
+  )
+  was_converted status old new out now (inr (one, inr (inr (inr told)))) = inr (
+    one,
+    inr (inr (inr (record {
+      entries = told.entries;
+      printed = told.printed;
+      notes = told.notes;
+      table = told.table;
+      converts = was_changed told.converts;
       tabled = was_begun wanted.lines was files later told.table kept told.tabled;
-    })),
+      told = told.told;
+      nothing = told.nothing;
+    }))),
   )
 
 -- what converting a file does

@@ -1,5 +1,5 @@
 -- Tables of lines that were written, or not.
-use Rattle.commands.proofs.Prelude.{◌≡◌, ℕ, List, [], Bor, Option, None, Some, inl, inr, refl, sym, ap, subst, ◌∙◌, append-nil, ChangesFiles, Directory, KeepsFiles, with_file, stays_on, StopsWriting, kept_others, kept_then_others, kept_then_written, written_others, kept_then_stopped}
+use Rattle.commands.proofs.Prelude.{◌≡◌, ℕ, List, [], Bor, Option, None, Some, inl, inr, refl, sym, ap, subst, ◌∙◌, ChangesFiles, Directory, KeepsFiles, with_file, stays_on, StopsWriting, kept_others, kept_then_others, kept_then_written, written_others, kept_then_stopped}
 use Rattle.host.proofs.FilesRead.{stays}
 use Rattle.command_line.specs.Command.{convert_in}
 use Rattle.command_line.specs.declared.orders.ConvertOrder.{ConvertOrder}
@@ -39,11 +39,7 @@ pub was_begun : (name : Option (List ℕ)) (was files later : Option Directory) 
 was_begun None was files later table kept begun = stays_on was files later kept begun
 was_begun (Some name) was files later table kept begun = was_stopped_writing was files later name table kept begun
 
--- all of a table begins it, and so does nothing
-pub written_begins : (name : Option (List ℕ)) (files later : Option Directory) (table : List ℕ) → WritesTable name files later table → BeginsTable name files later table
-written_begins None files later table written = written
-written_begins (Some name) files later table written = inr (table, ([], sym (append-nil table)), written)
-
+-- where nothing was written, a beginning was
 pub kept_begins : (name : Option (List ℕ)) (files later : Option Directory) (table : List ℕ) → KeepsFiles files later → BeginsTable name files later table
 kept_begins None files later table kept = kept
 kept_begins (Some name) files later table kept = inl kept

@@ -127,17 +127,28 @@ module _ (rules : List Rule) (advice : Advice) (wanted : ConvertWanted) (files :
     pub tabled : WritesTable wanted.lines files now table
     pub told : AppendsBeginning err_old err_new (note_lines wanted.file entries notes)
 
-  -- memory ran out or standard output was not written, where a beginning was printed, which may be nothing or all, and
-  -- before that a beginning of the table was written that is wanted
+  -- memory ran out or standard output was not written, once all of the table was written that is wanted: a beginning was
+  -- printed, which may be nothing or all
   pub record StopsText (now : Option Directory) (err_old err_new out_old out_new : Option (List ℕ)) : Type 0 where
     pub entries : List Entry
     pub printed : List ℕ
     pub notes : List PlacedNote
     pub table : List ℕ
     pub converts : Converts entries printed notes table
+    pub tabled : WritesTable wanted.lines files now table
     pub told : TellsUnwritten err_old err_new
     pub begun : AppendsBeginning out_old out_new printed
+
+  -- memory ran out while the table was written that is wanted, of which there is a beginning, and nothing was printed
+  pub record StopsBeforeText (now : Option Directory) (err_old err_new out_old out_new : Option (List ℕ)) : Type 0 where
+    pub entries : List Entry
+    pub printed : List ℕ
+    pub notes : List PlacedNote
+    pub table : List ℕ
+    pub converts : Converts entries printed notes table
     pub tabled : BeginsTable wanted.lines files now table
+    pub told : Tells memory_line err_old err_new
+    pub nothing : Keeps out_old out_new
 
   -- the table is wanted in a file of this name, which can't be written: all files are as before, or it has a beginning
   pub record StopsTable (now : Option Directory) (stop : List ℕ) : Type 0 where
@@ -168,12 +179,14 @@ module _ (rules : List Rule) (advice : Advice) (wanted : ConvertWanted) (files :
     pub long : LONGEST_SOURCE < length text
     pub told : Tells (refusal_line (number_of TooLong) wanted.file 0) old new
 
-  -- why a text was not printed, or not without a word; where it is refused, no file changes
+  -- Why a text was not printed, or not without a word. Where it is refused, no file changes; the table that is wanted is
+  -- written before anything is printed.
   unfoldable pub RefusesText : (now : Option Directory) → (err_old err_new out_old out_new : Option (List ℕ)) → Type 0
   RefusesText now err_old err_new out_old out_new =
       (KeepsFiles files now × Keeps out_old out_new
       × (Tells memory_line err_old err_new ⊎ (TellsLength err_old err_new ⊎ TellsFault err_old err_new)))
-      ⊎ (TellsNotes now err_old err_new out_old out_new ⊎ StopsText now err_old err_new out_old out_new)
+      ⊎ (TellsNotes now err_old err_new out_old out_new
+      ⊎ (StopsText now err_old err_new out_old out_new ⊎ StopsBeforeText now err_old err_new out_old out_new))
 
   -- what converting a text prints, tells and writes, and the status
   unfoldable pub ConvertsText :

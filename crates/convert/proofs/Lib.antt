@@ -2,3 +2,4 @@ pub mod Short
 pub mod Taken
 pub mod Deeper
 pub mod LinesOfPlaces
+pub mod LinesCounted

@@ -10,7 +10,7 @@ counted_once false n m = refl
 none_before : (n : ℕ) → n ≡ 0 + n
 none_before n = omega arith
 
-feeds_append : (front back : List ℕ) → line_feeds (front ++ back) ≡ line_feeds front + line_feeds back
+pub feeds_append : (front back : List ℕ) → line_feeds (front ++ back) ≡ line_feeds front + line_feeds back
 feeds_append [] back = none_before (line_feeds back)
 feeds_append (c ∷ front) back =
     ap (λ (n : ℕ). if c == 10 then 1 + n else n) (feeds_append front back) ∙ counted_once (c == 10) (line_feeds front) (line_feeds back)

@@ -1,10 +1,11 @@
 -- From which lines those of a converted text come.
-use Rattle.std.specs.Prelude.{ℕ, ◌+◌, ◌-◌, min, Bool, ◌==◌, if◌then◌else◌, List, [], ◌∷◌, ◌++◌, decimal, get_or, length, take}
+use Rattle.std.specs.Prelude.{◌≡◌, ◌<◌, ◌≤◌, ℕ, ◌+◌, ◌-◌, min, Bool, ◌==◌, if◌then◌else◌}
+use Rattle.std.specs.Prelude.{List, [], ◌∷◌, ◌++◌, decimal, get_or, length, take}
 use Rattle.std.specs.List.{flat_map}
 use Rattle.convert.specs.declared.assembly.Place.{Place}
 use Rattle.convert.specs.declared.includes.Entry.{Entry}
 use Rattle.convert.specs.Assembly.{Parts}
-use Rattle.convert.specs.Edits.{Change}
+use Rattle.convert.specs.Edits.{Change, spliced}
 use Rattle.convert.specs.Includes.{name_of_file}
 use Rattle.convert.specs.Sources.{place_at}
 use Rattle.convert.specs.Texts.{between}
@@ -59,3 +60,25 @@ rows name entries places lines = flat_map (λ line. row name entries (place_at p
 -- the table of lines of a text that was made by these changes of what was put together: a row for each of its lines
 abbrev pub line_table : (name : List ℕ) → List Entry → Parts → List Change → List ℕ → List ℕ
 line_table name entries parts changes text = rows name entries parts.places (lines_from parts.text changes text)
+
+-- how many lines a text has, without the last if that is empty
+abbrev pub line_count : List ℕ → ℕ
+line_count text = if ends_a_line text then line_feeds text else 1 + line_feeds text
+
+-- each of these is the number of a line of a text
+abbrev pub AreLinesOf : List ℕ → List ℕ → Type 0
+AreLinesOf source [] = Unit {0}
+AreLinesOf source (line ∷ lines) = (0 < line) × (line ≤ 1 + line_feeds source) × AreLinesOf source lines
+
+-- a table has exactly one row for each line of a text, in their order, and each has the place of a line of what was put together
+pub record HasOneRowEach (name : List ℕ) (entries : List Entry) (parts : Parts) (text table : List ℕ) : Type 0 where
+  pub lines : List ℕ
+  pub table_is : table ≡ rows name entries parts.places lines
+  pub one_each : length lines ≡ line_count text
+  pub of_source : AreLinesOf parts.text lines
+
+-- so has a table if the text is what these changes make of what was put together
+unfoldable pub HasOneRowEachOf :
+    (name : List ℕ) → List Entry → Parts → List Change → (text table : List ℕ) → Type 0
+HasOneRowEachOf name entries parts changes text table =
+    text ≡ spliced parts.text changes → HasOneRowEach name entries parts text table

@@ -3,7 +3,7 @@
 ghost use Rattle.std.specs.Prelude.{◌≡◌, ◌≤◌, ◌+◌, ◌∷◌, ◌++◌, min, length, take, IfOk};
 ghost use Rattle.convert.specs.Assembly.{parts_of};
 ghost use Rattle.convert.specs.Edits.{changes_of};
-ghost use Rattle.convert.specs.Origins.{counted, ends_a_line, line_at, line_feeds, line_table, lines_after, lines_for, lines_in, row, rows};
+ghost use Rattle.convert.specs.Origins.{HasOneRowEachOf, counted, ends_a_line, line_at, line_feeds, line_table, lines_after, lines_for, lines_in, row, rows};
 
 use crate::assembly::{Assembly, Place};
 use crate::edit::Edit;
@@ -185,6 +185,7 @@ fn rows(
 /// name of its file, which is this of the source, and the line there, counted from 1, from which it comes. After a line feed
 /// that a change wrote the lines go on one by one, but not beyond the last line that was replaced. Takes memory and time
 /// that grow with both texts, where the changes are in the order of the text.
+#[tactic(auto, using(crate::proofs::LinesCounted::one_row_each))]
 pub fn line_table(
     alloc: Global,
     name: &str,
@@ -193,8 +194,10 @@ pub fn line_table(
     edits: &[Edit],
     text: &[u8],
 ) -> Result<Vec<u8>, AllocError>
-    ensures { IfOk result (λ table. table.items
+    ensures table { IfOk result (λ table. table.items
         ≡ line_table name.now entries.now (parts_of assembly.now) (changes_of edits.now) text.now) }
+    ensures rows { IfOk result (λ table. HasOneRowEachOf name.now entries.now (parts_of assembly.now)
+        (changes_of edits.now) text.now table.items) }
 {
     let lines = lines_of_changes(alloc, assembly.text.as_slice(), edits)?;
     let places = assembly.places.as_slice();

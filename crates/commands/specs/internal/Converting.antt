@@ -65,7 +65,7 @@ module _ (wanted : ConvertWanted) (entries : List Entry) where
       ⊎ (((status ≡ 1) × Keeps out_old out_new
       × TellsFile (λ stop. (wanted.lines ≡ Some stop) × StopsWriting files now stop table) before after err_old err_new)
       ⊎ ((status ≡ 1) × (after ≡ before) × BeginsTable wanted.lines files now table
-      × TellsUnwritten err_old err_new × AppendsBeginning out_old out_new text))
+      × Tells memory_line err_old err_new × Keeps out_old out_new))
 
   -- the same of a text that was made by these changes of what was put together, with the table of that
   abbrev pub PrintsConverted :
