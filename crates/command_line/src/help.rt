@@ -145,7 +145,8 @@ Both `plm run FILE` and `plm interpret FILE` print
   HALT
 
 With each command, before or after its name:
-  --explain  shows where a fault is, what it means and what is likely wrong
+  --explain        shows where a fault is, what it means and what is likely wrong
+  --explain=TABLE  also tells from where its line comes, by a table of plm convert --lines
 
 Numbers, where X is the name or the text that is printed with one:
 " TEXTS CODE MODULES SEGMENTS MERGES OBJECTS PLACES IMAGES COUNTS LENGTHS FILES VALUES MEMORY "\n\
@@ -276,7 +277,8 @@ prints
   HALT
 
 With each command, before or after its name:
-  --explain  shows where a fault is, what it means and what is likely wrong
+  --explain        shows where a fault is, what it means and what is likely wrong
+  --explain=TABLE  also tells from where its line comes, by a table of plm convert --lines
 
 Numbers, where X is the name or the text that is printed with one:
 " TEXTS CODE MODULES SEGMENTS PLACES COUNTS LENGTHS FILES VALUES MEMORY "\n\
@@ -330,7 +332,8 @@ prints
   HALT
 
 With each command, before or after its name:
-  --explain  shows where a fault is, what it means and what is likely wrong
+  --explain        shows where a fault is, what it means and what is likely wrong
+  --explain=TABLE  also tells from where its line comes, by a table of plm convert --lines
 
 Numbers, where X is the name or the text that is printed with one:
 " TEXTS CODE MODULES SEGMENTS PLACES COUNTS LENGTHS FILES VALUES MEMORY "\n\
@@ -526,7 +529,7 @@ FILE, as written, in capital and in small letters. Lines of an IF that do not ap
 switches are set by --set and by SET.
 
 With --lines it also writes TABLE, which tells of each line that is printed, in order, the file and
-the line from which it comes:
+the line from which it comes (plm --explain=TABLE looks a fault's line up in it):
   NAME LINE
 
 What has no cure is left, and told on standard error, a line each:

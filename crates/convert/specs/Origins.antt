@@ -70,7 +70,8 @@ abbrev pub AreLinesOf : List ℕ → List ℕ → Type 0
 AreLinesOf source [] = Unit {0}
 AreLinesOf source (line ∷ lines) = (0 < line) × (line ≤ 1 + line_feeds source) × AreLinesOf source lines
 
--- a table has exactly one row for each line of a text, in their order, and each has the place of a line of what was put together
+-- A table has exactly one row for each line of a text, in their order. Each row has the place of a line of what was put
+-- together.
 pub record HasOneRowEach (name : List ℕ) (entries : List Entry) (parts : Parts) (text table : List ℕ) : Type 0 where
   pub lines : List ℕ
   pub table_is : table ≡ rows name entries parts.places lines

@@ -9,7 +9,8 @@
 //! no part of it.
 //! A file `closed.obj` can't be begun, and `broken.obj` takes three bytes.
 //! Each command line is carried out again for each of its calls of files, with that call failing: it is to be refused with U3, to
-//! print nothing, and of a file that it is said to write to have written a beginning at most.
+//! print nothing, and of a file that it is said to write to have written a beginning at most. But where that call reads the table of
+//! `--explain=TABLE`, only the explanation is to be another, which says that the table can't be read.
 //! A line `damage` between blocks has the bytes of an object file in hexadecimal digits. Each of them is changed to each other
 //! value, and a line is printed at once: how many changes there were, how many were answered otherwise than by the first fault of
 //! a record's length or sum, as a plain walk over the records finds it, and how many have which of these faults.
