@@ -1,5 +1,5 @@
 -- How many lines a text has that was made of another, and from which they come.
-use Rattle.std.proofs.Common.{◌≡◌, ◌≤◌, ◌<◌, ◌+◌, ◌-◌, ◌∙◌, ◌==◌, ◌&&◌, ℕ, zero, suc, min, Bool, true, false, if◌then◌else◌, List, [], ◌∷◌, ◌++◌, length, take, drop, refl, sym, ap, subst, arith, length-take, length-append, take-append-drop}
+use Rattle.std.proofs.Common.{◌≡◌, ◌≤◌, ◌<◌, ◌+◌, ◌-◌, ◌==◌, ◌&&◌, ℕ, zero, suc, min, Bool, true, false, if◌then◌else◌, List, [], ◌∷◌, ◌++◌, length, take, drop, refl, ap, arith, Result, Ok, Err, IfOk, length-take, length-append, take-append-drop}
 use Rattle.words.specs.Characters.{is_word_byte}
 use Rattle.convert.specs.declared.includes.Entry.{Entry}
 use Rattle.convert.specs.Assembly.{Parts}
@@ -114,12 +114,18 @@ are_counted source false lines are = are
 are_from : (source text : List ℕ) (changes : List Change) → AreLinesOf source (lines_from source changes text)
 are_from source text changes = are_counted source (ends_a_line text) (1 ∷ lines_after 0 source changes) (omega arith, omega arith, are_after 0 source changes)
 
-pub one_row_each : (name : List ℕ) (entries : List Entry) (parts : Parts) (changes : List Change) (text table : List ℕ) → table ≡ line_table name entries parts changes text
+has_rows : (name : List ℕ) (entries : List Entry) (parts : Parts) (changes : List Change) (text table : List ℕ) → table ≡ line_table name entries parts changes text
     → HasOneRowEachOf name entries parts changes text table
 unfolding HasOneRowEachOf
-one_row_each name entries parts changes text table table_is made = record {
+has_rows name entries parts changes text table table_is made = record {
   lines = lines_from parts.text changes text;
   table_is = table_is;
   one_each = from_count parts.text text changes made;
   of_source = are_from parts.text text changes;
 }
+
+-- the table of lines has one row for each, if there is memory for it
+pub one_row_each : {A E : Type 0} (items : A → List ℕ) (name : List ℕ) (entries : List Entry) (parts : Parts) (changes : List Change) (text : List ℕ) (result : Result A E)
+    → IfOk result (λ table. items table ≡ line_table name entries parts changes text) → IfOk result (λ table. HasOneRowEachOf name entries parts changes text (items table))
+one_row_each items name entries parts changes text (Ok table) is = has_rows name entries parts changes text (items table) is
+one_row_each items name entries parts changes text (Err failure) none = none

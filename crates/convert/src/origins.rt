@@ -185,7 +185,6 @@ fn rows(
 /// name of its file, which is this of the source, and the line there, counted from 1, from which it comes. After a line feed
 /// that a change wrote the lines go on one by one, but not beyond the last line that was replaced. Takes memory and time
 /// that grow with both texts, where the changes are in the order of the text.
-#[tactic(auto, using(crate::proofs::LinesCounted::one_row_each))]
 pub fn line_table(
     alloc: Global,
     name: &str,
