@@ -1,5 +1,5 @@
 -- Files that are looked for one after another.
-use Rattle.std.proofs.Common.{◌≡◌, ◌≤◌, ◌<◌, ◌+◌, ◌-◌, ◌∙◌, ℕ, zero, suc, min, List, Option, refl, sym, ap, subst, arith}
+use Rattle.std.proofs.Common.{◌≡◌, ◌≤◌, ◌<◌, ◌+◌, ◌-◌, ℕ, zero, suc, min, List, Option, length, take, drop, refl, arith, length-take, length-drop}
 use Rattle.clap.specs.Words.{Text}
 use Rattle.failure.specs.declared.Failure.{Failure}
 use Rattle.failure.specs.declared.Failure.TheVariants.{Fault, Memory}
@@ -20,15 +20,18 @@ pub record LookedSoFar (all rest : ℕ) (first now : Option Directory) (before a
 pub begun : (all : ℕ) (files : Option Directory) (before : ℕ) → LookedSoFar all all files files before before
 begun all files before = record { kept = stays files; same = λ none. (refl, refl); left = omega arith; most = omega arith; least = omega arith }
 
-pub one_more : (all rest less : ℕ) (first now next : Option Directory) (before after later : ℕ) → 1 ≤ rest → less ≡ rest - 1 → LookedSoFar all rest first now before after
-    → KeepsFiles now next → later ≤ after + 1 → min after 18446744073709551615 ≤ later → LookedSoFar all less first next before later
-one_more all rest less first now next before after later some less_is so_far kept most least = record {
-  kept = stays_on first now next so_far.kept kept;
-  same = λ none. absurd (omega (arith, none, some, so_far.left));
-  left = omega (arith, some, less_is, so_far.left);
-  most = omega (arith, some, less_is, most, so_far.most);
-  least = omega (arith, least, so_far.least);
-}
+pub one_more : {X : Type 0} (all : ℕ) (rest : List X) (first now next : Option Directory) (before after later : ℕ) → 1 ≤ length rest
+    → LookedSoFar all (length rest) first now before after → KeepsFiles now next → later ≤ after + 1 → min after 18446744073709551615 ≤ later
+    → LookedSoFar all (length (take (length rest - 1) (drop 1 rest))) first next before later
+one_more all rest first now next before after later some so_far kept most least =
+    let less : length (take (length rest - 1) (drop 1 rest)) ≡ length rest - 1 = omega (arith, length-take (length rest - 1) (drop 1 rest), length-drop 1 rest) in
+    record {
+      kept = stays_on first now next so_far.kept kept;
+      same = λ none. absurd (omega (arith, none, some, so_far.left));
+      left = omega (arith, some, less, so_far.left);
+      most = omega (arith, some, less, most, so_far.most);
+      least = omega (arith, least, so_far.least);
+    }
 
 pub ended : (all rest : ℕ) (first now : Option Directory) (before after : ℕ) → rest < 1 → LookedSoFar all rest first now before after → Looks all first now before after
 ended zero rest first now before after none so_far = so_far.same refl
