@@ -1,10 +1,10 @@
 -- How many lines a text has that was made of another, and from which they come.
-use Rattle.std.proofs.Common.{◌≡◌, ◌≤◌, ◌<◌, ◌+◌, ◌-◌, ◌==◌, ◌&&◌, ℕ, zero, suc, min, Bool, true, false, if◌then◌else◌, List, [], ◌∷◌, ◌++◌, length, take, drop, refl, ap, arith, Result, Ok, Err, IfOk, length-take, length-append, take-append-drop}
+use Rattle.std.proofs.Common.{◌≡◌, ◌≤◌, ◌<◌, ◌+◌, ◌-◌, ◌∙◌, ◌==◌, ◌&&◌, ℕ, zero, suc, min, Bool, true, false, if◌then◌else◌, List, [], ◌∷◌, ◌++◌, length, take, drop, refl, sym, ap, arith, Result, Ok, Err, IfOk, length-take, length-append, take-append-drop}
 use Rattle.words.specs.Characters.{is_word_byte}
 use Rattle.convert.specs.declared.includes.Entry.{Entry}
 use Rattle.convert.specs.Assembly.{Parts}
 use Rattle.convert.specs.Edits.{Change, apart, gap, joined, last_after, pieces, spliced}
-use Rattle.convert.specs.Origins.{AreLinesOf, HasOneRowEach, ends_a_line, line_at, line_count, line_feeds, line_table, lines_after, lines_for, lines_from, lines_in}
+use Rattle.convert.specs.Origins.{AreLinesOf, ends_a_line, line_at, line_count, line_feeds, line_table, lines_after, lines_for, lines_from, lines_in}
 use Rattle.convert.specs.Texts.{between}
 use Rattle.convert.proofs.LinesOfPlaces.{feeds_append}
 unfoldable use Rattle.convert.specs.Origins.{HasOneRowEachOf}
@@ -29,29 +29,39 @@ apart_feeds : (last : ℕ) (piece : List ℕ) → line_feeds (apart last piece) 
 apart_feeds last [] = refl
 apart_feeds last (c ∷ piece) = omega (arith, feeds_append (gap last c) (c ∷ piece), blank_feeds (is_word_byte last && is_word_byte c))
 
-all_feeds : List (List ℕ) → ℕ
+abbrev all_feeds : List (List ℕ) → ℕ
 all_feeds [] = 0
 all_feeds (piece ∷ more) = line_feeds piece + all_feeds more
+
+both_sums : (a b x y whole : ℕ) → whole ≡ a + b → a ≡ x → b ≡ y → whole ≡ x + y
+both_sums a b x y whole whole_is a_is b_is = omega (arith, whole_is, a_is, b_is)
+
+nothing_more : (n : ℕ) → n ≡ n + 0
+nothing_more n = omega arith
 
 joined_feeds : (last : ℕ) (all : List (List ℕ)) → line_feeds (joined last all) ≡ all_feeds all
 joined_feeds last [] = refl
 joined_feeds last (piece ∷ more) =
-    omega (arith, feeds_append (apart last piece) (joined (last_after last piece) more), apart_feeds last piece, joined_feeds (last_after last piece) more)
+    let rest : List ℕ = joined (last_after last piece) more in
+    both_sums (line_feeds (apart last piece)) (line_feeds rest) (line_feeds piece) (all_feeds more) (line_feeds (apart last piece ++ rest)) (feeds_append (apart last piece) rest)
+    (apart_feeds last piece) (joined_feeds (last_after last piece) more)
 
 after_count : (place : ℕ) (source : List ℕ) (changes : List Change) → length (lines_after place source changes) ≡ all_feeds (pieces place source changes)
-after_count place source [] = omega (arith, in_count (line_at source place) (line_at source (length source)) (between source place (length source)))
+after_count place source [] =
+    in_count (line_at source place) (line_at source (length source)) (between source place (length source)) ∙ nothing_more (line_feeds (between source place (length source)))
 after_count place source (change ∷ changes) =
-    let kept : List ℕ = lines_for source place change.from (between source place change.from) in
+    let stays : List ℕ = between source place change.from in
+    let kept : List ℕ = lines_for source place change.from stays in
     let put : List ℕ = lines_for source change.from change.to change.text in
     let more : List ℕ = lines_after change.to source changes in
-    omega (
-      arith,
-      length-append kept (put ++ more),
-      length-append put more,
-      in_count (line_at source place) (line_at source change.from) (between source place change.from),
-      in_count (line_at source change.from) (line_at source change.to) change.text,
-      after_count change.to source changes,
-    )
+    let others : List (List ℕ) = pieces change.to source changes in
+    both_sums (length kept) (length (put ++ more)) (line_feeds stays) (line_feeds change.text + all_feeds others) (length (kept ++ (put ++ more))) (length-append kept (put ++ more))
+    (in_count (line_at source place) (line_at source change.from) stays)
+    (both_sums (length put) (length more) (line_feeds change.text) (all_feeds others) (length (put ++ more)) (length-append put more)
+    (in_count (line_at source change.from) (line_at source change.to) change.text) (after_count change.to source changes))
+
+one_before : (n m : ℕ) → n ≡ m → suc n ≡ 1 + m
+one_before n m is = omega (arith, is)
 
 counted_count : (is : Bool) (n : ℕ) (lines : List ℕ) → length lines ≡ 1 + n → length (if is then take (length lines - 1) lines else lines) ≡ (if is then n else 1 + n)
 counted_count true n lines are = omega (arith, are, length-take (length lines - 1) lines)
@@ -60,7 +70,8 @@ counted_count false n lines are = are
 from_count : (source text : List ℕ) (changes : List Change) → text ≡ spliced source changes → length (lines_from source changes text) ≡ line_count text
 from_count source text changes is =
     counted_count (ends_a_line text) (line_feeds text) (1 ∷ lines_after 0 source changes)
-    (omega (arith, after_count 0 source changes, joined_feeds 32 (pieces 0 source changes), ap line_feeds is))
+    (one_before (length (lines_after 0 source changes)) (line_feeds text)
+    (after_count 0 source changes ∙ sym (joined_feeds 32 (pieces 0 source changes)) ∙ sym (ap line_feeds is)))
 
 -- each place is on a line of its text
 at_least_one : (source : List ℕ) (place : ℕ) → 0 < line_at source place
