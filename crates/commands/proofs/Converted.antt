@@ -10,12 +10,11 @@ use Rattle.typed_trees.specs.TypedTrees.{TypedModule}
 use Rattle.sources.specs.{Causes.{HasReadCause}, Faults.{line_of, number_of}, Reading.{IsSourceOf}, declared.read.ReadFault.{ReadFault, TheVariants.{Expansion, Storage, Syntax, TooLong, Typing, Words}}}
 use Rattle.convert.specs.{Advice.{advice_view, usual_advice}, Assembly.{Parts, as_it_is, assembled}, Conversion.{IsRefused, no_expansion, no_words}, Edits.{Change}, Lines.{plain}, Origins.{line_table}, Preparing.{prepared, prepared_notes}, Table.{rule_view, table_of_rules}, Sources.{IsConverted, note_lines, place_at}, declared.advice.Advice.{Advice}, declared.assembly.PlacedNote.{PlacedNote}, declared.includes.Entry.{Entry}, declared.rule.Rule.{Rule}}
 use Rattle.commands.specs.Including.{IsIncluded, StopsLookingForNext}
-use Rattle.commands.specs.Converting.{Converts, ConvertsByTables, HasNoConversion, IsMistyped, IsModule, IsNoModule, IsPutTogether, StopsIncluding, StopsSource, StopsTable, changed, fault_line_at, medium_of, rewritten, stays}
-use Rattle.commands.specs.Refusing.{TellsFile}
+use Rattle.commands.specs.Converting.{Converts, ConvertsByTables, HasNoConversion, IsMistyped, IsModule, IsNoModule, IsPutTogether, StopsIncluding, StopsSource, changed, fault_line_at, medium_of, rewritten, stays}
 use Rattle.commands.specs.Tables.{BeginsTable, WritesTable}
 use Rattle.commands.specs.internal.Converting.{IsOfForm, PrintsModule, form_of_fault, table_if}
 unfoldable use Rattle.commands.specs.Converting.{ConvertsFile, ConvertsText, RefusesText}
-unfoldable use Rattle.commands.specs.internal.Converting.{ConvertsHeld, ConvertsParts, PrintsConverted, PrintsNoted, PrintsTabled}
+unfoldable use Rattle.commands.specs.internal.Converting.{ConvertsHeld, ConvertsParts, PrintsNoted, PrintsTabled}
 use Rattle.commands.proofs.Printed.{stays_written}
 use Rattle.commands.proofs.Included.{was_included, was_stopped_for_next}
 use Rattle.commands.proofs.Tables.{kept_begins, table_begun, table_stopped, table_written, was_begun, was_stopped_writing, was_written}

@@ -1,5 +1,5 @@
 -- Tables of lines that were written, or not.
-use Rattle.commands.proofs.Prelude.{◌≡◌, ℕ, List, [], Bor, Option, None, Some, inl, inr, refl, sym, ap, subst, ◌∙◌, ChangesFiles, Directory, KeepsFiles, with_file, stays_on, StopsWriting, kept_others, kept_then_others, kept_then_written, written_others, kept_then_stopped}
+use Rattle.commands.proofs.Prelude.{◌≡◌, ℕ, List, Bor, Option, None, Some, inl, inr, refl, sym, ap, subst, ◌∙◌, ChangesFiles, Directory, KeepsFiles, with_file, stays_on, StopsWriting, kept_others, kept_then_others, kept_then_written, written_others, kept_then_stopped}
 use Rattle.host.proofs.FilesRead.{stays}
 use Rattle.command_line.specs.Command.{convert_in}
 use Rattle.command_line.specs.declared.orders.ConvertOrder.{ConvertOrder}
