@@ -192,6 +192,7 @@ fn explain_word(page: &mut Page, refused: &Refused) {
 // Adds that a text ends before its module does, and what is still open.
 fn explain_end(page: &mut Page, refused: &Refused) {
     if refused.words.is_empty() {
+        page.add_page(refused.origins);
         page.cause("The text has no words, and is no module", "C7");
         return;
     }
@@ -394,6 +395,7 @@ pub(crate) fn explain_source(
     origins: &Page,
 ) {
     if let Some(other) = as_source(kind_of(text)) {
+        page.add_page(origins);
         page.cause(other, told.number);
         return;
     }
