@@ -85,8 +85,12 @@ pub(crate) fn openers<'a>(
     words: &[Word<'a>],
 ) -> Result<Vec<Opener<'a>>, AllocError> {
     let mut open = Vec::new(alloc);
-    for (at, word) in words.iter().enumerate() {
-        take_word(&mut open, words.get(..at).unwrap_or(&[]), word)?;
+    let mut rest = words;
+    while let [word, more @ ..] = rest {
+        let passed = words.len().saturating_sub(rest.len());
+        let (before, _) = words.split_at(passed.min(words.len()));
+        take_word(&mut open, before, word)?;
+        rest = more;
     }
     Ok(open)
 }
