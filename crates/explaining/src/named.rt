@@ -19,10 +19,12 @@ fn is_named(words: &[Word], name: &[u8], is_procedure: bool) -> bool {
 
 // How many words stand before the first procedure of a name, or the first label.
 fn count_before(words: &[Word], name: &[u8], is_procedure: bool) -> usize {
-    for (at, _) in words.iter().enumerate() {
-        if is_named(words.get(at..).unwrap_or(&[]), name, is_procedure) {
-            return at;
+    let mut rest = words;
+    while let [_, more @ ..] = rest {
+        if is_named(rest, name, is_procedure) {
+            return words.len().saturating_sub(rest.len());
         }
+        rest = more;
     }
     words.len()
 }
