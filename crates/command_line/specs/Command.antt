@@ -28,6 +28,7 @@ use Rattle.command_line.specs.declared.orders.Order.TheVariants.{Compile, Conver
 use Rattle.command_line.specs.declared.orders.PlaceOrder.{PlaceOrder}
 use Rattle.command_line.specs.declared.orders.PlanTexts.{PlanTexts}
 use Rattle.command_line.specs.declared.orders.ProgramOrder.{ProgramOrder}
+use Rattle.command_line.specs.declared.orders.Watch.{Watch}
 use Rattle.command_line.specs.declared.reading.LineFault.{LineFault}
 use Rattle.command_line.specs.declared.reading.LineFault.TheVariants.{Help, Version, Wrong}
 
@@ -75,20 +76,25 @@ with_memory app =
     (default_rule (codes "fill") (codes "00")))
     (option_rule (codes "memory"))
 
--- a command with the options of a limit and an input
+-- a command with the options of what is watched while a program runs
+abbrev pub with_watch : App → App
+with_watch app = with_rule (with_rule app (flag_rule (codes "until-dry"))) (flag_rule (codes "count"))
+
+-- a command with the options of a limit, of an input, and of what is watched
 abbrev pub with_limit_and_input : App → App
 with_limit_and_input app =
-    with_rule (with_rule (with_rule (with_rule app
+    with_watch (with_rule (with_rule (with_rule (with_rule app
     (default_rule (codes "limit") (codes "10000000")))
     (option_rule (codes "input")))
     (many_rule (codes "input-file")))
-    (many_rule (codes "output-file"))
+    (many_rule (codes "output-file")))
 
 -- a command with the options of a run
 abbrev pub with_run : App → App
 with_run app = with_memory (with_rule (with_limit_and_input app) (flag_rule (codes "map")))
 
--- the command `name [plan] [--limit N] [--input T] [--input-file T]... [--output-file T]... [--map] [--fill T]
+-- the command `name [plan] [--limit N] [--input T] [--input-file T]... [--output-file T]... [--until-dry] [--count]
+-- [--map] [--fill T]
 -- [--memory T] SOURCE...`
 abbrev pub program_app : Text → App
 program_app name = with_rule (with_run (with_plan (new_app name))) files_rule
@@ -114,7 +120,8 @@ list_app name = with_rule (with_plan (new_app name)) files_rule
 abbrev pub locate_app : Text → App
 locate_app name = with_rule (with_rule (with_plan (new_app name)) (flag_rule (codes "need"))) files_rule
 
--- the command `name [plan] [--limit N] [--input T] [--input-file T]... [--output-file T]... [--fill T] [--memory T]
+-- the command `name [plan] [--limit N] [--input T] [--input-file T]... [--output-file T]... [--until-dry] [--count]
+-- [--fill T] [--memory T]
 -- OBJECT...`
 abbrev pub execute_app : Text → App
 execute_app name =
@@ -177,6 +184,7 @@ pub record ProgramWanted : Type 0 where
   pub input : Option Text
   pub input_files : List Text
   pub output_files : List Text
+  pub watch : Watch
   pub map : Bool
   pub fill : Text
   pub memory : Option Text
@@ -206,6 +214,7 @@ pub record ExecuteWanted : Type 0 where
   pub input : Option Text
   pub input_files : List Text
   pub output_files : List Text
+  pub watch : Watch
   pub fill : Text
   pub memory : Option Text
 
@@ -275,6 +284,13 @@ plan_of rows = record {
   stack_size = text_of (codes "stack-size") rows;
 }
 
+-- what is to be watched
+abbrev pub watch_of : List Row → Watch
+watch_of rows = record {
+  count = is_set (codes "count") rows;
+  until_dry = is_set (codes "until-dry") rows;
+}
+
 -- what a command with these matches wants
 abbrev pub program_of : Action → List Row → ProgramWanted
 program_of action rows = record {
@@ -285,6 +301,7 @@ program_of action rows = record {
   input = first_of (codes "input") rows;
   input_files = texts_of (codes "input-file") rows;
   output_files = texts_of (codes "output-file") rows;
+  watch = watch_of rows;
   map = is_set (codes "map") rows;
   fill = text_of (codes "fill") rows;
   memory = first_of (codes "memory") rows;
@@ -315,6 +332,7 @@ execute_of rows = record {
   input = first_of (codes "input") rows;
   input_files = texts_of (codes "input-file") rows;
   output_files = texts_of (codes "output-file") rows;
+  watch = watch_of rows;
   fill = text_of (codes "fill") rows;
   memory = first_of (codes "memory") rows;
 }
@@ -373,6 +391,7 @@ program_in order = record {
   input = option_map (λ text. text.now) order.input;
   input_files = texts order.input_files.items;
   output_files = texts order.output_files.items;
+  watch = order.watch;
   map = order.map;
   fill = order.fill.now;
   memory = option_map (λ text. text.now) order.memory;
@@ -403,6 +422,7 @@ execute_in order = record {
   input = option_map (λ text. text.now) order.input;
   input_files = texts order.input_files.items;
   output_files = texts order.output_files.items;
+  watch = order.watch;
   fill = order.fill.now;
   memory = option_map (λ text. text.now) order.memory;
 }
@@ -457,6 +477,10 @@ usual_plan = record {
   stack_size = codes "1024";
 }
 
+-- what is watched where no option is given
+abbrev pub nothing_watched : Watch
+nothing_watched = record { count = false; until_dry = false }
+
 -- what a command wants with these files, where no option is given
 abbrev pub usual : Action → List Text → ProgramWanted
 usual action files = record {
@@ -467,6 +491,7 @@ usual action files = record {
   input = None;
   input_files = [];
   output_files = [];
+  watch = nothing_watched;
   map = false;
   fill = codes "00";
   memory = None;
@@ -483,6 +508,7 @@ usual_execute objects = record {
   input = None;
   input_files = [];
   output_files = [];
+  watch = nothing_watched;
   fill = codes "00";
   memory = None;
 }
@@ -504,6 +530,11 @@ pub data ValueOption : Type 0 where
   Fill : ValueOption
   StartMemory : ValueOption
 
+-- the options of what is watched
+pub data WatchOption : Type 0 where
+  Count : WatchOption
+  UntilDry : WatchOption
+
 -- the name of an option
 abbrev pub plan_option_name : PlanOption → Text
 plan_option_name Code = codes "code"
@@ -519,6 +550,15 @@ option_name InputFile = codes "input-file"
 option_name OutputFile = codes "output-file"
 option_name Fill = codes "fill"
 option_name StartMemory = codes "memory"
+
+abbrev pub watch_option_name : WatchOption → Text
+watch_option_name Count = codes "count"
+watch_option_name UntilDry = codes "until-dry"
+
+-- what is watched where one option is given
+abbrev pub watching : WatchOption → Watch
+watching Count = record { count = true; until_dry = false }
+watching UntilDry = record { count = false; until_dry = true }
 
 -- what is wanted, with the text of an option
 abbrev pub with_plan_text : PlanOption → Text → PlanWanted → PlanWanted
@@ -580,6 +620,12 @@ OrdersMap words answer = (name : Text) (action : Action) (files : List Text)
     → Gives words name (name_of_action action) (codes "--map" ∷ []) files
     → IsOrderOf (wants_program (record (usual action files) { map = true })) answer
 
+-- with an option of what is watched before them, it wants that watched
+abbrev pub OrdersWatch : List Text → Result Order (Failure LineFault) → Type 0
+OrdersWatch words answer = (name : Text) (action : Action) (files : List Text) (option : WatchOption)
+    → Gives words name (name_of_action action) ((45 ∷ 45 ∷ watch_option_name option) ∷ []) files
+    → IsOrderOf (wants_program (record (usual action files) { watch = watching option })) answer
+
 -- `compile` with two bare files wants the first compiled to the second
 abbrev pub OrdersCompile : List Text → Result Order (Failure LineFault) → Type 0
 OrdersCompile words answer = (name source object : Text)
@@ -635,6 +681,12 @@ OrdersExecuteText words answer = (name : Text) (files : List Text) (option : Val
     → IsBare text
     → Gives words name (codes "execute") (option_words (option_name option) text) files
     → IsOrderOf (wants_execute (with_execute_text option text (usual_execute files))) answer
+
+-- with an option of what is watched before them, it wants that watched
+abbrev pub OrdersExecuteWatch : List Text → Result Order (Failure LineFault) → Type 0
+OrdersExecuteWatch words answer = (name : Text) (files : List Text) (option : WatchOption)
+    → Gives words name (codes "execute") ((45 ∷ 45 ∷ watch_option_name option) ∷ []) files
+    → IsOrderOf (wants_execute (record (usual_execute files) { watch = watching option })) answer
 
 -- `explain` with a bare word wants that number explained
 abbrev pub OrdersExplain : List Text → Result Order (Failure LineFault) → Type 0

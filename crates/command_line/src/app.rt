@@ -3,7 +3,7 @@
 ghost use Rattle.std.specs.Prelude.{◌≡◌, codes, false};
 ghost use Rattle.clap.specs.Words.{App, Rule, new_app, rule_of, with_rule, with_subcommand};
 ghost use Rattle.command_line.specs.internal.Building.{Builds, IsBuilt};
-ghost use Rattle.command_line.specs.Command.{bare_app, compile_app, default_rule, execute_app, file_rule, files_rule, flag_rule, hex_app, link_app, locate_app, option_rule, out_rule, plm_app, program_app, programs_app, with_limit_and_input, with_plan, with_run, with_memory, many_rule, explain_app, list_app, convert_app};
+ghost use Rattle.command_line.specs.Command.{bare_app, compile_app, default_rule, execute_app, file_rule, files_rule, flag_rule, hex_app, link_app, locate_app, option_rule, out_rule, plm_app, program_app, programs_app, with_limit_and_input, with_plan, with_run, with_memory, with_watch, many_rule, explain_app, list_app, convert_app};
 
 use crate::help::{
     ABOUT, COMPILE, CONVERT, EXECUTE, EXPLAIN, GUIDE, HEX, INTERPRET, INTERPRET_LIMIT, LINK, LIST,
@@ -145,7 +145,7 @@ fn add_plan<'a>(alloc: Global, command: Built<'a>) -> Built<'a>
     )
 }
 
-// The command with the options of a limit and an input.
+// The command with the options of a limit, of an input, and of what is watched.
 fn add_limit_and_input<'a>(alloc: Global, command: Built<'a>, limit_help: &'a str) -> Built<'a>
     ensures { (app : App) → Builds app command.entry → Builds (with_limit_and_input app) result }
 {
@@ -170,7 +170,25 @@ fn add_limit_and_input<'a>(alloc: Global, command: Built<'a>, limit_help: &'a st
         "PORT:FILE",
         "A file to which the bytes of a port go, as 01:out.bin, or - for standard output",
     );
-    add(with_input_file, output_file)
+    add_watch(alloc, add(with_input_file, output_file))
+}
+
+// The command with the options of what is watched while a program runs.
+fn add_watch<'a>(alloc: Global, command: Built<'a>) -> Built<'a>
+    ensures { (app : App) → Builds app command.entry → Builds (with_watch app) result }
+{
+    let until_dry = flag(
+        alloc,
+        "until-dry",
+        "End before the first read of a port past its input",
+    );
+    let with_until_dry = add(command, until_dry);
+    let count = flag(
+        alloc,
+        "count",
+        "Print how many steps the run took, before its end",
+    );
+    add(with_until_dry, count)
 }
 
 // The command with the options of a run.

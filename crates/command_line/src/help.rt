@@ -244,6 +244,10 @@ Prints a line for each byte at a port, and then how the run ended:
   LIMIT      as many instructions were run as --limit says
   ILLEGAL    an undocumented instruction code was met
   PORT       a port failed
+  DRY        with --until-dry: a port was to be read past its input
+With --count a line before that last one says how many instructions were carried out:
+  STEPS n    in decimal, HLT among them
+With --count or --until-dry all is printed once the run has ended.
 
 With --map it first prints where each object lies, by its address and its number of bytes:
   MAP module name aaaa n
@@ -264,7 +268,7 @@ Exit status:
   0  the program halted, or help was asked for
   1  a source was refused, memory ran out, or a file can't be read or written
   2  the command line is wrong, or a value in it
-  3  LIMIT
+  3  LIMIT or DRY
   4  ILLEGAL or PORT
 
 A refused source prints `number file line` to standard error, and a refused value `U4 text 0`.
@@ -291,11 +295,15 @@ Prints a line for each byte at a port, and then how the program ended:
   HALT              the program halted, or reached the end of its main module
   LIMIT             the budget of --limit was used up
   PORT              a port failed
+  DRY               with --until-dry: a port was to be read past its input
   OUTSIDE DIVIDE    it divided by 0
   OUTSIDE BYTE      it read or wrote a byte that nothing declares
   OUTSIDE CONSTANT  it wrote a byte of a constant
   OUTSIDE STACK     its calls took more room than --stack-size says
 After OUTSIDE the language promises nothing more of the program.
+With --count a line before that last one says how much of the budget was used:
+  STEPS n           in decimal
+It is found by further runs.
 
 With --map it first prints where each object lies, by its address and its number of bytes:
   MAP module name aaaa n
@@ -317,7 +325,7 @@ Exit status:
   0  the program ended, or help was asked for
   1  a source was refused, memory ran out, or a file can't be read or written
   2  the command line is wrong, or a value in it
-  3  LIMIT
+  3  LIMIT or DRY
   4  PORT
   5  OUTSIDE
 
@@ -464,6 +472,10 @@ Prints what `plm run` prints, a line for each byte at a port, and then how the r
   LIMIT      as many instructions were run as --limit says
   ILLEGAL    an undocumented instruction code was met
   PORT       a port failed
+  DRY        with --until-dry: a port was to be read past its input
+With --count a line before that last one says how many instructions were carried out:
+  STEPS n    in decimal, HLT among them
+With --count or --until-dry all is printed once the run has ended.
 
 Input is groups joined by `/`, each a port, a colon and the bytes that the port gives, all in
 hexadecimal digits: 01:0904/02:FF gives 09 and then 04 at port 01, and FF at port 02.
@@ -482,7 +494,7 @@ Exit status:
   1  an object, the merge or its place was refused, memory ran out, or a file can't be read
      or written
   2  the command line is wrong, or a value in it
-  3  LIMIT
+  3  LIMIT or DRY
   4  ILLEGAL or PORT
 
 A refused object prints `number file 0` to standard error, a refused merge the name of a public

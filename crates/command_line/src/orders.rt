@@ -20,6 +20,15 @@ pub enum PlaceAction {
     Listing,
 }
 
+/// What is watched while a program runs.
+#[derive(Clone, Copy)]
+pub struct Watch {
+    /// Whether it is printed how many steps the run took.
+    pub count: bool,
+    /// Whether the run ends before the first read of a port past its input.
+    pub until_dry: bool,
+}
+
 /// The texts of the options that say where the parts of a program are to lie.
 #[derive(Clone, Copy)]
 pub struct PlanTexts<'a> {
@@ -50,6 +59,8 @@ pub struct ProgramOrder<'a> {
     pub input_files: Vec<&'a str>,
     /// The files of ports to which their bytes go.
     pub output_files: Vec<&'a str>,
+    /// What is watched while it runs.
+    pub watch: Watch,
     /// Whether it is first printed where each object lies.
     pub map: bool,
     /// The byte that the memory has at the start where nothing else is said.
@@ -113,6 +124,8 @@ pub struct ExecuteOrder<'a> {
     pub input_files: Vec<&'a str>,
     /// The files of ports to which their bytes go.
     pub output_files: Vec<&'a str>,
+    /// What is watched while it runs.
+    pub watch: Watch,
     /// The byte that the memory has at the start where nothing else is said.
     pub fill: &'a str,
     /// Other bytes of the memory at the start, where that was said.

@@ -24,6 +24,8 @@ pub mod OutputFiles
 pub mod RefusedRuns
 pub mod Map
 pub mod Starting
+pub mod Ends
+pub mod Watching
 pub mod Running
 pub mod ProgramFaults
 pub mod Refusing

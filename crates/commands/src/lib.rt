@@ -3,9 +3,11 @@
 
 mod console;
 mod converting;
+mod dry;
 mod executing;
 mod explaining;
 mod including;
+mod input_ports;
 mod needing;
 mod needs;
 mod port_inputs;
@@ -13,5 +15,6 @@ mod port_outputs;
 mod printed_needs;
 mod programs;
 mod refusals;
+mod watching;
 
 pub use console::run_command;

@@ -1,6 +1,6 @@
 //! Runs of programs on the 8080.
 
-ghost use Rattle.std.specs.Prelude.{◌≡◌, [], IfOk, OnErr, map};
+ghost use Rattle.std.specs.Prelude.{◌≡◌, [], false, IfOk, OnErr, map};
 ghost use Rattle.host.specs.Endings.{status_of};
 ghost use Rattle.host.specs.Refusals.{TellsOther};
 ghost use Rattle.command_line.specs.Command.{program_in};
@@ -9,13 +9,16 @@ ghost use Rattle.command_line.specs.declared.orders.Action.TheVariants.{Run};
 ghost use Rattle.sources.specs.Programs.{texts_of};
 ghost use Rattle.commands.specs.Map.{map_if};
 ghost use Rattle.commands.specs.Refusing.{RefusesTexts, TellsUnwritten};
-ghost use Rattle.commands.specs.Running.{PrintsMachine, PrintsTexts, StopsBuilt, end_status};
+ghost use Rattle.commands.specs.Ends.{end_status};
+ghost use Rattle.commands.specs.Running.{PrintsAction, PrintsBuilt, PrintsTexts, StopsAction, StopsBuilt};
+ghost use Rattle.commands.specs.Watching.{watched_status};
 
 use crate::port_inputs::quiet_of;
 use crate::port_outputs::put_outputs;
 use crate::programs::loading::{script_of, start_memory};
 use crate::programs::map::print_map;
 use crate::programs::refusals::refuse_sources;
+use crate::watching::{print_watched, watches};
 use command_line::{ProgramOrder, Settings};
 use cpu8080::{DecodeTable, End};
 use failure::{Failure, WriteFault};
@@ -54,7 +57,7 @@ pub(crate) fn run_sources<O: Write, E: Write>(
 }
 
 // Runs an image on a memory as values start it, and prints what it does.
-#[tactic(auto, using(crate::proofs::Printed::machine_status, crate::proofs::Untold::memory_unwritten, crate::proofs::Untold::output_unwritten))]
+#[tactic(auto, using(crate::proofs::Printed::built_status, crate::proofs::Untold::memory_unwritten, crate::proofs::Untold::output_unwritten))]
 fn run_built<O: Write, E: Write>(
     alloc: Global,
     order: &ProgramOrder,
@@ -70,7 +73,7 @@ fn run_built<O: Write, E: Write>(
     ensures stopped { result ≡ Ending.Refused → StopsBuilt Run (map_if order.now.map built.now)
         (values_in settings.now) built.now (O.contents out.old) (O.contents out.new) }
     ensures quiet { (result ≡ Ending.Refused → ⊥) → E.contents err.new ≡ E.contents err.old }
-    ensures ran { (result ≡ Ending.Refused → ⊥) → PrintsMachine (map_if order.now.map built.now)
+    ensures ran { (result ≡ Ending.Refused → ⊥) → PrintsBuilt Run (map_if order.now.map built.now)
         (values_in settings.now) built.now (status_of result)
         (map (λ output. output.items) outputs.new.items) (O.contents out.old) (O.contents out.new) }
 {
@@ -83,7 +86,7 @@ fn run_built<O: Write, E: Write>(
 
 // Prints the map of a program, where one is wanted, and then what its image does. After a failure a beginning of that was
 // printed.
-#[tactic(auto, using(crate::proofs::Printed::machine_with_map, crate::proofs::Printed::machine_alone, crate::proofs::Printed::map_stops, crate::proofs::Printed::stops_with_map, crate::proofs::Printed::stops_alone))]
+#[tactic(auto, using(crate::proofs::Printed::with_map, crate::proofs::Printed::alone, crate::proofs::Printed::map_stops, crate::proofs::Printed::stops_with_map, crate::proofs::Printed::stops_alone))]
 fn print_built<O: Write>(
     alloc: Global,
     with_map: bool,
@@ -91,10 +94,10 @@ fn print_built<O: Write>(
     built: &Built,
     outputs: &mut Vec<Vec<u8>>,
     out: &mut O,
-) -> Result<End, Failure<WriteFault>>
-    ensures ok { IfOk result (λ end. PrintsMachine
+) -> Result<Option<End>, Failure<WriteFault>>
+    ensures ok { IfOk result (λ end. PrintsBuilt Run
         (map_if with_map built.now) (values_in settings.now) built.now
-        (end_status end) (map (λ output. output.items) outputs.new.items)
+        (watched_status end) (map (λ output. output.items) outputs.new.items)
         (O.contents out.old) (O.contents out.new)) }
     ensures err { OnErr result (StopsBuilt Run (map_if with_map built.now) (values_in settings.now) built.now
         (O.contents out.old) (O.contents out.new)) }
@@ -106,20 +109,44 @@ fn print_built<O: Write>(
     Ok(end)
 }
 
-// Prints what an image does on a memory as values start it, and gathers the bytes for the files of ports. After a failure a
+// Prints what an image does on a memory as values start it, which is watched where they say so, and gathers the bytes for the
+// files of ports. The answer is how it ended, or None where it came to a read of a port past its input. After a failure a
 // beginning of that was printed.
-#[tactic(auto, using(crate::proofs::Printed::prints_machine, crate::proofs::Printed::nothing_stops, crate::proofs::Printed::stops_whole))]
+#[tactic(auto, using(crate::proofs::Watched::prints_plain, crate::proofs::Watched::stops_plain, crate::proofs::Watched::prints_watched, crate::proofs::Watched::stops_watched, crate::proofs::Watched::runs_image, crate::proofs::Watched::image_stopped))]
 fn print_image<O: Write>(
     alloc: Global,
     settings: &Settings,
     built: &Built,
     outputs: &mut Vec<Vec<u8>>,
     out: &mut O,
-) -> Result<End, Failure<WriteFault>>
-    ensures ok { IfOk result (λ end. PrintsMachine [] (values_in settings.now) built.now
-        (end_status end) (map (λ output. output.items) outputs.new.items)
+) -> Result<Option<End>, Failure<WriteFault>>
+    ensures ok { IfOk result (λ end. PrintsBuilt Run [] (values_in settings.now) built.now
+        (watched_status end) (map (λ output. output.items) outputs.new.items)
         (O.contents out.old) (O.contents out.new)) }
     ensures err { OnErr result (StopsBuilt Run [] (values_in settings.now) built.now
+        (O.contents out.old) (O.contents out.new)) }
+{
+    if watches(settings) {
+        let end = print_watched(alloc, built.image(), settings, outputs, out)?;
+        return Ok(end);
+    }
+    let end = print_plain(alloc, settings, built, outputs, out)?;
+    Ok(Some(end))
+}
+
+// The same of an image that is not watched.
+#[tactic(auto, using(crate::proofs::Printed::prints_machine, crate::proofs::Printed::nothing_stops, crate::proofs::Printed::stops_whole))]
+fn print_plain<O: Write>(
+    alloc: Global,
+    settings: &Settings,
+    built: &Built,
+    outputs: &mut Vec<Vec<u8>>,
+    out: &mut O,
+) -> Result<End, Failure<WriteFault>>
+    ensures ok { IfOk result (λ end. PrintsAction Run false [] (values_in settings.now) built.now
+        (end_status end) (map (λ output. output.items) outputs.new.items)
+        (O.contents out.old) (O.contents out.new)) }
+    ensures err { OnErr result (StopsAction Run false [] (values_in settings.now) built.now
         (O.contents out.old) (O.contents out.new)) }
 {
     let Ok(memory) = start_memory(alloc, settings) else {
@@ -150,14 +177,14 @@ fn print_image<O: Write>(
 }
 
 /// How a command ends whose run ended so.
-pub(crate) fn ending_of(end: End) -> Ending
+pub(crate) fn ending_of(end: Option<End>) -> Ending
     ensures refused { result ≡ Ending.Refused → ⊥ }
     ensures not_wrong { result ≡ Ending.WrongLine → ⊥ }
-    ensures status { status_of result ≡ end_status end }
+    ensures status { status_of result ≡ watched_status end }
 {
     match end {
-        End::Halted => Ending::Done,
-        End::Illegal | End::PortFault => Ending::Stopped,
-        End::Limit => Ending::Limit,
+        Some(End::Halted) => Ending::Done,
+        Some(End::Illegal) | Some(End::PortFault) => Ending::Stopped,
+        Some(End::Limit) | None => Ending::Limit,
     }
 }

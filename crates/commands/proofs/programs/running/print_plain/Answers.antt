@@ -1,5 +1,5 @@
 use Rattle.commands.proofs.{Prelude.{◌∙◌, on_err, values_in}, Printed.{begins_machine, stops_whole}}
-use Rattle.commands.proofs.programs.running.print_image.Goals as goal
+use Rattle.commands.proofs.programs.running.print_plain.Goals as goal
 
 pub returns-in_err-end-clause-err : goal.returns-in_err-end-clause-err
 returns-in_err-end-clause-err g c =

@@ -1,5 +1,5 @@
 use Rattle.commands.proofs.{Prelude.{◌∙◌, values_in}, Executed.{image_whole}}
-use Rattle.commands.proofs.executing.print_placed.Goals as goal
+use Rattle.commands.proofs.executing.print_plain.Goals as goal
 
 pub returns-in_default-put_outputs-clause-err : goal.returns-in_default-put_outputs-clause-err
 returns-in_default-put_outputs-clause-err g c =

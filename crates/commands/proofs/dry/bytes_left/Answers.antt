@@ -1,0 +1,9 @@
+use Rattle.std.proofs.Common.{arith}
+use Rattle.std.proofs.lemmas.Grind.{common_steps}
+use Rattle.commands.proofs.PortReads.{room}
+use Rattle.commands.proofs.dry.bytes_left.Goals as goal
+
+pub overflow_add-left : goal.overflow_add-left
+overflow_add-left c =
+    let fits = room c.args.input.now c.loop-rest.rest.now (record { port = 0; byte = 0 }) c.loop-rest.left c.in-len1-up.len_at_least c.loop-rest.invariant in
+    grind (arith, common_steps, fits)
