@@ -1,14 +1,12 @@
 -- Runs with files of ports, or without.
-use Rattle.commands.proofs.Prelude.{◌≡◌, ◌⊎◌, ℕ, ◌==◌, Bool, Event, true, false, List, [], ◌∷◌, ◌++◌, length, arith, Bor, Option, None, Some, Ok, inl, inr, refl, sym, ap, subst, ◌∙◌, Directory, KeepsFiles, status_of, TellsRefusal, TellsOther, Ending, Refused, WrongLine, texts, ProgramWanted, Values, values_read, PrintsFiles, PrintsProgram, stays, tells_no_file, Action, ToRun, Interpret, Construction, map_if}
+use Rattle.commands.proofs.Prelude.{◌≡◌, ◌⊎◌, ℕ, ◌==◌, true, false, List, [], ◌∷◌, ◌++◌, length, arith, Bor, Option, None, Some, Ok, inl, inr, refl, sym, ap, subst, ◌∙◌, Directory, KeepsFiles, status_of, TellsRefusal, TellsOther, Ending, Refused, WrongLine, texts, ProgramWanted, Values, values_read, PrintsFiles, PrintsProgram, stays, tells_no_file, Action, ToRun, Interpret, Construction, map_if}
 use Rattle.std.proofs.lemmas.Bool.Decides.{nat_tests}
 use Rattle.command_line.specs.Command.{ExecuteWanted}
 use Rattle.command_line.specs.Settings.{NamedPort, execute_read, file_names, outputs_in}
 use Rattle.commands.specs.Converting.{TellsOutput}
-use Rattle.commands.specs.OutputFiles.{ByOutputs, ChangesOutputs, Delivers, DeliversRun, KeepsAllBut, Shows, dash_bytes, outputs_for, outputs_of}
-use Rattle.locate.specs.Locating.{Absolute}
-use Rattle.commands.specs.Executing.{PrintsExecution, PrintsImageRun, PrintsMerge}
-use Rattle.commands.specs.Running.{PrintsAction, PrintsBuilt}
-use Rattle.commands.specs.Watching.{is_watched}
+use Rattle.commands.specs.OutputFiles.{ByOutputs, ChangesOutputs, Delivers, DeliversRun, KeepsAllBut, Shows, dash_bytes, outputs_for}
+use Rattle.commands.specs.Executing.{PrintsExecution, PrintsMerge}
+use Rattle.commands.specs.Running.{PrintsBuilt}
 use Rattle.commands.proofs.OutputFiles.{but_then, kept_then_outputs}
 pub use Rattle.commands.proofs.OutputFiles.{kept_but}
 
@@ -58,24 +56,11 @@ no_files (file ∷ files) none = cc
 no_outputs : (texts : List (List ℕ)) (files : List NamedPort) → texts ≡ [] → file_names files ≡ outputs_in texts → files ≡ []
 no_outputs texts files none named = no_files files (named ∙ ap outputs_in none)
 
-none_gathered : (values : Values) (events : List Event) (outputs : List (List ℕ)) → values.output_files ≡ [] → outputs ≡ outputs_of values events → outputs ≡ []
-none_gathered values events outputs none gathered = gathered ∙ ap (λ (files : List NamedPort). outputs_for files events) none
-
-none_acted : (action : Action) (watched : Bool) (before : List ℕ) (values : Values) (built : Construction) (status : ℕ) (outputs : List (List ℕ)) (old new : Option (List ℕ)) → values.output_files ≡ []
-    → PrintsAction action watched before values built status outputs old new → outputs ≡ []
-none_acted ToRun false before values built status outputs old new none printed = none_gathered values printed.machine.state.events outputs none printed.gathered
-none_acted ToRun true before values built status outputs old new none printed = none_gathered values printed.events outputs none printed.printed.gathered
-none_acted Interpret false before values built status outputs old new none printed = none_gathered values printed.events outputs none printed.gathered
-none_acted Interpret true before values built status outputs old new none printed = none_gathered values printed.events outputs none printed.printed.gathered
-
 none_built : (action : Action) (before : List ℕ) (values : Values) (built : Construction) (status : ℕ) (outputs : List (List ℕ)) (old new : Option (List ℕ)) → values.output_files ≡ []
     → PrintsBuilt action before values built status outputs old new → outputs ≡ []
-none_built action before values built status outputs old new none printed = none_acted action (is_watched values) before values built status outputs old new none printed
-
-none_placed : (watched : Bool) (values : Values) (image : Absolute) (status : ℕ) (outputs : List (List ℕ)) (old new : Option (List ℕ)) → values.output_files ≡ []
-    → PrintsImageRun watched values image status outputs old new → outputs ≡ []
-none_placed false values image status outputs old new none printed = none_gathered values printed.machine.state.events outputs none printed.gathered
-none_placed true values image status outputs old new none printed = none_gathered values printed.events outputs none printed.printed.gathered
+none_built ToRun before values built status outputs old new none printed =
+    printed.gathered ∙ ap (λ (files : List NamedPort). outputs_for files printed.events) none
+none_built Interpret before values built status outputs old new none printed = printed.gathered ∙ ap (λ (files : List NamedPort). outputs_for files printed.events) none
 
 pub plain_program : (wanted : ProgramWanted) (values : Values) (files : Option Directory) (status : ℕ) (outputs : List (List ℕ)) (old new : Option (List ℕ)) → wanted.output_files ≡ []
     → file_names values.output_files ≡ outputs_in wanted.output_files → values_read wanted ≡ Ok values → PrintsFiles wanted values files status outputs old new
@@ -95,7 +80,8 @@ plain_execution wanted values files status outputs old new none named written pr
     let read = printed.printed in
     let same : read.full.output_files ≡ values.output_files = ap (λ (v : Values). v.output_files) read.input.full_is in
     let empty : outputs ≡ [] =
-    none_placed (is_watched read.full) read.full printed.image status outputs old new (same ∙ no_outputs wanted.output_files values.output_files none named) read.printed in
+    read.printed.gathered
+    ∙ ap (λ (held : List NamedPort). outputs_for held read.printed.events) (same ∙ no_outputs wanted.output_files values.output_files none named) in
     record { values = values; written = written; printed = subst (λ (l : List (List ℕ)). PrintsMerge wanted values files status l old new) empty printed }
 
 -- what was told where a run that was kept was not delivered

@@ -16,11 +16,11 @@ pub mod Delivered
 pub mod Names
 pub mod Refused
 pub mod Printed
+pub mod Reports
 pub mod PortReads
-pub mod Scripts
 pub mod Steps
-pub mod Budgets
-pub mod Watched
+pub mod ImageRuns
+pub mod SourceRuns
 pub mod Untold
 pub mod Executed
 pub mod Explained

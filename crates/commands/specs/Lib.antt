@@ -25,7 +25,7 @@ pub mod RefusedRuns
 pub mod Map
 pub mod Starting
 pub mod Ends
-pub mod Watching
+pub mod Steps
 pub mod Running
 pub mod ProgramFaults
 pub mod Refusing

@@ -3,9 +3,9 @@
 
 mod console;
 mod converting;
-mod dry;
 mod executing;
 mod explaining;
+mod image_runs;
 mod including;
 mod input_ports;
 mod needing;
@@ -15,6 +15,6 @@ mod port_outputs;
 mod printed_needs;
 mod programs;
 mod refusals;
-mod watching;
+mod reports;
 
 pub use console::run_command;

@@ -1,5 +1,6 @@
 mod Prelude
 pub mod MainModules
+pub mod Budgets
 pub mod Runs
 pub mod Written
 pub mod Loops

@@ -1,35 +1,35 @@
 //! Programs that are interpreted.
 
-ghost use Rattle.std.specs.Prelude.{◌≡◌, [], false, IfOk, OnErr, map, option_map};
+ghost use Rattle.std.specs.Prelude.{◌≡◌, [], IfOk, IfSome, None, OnErr, false, map, option_map, true};
 ghost use Rattle.host.specs.Endings.{status_of};
 ghost use Rattle.host.specs.Refusals.{TellsOther};
 ghost use Rattle.command_line.specs.Command.{program_in};
 ghost use Rattle.command_line.specs.Settings.{values_in};
 ghost use Rattle.command_line.specs.declared.orders.Action.TheVariants.{Interpret};
 ghost use Rattle.sources.specs.Programs.{texts_of};
-ghost use Rattle.stack_machine.specs.Runs.{stop_of};
+ghost use Rattle.interpreter.specs.Runs.{stop_of};
 ghost use Rattle.tool.specs.Execution.{source_of};
+ghost use Rattle.commands.specs.Ends.{GivesInput, source_status, source_word};
 ghost use Rattle.commands.specs.Map.{map_if};
 ghost use Rattle.commands.specs.Refusing.{RefusesTexts, TellsUnwritten};
-ghost use Rattle.commands.specs.Running.{PrintsBuilt, PrintsTexts, StopsAction, PrintsAction, StopsBuilt};
-ghost use Rattle.commands.specs.Watching.{watched_source_status};
-ghost use Rattle.commands.specs.Ends.{DoesAs, source_status, source_word};
+ghost use Rattle.commands.specs.Running.{PrintsBuilt, PrintsTexts, StopsBuilt};
+ghost use Rattle.commands.specs.Starting.{IsStart};
+ghost use Rattle.commands.specs.Steps.{IsWithinInput};
+ghost use Rattle.commands.specs.internal.InputPorts.{IsPast};
+ghost use Rattle.commands.specs.internal.SourceRuns.{RunsSource};
 
-use crate::port_inputs::quiet_of;
-use crate::port_outputs::put_outputs;
+use crate::input_ports::InputPorts;
 use crate::programs::loading::{script_of, start_memory};
 use crate::programs::map::print_map;
 use crate::programs::refusals::refuse_sources;
-use crate::programs::watched::print_watched_meaning;
-use crate::watching::watches;
+use crate::reports::print_report;
 use command_line::{ProgramOrder, Settings};
 use failure::{Failure, WriteFault};
 use host::{Ending, refuse_memory, refuse_output};
 use interpreter::{RunFault, SourceEnd, interpret};
 use meaning::Reason;
 use mem80::Memory;
-use ports::Ports;
-use printing::report;
+use ports::{Ports, Script};
 use std::alloc::Global;
 use std::io::Write;
 use tool::{Built, Source, build};
@@ -104,7 +104,7 @@ fn print_program<O: Write>(
 ) -> Result<Option<Option<SourceEnd>>, Failure<WriteFault>>
     ensures ok { IfOk result (λ end. PrintsBuilt Interpret
         (map_if with_map built.now) (values_in settings.now) built.now
-        (watched_source_status (option_map (option_map stop_of) end)) (map (λ output. output.items) outputs.new.items)
+        (source_status (option_map (option_map stop_of) end)) (map (λ output. output.items) outputs.new.items)
         (O.contents out.old) (O.contents out.new)) }
     ensures err { OnErr result (StopsBuilt Interpret
         (map_if with_map built.now) (values_in settings.now) built.now
@@ -117,10 +117,9 @@ fn print_program<O: Write>(
     Ok(end)
 }
 
-// Prints what a program does from a memory as values start it, which is watched where they say so, and gathers the bytes for
-// the files of ports. The answer is how it ended, or None where it came to a read of a port past its input. After a failure a
-// beginning of that was printed.
-#[tactic(auto, using(crate::proofs::Watched::prints_plain, crate::proofs::Watched::stops_plain, crate::proofs::Watched::prints_watched, crate::proofs::Watched::stops_watched))]
+// Prints what a program did from a memory as values start it, and gathers the bytes for the files of ports. The answer is how
+// it ended, or None where it came to a read of a port past its input. After a failure a beginning of that was printed.
+#[tactic(auto, using(crate::proofs::Printed::nothing_stops))]
 fn print_meaning<O: Write>(
     alloc: Global,
     settings: &Settings,
@@ -129,92 +128,165 @@ fn print_meaning<O: Write>(
     out: &mut O,
 ) -> Result<Option<Option<SourceEnd>>, Failure<WriteFault>>
     ensures ok { IfOk result (λ end. PrintsBuilt Interpret [] (values_in settings.now) built.now
-        (watched_source_status (option_map (option_map stop_of) end)) (map (λ output. output.items) outputs.new.items)
+        (source_status (option_map (option_map stop_of) end)) (map (λ output. output.items) outputs.new.items)
         (O.contents out.old) (O.contents out.new)) }
     ensures err { OnErr result (StopsBuilt Interpret [] (values_in settings.now) built.now
-        (O.contents out.old) (O.contents out.new)) }
-{
-    if watches(settings) {
-        let end = print_watched_meaning(alloc, settings, built, outputs, out)?;
-        return Ok(end);
-    }
-    let end = print_plain(alloc, settings, built, outputs, out)?;
-    Ok(Some(end))
-}
-
-// The same of a program that is not watched.
-#[tactic(auto, using(crate::proofs::Printed::prints_meaning, crate::proofs::Printed::nothing_stops))]
-fn print_plain<O: Write>(
-    alloc: Global,
-    settings: &Settings,
-    built: &Built,
-    outputs: &mut Vec<Vec<u8>>,
-    out: &mut O,
-) -> Result<Option<SourceEnd>, Failure<WriteFault>>
-    ensures ok { IfOk result (λ end. PrintsAction Interpret false [] (values_in settings.now) built.now
-        (source_status (option_map stop_of end)) (map (λ output. output.items) outputs.new.items)
-        (O.contents out.old) (O.contents out.new)) }
-    ensures err { OnErr result (StopsAction Interpret false [] (values_in settings.now) built.now
         (O.contents out.old) (O.contents out.new)) }
 {
     let Ok(memory) = start_memory(alloc, settings) else {
         return Err(Failure::Memory);
     };
-    let Ok(mut script) = script_of(alloc, settings.input.as_slice()) else {
+    let Ok(script) = script_of(alloc, settings.input.as_slice()) else {
         return Err(Failure::Memory);
     };
-    let Ok(quiet) = quiet_of(alloc, settings) else {
-        return Err(Failure::Memory);
-    };
-    let end = interpret_built(alloc, settings.limit, built, memory, &mut script)?;
-    let Ok(()) = put_outputs(alloc, settings, script.events(), outputs) else {
-        return Err(Failure::Memory);
-    };
-    report(script.events(), quiet.as_slice(), word_of(end), out)?;
+    if settings.watch.until_dry {
+        print_until_dry(alloc, settings, built, memory, script, outputs, out)
+    } else {
+        print_to_end(alloc, settings, built, memory, script, outputs, out)
+    }
+}
+
+// The same of a program that is to end before it reads a port past its input.
+#[tactic(auto, using(crate::proofs::SourceRuns::dry_printed, crate::proofs::SourceRuns::dry_begun, crate::proofs::Printed::nothing_stops))]
+fn print_until_dry<O: Write>(
+    alloc: Global,
+    settings: &Settings,
+    built: &Built,
+    memory: Memory,
+    script: Script,
+    outputs: &mut Vec<Vec<u8>>,
+    out: &mut O,
+) -> Result<Option<Option<SourceEnd>>, Failure<WriteFault>>
+    requires start { IsStart (values_in settings.now) memory }
+    requires gives { GivesInput (values_in settings.now).input script.script }
+    requires none { script.events ≡ [] }
+    requires unfailed { script.failures ≡ 0 }
+    requires until_dry { settings.now.watch.until_dry ≡ true }
+    ensures ok { IfOk result (λ end. PrintsBuilt Interpret [] (values_in settings.now) built.now
+        (source_status (option_map (option_map stop_of) end)) (map (λ output. output.items) outputs.new.items)
+        (O.contents out.old) (O.contents out.new)) }
+    ensures err { OnErr result (StopsBuilt Interpret [] (values_in settings.now) built.now
+        (O.contents out.old) (O.contents out.new)) }
+{
+    let mut ports = InputPorts::new(script, settings.input.as_slice());
+    let run = interpret_built(alloc, settings.limit, built, memory, &mut ports)?;
+    let end = dry_end(run, &ports);
+    let events = ports.events();
+    print_report(alloc, settings, events, run.used, word_of(end), outputs, out)?;
     Ok(end)
 }
 
-/// Interprets a program that was built, with so much budget. The answer has no end where a port failed.
+// The same of a program that may read past its input.
+#[tactic(auto, using(crate::proofs::SourceRuns::end_printed, crate::proofs::SourceRuns::end_begun, crate::proofs::Printed::nothing_stops))]
+fn print_to_end<O: Write>(
+    alloc: Global,
+    settings: &Settings,
+    built: &Built,
+    memory: Memory,
+    script: Script,
+    outputs: &mut Vec<Vec<u8>>,
+    out: &mut O,
+) -> Result<Option<Option<SourceEnd>>, Failure<WriteFault>>
+    requires start { IsStart (values_in settings.now) memory }
+    requires gives { GivesInput (values_in settings.now).input script.script }
+    requires none { script.events ≡ [] }
+    requires unfailed { script.failures ≡ 0 }
+    requires to_end { settings.now.watch.until_dry ≡ false }
+    ensures ok { IfOk result (λ end. PrintsBuilt Interpret [] (values_in settings.now) built.now
+        (source_status (option_map (option_map stop_of) end)) (map (λ output. output.items) outputs.new.items)
+        (O.contents out.old) (O.contents out.new)) }
+    ensures err { OnErr result (StopsBuilt Interpret [] (values_in settings.now) built.now
+        (O.contents out.old) (O.contents out.new)) }
+{
+    let mut script = script;
+    let run = interpret_built(alloc, settings.limit, built, memory, &mut script)?;
+    let end = Some(run.end);
+    let events = script.events();
+    print_report(alloc, settings, events, run.used, word_of(end), outputs, out)?;
+    Ok(end)
+}
+
+// How a run of a source stopped, where no port failed; which port was to be read, where a read failed; and how much of the
+// budget was used.
+#[derive(Clone, Copy)]
+struct SourceRun {
+    end: Option<SourceEnd>,
+    read: Option<u8>,
+    used: u64,
+}
+
+// How a run ended, or None where it came to a read of a port past its input.
+fn dry_end(run: SourceRun, ports: &InputPorts) -> Option<Option<SourceEnd>>
+    ensures within { IsWithinInput ports.now.script ports.now.events }
+    ensures same { IfSome (option_map (option_map stop_of) result) (λ end. end ≡ option_map stop_of run.end) }
+    ensures dry { option_map (option_map stop_of) result ≡ None →
+        IsPast run.read ports.now.script ports.now.events }
+{
+    if ports.is_past(run.read) {
+        None
+    } else {
+        Some(run.end)
+    }
+}
+
+// Interprets a program that was built, with so much budget.
 #[tactic(auto, using(crate::proofs::Interpreted::are_sound))]
-pub(crate) fn interpret_built<P: Ports>(
+fn interpret_built<P: Ports>(
     alloc: Global,
     budget: u64,
     built: &Built,
     memory: Memory,
     ports: &mut P,
-) -> Result<Option<SourceEnd>, Failure<WriteFault>>
-    ensures does { IfOk result (λ end. DoesAs
-        (source_of built.now memory (P.script ports.old) (P.events ports.old) budget)
-        (option_map stop_of end) (P.events ports.new)) }
+) -> Result<SourceRun, Failure<WriteFault>>
+    ensures does { IfOk result (λ run. RunsSource
+        (source_of built.now memory (P.script ports.old) (P.events ports.old)) budget
+        (option_map stop_of run.end) run.read (P.events ports.new) run.used) }
     ensures script { P.script ports.new ≡ P.script ports.old }
 {
-    match interpret(
+    let mut left = budget;
+    let result = interpret(
         alloc,
         built.program(),
         built.placement(),
         built.plan().stack_size,
         memory,
         ports,
-        budget,
-    ) {
-        Ok(end) => Ok(Some(end)),
-        Err(RunFault::Port) => Ok(None),
+        &mut left,
+    );
+    let used = budget.saturating_sub(left);
+    match result {
+        Ok(end) => Ok(SourceRun {
+            end: Some(end),
+            read: None,
+            used,
+        }),
+        Err(RunFault::Input(port)) => Ok(SourceRun {
+            end: None,
+            read: Some(port),
+            used,
+        }),
+        Err(RunFault::Output(_)) => Ok(SourceRun {
+            end: None,
+            read: None,
+            used,
+        }),
         Err(RunFault::Memory) => Err(Failure::Memory),
     }
 }
 
-/// The words that a run ends with.
-pub(crate) fn word_of(end: Option<SourceEnd>) -> &'static str
-    ensures { result.now ≡ source_word (option_map stop_of end) }
+// The last word of a run.
+fn word_of(end: Option<Option<SourceEnd>>) -> &'static str
+    ensures { result.now ≡ source_word (option_map (option_map stop_of) end) }
 {
     match end {
-        Some(SourceEnd::Ended) => "HALT",
-        Some(SourceEnd::More) => "LIMIT",
-        Some(SourceEnd::Outside(Reason::Divide)) => "OUTSIDE DIVIDE",
-        Some(SourceEnd::Outside(Reason::Byte)) => "OUTSIDE BYTE",
-        Some(SourceEnd::Outside(Reason::Constant)) => "OUTSIDE CONSTANT",
-        Some(SourceEnd::Outside(Reason::Stack)) => "OUTSIDE STACK",
-        None => "PORT",
+        Some(Some(SourceEnd::Ended)) => "HALT",
+        Some(Some(SourceEnd::More)) => "LIMIT",
+        Some(Some(SourceEnd::Outside(Reason::Divide))) => "OUTSIDE DIVIDE",
+        Some(Some(SourceEnd::Outside(Reason::Byte))) => "OUTSIDE BYTE",
+        Some(Some(SourceEnd::Outside(Reason::Constant))) => "OUTSIDE CONSTANT",
+        Some(Some(SourceEnd::Outside(Reason::Stack))) => "OUTSIDE STACK",
+        Some(None) => "PORT",
+        None => "DRY",
     }
 }
 
@@ -222,7 +294,7 @@ pub(crate) fn word_of(end: Option<SourceEnd>) -> &'static str
 fn ending_of(end: Option<Option<SourceEnd>>) -> Ending
     ensures refused { result ≡ Ending.Refused → ⊥ }
     ensures not_wrong { result ≡ Ending.WrongLine → ⊥ }
-    ensures status { status_of result ≡ watched_source_status (option_map (option_map stop_of) end) }
+    ensures status { status_of result ≡ source_status (option_map (option_map stop_of) end) }
 {
     match end {
         Some(Some(SourceEnd::Ended)) => Ending::Done,

@@ -9,11 +9,9 @@ mod loading;
 mod map;
 mod refusals;
 mod running;
-mod watched;
 
 pub use carrying::carry_out_sources;
 pub use compiling::compile_file;
 pub use delivering::carry_out_to_files;
 pub use loading::sources_of;
 pub(crate) use loading::{script_of, start_memory};
-pub(crate) use running::ending_of;

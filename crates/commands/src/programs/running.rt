@@ -1,6 +1,6 @@
 //! Runs of programs on the 8080.
 
-ghost use Rattle.std.specs.Prelude.{◌≡◌, [], false, IfOk, OnErr, map};
+ghost use Rattle.std.specs.Prelude.{◌≡◌, [], IfOk, OnErr, map};
 ghost use Rattle.host.specs.Endings.{status_of};
 ghost use Rattle.host.specs.Refusals.{TellsOther};
 ghost use Rattle.command_line.specs.Command.{program_in};
@@ -9,23 +9,19 @@ ghost use Rattle.command_line.specs.declared.orders.Action.TheVariants.{Run};
 ghost use Rattle.sources.specs.Programs.{texts_of};
 ghost use Rattle.commands.specs.Map.{map_if};
 ghost use Rattle.commands.specs.Refusing.{RefusesTexts, TellsUnwritten};
-ghost use Rattle.commands.specs.Ends.{end_status};
-ghost use Rattle.commands.specs.Running.{PrintsAction, PrintsBuilt, PrintsTexts, StopsAction, StopsBuilt};
-ghost use Rattle.commands.specs.Watching.{watched_status};
+ghost use Rattle.commands.specs.Ends.{machine_status};
+ghost use Rattle.commands.specs.Running.{PrintsBuilt, PrintsTexts, StopsBuilt};
 
-use crate::port_inputs::quiet_of;
-use crate::port_outputs::put_outputs;
-use crate::programs::loading::{script_of, start_memory};
+use crate::image_runs::{ending_of, print_image};
 use crate::programs::map::print_map;
 use crate::programs::refusals::refuse_sources;
-use crate::watching::{print_watched, watches};
 use command_line::{ProgramOrder, Settings};
-use cpu8080::{DecodeTable, End};
+use cpu8080::End;
 use failure::{Failure, WriteFault};
 use host::{Ending, refuse_memory, refuse_output};
 use std::alloc::Global;
 use std::io::Write;
-use tool::{Built, Source, build, print_run};
+use tool::{Built, Source, build};
 
 /// Builds the program of sources, and runs its image on a memory as values start it.
 #[tactic(auto, using(crate::proofs::Untold::tells_memory))]
@@ -97,7 +93,7 @@ fn print_built<O: Write>(
 ) -> Result<Option<End>, Failure<WriteFault>>
     ensures ok { IfOk result (λ end. PrintsBuilt Run
         (map_if with_map built.now) (values_in settings.now) built.now
-        (watched_status end) (map (λ output. output.items) outputs.new.items)
+        (machine_status end) (map (λ output. output.items) outputs.new.items)
         (O.contents out.old) (O.contents out.new)) }
     ensures err { OnErr result (StopsBuilt Run (map_if with_map built.now) (values_in settings.now) built.now
         (O.contents out.old) (O.contents out.new)) }
@@ -105,15 +101,14 @@ fn print_built<O: Write>(
     if with_map {
         print_map(alloc, built, out)?;
     }
-    let end = print_image(alloc, settings, built, outputs, out)?;
+    let end = print_program(alloc, settings, built, outputs, out)?;
     Ok(end)
 }
 
-// Prints what an image does on a memory as values start it, which is watched where they say so, and gathers the bytes for the
-// files of ports. The answer is how it ended, or None where it came to a read of a port past its input. After a failure a
-// beginning of that was printed.
-#[tactic(auto, using(crate::proofs::Watched::prints_plain, crate::proofs::Watched::stops_plain, crate::proofs::Watched::prints_watched, crate::proofs::Watched::stops_watched, crate::proofs::Watched::runs_image, crate::proofs::Watched::image_stopped))]
-fn print_image<O: Write>(
+// Prints what the image of a program does, and gathers the bytes for the files of ports. After a failure a beginning of that
+// was printed.
+#[tactic(auto, using(crate::proofs::Printed::runs_image, crate::proofs::Printed::image_stopped))]
+fn print_program<O: Write>(
     alloc: Global,
     settings: &Settings,
     built: &Built,
@@ -121,70 +116,11 @@ fn print_image<O: Write>(
     out: &mut O,
 ) -> Result<Option<End>, Failure<WriteFault>>
     ensures ok { IfOk result (λ end. PrintsBuilt Run [] (values_in settings.now) built.now
-        (watched_status end) (map (λ output. output.items) outputs.new.items)
+        (machine_status end) (map (λ output. output.items) outputs.new.items)
         (O.contents out.old) (O.contents out.new)) }
     ensures err { OnErr result (StopsBuilt Run [] (values_in settings.now) built.now
         (O.contents out.old) (O.contents out.new)) }
 {
-    if watches(settings) {
-        let end = print_watched(alloc, built.image(), settings, outputs, out)?;
-        return Ok(end);
-    }
-    let end = print_plain(alloc, settings, built, outputs, out)?;
-    Ok(Some(end))
-}
-
-// The same of an image that is not watched.
-#[tactic(auto, using(crate::proofs::Printed::prints_machine, crate::proofs::Printed::nothing_stops, crate::proofs::Printed::stops_whole))]
-fn print_plain<O: Write>(
-    alloc: Global,
-    settings: &Settings,
-    built: &Built,
-    outputs: &mut Vec<Vec<u8>>,
-    out: &mut O,
-) -> Result<End, Failure<WriteFault>>
-    ensures ok { IfOk result (λ end. PrintsAction Run false [] (values_in settings.now) built.now
-        (end_status end) (map (λ output. output.items) outputs.new.items)
-        (O.contents out.old) (O.contents out.new)) }
-    ensures err { OnErr result (StopsAction Run false [] (values_in settings.now) built.now
-        (O.contents out.old) (O.contents out.new)) }
-{
-    let Ok(memory) = start_memory(alloc, settings) else {
-        return Err(Failure::Memory);
-    };
-    let Ok(script) = script_of(alloc, settings.input.as_slice()) else {
-        return Err(Failure::Memory);
-    };
-    let Ok(quiet) = quiet_of(alloc, settings) else {
-        return Err(Failure::Memory);
-    };
-    let Ok(table) = DecodeTable::new(alloc) else {
-        return Err(Failure::Memory);
-    };
-    let (end, machine) = print_run(
-        built,
-        memory,
-        script,
-        Some(table),
-        settings.limit,
-        quiet.as_slice(),
-        out,
-    )?;
-    let Ok(()) = put_outputs(alloc, settings, machine.ports().events(), outputs) else {
-        return Err(Failure::Memory);
-    };
+    let end = print_image(alloc, built.image(), settings, outputs, out)?;
     Ok(end)
-}
-
-/// How a command ends whose run ended so.
-pub(crate) fn ending_of(end: Option<End>) -> Ending
-    ensures refused { result ≡ Ending.Refused → ⊥ }
-    ensures not_wrong { result ≡ Ending.WrongLine → ⊥ }
-    ensures status { status_of result ≡ watched_status end }
-{
-    match end {
-        Some(End::Halted) => Ending::Done,
-        Some(End::Illegal) | Some(End::PortFault) => Ending::Stopped,
-        Some(End::Limit) | None => Ending::Limit,
-    }
 }

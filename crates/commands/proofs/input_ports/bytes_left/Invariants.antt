@@ -1,6 +1,6 @@
 use Rattle.std.proofs.Common.{length}
 use Rattle.commands.proofs.PortReads.{CountedSoFar}
-use Rattle.commands.proofs.dry.bytes_left.Given as goal
+use Rattle.commands.proofs.input_ports.bytes_left.Given as goal
 
 -- the bytes that were counted, and then those that are left to be counted, are all
 abbrev pub invariant-loop-rest : goal.invariant-loop-rest

@@ -1,7 +1,7 @@
 use Rattle.std.proofs.Common.{arith}
 use Rattle.std.proofs.lemmas.Grind.{common_steps}
 use Rattle.commands.proofs.PortReads.{room}
-use Rattle.commands.proofs.dry.bytes_left.Goals as goal
+use Rattle.commands.proofs.input_ports.bytes_left.Goals as goal
 
 pub overflow_add-left : goal.overflow_add-left
 overflow_add-left c =
