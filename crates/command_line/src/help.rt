@@ -303,7 +303,6 @@ Prints a line for each byte at a port, and then how the program ended:
 After OUTSIDE the language promises nothing more of the program.
 With --count a line before that last one says how much of the budget was used:
   STEPS n           in decimal
-It is found by further runs.
 
 With --map it first prints where each object lies, by its address and its number of bytes:
   MAP module name aaaa n

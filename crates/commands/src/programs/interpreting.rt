@@ -244,7 +244,7 @@ fn interpret_built<P: Ports>(
     ensures script { P.script ports.new ≡ P.script ports.old }
 {
     let mut left = budget;
-    let result = interpret(
+    match interpret(
         alloc,
         built.program(),
         built.placement(),
@@ -252,23 +252,21 @@ fn interpret_built<P: Ports>(
         memory,
         ports,
         &mut left,
-    );
-    let used = budget.saturating_sub(left);
-    match result {
+    ) {
         Ok(end) => Ok(SourceRun {
             end: Some(end),
             read: None,
-            used,
+            used: budget.saturating_sub(left),
         }),
         Err(RunFault::Input(port)) => Ok(SourceRun {
             end: None,
             read: Some(port),
-            used,
+            used: budget.saturating_sub(left),
         }),
         Err(RunFault::Output(_)) => Ok(SourceRun {
             end: None,
             read: None,
-            used,
+            used: budget.saturating_sub(left),
         }),
         Err(RunFault::Memory) => Err(Failure::Memory),
     }

@@ -1,6 +1,6 @@
 //! Runs of programs on the 8080.
 
-ghost use Rattle.std.specs.Prelude.{◌≡◌, [], IfOk, OnErr, map};
+ghost use Rattle.std.specs.Prelude.{◌≡◌, [], IfOk, OnErr, false, map};
 ghost use Rattle.host.specs.Endings.{status_of};
 ghost use Rattle.host.specs.Refusals.{TellsOther};
 ghost use Rattle.command_line.specs.Command.{program_in};
@@ -13,15 +13,18 @@ ghost use Rattle.commands.specs.Ends.{machine_status};
 ghost use Rattle.commands.specs.Running.{PrintsBuilt, PrintsTexts, StopsBuilt};
 
 use crate::image_runs::{ending_of, print_image};
+use crate::port_inputs::quiet_of;
+use crate::port_outputs::put_outputs;
+use crate::programs::loading::{script_of, start_memory};
 use crate::programs::map::print_map;
 use crate::programs::refusals::refuse_sources;
 use command_line::{ProgramOrder, Settings};
-use cpu8080::End;
+use cpu8080::{DecodeTable, End};
 use failure::{Failure, WriteFault};
 use host::{Ending, refuse_memory, refuse_output};
 use std::alloc::Global;
 use std::io::Write;
-use tool::{Built, Source, build};
+use tool::{Built, Source, build, print_run};
 
 /// Builds the program of sources, and runs its image on a memory as values start it.
 #[tactic(auto, using(crate::proofs::Untold::tells_memory))]
@@ -105,8 +108,9 @@ fn print_built<O: Write>(
     Ok(end)
 }
 
-// Prints what the image of a program does, and gathers the bytes for the files of ports. After a failure a beginning of that
-// was printed.
+// Prints what the image of a program does on a memory as values start it, and gathers the bytes for the files of ports. The
+// answer is how it ended, or None where it came to a read of a port past its input. After a failure a beginning of that was
+// printed.
 #[tactic(auto, using(crate::proofs::Printed::runs_image, crate::proofs::Printed::image_stopped))]
 fn print_program<O: Write>(
     alloc: Global,
@@ -121,6 +125,53 @@ fn print_program<O: Write>(
     ensures err { OnErr result (StopsBuilt Run [] (values_in settings.now) built.now
         (O.contents out.old) (O.contents out.new)) }
 {
-    let end = print_image(alloc, built.image(), settings, outputs, out)?;
-    Ok(end)
+    if settings.watch.count || settings.watch.until_dry {
+        let end = print_image(alloc, built.image(), settings, outputs, out)?;
+        return Ok(end);
+    }
+    print_plain(alloc, settings, built, outputs, out)
+}
+
+// The same while it does that, of a run that is not counted and ends where the image does.
+#[tactic(auto, using(crate::proofs::Printed::nothing_stops))]
+fn print_plain<O: Write>(
+    alloc: Global,
+    settings: &Settings,
+    built: &Built,
+    outputs: &mut Vec<Vec<u8>>,
+    out: &mut O,
+) -> Result<Option<End>, Failure<WriteFault>>
+    requires plain { settings.now.watch.count ≡ false }
+    requires to_end { settings.now.watch.until_dry ≡ false }
+    ensures ok { IfOk result (λ end. PrintsBuilt Run [] (values_in settings.now) built.now
+        (machine_status end) (map (λ output. output.items) outputs.new.items)
+        (O.contents out.old) (O.contents out.new)) }
+    ensures err { OnErr result (StopsBuilt Run [] (values_in settings.now) built.now
+        (O.contents out.old) (O.contents out.new)) }
+{
+    let Ok(memory) = start_memory(alloc, settings) else {
+        return Err(Failure::Memory);
+    };
+    let Ok(script) = script_of(alloc, settings.input.as_slice()) else {
+        return Err(Failure::Memory);
+    };
+    let Ok(quiet) = quiet_of(alloc, settings) else {
+        return Err(Failure::Memory);
+    };
+    let Ok(table) = DecodeTable::new(alloc) else {
+        return Err(Failure::Memory);
+    };
+    let (end, machine) = print_run(
+        built,
+        memory,
+        script,
+        Some(table),
+        settings.limit,
+        quiet.as_slice(),
+        out,
+    )?;
+    let Ok(()) = put_outputs(alloc, settings, machine.ports().events(), outputs) else {
+        return Err(Failure::Memory);
+    };
+    Ok(Some(end))
 }
