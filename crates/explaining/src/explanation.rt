@@ -3,7 +3,7 @@
 use crate::globals::{add_missing, show_declarations};
 use crate::kept_files::{Content, KeptFile, find_kept};
 use crate::kinds::{as_object, kind_of};
-use crate::options::{add_plan, add_values};
+use crate::options::{add_plan, add_values, has_flag};
 use crate::page::Page;
 use crate::refused::explain_source;
 use crate::sentences::{meaning_of, meaning_of_end};
@@ -125,8 +125,8 @@ fn explain_fault(page: &mut Page, seen: &Seen, told: Told) {
 }
 
 // Adds how a run ended that did not halt.
-fn explain_end(page: &mut Page, status: u8) {
-    if let Some(meaning) = meaning_of_end(status) {
+fn explain_end(page: &mut Page, words: &[&str], status: u8) {
+    if let Some(meaning) = meaning_of_end(status, has_flag(words, "--until-dry")) {
         page.begin();
         page.text(meaning);
         page.text(". See docs/faults.md, \"How a run ends\"");
@@ -151,7 +151,7 @@ pub(crate) fn explanation(
     };
     match told_in(printed) {
         Some(told) if status == 1 || status == 2 => explain_fault(&mut page, &seen, told),
-        _ => explain_end(&mut page, status),
+        _ => explain_end(&mut page, words, status),
     }
     page
 }
