@@ -12,6 +12,11 @@ use Rattle.commands.proofs.Printed.{stays_written, whole_begins}
 pub nothing : (values : Values) (image : Absolute) (known : Option (List ℕ)) → StopsImage values image known known
 nothing values image known = inl (stays_written known)
 
+-- a run that may read past its input
+pub ran_to_end : (values : Values) (from : Machine) (end : End) (machine : Machine) (events : List Event) → values.watch.until_dry ≡ false → events ≡ machine.state.events → IsRun values.limit from end machine
+    → DoesOnMachine values.watch.until_dry values.limit from (Some end) events
+ran_to_end values from end machine events to_end same run = (machine, run, same, λ on. let bad : false ≡ true = sym to_end ∙ on in cc)
+
 -- from its start an image does this
 module _ (values : Values) (image : Absolute) (memory : List ℕ) (script : List (List ℕ)) (before : List Event) (failures : ℕ) (from : Machine) (old new : Option (List ℕ)) (start : IsStart values memory) (gives : GivesInput values.input script)
     (none : before ≡ []) (unfailed : failures ≡ 0) (starts : from ≡ started image memory script before failures) where
@@ -50,9 +55,6 @@ module _ (values : Values) (image : Absolute) (memory : List ℕ) (script : List
 
   -- what was printed while it ran, where it is not watched
   module _ (plain : values.watch.count ≡ false) (to_end : values.watch.until_dry ≡ false) (quiet : List ℕ) (silent : quiet ≡ quiet_ports values) where
-    plain_does : (end : End) (machine : Machine) → IsRun values.limit from end machine → DoesOnMachine values.watch.until_dry values.limit from (Some end) machine.state.events
-    plain_does end machine run = (machine, run, refl, λ on. let bad : false ≡ true = sym to_end ∙ on in cc)
-
     not_counted : (end : Option End) (events : List Event) → values.watch.count ≡ true → CarriesOut values.limit from end events 0
     not_counted end events counts = let bad : false ≡ true = sym plain ∙ counts in cc
 
@@ -64,13 +66,13 @@ module _ (values : Values) (image : Absolute) (memory : List ℕ) (script : List
     pub plain_printed : (end : End) (machine : Machine) (seen : List Event) (outputs : List (List ℕ)) → seen ≡ machine.state.events → outputs ≡ outputs_of values seen → PrintsRun quiet values.limit from end machine old new
         → PrintsImage [] values image (machine_status (Some end)) outputs old new
     plain_printed end machine seen outputs shown gathered ran =
-        image_printed (Some end) machine.state.events 0 (plain_does end machine ran.run) (not_counted (Some end) machine.state.events) machine.state.events (end_word end) refl refl outputs
+        image_printed (Some end) machine.state.events 0 (ran_to_end values from end machine machine.state.events to_end refl ran.run) (not_counted (Some end) machine.state.events) machine.state.events (end_word end) refl refl outputs
         (gathered ∙ ap (λ (es : List Event). outputs_of values es) shown)
         (subst (λ (text : List ℕ). Appends old new text) (plain_report machine.state.events (end_word end)) ran.printed)
 
     pub plain_begun : BeginsRun quiet values.limit from old new → StopsImage values image old new
     plain_begun ran =
-        image_begun (Some ran.end) ran.machine.state.events 0 (plain_does ran.end ran.machine ran.run) (not_counted (Some ran.end) ran.machine.state.events) ran.machine.state.events (end_word ran.end) refl refl
+        image_begun (Some ran.end) ran.machine.state.events 0 (ran_to_end values from ran.end ran.machine ran.machine.state.events to_end refl ran.run) (not_counted (Some ran.end) ran.machine.state.events) ran.machine.state.events (end_word ran.end) refl refl
         (subst (λ (text : List ℕ). AppendsBeginning old new text) (plain_report ran.machine.state.events (end_word ran.end)) ran.printed)
 
     -- a run that was printed whole, of which not all was gathered

@@ -1,10 +1,9 @@
 -- Reads of ports: how many there are, and where they pass the input.
-use Rattle.std.proofs.Common.{◌≡◌, ℕ, ◌+◌, ◌-◌, ◌<◌, ◌≤◌, Bool, true, false, cond, not, zero, Option, None, Some, IfSome, List, [], ◌∷◌, ◌++◌, length, get_or, set, replicate, drop, take, refl, sym, ap, subst, ◌∙◌, append_assoc, arith, suc, add-one}
+use Rattle.std.proofs.Common.{◌≡◌, ℕ, ◌+◌, ◌-◌, ◌<◌, ◌≤◌, Bool, true, false, cond, List, [], ◌∷◌, ◌++◌, length, get_or, set, replicate, drop, refl, sym, ap, subst, ◌∙◌, arith, suc}
 use Rattle.std.proofs.lemmas.Bool.{eq-eqb, eqb-true, eqb-false}
 use Rattle.std.proofs.lemmas.Grind.{common_steps, get_or-set_at}
-use Rattle.std.proofs.lemmas.List.{get_or-set_other, length-drop, length-map, length-set, take-append-drop}
-use Rattle.std.proofs.lemmas.List.Sums.{sum_by-append, sum_by-cons, length-filter, count_by-le-length, count_by_more_no, count_by_more_yes}
-use Rattle.std.proofs.Math.Seq.{drop-cons, take-add, take-length}
+use Rattle.std.proofs.lemmas.List.{get_or-set_other, length-map, length-set}
+use Rattle.std.proofs.lemmas.List.Sums.{sum_by-append, sum_by-cons, length-filter, count_by-le-length}
 use Rattle.std.specs.Prelude.{◌==◌, count_by, filter, map}
 use Rattle.ports.specs.{declared.event.Event.{Event}, Events.{read_event, write_event}, Input.{is_read_of, queue_of, reads_of}}
 use Rattle.command_line.specs.declared.values.InputByte.{InputByte}
@@ -125,12 +124,14 @@ module _ (script : List (List ℕ)) (old new : List Event) (left : List ℕ) (be
       by : (here : Bool) → (port == other) ≡ here → left_at rest other + reads_of new other ≡ length (queue_of script other)
       by true e =
           let same : port ≡ other = eqb-true port other e in
-          let read : ◌≡◌ {A = ℕ} (cond (is_read_of other (read_event port value)) 1 0) 1 = ap (λ b. cond b 1 0) e in
+          let found : is_read_of other (read_event port value) ≡ true = rw e refl in
+          let read : ◌≡◌ {A = ℕ} (cond (is_read_of other (read_event port value)) 1 0) 1 = ap (λ b. cond b 1 0) found in
           let there : get_or (set left port (left_at left port - 1)) other 0 ≡ left_at left port - 1 = get_or-set_at left port other (left_at left port - 1) 0 (sym same) known in
           let was : left_at left port ≡ left_at left other = ap (λ n. left_at left n) same in
           omega (arith, more, now, read, there, was, some, before other)
       by false e =
-          let read : ◌≡◌ {A = ℕ} (cond (is_read_of other (read_event port value)) 1 0) 0 = ap (λ b. cond b 1 0) e in
+          let found : is_read_of other (read_event port value) ≡ false = rw e refl in
+          let read : ◌≡◌ {A = ℕ} (cond (is_read_of other (read_event port value)) 1 0) 0 = ap (λ b. cond b 1 0) found in
           let there : get_or (set left port (left_at left port - 1)) other 0 ≡ get_or left other 0 = get_or-set_other left port other (left_at left port - 1) 0 (λ h. eqb-false port other e (sym h)) in
           omega (arith, more, now, read, there, before other)
 
@@ -141,7 +142,7 @@ passes script events next port within all read same = record {
   within = within;
   past = λ after.
       let more : reads_of (events ++ next ∷ []) port ≡ reads_of events port + cond (is_read_of port next) 1 0 = reads_more events (events ++ next ∷ []) next port refl in
-      let is_read : is_read_of port next ≡ true = rw read (eq-eqb next.port port same) in
+      let is_read : is_read_of port next ≡ true = rw (read, eq-eqb next.port port same) refl in
       let one : ◌≡◌ {A = ℕ} (cond (is_read_of port next) 1 0) 1 = ap (λ b. cond b 1 0) is_read in
       omega (arith, more, one, all, after port);
 }

@@ -24,16 +24,16 @@ module _ (one other : ℕ → Run) (same : one ≡ other) (budget used : ℕ) (e
 -- what a run does is what the values want
 module _ (until_dry : Bool) (script : List (List ℕ)) (runs : ℕ → Run) (limit : ℕ) (read : Option ℕ) (events : List Event) (used : ℕ) where
   to_end : (end : Option Stop) → RunsSource runs limit end read events used → (until_dry ≡ true → IsWithinInput script events) → DoesAsSource until_dry script runs limit (Some end) events
-  to_end (Some stop) ran within = (ran.1.0, within)
+  to_end (Some stop) ran within = (ran.1, within)
   to_end None ran within = ((ran.next, ran.begins), within)
 
   to_dry : (end : Option Stop) (read : Option ℕ) → RunsSource runs limit end read events used → until_dry ≡ true → IsWithinInput script events → IsPast read script events → DoesAsSource until_dry script runs limit None events
   to_dry (Some stop) read ran on within past = let bad : ⊥ = subst (λ (port : Option ℕ). IsPast port script events) ran.0 past in absurd bad
   to_dry None None ran on within past = absurd past
-  to_dry None (Some port) ran on within past = (on, (ran.next, (ran.begins, passes script events ran.next port within past ran.of_read.0 ran.of_read.1)))
+  to_dry None (Some port) ran on within past = (on, (ran.next, ran.begins, passes script events ran.next port within past ran.of_read.0 ran.of_read.1))
 
   used_to_end : (end : Option Stop) → RunsSource runs limit end read events used → UsesBudget runs limit (Some end) events used
-  used_to_end (Some stop) ran = ran.1.1
+  used_to_end (Some stop) ran = ran.2
   used_to_end None ran = (ran.next, ran.used_is)
 
   used_to_dry : (end : Option Stop) (read : Option ℕ) → RunsSource runs limit end read events used → IsPast read script events → UsesBudget runs limit None events used

@@ -2,7 +2,7 @@
 use Rattle.commands.proofs.Prelude.{◌≡◌, ℕ, suc, zero, ◌+◌, ◌-◌, ◌<◌, ◌≤◌, Bool, true, List, [], ◌++◌, ◌∷◌, length, Option, Some, None, refl, sym, ap, subst, ◌∙◌, arith, Event}
 use Rattle.std.proofs.Common.{IfSome, drop}
 use Rattle.mem80.specs.Memory.{byte_at}
-use Rattle.ports.specs.{Events.{AddsEvent, read_event}, Input.{input_value, queue_of, reads_of}}
+use Rattle.ports.specs.{Events.{AddsEvent, CountsFailure, read_event}, Input.{input_value, queue_of, reads_of}}
 use Rattle.isa8080.specs.{Code.{form_of}, State.{State, wrap}, declared.registers.Status.{Status}}
 use Rattle.isa8080.specs.declared.registers.Status.TheVariants as status
 use Rattle.isa8080.specs.Step.{carry_out, next_byte, step_by}
@@ -34,6 +34,10 @@ runs_before script s k more runs = go (state_after script k s).status refl
     go status.Running e = e
     go status.Halted e = stays status.Halted e (λ h. cc)
     go status.Illegal e = stays status.Illegal e (λ h. cc)
+
+none_after : (m : Machine) → state_from m 0 ≡ m.state
+unfolding state_after
+none_after m = refl
 
 -- so many steps were made, and the machine runs
 pub record SoFar (limit : ℕ) (start : Machine) (done : ℕ) (here : Machine) : Type 0 where
@@ -107,12 +111,16 @@ module _ (limit : ℕ) (start : Machine) (done : ℕ) (here : Machine) (so_far :
 
     pub fault_counted : (steps : ℕ) → why ≡ ends.PortFault → steps ≡ done → CarriesOut limit start (Some ends.PortFault) new.state.events steps
     fault_counted steps is count =
-        let all : IsRun (1 + done) start ends.PortFault new = all_run ends.PortFault is in
         let first : IsRun 1 here ends.PortFault new = subst (λ (e : End). IsRun 1 here e new) is run in
-        let made : IsRun (1 + done) start ends.PortFault new = run_on start here done so_far.made 1 ends.PortFault new first in
         let none : first.0 ≡ 0 = omega (arith, first.1) in
-        let there : made.0 ≡ steps = omega (arith, none, count) in
-        (new, subst (λ n. FailsAfter start n new) there made.2, refl)
+        let state : new.state ≡ here.state = first.2.state ∙ ap (λ k. state_from here k) none ∙ none_after here in
+        let fails : FailsAfter start done new = record {
+          state = state ∙ so_far.made.state;
+          status_is = first.2.status_is;
+          next = subst (λ (script : List (List ℕ)). (event : Event) × AddsEvent new.state.events (step_of script new.state).events event) so_far.made.script first.2.next;
+          failures = subst (λ k. CountsFailure k new.failures) so_far.made.failures first.2.failures;
+        } in
+        (new, subst (λ n. FailsAfter start n new) (sym count) fails, refl)
 
 -- ---- a read past the input
 
@@ -127,7 +135,7 @@ reads_next m place code port at is in_code is_port runs =
     ∙ ap (λ n. (carry_out m.script (form_of n) s).events) found
     ∙ ap (λ n. s.events ++ read_event n (input_value m.script s.events n) ∷ []) read
 
-first_or : Event → List Event → Event
+abbrev first_or : Event → List Event → Event
 first_or other [] = other
 first_or other (event ∷ events) = event
 
@@ -141,7 +149,7 @@ module _ (limit : ℕ) (start new : Machine) (end : End) (run : IsRun limit star
   comes_to_dry is at =
       let stops : IsRun limit start ends.PortFault new = subst (λ (e : End). IsRun limit start e new) is run in
       let value : ℕ = input_value new.script new.state.events at.0 in
-      let read : (step_of new.script new.state).events ≡ new.state.events ++ read_event at.0 value ∷ [] = at.1.0 stops.2.status_is in
+      let read : (step_of new.script new.state).events ≡ new.state.events ++ read_event at.0 value ∷ [] = at.1 stops.2.status_is in
       let fails : (step_of start.script new.state).events ≡ new.state.events ++ stops.2.next.0 ∷ [] = stops.2.next.1 in
       let next : stops.2.next.0 ≡ read_event at.0 value =
       same_last new.state.events stops.2.next.0 (read_event at.0 value) (sym fails ∙ ap (λ (script : List (List ℕ)). (step_of script new.state).events) (sym same) ∙ read) in
@@ -153,7 +161,7 @@ module _ (limit : ℕ) (start new : Machine) (end : End) (run : IsRun limit star
         events_are = refl;
         dry = passes start.script new.state.events stops.2.next.0 at.0
             (subst (λ (script : List (List ℕ)). IsWithinInput script new.state.events) same within)
-            (subst (λ (script : List (List ℕ)). reads_of new.state.events at.0 ≡ length (queue_of script at.0)) same at.1.1)
+            (subst (λ (script : List (List ℕ)). reads_of new.state.events at.0 ≡ length (queue_of script at.0)) same at.2)
             (ap (λ (e : Event). e.write) next) (ap (λ (e : Event). e.port) next);
       }
 

@@ -46,7 +46,6 @@ fn next_read<P: Ports>(machine: &Machine<P>) -> Option<u8>
 }
 
 // Runs a machine for at most so many steps. The answer is how it ended, and how many instructions were carried out.
-#[tactic(auto, using(crate::proofs::Steps::none_made, crate::proofs::Steps::one_made, crate::proofs::Steps::limit_run, crate::proofs::Steps::limit_counted, crate::proofs::Steps::halt_run, crate::proofs::Steps::halt_counted, crate::proofs::Steps::illegal_run, crate::proofs::Steps::illegal_counted, crate::proofs::Steps::fault_run, crate::proofs::Steps::fault_counted))]
 fn run_counted<P: Ports>(machine: &mut Machine<P>, limit: u64) -> (End, u64)
     requires { machine.old.state.status ≡ Running }
     ensures run { IsRun limit machine.old result.0 machine.new }
@@ -102,7 +101,6 @@ fn dry_end(machine: &Machine<InputPorts>, end: End) -> Option<End>
 }
 
 // Runs a machine that is to end before it reads a port past its input.
-#[tactic(auto, using(crate::proofs::Steps::ends_within, crate::proofs::Steps::ends_dry, crate::proofs::Steps::counted_dry))]
 fn run_until_dry(machine: &mut Machine<InputPorts>, values: &Settings) -> (Option<End>, u64)
     requires { machine.old.state.status ≡ Running }
     ensures does { DoesOnMachine true values.now.limit machine.old result.0 machine.new.state.events }
@@ -136,7 +134,7 @@ fn machine_of<P: Ports>(image: &Absolute, memory: Memory, ports: P, table: Decod
 }
 
 // Prints what an image does while it does that.
-#[tactic(auto, using(crate::proofs::ImageRuns::plain_printed, crate::proofs::ImageRuns::plain_begun, crate::proofs::ImageRuns::plain_whole, crate::proofs::ImageRuns::nothing))]
+#[tactic(auto, using(crate::proofs::ImageRuns::nothing))]
 fn print_plain<O: Write>(
     alloc: Global,
     image: &Absolute,
@@ -170,7 +168,6 @@ fn print_plain<O: Write>(
 }
 
 // Prints what an image did, and the number of its steps.
-#[tactic(auto, using(crate::proofs::ImageRuns::counted_printed, crate::proofs::ImageRuns::counted_begun))]
 fn print_counted<O: Write>(
     alloc: Global,
     image: &Absolute,
@@ -199,7 +196,6 @@ fn print_counted<O: Write>(
 }
 
 // Prints what an image did until its end, or a read of a port past its input.
-#[tactic(auto, using(crate::proofs::ImageRuns::dry_printed, crate::proofs::ImageRuns::dry_begun))]
 fn print_until_dry<O: Write>(
     alloc: Global,
     image: &Absolute,

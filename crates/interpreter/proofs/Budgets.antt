@@ -15,6 +15,14 @@ no_longer events next all longer back =
     let three : length (events ++ next ∷ []) ≡ length events + 1 = length-append events (next ∷ []) in
     omega (arith, one, two, three)
 
+abbrev end_in : Progress → Stop
+end_in (Going m) = More
+end_in (Done why s) = why
+
+abbrev events_in : Progress → List Event
+events_in (Going m) = m.state.events
+events_in (Done why s) = s.events
+
 module _ (modules : List TypedModule) (placement : Placement) (room : ℕ) (memory : List ℕ) (script : List (List ℕ)) (events : List Event) (main : TypedModule) (found : find is_main modules ≡ Some main) (sound : All JumpsAreSound modules)
     (code : List Instruction) (is_code : code ≡ program_code modules placement (number_of_main modules) main) where
   abbrev runs : (budget : ℕ) → Run
@@ -79,17 +87,13 @@ module _ (modules : List TypedModule) (placement : Placement) (room : ℕ) (memo
     here = comes_as_far budget count s.budget (Done why s) (λ less. (runs less).end ≡ why) is refl
         (ap (λ (r : Run). r.end) (means budget count why s is))
         (λ less n one same. absurd (bad n same))
-        (λ less t one same. ap (λ (r : Run). r.end) (means less count Ended t one) ∙ sym (ap why_of same))
-        (λ less reason t one same. ap (λ (r : Run). r.end) (means less count (Outside reason) t one) ∙ sym (ap why_of same));
+        (λ less t one same. ap (λ (r : Run). r.end) (means less count Ended t one) ∙ sym (ap end_in same))
+        (λ less reason t one same. ap (λ (r : Run). r.end) (means less count (Outside reason) t one) ∙ sym (ap end_in same));
     below = λ less within ends.
         let wants = wants_below budget less count (Done why s) is within in
-        other (sym ends ∙ ap (λ (r : Run). r.end) (means less count More wants.0 wants.1.0));
+        other (sym ends ∙ ap (λ (r : Run). r.end) (means less count More wants.0 wants.1));
   }
     where
-      why_of : Progress → Stop
-      why_of (Going m) = More
-      why_of (Done end t) = end
-
       bad : (n : Machine) → Done why s ≡ Going (more_in s.budget n) → ⊥
       bad n same = cc
 
@@ -115,16 +119,12 @@ module _ (modules : List TypedModule) (placement : Placement) (room : ℕ) (memo
       below = λ less within comes.
           let wants = wants_below budget less count (Going before) going (omega (arith, within, left_is)) in
           no_longer so_far next wants.0.events
-          (subst (λ (r : Run). IsBeginning (so_far ++ next ∷ []) r.events) (means less count More wants.0 wants.1.0) comes)
-          (subst (λ es. IsBeginning wants.0.events es) same wants.1.1);
+          (subst (λ (r : Run). IsBeginning (so_far ++ next ∷ []) r.events) (means less count More wants.0 wants.1) comes)
+          (subst (λ es. IsBeginning wants.0.events es) same wants.2);
     }
       where
         grown : (n : Machine) → Going after ≡ Going (more_in left n) → after.state.events ≡ n.state.events
         grown n is = ap events_in is
-          where
-            events_in : Progress → List Event
-            events_in (Going m) = m.state.events
-            events_in (Done why s) = s.events
 
         ends_not : (why : Stop) (s : State) → Going after ≡ Done why s → ⊥
         ends_not why s is = cc

@@ -147,7 +147,7 @@ fn print_meaning<O: Write>(
 }
 
 // The same of a program that is to end before it reads a port past its input.
-#[tactic(auto, using(crate::proofs::SourceRuns::dry_printed, crate::proofs::SourceRuns::dry_begun, crate::proofs::Printed::nothing_stops))]
+#[tactic(auto, using(crate::proofs::Printed::nothing_stops))]
 fn print_until_dry<O: Write>(
     alloc: Global,
     settings: &Settings,
@@ -177,7 +177,7 @@ fn print_until_dry<O: Write>(
 }
 
 // The same of a program that may read past its input.
-#[tactic(auto, using(crate::proofs::SourceRuns::end_printed, crate::proofs::SourceRuns::end_begun, crate::proofs::Printed::nothing_stops))]
+#[tactic(auto, using(crate::proofs::Printed::nothing_stops))]
 fn print_to_end<O: Write>(
     alloc: Global,
     settings: &Settings,
