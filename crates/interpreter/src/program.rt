@@ -45,11 +45,14 @@ pub fn interpret<P: Ports>(
     ensures beginning { OnErr result (IsBeginning (P.events ports.new)
         (source_run (modules_in joined.now) (placement_view placement.now) room memory
         (P.script ports.old) (P.events ports.old) budget.old).events) }
-    ensures used { IfOk result (λ end. Uses (source_run (modules_in joined.now) (placement_view placement.now) room memory
-        (P.script ports.old) (P.events ports.old)) budget.old (stop_of end) (budget.old - budget.new)) }
-    ensures called { IfErr result (λ fault. FailsAt (source_run (modules_in joined.now) (placement_view placement.now) room
-        memory (P.script ports.old) (P.events ports.old)) budget.old fault (P.events ports.new)
-        (budget.old - budget.new)) }
+    ensures used { IfOk result (λ end. Uses
+        (source_run (modules_in joined.now) (placement_view placement.now) room memory
+        (P.script ports.old) (P.events ports.old))
+        budget.old (stop_of end) (budget.old - budget.new)) }
+    ensures called { IfErr result (λ fault. FailsAt
+        (source_run (modules_in joined.now) (placement_view placement.now) room memory
+        (P.script ports.old) (P.events ports.old))
+        budget.old fault (P.events ports.new) (budget.old - budget.new)) }
     ensures kept { IsBeginning (P.events ports.old) (P.events ports.new) }
     ensures count { OnOk result (P.failures ports.new ≡ P.failures ports.old) }
     ensures failed { IfErr result (λ fault. FaultCounts fault (P.failures ports.old) (P.failures ports.new)) }

@@ -218,7 +218,8 @@ struct SourceRun {
 // How a run ended, or None where it came to a read of a port past its input.
 fn dry_end(run: SourceRun, ports: &InputPorts) -> Option<Option<SourceEnd>>
     ensures within { IsWithinInput ports.now.script ports.now.events }
-    ensures same { IfSome (option_map (option_map stop_of) result) (λ end. end ≡ option_map stop_of run.end) }
+    ensures same { IfSome (option_map (option_map stop_of) result)
+        (λ end. end ≡ option_map stop_of run.end) }
     ensures dry { option_map (option_map stop_of) result ≡ None →
         IsPast run.read ports.now.script ports.now.events }
 {
