@@ -5,7 +5,7 @@ use Rattle.meaning.proofs.Added.{adds_if, adds_rest, begins_itself, later_adds}
 use Rattle.stack_code.specs.{Program.{AreTablesOf}, declared.program.StackProgram.{StackProgram}, declared.instruction.Instruction.{Instruction}, Machine.{Machine, Progress, Going, Done, and_then_steps, progress_of, steps}, Run.{machine_in, stack_run, start_state, start_surroundings, started as charged_start}, internal.Simulation.{Adds}}
 use Rattle.stack_code.proofs.{Events.{adds_steps}, Meant.{begins_as_meant, done_as_meant, main_at}}
 use Rattle.stack_compiler.specs.Compiled.{IsCompiled}
-use Rattle.stack_machine.specs.Runs.{FailsAt as FailsInCode, Reaches, Stops, StopsBefore as StopsInCode, state_at_start}
+use Rattle.stack_machine.specs.Runs.{Reaches, ReachesCall, ReachesFault, Stops, state_at_start}
 use Rattle.stack_machine.specs.declared.end.RunFault.{RunFault}
 use Rattle.stack_machine.specs.declared.end.RunFault.TheVariants as faults
 use Rattle.stack_code.specs.Code.{program_code}
@@ -42,7 +42,7 @@ module _ (modules : List TypedModule) (placement : Placement) (room : ℕ) (star
       (compiled main (main_at modules main there)).code budget stops.count why stops.state (same_run stops.count ∙ stops.stopped))
 
   -- where a port fails, its event is the next one of the source;
-  stopped : (fault : RunFault) (left : ℕ) → StopsInCode (run_at number memory) fault after left → StopsBefore (source_run modules placement room start script events) budget fault after (budget - left)
+  stopped : (fault : RunFault) (left : ℕ) → ReachesCall (run_at number memory) fault after left → StopsBefore (source_run modules placement room start script events) budget fault after (budget - left)
   stopped fault left stops =
       let code : program.instructions.items ≡ program_code modules placement (number_of_main modules) main = (compiled main (main_at modules main there)).code in
       let going = same_run stops.count ∙ stops.going in
@@ -56,7 +56,7 @@ module _ (modules : List TypedModule) (placement : Placement) (room : ℕ) (star
             going stops.events_are stops.left_is onward stops.adds stops.left_after;
       }
 
-  pub fails : (fault : RunFault) (left : ℕ) → FailsInCode (run_at number memory) fault after left → FailsAt (source_run modules placement room start script events) budget fault after (budget - left)
+  pub fails : (fault : RunFault) (left : ℕ) → ReachesFault (run_at number memory) fault after left → FailsAt (source_run modules placement room start script events) budget fault after (budget - left)
   fails (faults.Input port) left stops = stopped (faults.Input port) left stops
   fails (faults.Output port) left stops = stopped (faults.Output port) left stops
   fails faults.Memory left stops = tt

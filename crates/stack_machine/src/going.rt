@@ -5,7 +5,7 @@ ghost use Rattle.declared.specs.Access.{HasTable, modules_in};
 ghost use Rattle.declared.specs.Frames.{module_frames};
 ghost use Rattle.stack_code.specs.Machine.{steps};
 ghost use Rattle.stack_code.specs.Program.{AreTablesOf};
-ghost use Rattle.stack_machine.specs.Runs.{FailsAt, FaultCounts, Reaches, Stops, stop_of};
+ghost use Rattle.stack_machine.specs.Runs.{ReachesFault, FaultCounts, Reaches, Stops, stop_of};
 ghost use Rattle.stack_machine.specs.internal.Views.{machine_view, program_in};
 
 use crate::end::{RunFault, SourceEnd};
@@ -31,7 +31,7 @@ impl<'a> StackMachine<'a> {
         ensures reached { OnErr result (Reaches (λ count. steps loaded.entry.code.now count
             (machine_view (program_in loaded.entry (P.script ports.old)) (P.events ports.old) self.old))
             (P.events ports.new)) }
-        ensures called { IfErr result (λ fault. FailsAt (λ count. steps loaded.entry.code.now count
+        ensures called { IfErr result (λ fault. ReachesFault (λ count. steps loaded.entry.code.now count
             (machine_view (program_in loaded.entry (P.script ports.old)) (P.events ports.old) self.old))
             fault (P.events ports.new) self.new.budget) }
         ensures failed { IfErr result (λ fault.

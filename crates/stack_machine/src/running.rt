@@ -6,7 +6,7 @@ ghost use Rattle.placing.specs.Views.{placement_view};
 ghost use Rattle.declared.specs.Access.{HasTable, modules_in};
 ghost use Rattle.stack_code.specs.Program.{AreTablesOf};
 ghost use Rattle.stack_code.specs.Run.{stack_run, start_surroundings};
-ghost use Rattle.stack_machine.specs.Runs.{FailsAt, FaultCounts, Reaches, Stops, state_at_start, stop_of};
+ghost use Rattle.stack_machine.specs.Runs.{ReachesFault, FaultCounts, Reaches, Stops, state_at_start, stop_of};
 
 use crate::calls::Calls;
 use crate::end::{RunFault, SourceEnd};
@@ -57,7 +57,7 @@ pub fn run<'a, P: Ports>(
         (state_at_start memory (P.events ports.old) budget.old))
         (P.events ports.new)) }
     ensures called { IfErr result (λ fault.
-        FailsAt (stack_run (program.now).instructions.items (module_view main.now)
+        ReachesFault (stack_run (program.now).instructions.items (module_view main.now)
         (start_surroundings (modules_in joined.now) (placement_view placement.now) (P.script ports.old)
         number_of_main room)
         (state_at_start memory (P.events ports.old) budget.old))
