@@ -5,7 +5,7 @@ ghost use Rattle.declared.specs.Access.{HasTable, modules_in};
 ghost use Rattle.declared.specs.Frames.{module_frames};
 ghost use Rattle.stack_code.specs.Machine.{steps};
 ghost use Rattle.stack_code.specs.Program.{AreTablesOf};
-ghost use Rattle.stack_machine.specs.Runs.{ReachesFault, FaultCounts, Reaches, Stops, stop_of};
+ghost use Rattle.stack_machine.specs.Runs.{FaultCounts, Reaches, ReachesFault, Stops, stop_of};
 ghost use Rattle.stack_machine.specs.internal.Views.{machine_view, program_in};
 
 use crate::end::{RunFault, SourceEnd};

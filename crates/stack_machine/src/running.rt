@@ -6,7 +6,7 @@ ghost use Rattle.placing.specs.Views.{placement_view};
 ghost use Rattle.declared.specs.Access.{HasTable, modules_in};
 ghost use Rattle.stack_code.specs.Program.{AreTablesOf};
 ghost use Rattle.stack_code.specs.Run.{stack_run, start_surroundings};
-ghost use Rattle.stack_machine.specs.Runs.{ReachesFault, FaultCounts, Reaches, Stops, state_at_start, stop_of};
+ghost use Rattle.stack_machine.specs.Runs.{FaultCounts, Reaches, ReachesFault, Stops, state_at_start, stop_of};
 
 use crate::calls::Calls;
 use crate::end::{RunFault, SourceEnd};

@@ -160,7 +160,6 @@ fn print_until_dry<O: Write>(
     requires start { IsStart (values_in settings.now) memory }
     requires gives { GivesInput (values_in settings.now).input script.script }
     requires none { script.events ≡ [] }
-    requires unfailed { script.failures ≡ 0 }
     requires until_dry { settings.now.watch.until_dry ≡ true }
     ensures ok { IfOk result (λ end. PrintsBuilt Interpret [] (values_in settings.now) built.now
         (source_status (option_map (option_map stop_of) end)) (map (λ output. output.items) outputs.new.items)
@@ -190,7 +189,6 @@ fn print_to_end<O: Write>(
     requires start { IsStart (values_in settings.now) memory }
     requires gives { GivesInput (values_in settings.now).input script.script }
     requires none { script.events ≡ [] }
-    requires unfailed { script.failures ≡ 0 }
     requires to_end { settings.now.watch.until_dry ≡ false }
     ensures ok { IfOk result (λ end. PrintsBuilt Interpret [] (values_in settings.now) built.now
         (source_status (option_map (option_map stop_of) end)) (map (λ output. output.items) outputs.new.items)
