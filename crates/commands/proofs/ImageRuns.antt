@@ -6,7 +6,7 @@ use Rattle.cpu8080.specs.{Machine.{Machine}, Runs.{IsRun}, declared.machine.End.
 use Rattle.commands.specs.Executing.{StopsImage}
 use Rattle.commands.specs.InputFiles.{quiet_ports}
 use Rattle.commands.specs.OutputFiles.{outputs_of}
-use Rattle.commands.specs.Steps.{CarriesOut, DoesOnMachine, IsWithinIf, last_words}
+use Rattle.commands.specs.Steps.{CarriesOut, DoesOnMachine, last_words}
 use Rattle.commands.proofs.Printed.{stays_written, whole_begins}
 
 pub nothing : (values : Values) (image : Absolute) (known : Option (List ℕ)) → StopsImage values image known known

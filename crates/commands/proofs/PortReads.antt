@@ -4,7 +4,7 @@ use Rattle.std.proofs.lemmas.Bool.{eq-eqb, eqb-true, eqb-false}
 use Rattle.std.proofs.lemmas.Grind.{common_steps, get_or-set_at}
 use Rattle.std.proofs.lemmas.List.{get_or-set_other, length-map, length-set}
 use Rattle.std.proofs.lemmas.List.Sums.{sum_by-append, sum_by-cons, length-filter, count_by-le-length}
-use Rattle.std.specs.Prelude.{◌==◌, count_by, filter, map}
+use Rattle.std.specs.Prelude.{◌==◌, count_by, filter}
 use Rattle.ports.specs.{declared.event.Event.{Event}, Events.{read_event, write_event}, Input.{is_read_of, queue_of, reads_of}}
 use Rattle.command_line.specs.declared.values.InputByte.{InputByte}
 use Rattle.commands.specs.Ends.{GivesInput, bytes_to}

@@ -1,5 +1,5 @@
 -- What was printed of runs that have ended.
-use Rattle.commands.proofs.Prelude.{◌≡◌, ℕ, List, [], Option, ap, subst, ◌∙◌, Appends, AppendsBeginning, Event, Values, run_report}
+use Rattle.commands.proofs.Prelude.{◌≡◌, ℕ, List, Option, ap, subst, ◌∙◌, Appends, AppendsBeginning, Event, Values, run_report}
 use Rattle.printing.specs.Report.{report_of}
 use Rattle.commands.specs.InputFiles.{quiet_ports}
 use Rattle.commands.specs.Steps.{last_words}

@@ -1,5 +1,5 @@
 -- Steps of a machine: how many were made, and one that reads past the input.
-use Rattle.commands.proofs.Prelude.{◌≡◌, ℕ, suc, zero, ◌+◌, ◌-◌, ◌<◌, ◌≤◌, Bool, true, List, [], ◌++◌, ◌∷◌, length, Option, Some, None, refl, sym, ap, subst, ◌∙◌, arith, Event}
+use Rattle.commands.proofs.Prelude.{◌≡◌, ℕ, suc, ◌+◌, ◌-◌, ◌<◌, ◌≤◌, true, List, [], ◌++◌, ◌∷◌, length, Option, Some, None, refl, sym, ap, subst, ◌∙◌, arith, Event}
 use Rattle.std.proofs.Common.{IfSome, drop}
 use Rattle.mem80.specs.Memory.{byte_at}
 use Rattle.ports.specs.{Events.{AddsEvent, CountsFailure, read_event}, Input.{input_value, queue_of, reads_of}}
@@ -10,10 +10,9 @@ unfoldable use Rattle.isa8080.specs.Step.{state_after, step_of}
 use Rattle.isa8080.proofs.Endings.{state_after_sum, stays_state}
 use Rattle.cpu8080.specs.{Machine.{Machine}, Runs.{FailsAfter, IsRun}, declared.machine.End.{End}}
 use Rattle.cpu8080.specs.declared.machine.End.TheVariants as ends
-use Rattle.interpreter.specs.Budgets.{IsLeast}
 use Rattle.printing.proofs.RunLemmas.{Made, made_on, none_made, run_on, slice_ends}
-use Rattle.commands.specs.Steps.{CarriesOut, ComesToDry, DoesOnMachine, IsWithinInput, StopsAfter}
-use Rattle.commands.specs.internal.InputPorts.{IsAtDry, IsPast, ReadsNext}
+use Rattle.commands.specs.Steps.{CarriesOut, ComesToDry, DoesOnMachine, IsWithinInput}
+use Rattle.commands.specs.internal.InputPorts.{IsAtDry, ReadsNext}
 use Rattle.commands.proofs.PortReads.{passes}
 
 -- ---- how many were made

@@ -1,5 +1,5 @@
 -- How much of its budget a run of a source uses: what is gone at the end of the run of its code.
-use Rattle.interpreter.proofs.Prelude.{◌≡◌, ℕ, suc, ◌+◌, ◌-◌, ◌<◌, ◌≤◌, List, [], ◌∷◌, ◌++◌, length, Option, Some, refl, sym, ap, subst, ◌∙◌, arith, find, All, JumpsAreSound, TypedModule, is_main, Placement, Surroundings, State, Stop, Ended, Outside, Run, number_of_main, source_run, begins_itself}
+use Rattle.interpreter.proofs.Prelude.{◌≡◌, ℕ, suc, ◌+◌, ◌-◌, ◌<◌, ◌≤◌, List, [], ◌∷◌, ◌++◌, length, Some, refl, sym, ap, subst, ◌∙◌, arith, find, All, JumpsAreSound, TypedModule, is_main, Placement, State, Stop, Ended, Outside, Run, number_of_main, source_run}
 use Rattle.std.proofs.Common.{length-append, zero}
 use Rattle.ports.specs.{declared.event.Event.{Event}, Events.{AddsEvent, IsBeginning}}
 use Rattle.meaning.specs.{Outcomes.{More}, declared.reason.Reason.{Reason}, internal.Kept.{with_more}}

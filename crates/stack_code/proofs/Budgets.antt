@@ -1,5 +1,5 @@
 -- Runs of stack code with a budget and with a greater one.
-use Rattle.stack_code.proofs.Prelude.{◌≡◌, ℕ, zero, suc, ◌+◌, ◌-◌, ◌*◌, ◌%◌, ◌<◌, ◌≤◌, ◌==◌, Bool, true, false, List, [], ◌∷◌, slice_get, nat_lt, Option, Some, None, cond, refl, sym, ap, subst, ◌∙◌, arith, append-nil, option_map_or, MEMORY_SIZE, ScalarType, Byte, Address, charge_of, TypedProcedure, TypedModule, InProgram, as_type, is_true, result_of, Place, InMemory, InTheFrame, read_scalar, write_scalar, Program, Surroundings, charged, computed, moved, procedure_at, Stack, State, Stop, Ended, More, Outside, Outcome, Gave, Stopped, then_do, Instruction, Call, Machine, Progress, Going, Done, after_first, and_then_steps, arguments_now, argument_of, below, calling, carried_out, entering, is_mark, leaving, looping, machine_in, parameter_set, part_place, progress_of, pushing, returning, spending, stack_run, started, step, steps, top, values_after, Adds}
+use Rattle.stack_code.proofs.Prelude.{◌≡◌, ℕ, zero, suc, ◌+◌, ◌-◌, ◌%◌, ◌<◌, ◌≤◌, ◌==◌, Bool, true, false, List, [], ◌∷◌, slice_get, nat_lt, Option, Some, None, cond, refl, sym, ap, subst, ◌∙◌, arith, append-nil, option_map_or, MEMORY_SIZE, ScalarType, Byte, Address, charge_of, TypedProcedure, TypedModule, InProgram, as_type, is_true, result_of, Place, InMemory, InTheFrame, read_scalar, write_scalar, Program, Surroundings, charged, computed, moved, procedure_at, State, Ended, More, Outside, Outcome, Gave, Stopped, then_do, Instruction, Call, Machine, Progress, Going, Done, after_first, and_then_steps, arguments_now, argument_of, below, calling, carried_out, entering, is_mark, leaving, looping, machine_in, parameter_set, part_place, progress_of, pushing, returning, spending, stack_run, started, step, steps, top, values_after, Adds}
 use Rattle.stack_code.specs.declared.instruction.Instruction.TheVariants as instructions
 use Rattle.std.proofs.{Common.{◌/◌}, lemmas.Grind.{common_steps}}
 use Rattle.meaning.specs.Access.{is_constant, is_declared, next_place, read_byte, write_byte}
