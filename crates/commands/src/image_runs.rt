@@ -87,13 +87,7 @@ fn dry_end(machine: &Machine<InputPorts>, end: End) -> Option<End>
 {
     let is_dry = machine.ports().is_past(next_read(machine));
     match end {
-        End::PortFault => {
-            if is_dry {
-                None
-            } else {
-                Some(End::PortFault)
-            }
-        }
+        End::PortFault => { if is_dry { None } else { Some(End::PortFault) } }
         End::Halted => Some(End::Halted),
         End::Illegal => Some(End::Illegal),
         End::Limit => Some(End::Limit),
@@ -125,7 +119,12 @@ fn word_of(end: Option<End>) -> &'static str
 }
 
 // A machine at its start: with an image loaded into a memory, these ports, and a table for what it decodes.
-fn machine_of<P: Ports>(image: &Absolute, memory: Memory, ports: P, table: DecodeTable) -> Machine<P>
+fn machine_of<P: Ports>(
+    image: &Absolute,
+    memory: Memory,
+    ports: P,
+    table: DecodeTable,
+) -> Machine<P>
     ensures { result ≡ started image.now memory (P.script ports) (P.events ports) (P.failures ports) }
 {
     let mut memory = memory;
@@ -191,7 +190,15 @@ fn print_counted<O: Write>(
     let mut machine = machine_of(image, memory, script, table);
     let (end, steps) = run_counted(&mut machine, values.limit);
     let events = machine.ports().events();
-    print_report(alloc, values, events, steps, word_of(Some(end)), outputs, out)?;
+    print_report(
+        alloc,
+        values,
+        events,
+        steps,
+        word_of(Some(end)),
+        outputs,
+        out,
+    )?;
     Ok(Some(end))
 }
 
@@ -209,7 +216,6 @@ fn print_until_dry<O: Write>(
     requires start { IsStart (values_in values.now) memory }
     requires gives { GivesInput (values_in values.now).input script.script }
     requires none { script.events ≡ [] }
-    requires unfailed { script.failures ≡ 0 }
     requires until_dry { values.now.watch.until_dry ≡ true }
     ensures ok { IfOk result (λ end. PrintsImage [] (values_in values.now) image.now (machine_status end)
         (map (λ output. output.items) outputs.new.items) (O.contents out.old) (O.contents out.new)) }

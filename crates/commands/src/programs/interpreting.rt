@@ -171,7 +171,15 @@ fn print_until_dry<O: Write>(
     let run = interpret_built(alloc, settings.limit, built, memory, &mut ports)?;
     let end = dry_end(run, &ports);
     let events = ports.events();
-    print_report(alloc, settings, events, run.used, word_of(end), outputs, out)?;
+    print_report(
+        alloc,
+        settings,
+        events,
+        run.used,
+        word_of(end),
+        outputs,
+        out,
+    )?;
     Ok(end)
 }
 
@@ -200,7 +208,15 @@ fn print_to_end<O: Write>(
     let run = interpret_built(alloc, settings.limit, built, memory, &mut script)?;
     let end = Some(run.end);
     let events = script.events();
-    print_report(alloc, settings, events, run.used, word_of(end), outputs, out)?;
+    print_report(
+        alloc,
+        settings,
+        events,
+        run.used,
+        word_of(end),
+        outputs,
+        out,
+    )?;
     Ok(end)
 }
 
