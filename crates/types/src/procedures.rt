@@ -71,9 +71,9 @@ fn place_of_reference(reference: &Reference) -> Place
     reference.name.place
 }
 
-// The place at which a statement begins, its labels aside.
+/// The place at which a statement begins, its labels aside.
 #[tactic(auto, using(names::proofs::Parts::do_is))]
-fn place_of_kind(kind: &StatementKind) -> Place
+pub fn place_of_kind(kind: &StatementKind) -> Place
     ensures { result ≡ place_of_kind (kind_tree kind.now) }
 {
     match kind {
