@@ -1,5 +1,5 @@
 -- Words of one option at most, after a command: they have no fault, and give what is wanted.
-use Rattle.command_line.proofs.Prelude.{◌≡◌, ◌∙◌, List, [], ◌∷◌, ◌++◌, Some, true, false, refl, ap, codes, fold, Row, Text, nothing_held, rows_after, with_default, check_fault, defaults_fault, level_fault, Action, PlaceAction, Locate, Hex, Code, DataBase, Input, InputFile, OutputFile, Limit, OfPlan, PlanOption, Stack, StackSize, ValueOption, usual_execute, wants_execute, with_execute_text, Wanted, option_words, plan_option_name, option_name, usual, usual_place, usual_plan, wants_link, wants_need, wants_place, wants_program, with_plan_text, with_text, Fill, StartMemory, Listing}
+use Rattle.command_line.proofs.Prelude.{◌≡◌, ◌∙◌, List, [], ◌∷◌, ◌++◌, Some, true, false, refl, ap, codes, fold, Row, Text, nothing_held, rows_after, with_default, check_fault, defaults_fault, level_fault, Action, PlaceAction, Locate, Hex, Code, DataBase, Input, InputFile, OutputFile, Limit, OfPlan, PlanOption, Stack, StackSize, ValueOption, usual_execute, wants_execute, with_execute_text, Wanted, option_words, plan_option_name, option_name, usual, usual_place, usual_plan, wants_link, wants_need, wants_place, wants_program, with_plan_text, with_text, Fill, StartMemory, Listing, Symbols}
 use Rattle.command_line.proofs.Files.{files_row, level_of, rows_of_level}
 use Rattle.command_line.proofs.Begins.{Ends, jump, map_flag, need_flag, of_execute, of_place, of_program, option_row, out, rows_of_flag}
 use Rattle.command_line.proofs.Verbs.{Executed, Located, Objects, Placed, Sources, Verb, execute, form_of, leaf, leaf_of, link, name_of, place, program, rules_of, wanted_of}
@@ -89,6 +89,7 @@ unfolding defaults_fault
 place_line Locate file files e = line_of (place Locate) (file ∷ files) (files_row (file ∷ files) ∷ []) (wants_place (usual_place Locate (file ∷ files))) e refl refl refl
 place_line Hex file files e = line_of (place Hex) (file ∷ files) (files_row (file ∷ files) ∷ []) (wants_place (usual_place Hex (file ∷ files))) e refl refl refl
 place_line Listing file files e = line_of (place Listing) (file ∷ files) (files_row (file ∷ files) ∷ []) (wants_place (usual_place Listing (file ∷ files))) e refl refl refl
+place_line Symbols file files e = line_of (place Symbols) (file ∷ files) (files_row (file ∷ files) ∷ []) (wants_place (usual_place Symbols (file ∷ files))) e refl refl refl
 
 pub place_option_line : (action : PlaceAction) (o : PlanOption) (text file : Text) (files : List Text)
     → Ends (leaf (form_of action) (name_of (place action))) (option_words (plan_option_name o) text ++ file ∷ files) (option_row (of_place action o) text ∷ files_row (file ∷ files) ∷ [])
@@ -104,6 +105,9 @@ place_option_line Hex Code text file files e =
 place_option_line Listing Code text file files e =
     line_of (place Listing) (option_words (plan_option_name Code) text ++ file ∷ files) (option_row (of_place Listing Code) text ∷ files_row (file ∷ files) ∷ [])
     (wants_place (record (usual_place Listing (file ∷ files)) { plan = with_plan_text Code text usual_plan })) e refl refl refl
+place_option_line Symbols Code text file files e =
+    line_of (place Symbols) (option_words (plan_option_name Code) text ++ file ∷ files) (option_row (of_place Symbols Code) text ∷ files_row (file ∷ files) ∷ [])
+    (wants_place (record (usual_place Symbols (file ∷ files)) { plan = with_plan_text Code text usual_plan })) e refl refl refl
 place_option_line Locate DataBase text file files e =
     line_of (place Locate) (option_words (plan_option_name DataBase) text ++ file ∷ files) (option_row (of_place Locate DataBase) text ∷ files_row (file ∷ files) ∷ [])
     (wants_place (record (usual_place Locate (file ∷ files)) { plan = with_plan_text DataBase text usual_plan })) e refl refl refl
@@ -113,6 +117,9 @@ place_option_line Hex DataBase text file files e =
 place_option_line Listing DataBase text file files e =
     line_of (place Listing) (option_words (plan_option_name DataBase) text ++ file ∷ files) (option_row (of_place Listing DataBase) text ∷ files_row (file ∷ files) ∷ [])
     (wants_place (record (usual_place Listing (file ∷ files)) { plan = with_plan_text DataBase text usual_plan })) e refl refl refl
+place_option_line Symbols DataBase text file files e =
+    line_of (place Symbols) (option_words (plan_option_name DataBase) text ++ file ∷ files) (option_row (of_place Symbols DataBase) text ∷ files_row (file ∷ files) ∷ [])
+    (wants_place (record (usual_place Symbols (file ∷ files)) { plan = with_plan_text DataBase text usual_plan })) e refl refl refl
 place_option_line Locate Stack text file files e =
     line_of (place Locate) (option_words (plan_option_name Stack) text ++ file ∷ files) (option_row (of_place Locate Stack) text ∷ files_row (file ∷ files) ∷ [])
     (wants_place (record (usual_place Locate (file ∷ files)) { plan = with_plan_text Stack text usual_plan })) e refl refl refl
@@ -122,6 +129,9 @@ place_option_line Hex Stack text file files e =
 place_option_line Listing Stack text file files e =
     line_of (place Listing) (option_words (plan_option_name Stack) text ++ file ∷ files) (option_row (of_place Listing Stack) text ∷ files_row (file ∷ files) ∷ [])
     (wants_place (record (usual_place Listing (file ∷ files)) { plan = with_plan_text Stack text usual_plan })) e refl refl refl
+place_option_line Symbols Stack text file files e =
+    line_of (place Symbols) (option_words (plan_option_name Stack) text ++ file ∷ files) (option_row (of_place Symbols Stack) text ∷ files_row (file ∷ files) ∷ [])
+    (wants_place (record (usual_place Symbols (file ∷ files)) { plan = with_plan_text Stack text usual_plan })) e refl refl refl
 place_option_line Locate StackSize text file files e =
     line_of (place Locate) (option_words (plan_option_name StackSize) text ++ file ∷ files) (option_row (of_place Locate StackSize) text ∷ files_row (file ∷ files) ∷ [])
     (wants_place (record (usual_place Locate (file ∷ files)) { plan = with_plan_text StackSize text usual_plan })) e refl refl refl
@@ -131,6 +141,9 @@ place_option_line Hex StackSize text file files e =
 place_option_line Listing StackSize text file files e =
     line_of (place Listing) (option_words (plan_option_name StackSize) text ++ file ∷ files) (option_row (of_place Listing StackSize) text ∷ files_row (file ∷ files) ∷ [])
     (wants_place (record (usual_place Listing (file ∷ files)) { plan = with_plan_text StackSize text usual_plan })) e refl refl refl
+place_option_line Symbols StackSize text file files e =
+    line_of (place Symbols) (option_words (plan_option_name StackSize) text ++ file ∷ files) (option_row (of_place Symbols StackSize) text ∷ files_row (file ∷ files) ∷ [])
+    (wants_place (record (usual_place Symbols (file ∷ files)) { plan = with_plan_text StackSize text usual_plan })) e refl refl refl
 
 pub execute_line : (file : Text) (files : List Text) → Ends (leaf Executed (codes "execute")) (file ∷ files) (files_row (file ∷ files) ∷ [])
     → Line execute (file ∷ files) (wants_execute (usual_execute (file ∷ files)))

@@ -12,7 +12,7 @@ pub use Rattle.command_line.specs.Settings.{Read, byte_of, bytes_for, group_byte
 pub use Rattle.command_line.specs.declared.orders.Action.{Action}
 pub use Rattle.command_line.specs.declared.orders.Order.{Order}
 pub use Rattle.command_line.specs.declared.orders.PlaceAction.{PlaceAction}
-pub use Rattle.command_line.specs.declared.orders.PlaceAction.TheVariants.{Hex, Listing, Locate}
+pub use Rattle.command_line.specs.declared.orders.PlaceAction.TheVariants.{Hex, Listing, Symbols, Locate}
 pub use Rattle.command_line.specs.declared.reading.LineFault.{LineFault}
 pub use Rattle.command_line.specs.internal.Errors.{IsFailureFor}
 pub use Rattle.command_line.specs.internal.Reads.{if_read, in_front}

@@ -16,7 +16,7 @@ use Rattle.failure.specs.declared.Failure.TheVariants.{Memory}
 use Rattle.command_line.specs.declared.orders.Action.{Action}
 use Rattle.command_line.specs.declared.orders.Action.TheVariants.{Run, Interpret}
 use Rattle.command_line.specs.declared.orders.PlaceAction.{PlaceAction}
-use Rattle.command_line.specs.declared.orders.PlaceAction.TheVariants.{Locate, Hex, Listing}
+use Rattle.command_line.specs.declared.orders.PlaceAction.TheVariants.{Locate, Hex, Listing, Symbols}
 use Rattle.command_line.specs.declared.orders.CompileOrder.{CompileOrder}
 use Rattle.command_line.specs.declared.orders.ConvertOrder.{ConvertOrder}
 use Rattle.command_line.specs.declared.orders.ExecuteOrder.{ExecuteOrder}
@@ -106,7 +106,7 @@ link_app name = with_rule (with_rule (new_app name) out_rule) files_rule
 abbrev pub hex_app : Text → App
 hex_app name = with_rule (with_rule (with_plan (new_app name)) (option_rule (codes "jump"))) files_rule
 
--- the command `name [plan] FILE...`, which asks for one file when it is carried out
+-- the command `name [plan] FILE...`
 abbrev pub list_app : Text → App
 list_app name = with_rule (with_plan (new_app name)) files_rule
 
@@ -152,11 +152,13 @@ programs_app =
 -- the program `plm` with its commands
 abbrev pub plm_app : App
 plm_app =
-    with_subcommand (with_subcommand (with_subcommand (with_subcommand (with_subcommand (with_subcommand (with_subcommand programs_app
+    with_subcommand (with_subcommand (with_subcommand (with_subcommand (with_subcommand (with_subcommand
+    (with_subcommand (with_subcommand programs_app
     (link_app (codes "link")).top)
     (locate_app (codes "locate")).top)
     (hex_app (codes "hex")).top)
     (list_app (codes "list")).top)
+    (list_app (codes "symbols")).top)
     (execute_app (codes "execute")).top)
     (explain_app (codes "explain")).top)
     (convert_app (codes "convert")).top
@@ -191,7 +193,7 @@ pub record LinkWanted : Type 0 where
   pub out : Text
   pub objects : List Text
 
--- what is wanted of an object that is placed, with the address of a jump to its start, which `hex` alone takes
+-- what is wanted of an object or of sources that are placed, with the address of a jump to the start, which `hex` alone takes
 pub record PlaceWanted : Type 0 where
   pub action : PlaceAction
   pub files : List Text
@@ -347,9 +349,10 @@ wanted_of_match (name, rows) =
     else (if bytes_eq name (codes "locate") then Some (located_of rows)
     else (if bytes_eq name (codes "hex") then Some (wants_place (place_of Hex rows))
     else (if bytes_eq name (codes "list") then Some (wants_place (place_of Listing rows))
+    else (if bytes_eq name (codes "symbols") then Some (wants_place (place_of Symbols rows))
     else (if bytes_eq name (codes "execute") then Some (wants_execute (execute_of rows))
     else (if bytes_eq name (codes "explain") then Some (wants_explain (explain_of rows))
-    else (if bytes_eq name (codes "convert") then Some (wants_convert (convert_of rows)) else None)))))))))
+    else (if bytes_eq name (codes "convert") then Some (wants_convert (convert_of rows)) else None))))))))))
 
 -- what the words, with the program's name in front, want
 abbrev pub wanted_by : List Text → Option Wanted
@@ -443,6 +446,7 @@ abbrev pub name_of_place_action : PlaceAction → Text
 name_of_place_action Locate = codes "locate"
 name_of_place_action Hex = codes "hex"
 name_of_place_action Listing = codes "list"
+name_of_place_action Symbols = codes "symbols"
 
 -- a word that is no option: it doesn't begin with a hyphen (45)
 abbrev pub IsBare : Text → Type 0
@@ -594,7 +598,7 @@ OrdersLink words answer = (name out : Text) (files : List Text)
     → Gives words name (codes "link") (option_words (codes "out") out) files
     → IsOrderOf (wants_link (record { out = out; objects = files })) answer
 
--- a command that places an object, with bare files alone
+-- a command that places an object or sources, with bare files alone
 abbrev pub OrdersPlace : List Text → Result Order (Failure LineFault) → Type 0
 OrdersPlace words answer = (name : Text) (action : PlaceAction) (files : List Text)
     → Gives words name (name_of_place_action action) [] files

@@ -7,7 +7,7 @@ ghost use Rattle.command_line.specs.Command.{bare_app, compile_app, default_rule
 
 use crate::help::{
     ABOUT, COMPILE, CONVERT, EXECUTE, EXPLAIN, GUIDE, HEX, INTERPRET, INTERPRET_LIMIT, LINK, LIST,
-    LOCATE, RUN, RUN_LIMIT, Teaching, VERSION,
+    LOCATE, RUN, RUN_LIMIT, SYMBOLS, Teaching, VERSION,
 };
 use clap::{Arg, ArgAction, Command};
 use std::alloc::{AllocError, Global};
@@ -310,12 +310,30 @@ fn hex<'a>(alloc: Global) -> Built<'a>
     add(with_jump, files(alloc, "FILE", "The one object file"))
 }
 
-// The command that lists an object file that is placed.
+// The command that lists sources, or an object file that is placed.
 fn list<'a>(alloc: Global) -> Built<'a>
     ensures { Builds (list_app (codes "list")) result }
 {
     let planned = add_plan(alloc, named(alloc, "list", LIST));
-    add(planned, files(alloc, "FILE", "The one object file"))
+    add(
+        planned,
+        files(
+            alloc,
+            "FILE",
+            "The files with the sources, or one object file",
+        ),
+    )
+}
+
+// The command that prints the symbols of sources.
+fn symbols<'a>(alloc: Global) -> Built<'a>
+    ensures { Builds (list_app (codes "symbols")) result }
+{
+    let planned = add_plan(alloc, named(alloc, "symbols", SYMBOLS));
+    add(
+        planned,
+        files(alloc, "SOURCE", "The files with the sources"),
+    )
 }
 
 // The command that tells where an object lies or, with its flag, how much of the stack sources need.
@@ -424,7 +442,8 @@ pub(crate) fn plm_command<'a>(alloc: Global) -> Result<Command<'a>, AllocError>
     let with_locate = add_leaf(with_link, locate(alloc));
     let with_hex = add_leaf(with_locate, hex(alloc));
     let with_list = add_leaf(with_hex, list(alloc));
-    let with_execute = add_leaf(with_list, execute(alloc));
+    let with_symbols = add_leaf(with_list, symbols(alloc));
+    let with_execute = add_leaf(with_symbols, execute(alloc));
     let with_explain = add_leaf(with_execute, explain(alloc));
     add_leaf(with_explain, convert(alloc))
 }

@@ -187,8 +187,13 @@ pub(crate) const HEX: Teaching = Teaching {
 };
 
 pub(crate) const LIST: Teaching = Teaching {
-    about: "Places an object file in memory, and prints its bytes with the instructions that they encode",
+    about: "Lists sources with their code, or the bytes of an object file with their instructions",
     printed: PRINTED_BY_LIST,
+};
+
+pub(crate) const SYMBOLS: Teaching = Teaching {
+    about: "Prints where the procedures, the variables and the lines of sources lie in memory",
+    printed: PRINTED_BY_SYMBOLS,
 };
 
 pub(crate) const EXECUTE: Teaching = Teaching {
@@ -423,23 +428,35 @@ Numbers, where X is the name or the text that is printed with one:
 Read more in the folder docs: faults.md (each number with an example and its cure), commands.md");
 
 const PRINTED_BY_LIST: &str = text_of!([] "\
-The object is a main module without external names, such as `plm link` writes.
+The sources are the modules of one program, with one main module. A single file that begins with the
+byte 02 is an object: a main module without external names, such as `plm link` writes.
 
-Prints a line for each instruction, by rising addresses:
+Prints each line of a source with its number in five columns, and below it the code of what begins
+there, a line for each instruction, as
+        7 N = N + 1;
+          0103 21 00 40  LXI H,N
+          0106 34        INR M
+After the last line come the constants of the module, the routines that it calls and what its data
+are at the start, and then
+  CODE module aaaa n  where its code begins, and how many bytes it has
+  DATA module aaaa n  the same of its data
+
+Of an object it prints a line for each instruction, by rising addresses.
   aaaa bb bb bb  text  the address, the bytes there, and the instruction that they encode
   aaaa bb        DB bb  a byte that is shown alone
-  name:          the line before that of the address where a public name lies
-Addresses, bytes and numbers in a text are hexadecimal digits. The bytes of the data are shown alone,
-and in the code those that begin no whole instruction. Constants lie among the code too, so that
-lines may show them as instructions that the program never comes to.
+  name:          the line before that of the address where a name lies
+Addresses, bytes and numbers in a text are hexadecimal digits. In a listing of sources the name of a
+procedure, of a variable or of a routine stands in place of its address. In an object the bytes of the
+data are shown alone, and in the code those that begin no whole instruction. Constants lie among the
+code too, so that lines may show them as instructions that the program never comes to.
 
 Exit status:
   0  all was printed, or help was asked for
-  1  the object or its place was refused, memory ran out, or a file can't be read
+  1  a source, the object or its place was refused, memory ran out, or a file can't be read
   2  the command line is wrong, or a value in it
 
-A refused object prints `number file 0` to standard error, a refused place `number - 0`, and a
-refused value or a second file `U4 text 0`.
+A refused source prints `number file line` to standard error, a refused object `number file 0`, a
+refused place `number - 0`, and a refused value `U4 text 0`.
 
 Example: an object with the code cd 04 00 76 3e 08 c9, whose bytes 04 00 are an address in the
 code, and a public name S at offset 4 prints
@@ -450,7 +467,34 @@ code, and a public name S at offset 4 prints
   0106 C9        RET
 
 Numbers, where X is the name or the text that is printed with one:
-" OBJECTS PLACES IMAGES FILES VALUES MEMORY "\n\
+" TEXTS CODE MODULES SEGMENTS OBJECTS PLACES IMAGES COUNTS LENGTHS FILES VALUES MEMORY "\n\
+Read more in the folder docs: faults.md (each number with an example and its cure), commands.md");
+
+const PRINTED_BY_SYMBOLS: &str = text_of!([] "\
+The sources are the modules of one program, with one main module.
+
+Prints for each module, in the order of its text, addresses as four hexadecimal digits, and numbers in
+decimal ones:
+  PROC module name aaaa n           a procedure, and how many bytes its code has
+  VAR module procedure name aaaa n  a variable or a constant, and how many bytes it has; `-` stands
+                                    for the procedure where it is declared in none
+  LINE module n aaaa                where the first code of what begins in line n lies
+
+Exit status:
+  0  all was printed, or help was asked for
+  1  a source was refused, memory ran out, or a file can't be read
+  2  the command line is wrong, or a value in it
+
+A refused source prints `number file line` to standard error, and a refused value `U4 text 0`.
+
+Example: a file with the line
+  M: DO; DECLARE A BYTE; A = 42; END M;
+prints
+  VAR M - A 4000 1
+  LINE M 1 0100
+
+Numbers, where X is the name or the text that is printed with one:
+" TEXTS CODE MODULES SEGMENTS PLACES COUNTS LENGTHS FILES VALUES MEMORY "\n\
 Read more in the folder docs: faults.md (each number with an example and its cure), commands.md");
 
 const PRINTED_BY_EXECUTE: &str = text_of!([] "\

@@ -9,15 +9,17 @@ pub enum Action {
     Interpret,
 }
 
-/// What is printed of an object file that is placed in memory.
+/// What is printed of an object file, or of sources, that are placed in memory.
 #[derive(Clone, Copy)]
 pub enum PlaceAction {
-    /// Where its segments, its start and its public names lie.
+    /// Where the segments of an object, its start and its public names lie.
     Locate,
-    /// Its bytes, as Intel HEX.
+    /// The bytes of an object, as Intel HEX.
     Hex,
-    /// Its bytes, with the instructions that they encode.
+    /// The bytes of an object, with the instructions that they encode; or the lines of sources, with their code.
     Listing,
+    /// Where the procedures, the variables and the lines of sources lie.
+    Symbols,
 }
 
 /// The texts of the options that say where the parts of a program are to lie.
@@ -76,7 +78,7 @@ pub struct LinkOrder<'a> {
     pub objects: Vec<&'a str>,
 }
 
-/// An order to place an object file in memory. More files than one are refused by `PlaceOrder::file`.
+/// An order to place an object file, or sources, in memory. More files than one are refused by `PlaceOrder::file`.
 #[derive(Drop)]
 pub struct PlaceOrder<'a> {
     /// What is printed.

@@ -159,7 +159,7 @@ fn link<'a>(alloc: Global, matches: &ArgMatches<'a>) -> Result<Option<Order<'a>>
     })))
 }
 
-// The order for a command that places an object file, from the matches of its arguments.
+// The order for a command that places an object file or sources, from the matches of its arguments.
 fn place<'a>(
     alloc: Global,
     action: PlaceAction,
@@ -265,6 +265,7 @@ fn order_named<'a>(
         "locate" => locate(alloc, matches),
         "hex" => place(alloc, PlaceAction::Hex, matches),
         "list" => place(alloc, PlaceAction::Listing, matches),
+        "symbols" => place(alloc, PlaceAction::Symbols, matches),
         "execute" => execute(alloc, matches),
         "explain" => explain(matches),
         "convert" => convert(alloc, matches),
