@@ -1,0 +1,175 @@
+-- The listing of a program: the lines of its sources, each with the code of what begins there. Which line that is no
+-- definition says.
+use Rattle.std.specs.Prelude.{◌≡◌, ◌⊎◌, ℕ, ◌+◌, ◌-◌, ◌<◌, ◌==◌, Bool, ◌&&◌, ◌||◌, not, nat_le, nat_lt, if◌then◌else◌, cond}
+use Rattle.std.specs.Prelude.{List, [], ◌∷◌, ◌++◌, codes, length, replicate, take, All, filter, flat_map, Option, Some, None}
+use Rattle.std.specs.Fmt.{decimal}
+use Rattle.isa8080.specs.Code.{bytes_of}
+use Rattle.isa8080.specs.Text.{byte_digits, text_of}
+use Rattle.isa8080.specs.declared.instr.Instr.{Instr}
+use Rattle.isa8080.specs.declared.instr.Instr.TheVariants.{Lxi, Shld, Lhld, Sta, Lda, JumpIf, CallIf, Jmp, Call}
+use Rattle.mem80.specs.declared.range.Piece.{Piece}
+use Rattle.mem80.specs.declared.range.Range.{Range}
+use Rattle.object_commands.specs.Listing.{part_line}
+use Rattle.object_commands.specs.Placing.{range_line}
+use Rattle.object_modules.specs.Image.{Symbol, range_at}
+use Rattle.object_modules.specs.Module.{ObjectModule, length_of}
+use Rattle.object_modules.specs.declared.segment.Segment.TheVariants.{Code, Data}
+use Rattle.sources.specs.Programs.{program_modules}
+use Rattle.tool.specs.Construction.{Construction}
+use Rattle.typed_trees.specs.TypedTrees.{TypedModule}
+use Rattle.listings.specs.Names.{IsNameOf}
+
+-- what is shown of an address: the bytes from there on, and a text
+pub record Part : Type 0 where
+  pub address : ℕ
+  pub bytes : List ℕ
+  pub text : List ℕ
+
+-- bytes with their addresses, from one on
+abbrev pub cells_from : (address : ℕ) → List ℕ → List (ℕ × ℕ)
+cells_from address [] = []
+cells_from address (byte ∷ bytes) = (address, byte) ∷ cells_from (address + 1) bytes
+
+abbrev pub cells_of : Part → List (ℕ × ℕ)
+cells_of part = cells_from part.address part.bytes
+
+-- the bytes of an image in a range, with their addresses
+abbrev pub is_in : Range → ℕ × ℕ → Bool
+is_in range cell = nat_le range.start cell.0 && nat_lt cell.0 (range.start + range.len)
+
+abbrev pub cells_in : Range → List Piece → List (ℕ × ℕ)
+cells_in range pieces =
+    filter (is_in range) (flat_map (λ (piece : Piece). cells_from piece.start piece.bytes) pieces)
+
+-- the word that an instruction ends in, if it does
+abbrev pub word_of : Instr → Option ℕ
+word_of (Lxi pair word) = Some word
+word_of (Shld word) = Some word
+word_of (Lhld word) = Some word
+word_of (Sta word) = Some word
+word_of (Lda word) = Some word
+word_of (JumpIf condition word) = Some word
+word_of (CallIf condition word) = Some word
+word_of (Jmp word) = Some word
+word_of (Call word) = Some word
+word_of i = None
+
+-- the text of an instruction, with a name in place of the four digits of its word
+abbrev pub named_text : Instr → (name : List ℕ) → List ℕ
+named_text i name = take (length (text_of i) - 4) (text_of i) ++ name
+
+-- a text is that of an instruction, with the name of the address that it ends in, where that has one, or without
+pub record NamesWord (name_at : ℕ → Option Symbol) (i : Instr) (text : List ℕ) : Type 0 where
+  pub word : ℕ
+  pub symbol : Symbol
+  pub ends : word_of i ≡ Some word
+  pub named : name_at word ≡ Some symbol
+  pub text_is : text ≡ named_text i symbol.name
+
+abbrev pub IsTextOf : (name_at : ℕ → Option Symbol) → Instr → (text : List ℕ) → Type 0
+IsTextOf name_at i text = (text ≡ text_of i) ⊎ NamesWord name_at i text
+
+-- a part shows the bytes that encode an instruction, with its text; or one byte, with DB and that byte
+pub record ShowsInstruction (name_at : ℕ → Option Symbol) (part : Part) : Type 0 where
+  pub i : Instr
+  pub bytes_are : part.bytes ≡ bytes_of i
+  pub text_is : IsTextOf name_at i part.text
+
+pub record ShowsByte (part : Part) : Type 0 where
+  pub byte : ℕ
+  pub bytes_are : part.bytes ≡ byte ∷ []
+  pub text_is : part.text ≡ codes "DB " ++ byte_digits byte
+
+abbrev pub IsShown : (name_at : ℕ → Option Symbol) → Part → Type 0
+IsShown name_at part = ShowsInstruction name_at part ⊎ ShowsByte part
+
+-- the room before what is printed below a line: six spaces (32)
+abbrev pub margin : List ℕ
+margin = replicate 6 32
+
+-- the name of an address, on a line of its own with a colon (58)
+abbrev pub name_line : Option Symbol → List ℕ
+name_line None = []
+name_line (Some symbol) = margin ++ symbol.name ++ 58 ∷ 10 ∷ []
+
+-- the lines of a part
+abbrev pub part_lines : (name_at : ℕ → Option Symbol) → Part → List ℕ
+part_lines name_at part =
+    name_line (name_at part.address) ++ margin ++ part_line part.address part.bytes part.text
+
+-- the lines of a text, each without the line feed (10) that ends it; none comes after the last line feed
+abbrev pub before_lines : ℕ → List (List ℕ) → List (List ℕ)
+before_lines c [] = (c ∷ []) ∷ []
+before_lines c (line ∷ lines) = (c ∷ line) ∷ lines
+
+abbrev pub lines_of : List ℕ → List (List ℕ)
+lines_of [] = []
+lines_of (c ∷ text) = cond (c == 10) ([] ∷ lines_of text) (before_lines c (lines_of text))
+
+-- a line after its number, which ends in the fifth column, and a space
+abbrev pub numbered_line : (number : ℕ) → (line : List ℕ) → List ℕ
+numbered_line number line =
+    replicate (5 - length (decimal number)) 32 ++ decimal number ++ 32 ∷ line ++ 10 ∷ []
+
+-- the parts that begin in a line of this number, and those that begin in none of so many lines
+abbrev pub parts_in : (line_at : ℕ → ℕ) → (number : ℕ) → List Part → List Part
+parts_in line_at number parts = filter (λ (part : Part). line_at part.address == number) parts
+
+abbrev pub parts_beside : (line_at : ℕ → ℕ) → (count : ℕ) → List Part → List Part
+parts_beside line_at count parts =
+    filter (λ (part : Part). (line_at part.address == 0) || nat_lt count (line_at part.address)) parts
+
+-- lines, numbered from one on, each with the parts that begin in it
+abbrev pub listed_from :
+    (number : ℕ) → (name_at : ℕ → Option Symbol) → (line_at : ℕ → ℕ) → (lines : List (List ℕ)) → List Part → List ℕ
+listed_from number name_at line_at [] parts = []
+listed_from number name_at line_at (line ∷ lines) parts =
+    numbered_line number line
+    ++ flat_map (part_lines name_at) (parts_in line_at number parts)
+    ++ listed_from (number + 1) name_at line_at lines parts
+
+-- where the code and the data of a module lie
+abbrev pub sizes_text : (name : List ℕ) → (code data_range : Range) → List ℕ
+sizes_text name code data_range =
+    range_line (codes "CODE " ++ name) code.start code.len ++ range_line (codes "DATA " ++ name) data_range.start data_range.len
+
+-- A module whose segments lie in these ranges is listed as this text: its lines, each with parts of its code; the
+-- parts of its code that begin in no line; its data, byte by byte; and where its segments lie. The parts are those
+-- bytes of the image, in order, each once. A name is printed where it stands for the address.
+pub record ListsModule (IsName : Symbol → Type 0) (pieces : List Piece) (code data_range : Range)
+    (name source text : List ℕ) : Type 0 where
+  pub name_at : ℕ → Option Symbol
+  pub line_at : ℕ → ℕ
+  pub code_parts : List Part
+  pub data_parts : List Part
+  pub named : (address : ℕ) (symbol : Symbol) → name_at address ≡ Some symbol
+      → IsName symbol × (symbol.address ≡ address)
+  pub code_is : flat_map cells_of code_parts ≡ cells_in code pieces
+  pub data_is : flat_map cells_of data_parts ≡ cells_in data_range pieces
+  pub code_shown : All (IsShown name_at) code_parts
+  pub data_shown : All ShowsByte data_parts
+  pub text_is : text
+      ≡ listed_from 1 name_at line_at (lines_of source) code_parts
+      ++ flat_map (part_lines name_at) (parts_beside line_at (length (lines_of source)) code_parts)
+      ++ flat_map (part_lines name_at) data_parts
+      ++ sizes_text name code data_range
+
+-- modules of these sources, whose segments follow one another from these addresses on, are listed as this text
+pub data AreListed (IsName : Symbol → Type 0) (pieces : List Piece) :
+    (code_base data_base : ℕ) → (sources : List (List ℕ)) → List TypedModule → List ObjectModule → (text : List ℕ)
+    → Type 0 where
+  no_module : {code_base data_base : ℕ} → AreListed IsName pieces code_base data_base [] [] [] []
+  next_module : {code_base data_base : ℕ} {source first more : List ℕ} {sources : List (List ℕ)}
+      {typed : TypedModule} {modules : List TypedModule} {object : ObjectModule} {objects : List ObjectModule}
+      → ListsModule IsName pieces (range_at code_base (length_of object Code))
+      (range_at data_base (length_of object Data)) typed.name source first
+      → AreListed IsName pieces (code_base + length_of object Code) (data_base + length_of object Data)
+      sources modules objects more
+      → AreListed IsName pieces code_base data_base (source ∷ sources) (typed ∷ modules) (object ∷ objects)
+      (first ++ more)
+
+-- the program of these sources is listed as this text
+abbrev pub ListsProgram : (sources : List (List ℕ)) → Construction → (text : List ℕ) → Type 0
+ListsProgram sources built text =
+    AreListed (IsNameOf built) built.image.pieces built.plan.code built.plan.data_base sources
+    (program_modules built.program) built.objects text

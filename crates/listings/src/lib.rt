@@ -1,0 +1,13 @@
+//! What is printed of a program that was built: its sources with their code, and its symbols.
+#![tactic(auto)]
+
+mod code;
+mod cuts;
+mod modules;
+mod names;
+mod programs;
+mod symbol_lines;
+mod views;
+
+pub use programs::listing_of;
+pub use symbol_lines::symbols_of;

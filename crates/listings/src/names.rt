@@ -1,0 +1,127 @@
+//! Names that stand for addresses.
+
+use crate::views::ModuleView;
+use codegen8080::CodePart;
+use placing::ModulePlacement;
+use runtime8080::Routine;
+use std::alloc::{AllocError, Global};
+use symbols::Name;
+use tool::SourceMark;
+use typed_trees::{Home, Typed, TypedObject};
+
+// What a name is written as: a name of the source, or that of a routine, which has small letters.
+#[derive(Clone, Copy)]
+enum NameText {
+    Declared(Name),
+    Routine(Routine),
+}
+
+/// A name and the address that it stands for.
+#[derive(Clone, Copy)]
+pub(crate) struct Named {
+    pub(crate) address: u16,
+    text: NameText,
+}
+
+// The name of a routine.
+fn routine_name(routine: Routine) -> &'static [u8] {
+    match routine {
+        Routine::Multiply => b"Multiply",
+        Routine::Divide => b"Divide",
+        Routine::ShiftLeftByte => b"ShiftLeftByte",
+        Routine::ShiftRightByte => b"ShiftRightByte",
+        Routine::ShiftLeftAddress => b"ShiftLeftAddress",
+        Routine::ShiftRightAddress => b"ShiftRightAddress",
+        Routine::RotateLeft => b"RotateLeft",
+        Routine::RotateRight => b"RotateRight",
+        Routine::Move => b"Move",
+    }
+}
+
+impl Named {
+    /// What the name is written as.
+    pub(crate) fn as_bytes(&self) -> &[u8] {
+        match &self.text {
+            NameText::Declared(name) => name.as_slice(),
+            NameText::Routine(routine) => routine_name(*routine),
+        }
+    }
+}
+
+// The name of a part of code, if it has one.
+fn name_of_part(typed: &Typed, part: CodePart) -> Option<NameText> {
+    match part {
+        CodePart::Procedure(number) => {
+            let procedure = typed.procedures.get(number as usize)?;
+            Some(NameText::Declared(procedure.name))
+        }
+        CodePart::Routine(routine) => Some(NameText::Routine(routine)),
+        CodePart::Main | CodePart::Statement(_) => None,
+    }
+}
+
+// Adds the names of the procedures and the routines of a module.
+fn put_code_names(names: &mut Vec<Named>, view: &ModuleView) -> Result<(), AllocError> {
+    for mark in view.marks.marks.iter() {
+        if let Some(text) = name_of_part(view.typed, mark.part) {
+            names.push(Named {
+                address: address_of(view.code_base, mark),
+                text,
+            })?;
+        }
+    }
+    Ok(())
+}
+
+/// The address of a mark of code that begins at an address.
+pub(crate) fn address_of(code_base: u32, mark: &SourceMark) -> u16 {
+    (code_base.saturating_add(mark.place as u32) % 65_536) as u16
+}
+
+/// Whether an object lies in a segment of its module.
+pub(crate) fn is_in_segment(object: &TypedObject) -> bool {
+    matches!(object.home, Home::Data(_) | Home::Constant(_))
+}
+
+// Adds the names of the objects in the segments of a module.
+fn put_objects(
+    names: &mut Vec<Named>,
+    typed: &Typed,
+    placed: &ModulePlacement,
+) -> Result<(), AllocError> {
+    let mut addresses = placed.objects.as_slice();
+    for object in typed.objects.iter() {
+        let [address, others @ ..] = addresses else {
+            break;
+        };
+        if is_in_segment(object) {
+            names.push(Named {
+                address: *address,
+                text: NameText::Declared(object.name),
+            })?;
+        }
+        addresses = others;
+    }
+    Ok(())
+}
+
+/// The names of modules: of the procedures, the objects and the routines that lie in their segments. What lies AT an address
+/// is not among them.
+pub(crate) fn names_of(alloc: Global, views: &[ModuleView]) -> Result<Vec<Named>, AllocError> {
+    let mut names = Vec::new(alloc);
+    for view in views {
+        put_code_names(&mut names, view)?;
+        put_objects(&mut names, view.typed, view.placed)?;
+    }
+    Ok(names)
+}
+
+/// The name of an address, if it has one.
+pub(crate) fn name_at(names: &[Named], address: u16) -> Option<&Named> {
+    for named in names {
+        if named.address == address {
+            return Some(named);
+        }
+    }
+    None
+}
