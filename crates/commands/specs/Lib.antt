@@ -4,6 +4,8 @@ pub use Rattle.command_line.specs.Settings
 pub use Rattle.object_commands.specs.Linking
 pub use Rattle.object_commands.specs.Listing
 pub use Rattle.object_commands.specs.Placing
+pub use Rattle.listings.specs.Listing
+pub use Rattle.listings.specs.Symbols
 pub use Rattle.commands.specs.Printing
 pub use Rattle.commands.specs.Compiling
 pub use Rattle.commands.specs.Running
@@ -27,6 +29,7 @@ pub mod Starting
 pub mod Running
 pub mod ProgramFaults
 pub mod Refusing
+pub mod Showing
 pub use Rattle.commands.specs.Needs
 pub mod NeedFaults
 pub mod Printing

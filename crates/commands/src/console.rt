@@ -1,17 +1,17 @@
 //! Carrying out a command line.
 
-ghost use Rattle.std.specs.Prelude.{◌≡◌, ◌≤◌, []};
+ghost use Rattle.std.specs.Prelude.{◌≡◌, ◌≤◌, [], Ok};
 ghost use Rattle.host.specs.Endings.{status_of};
 ghost use Rattle.host.specs.Refusals.{TellsOther, TellsRefusal};
 ghost use Rattle.clap.specs.Walk.{texts};
 ghost use Rattle.clap.specs.Words.{fault_of};
 ghost use Rattle.host.specs.Files.{KeepsFiles};
 ghost use Rattle.command_line.specs.Command.{plm_app, place_in, program_in, wanted_by, wanted_in, wants_place, wants_program};
-ghost use Rattle.command_line.specs.Settings.{outputs_in};
+ghost use Rattle.command_line.specs.Settings.{outputs_in, plan_read};
 ghost use Rattle.commands.specs.OutputFiles.{ChangesOutputs};
 ghost use Rattle.commands.specs.Refusing.{RefusesProgram};
 ghost use Rattle.commands.specs.Running.{PrintsProgram};
-ghost use Rattle.commands.specs.Orders.{AsksHelpAtMost, ChangesAsWanted, ChangesByWords, PrintsAsWanted, PrintsByWords, PrintsWanted, RefusesAsWanted, RefusesByWords, RefusesNoText, RefusesPlaced, RunsAsWanted, RunsByWords, StopsAsWanted, StopsByWords, QuietAsWanted, QuietByWords, TellsText, TellsTextByWords, WritesAsWanted, WritesByWords, names_by_words, names_of};
+ghost use Rattle.commands.specs.Orders.{AsksHelpAtMost, ChangesAsWanted, ChangesByWords, PrintsAsWanted, PrintsByWords, PrintsObject, PrintsWanted, RefusesAsWanted, RefusesByWords, RefusesNoText, RefusesObject, RefusesPlaced, RunsAsWanted, RunsByWords, StopsAsWanted, StopsByWords, QuietAsWanted, QuietByWords, TellsObjectText, TellsText, TellsTextByWords, WritesAsWanted, WritesByWords, names_by_words, names_of};
 ghost use Rattle.commands.specs.Converting.{ConvertsAsWanted, ConvertsByWords, TellsAsWanted, TellsByWords, TellsOutput, TellsRun};
 ghost use Rattle.commands.specs.internal.LineFaults.{IsWrong};
 
@@ -21,10 +21,12 @@ use crate::explaining::explain_number;
 use crate::needing::tell_need;
 use crate::programs::{carry_out_sources, carry_out_to_files, compile_file};
 use crate::refusals::refuse_value;
+use crate::showing::show_files;
 use command_line::{LineFault, Order, PlaceAction, PlaceOrder, ProgramOrder, command};
 use failure::Failure;
 use host::{Ending, Files, refuse_memory, refuse_write};
-use object_commands::{link_files, print_hex, print_list, print_places};
+use mem80::Plan;
+use object_commands::{link_files, print_hex, print_places};
 use std::alloc::Global;
 use std::io::Write;
 
@@ -218,7 +220,7 @@ fn carry_out<F: Files, O: Write, E: Write>(
     }
 }
 
-// Carries out an order on an object file, once the values of its options are known.
+// Carries out an order on an object file or on sources that are placed, once the values of its options are known.
 #[tactic(auto, using(host::proofs::FilesRead::stays, crate::proofs::OrdersKept::told_of_only, crate::proofs::TextsTold::done_or_refused, crate::proofs::TextsTold::tells_plan, crate::proofs::TextsTold::tells_jump, crate::proofs::TextsTold::tells_second, crate::proofs::NeedTold::is_done, crate::proofs::NeedTold::refused_not_done, crate::proofs::ProgramsTold::refuses_placed))]
 fn carry_out_place<F: Files, O: Write, E: Write>(
     alloc: Global,
@@ -249,6 +251,45 @@ fn carry_out_place<F: Files, O: Write, E: Write>(
         Ok(plan) => plan,
         Err(fault) => return refuse_value(&fault, err),
     };
+    match order.action {
+        PlaceAction::Locate | PlaceAction::Hex => {
+            carry_out_object(alloc, order, &plan, files, out, err)
+        }
+        PlaceAction::Listing | PlaceAction::Symbols => {
+            show_files(alloc, order, &plan, files, out, err)
+        }
+    }
+}
+
+// Carries out an order on one object file, once its plan is known.
+#[tactic(auto, using(host::proofs::FilesRead::stays, crate::proofs::OrdersKept::told_of_only, crate::proofs::TextsTold::done_or_refused, crate::proofs::TextsTold::tells_jump, crate::proofs::TextsTold::tells_second, crate::proofs::NeedTold::is_done, crate::proofs::NeedTold::refused_not_done, crate::proofs::ProgramsTold::refuses_object))]
+fn carry_out_object<F: Files, O: Write, E: Write>(
+    alloc: Global,
+    order: &PlaceOrder,
+    plan: &Plan,
+    files: &mut F,
+    out: &mut O,
+    err: &mut E,
+) -> Ending
+    requires { plan_read (place_in order.now).plan ≡ Ok plan.now }
+    ensures unchanged { KeepsFiles (F.files files.old) (F.files files.new) }
+    ensures printed { result ≡ Ending.Done → PrintsObject (place_in order.now) (F.files files.old)
+        (O.contents out.old) (O.contents out.new) }
+    ensures done { (result ≡ Ending.Refused → ⊥) → (result ≡ Ending.WrongLine → ⊥) →
+        result ≡ Ending.Done }
+    ensures refused_text { result ≡ Ending.WrongLine → TellsObjectText (place_in order.now)
+        (E.contents err.old) (E.contents err.new) }
+    ensures silent { result ≡ Ending.WrongLine → O.contents out.new ≡ O.contents out.old }
+    ensures refused { result ≡ Ending.Refused → RefusesObject (place_in order.now) (F.files files.old)
+        (F.failures files.old) (F.failures files.new)
+        (E.contents err.old) (E.contents err.new) (O.contents out.old) (O.contents out.new) }
+    ensures told { result ≡ Ending.Refused → TellsRefusal (F.files files.old)
+        (place_in order.now).files
+        (F.failures files.old) (F.failures files.new) (E.contents err.old) (E.contents err.new) }
+    ensures count { (result ≡ Ending.Refused → ⊥) → F.failures files.new ≡ F.failures files.old }
+    ensures quiet { (result ≡ Ending.Refused → ⊥) → (result ≡ Ending.WrongLine → ⊥) →
+        E.contents err.new ≡ E.contents err.old }
+{
     let jump = match order.jump() {
         Ok(jump) => jump,
         Err(fault) => return refuse_value(&fault, err),
@@ -258,9 +299,10 @@ fn carry_out_place<F: Files, O: Write, E: Write>(
         Err(fault) => return refuse_value(&fault, err),
     };
     match order.action {
-        PlaceAction::Locate => print_places(alloc, file, &plan, files, out, err),
-        PlaceAction::Hex => print_hex(alloc, file, &plan, jump, files, out, err),
-        PlaceAction::Listing => print_list(alloc, file, &plan, files, out, err),
+        PlaceAction::Hex => print_hex(alloc, file, plan, jump, files, out, err),
+        PlaceAction::Locate | PlaceAction::Listing | PlaceAction::Symbols => {
+            print_places(alloc, file, plan, files, out, err)
+        }
     }
 }
 

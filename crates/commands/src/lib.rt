@@ -13,5 +13,6 @@ mod port_outputs;
 mod printed_needs;
 mod programs;
 mod refusals;
+mod showing;
 
 pub use console::run_command;
