@@ -82,15 +82,15 @@ pub record PrintsObject (place : PlaceWanted) (files : Option Directory)
   pub printed : PrintsPlaced place.action files name plan jump old new
 
 -- what is wanted of the files, placed by the plan that the texts write, was printed
-pub record PrintsFiles (place : PlaceWanted) (files : Option Directory) (old new : Option (List ℕ)) : Type 0 where
+pub record PrintsFilesShown (place : PlaceWanted) (files : Option Directory) (old new : Option (List ℕ)) : Type 0 where
   pub plan : Plan
   pub planned : plan_read place.plan ≡ Ok plan
   pub printed : PrintsShown place.action files place.files plan old new
 
 -- what is wanted of an object, or of files that are listed or whose symbols are wanted, was printed
 abbrev pub PrintsByAction : PlaceAction → PlaceWanted → Option Directory → (old new : Option (List ℕ)) → Type 0
-PrintsByAction Listing place files old new = PrintsFiles place files old new
-PrintsByAction Symbols place files old new = PrintsFiles place files old new
+PrintsByAction Listing place files old new = PrintsFilesShown place files old new
+PrintsByAction Symbols place files old new = PrintsFilesShown place files old new
 PrintsByAction action place files old new = PrintsObject place files old new
 
 abbrev pub PrintsWanted : PlaceWanted → Option Directory → (old new : Option (List ℕ)) → Type 0

@@ -1,7 +1,8 @@
 -- The listing of a program: the lines of its sources, each with the code of what begins there. Which line that is no
 -- definition says.
-use Rattle.std.specs.Prelude.{◌≡◌, ◌⊎◌, ℕ, ◌+◌, ◌-◌, ◌<◌, ◌==◌, Bool, ◌&&◌, ◌||◌, not, nat_le, nat_lt, if◌then◌else◌, cond}
-use Rattle.std.specs.Prelude.{List, [], ◌∷◌, ◌++◌, codes, length, replicate, take, All, filter, flat_map, Option, Some, None}
+use Rattle.std.specs.Prelude.{◌≡◌, ◌⊎◌, ℕ, zero, suc, ◌+◌, ◌-◌, ◌==◌, ◌||◌, nat_lt, if◌then◌else◌, cond}
+use Rattle.std.specs.Prelude.{List, [], ◌∷◌, ◌++◌, codes, length, replicate, take, slice_get, All, filter, flat_map, Option, Some, None}
+use Rattle.std.specs.Option.{option_or}
 use Rattle.std.specs.Fmt.{decimal}
 use Rattle.isa8080.specs.Code.{bytes_of}
 use Rattle.isa8080.specs.Text.{byte_digits, text_of}
@@ -33,13 +34,25 @@ cells_from address (byte ∷ bytes) = (address, byte) ∷ cells_from (address + 
 abbrev pub cells_of : Part → List (ℕ × ℕ)
 cells_of part = cells_from part.address part.bytes
 
--- the bytes of an image in a range, with their addresses
-abbrev pub is_in : Range → ℕ × ℕ → Bool
-is_in range cell = nat_le range.start cell.0 && nat_lt cell.0 (range.start + range.len)
+-- the byte of a piece at an address, if it has one there
+abbrev pub byte_of_piece : Piece → (address : ℕ) → Option ℕ
+byte_of_piece piece address =
+    if nat_lt address piece.start then None else slice_get piece.bytes (address - piece.start)
 
-abbrev pub cells_in : Range → List Piece → List (ℕ × ℕ)
-cells_in range pieces =
-    filter (is_in range) (flat_map (λ (piece : Piece). cells_from piece.start piece.bytes) pieces)
+-- the byte of an image at an address, if it has one there
+abbrev pub byte_in : List Piece → (address : ℕ) → Option ℕ
+byte_in [] address = None
+byte_in (piece ∷ pieces) address = option_or (byte_of_piece piece address) (byte_in pieces address)
+
+-- so many bytes of an image from an address on, as far as they are there, with their addresses
+abbrev pub cell_of : (address : ℕ) → Option ℕ → List (ℕ × ℕ)
+cell_of address None = []
+cell_of address (Some byte) = (address, byte) ∷ []
+
+abbrev pub cells_in : List Piece → (address count : ℕ) → List (ℕ × ℕ)
+cells_in pieces address zero = []
+cells_in pieces address (suc count) =
+    cell_of address (byte_in pieces address) ++ cells_in pieces (address + 1) count
 
 -- the word that an instruction ends in, if it does
 abbrev pub word_of : Instr → Option ℕ
@@ -111,22 +124,26 @@ abbrev pub numbered_line : (number : ℕ) → (line : List ℕ) → List ℕ
 numbered_line number line =
     replicate (5 - length (decimal number)) 32 ++ decimal number ++ 32 ∷ line ++ 10 ∷ []
 
--- the parts that begin in a line of this number, and those that begin in none of so many lines
-abbrev pub parts_in : (line_at : ℕ → ℕ) → (number : ℕ) → List Part → List Part
-parts_in line_at number parts = filter (λ (part : Part). line_at part.address == number) parts
+-- The parts, each with the number of a line, that stand below the line of this number; and those that stand below none
+-- of so many lines.
+abbrev pub parts_in : (number : ℕ) → List (ℕ × Part) → List (ℕ × Part)
+parts_in number parts = filter (λ (part : ℕ × Part). part.0 == number) parts
 
-abbrev pub parts_beside : (line_at : ℕ → ℕ) → (count : ℕ) → List Part → List Part
-parts_beside line_at count parts =
-    filter (λ (part : Part). (line_at part.address == 0) || nat_lt count (line_at part.address)) parts
+abbrev pub parts_beside : (count : ℕ) → List (ℕ × Part) → List (ℕ × Part)
+parts_beside count parts = filter (λ (part : ℕ × Part). (part.0 == 0) || nat_lt count part.0) parts
 
--- lines, numbered from one on, each with the parts that begin in it
+-- the lines of parts
+abbrev pub parts_text : (name_at : ℕ → Option Symbol) → List (ℕ × Part) → List ℕ
+parts_text name_at parts = flat_map (λ (part : ℕ × Part). part_lines name_at part.1) parts
+
+-- lines, numbered from one on, each with the parts that stand below it
 abbrev pub listed_from :
-    (number : ℕ) → (name_at : ℕ → Option Symbol) → (line_at : ℕ → ℕ) → (lines : List (List ℕ)) → List Part → List ℕ
-listed_from number name_at line_at [] parts = []
-listed_from number name_at line_at (line ∷ lines) parts =
+    (number : ℕ) → (name_at : ℕ → Option Symbol) → (lines : List (List ℕ)) → List (ℕ × Part) → List ℕ
+listed_from number name_at [] parts = []
+listed_from number name_at (line ∷ lines) parts =
     numbered_line number line
-    ++ flat_map (part_lines name_at) (parts_in line_at number parts)
-    ++ listed_from (number + 1) name_at line_at lines parts
+    ++ parts_text name_at (parts_in number parts)
+    ++ listed_from (number + 1) name_at lines parts
 
 -- where the code and the data of a module lie
 abbrev pub sizes_text : (name : List ℕ) → (code data_range : Range) → List ℕ
@@ -134,24 +151,26 @@ sizes_text name code data_range =
     range_line (codes "CODE " ++ name) code.start code.len ++ range_line (codes "DATA " ++ name) data_range.start data_range.len
 
 -- A module whose segments lie in these ranges is listed as this text: its lines, each with parts of its code; the
--- parts of its code that begin in no line; its data, byte by byte; and where its segments lie. The parts are those
--- bytes of the image, in order, each once. A name is printed where it stands for the address.
+-- parts of its code that stand below no line; its data, byte by byte; and where its segments lie. The parts are the bytes
+-- of the image in these ranges, in order, each once. A name is printed where it stands for the address.
 pub record ListsModule (IsName : Symbol → Type 0) (pieces : List Piece) (code data_range : Range)
     (name source text : List ℕ) : Type 0 where
   pub name_at : ℕ → Option Symbol
-  pub line_at : ℕ → ℕ
-  pub code_parts : List Part
-  pub data_parts : List Part
+  pub code_parts : List (ℕ × Part)
+  pub data_parts : List (ℕ × Part)
   pub named : (address : ℕ) (symbol : Symbol) → name_at address ≡ Some symbol
       → IsName symbol × (symbol.address ≡ address)
-  pub code_is : flat_map cells_of code_parts ≡ cells_in code pieces
-  pub data_is : flat_map cells_of data_parts ≡ cells_in data_range pieces
-  pub code_shown : All (IsShown name_at) code_parts
-  pub data_shown : All ShowsByte data_parts
+  pub code_is :
+      flat_map (λ (part : ℕ × Part). cells_of part.1) code_parts ≡ cells_in pieces code.start code.len
+  pub data_is :
+      flat_map (λ (part : ℕ × Part). cells_of part.1) data_parts
+      ≡ cells_in pieces data_range.start data_range.len
+  pub code_shown : All (λ (part : ℕ × Part). IsShown name_at part.1) code_parts
+  pub data_shown : All (λ (part : ℕ × Part). ShowsByte part.1) data_parts
   pub text_is : text
-      ≡ listed_from 1 name_at line_at (lines_of source) code_parts
-      ++ flat_map (part_lines name_at) (parts_beside line_at (length (lines_of source)) code_parts)
-      ++ flat_map (part_lines name_at) data_parts
+      ≡ listed_from 1 name_at (lines_of source) code_parts
+      ++ parts_text name_at (parts_beside (length (lines_of source)) code_parts)
+      ++ parts_text name_at data_parts
       ++ sizes_text name code data_range
 
 -- modules of these sources, whose segments follow one another from these addresses on, are listed as this text

@@ -1,10 +1,12 @@
 //! What is printed of a program that was built: its sources with their code, and its symbols.
 #![tactic(auto)]
 
-mod code;
 mod cuts;
+mod image;
+mod lines;
 mod modules;
 mod names;
+mod parts;
 mod programs;
 mod symbol_lines;
 mod views;

@@ -6,7 +6,6 @@ use placing::ModulePlacement;
 use runtime8080::Routine;
 use std::alloc::{AllocError, Global};
 use symbols::Name;
-use tool::SourceMark;
 use typed_trees::{Home, Typed, TypedObject};
 
 // What a name is written as: a name of the source, or that of a routine, which has small letters.
@@ -65,7 +64,7 @@ fn put_code_names(names: &mut Vec<Named>, view: &ModuleView) -> Result<(), Alloc
     for mark in view.marks.marks.iter() {
         if let Some(text) = name_of_part(view.typed, mark.part) {
             names.push(Named {
-                address: address_of(view.code_base, mark),
+                address: address_of(view.code_base, mark.place as u32),
                 text,
             })?;
         }
@@ -73,13 +72,13 @@ fn put_code_names(names: &mut Vec<Named>, view: &ModuleView) -> Result<(), Alloc
     Ok(())
 }
 
-/// The address of a mark of code that begins at an address.
-pub(crate) fn address_of(code_base: u32, mark: &SourceMark) -> u16 {
-    (code_base.saturating_add(mark.place as u32) % 65_536) as u16
+/// The address of a place of code that begins at an address.
+pub(crate) fn address_of(code_base: u32, place: u32) -> u16 {
+    (code_base.saturating_add(place) % 65_536) as u16
 }
 
-/// Whether an object lies in a segment of its module.
-pub(crate) fn is_in_segment(object: &TypedObject) -> bool {
+// Whether an object lies in a segment of its module.
+fn is_in_segment(object: &TypedObject) -> bool {
     matches!(object.home, Home::Data(_) | Home::Constant(_))
 }
 
@@ -89,18 +88,15 @@ fn put_objects(
     typed: &Typed,
     placed: &ModulePlacement,
 ) -> Result<(), AllocError> {
-    let mut addresses = placed.objects.as_slice();
-    for object in typed.objects.iter() {
-        let [address, others @ ..] = addresses else {
-            break;
-        };
-        if is_in_segment(object) {
+    for (number, object) in typed.objects.iter().enumerate() {
+        if is_in_segment(object)
+            && let Some(address) = placed.objects.get(number)
+        {
             names.push(Named {
                 address: *address,
                 text: NameText::Declared(object.name),
             })?;
         }
-        addresses = others;
     }
     Ok(())
 }

@@ -14,38 +14,38 @@ use symbols::Name;
 use tool::{Built, Source, SourceMark};
 use typed_trees::{Home, Typed, TypedObject, TypedProcedure, Visibility};
 
-// Where a procedure ends that begins before these parts: where another one, or a routine, begins, or where all code ends.
-fn end_before(more: &[SourceMark], length: u32) -> u32 {
-    for mark in more {
-        match mark.part {
-            CodePart::Statement(_) => {}
-            _ => return mark.place as u32,
-        }
-    }
-    length
-}
-
 // Whether a part is the beginning of the procedure of this number.
 fn begins(part: CodePart, number: u32) -> bool {
     match part {
         CodePart::Procedure(begun) => begun == number,
-        _ => false,
+        CodePart::Main | CodePart::Statement(_) | CodePart::Routine(_) => false,
     }
 }
 
-// Where the code of the procedure of this number begins, and how many bytes it has.
-fn extent_of(view: &ModuleView, number: u32) -> (u16, u32) {
-    let length = view.object.length(Segment::Code) as u32;
-    let mut rest = view.marks.marks.as_slice();
-    while let [mark, more @ ..] = rest {
-        if begins(mark.part, number) {
-            let end = end_before(more, length);
-            let size = end.saturating_sub(mark.place as u32);
-            return (address_of(view.code_base, mark), size);
+// Whether a part belongs to what was begun before it.
+fn goes_on(part: CodePart) -> bool {
+    matches!(part, CodePart::Statement(_))
+}
+
+// Where the code of the procedure of this number begins and ends: where another one, or a routine, begins, or where all code
+// ends.
+fn extent_of(marks: &[SourceMark], number: u32, length: u32) -> (u32, u32) {
+    let mut start = None;
+    for mark in marks {
+        match start {
+            Some(start) => {
+                if !goes_on(mark.part) {
+                    return (start, mark.place as u32);
+                }
+            }
+            None => {
+                if begins(mark.part, number) {
+                    start = Some(mark.place as u32);
+                }
+            }
         }
-        rest = more;
     }
-    (0, 0)
+    (start.unwrap_or(length), length)
 }
 
 // Adds the line of a procedure.
@@ -60,7 +60,10 @@ fn put_procedure(
     }
     let module = &view.typed.name;
     let name = &procedure.name;
-    let (address, size) = extent_of(view, number);
+    let length = view.object.length(Segment::Code) as u32;
+    let (start, end) = extent_of(view.marks.marks.as_slice(), number, length);
+    let address = address_of(view.code_base, start);
+    let size = end.saturating_sub(start);
     writeln!(lines, "PROC {module} {name} {address:04X} {size}")
 }
 
@@ -72,17 +75,10 @@ fn put_procedures(lines: &mut Vec<u8>, view: &ModuleView) -> io::Result<()> {
     Ok(())
 }
 
-// The owner of an object, if it is known, and those of the objects after it.
-fn first_owner(owners: &[Option<u32>]) -> (Option<u32>, &[Option<u32>]) {
-    match owners {
-        [owner, others @ ..] => (*owner, others),
-        [] => (None, &[]),
-    }
-}
-
 // The name of the procedure in which an object is declared, if it is in one.
-fn name_of_owner(typed: &Typed, owner: Option<u32>) -> Option<Name> {
-    let procedure = typed.procedures.get(owner? as usize)?;
+fn owner_of(view: &ModuleView, object: usize) -> Option<Name> {
+    let owner = *view.marks.owners.get(object)?;
+    let procedure = view.typed.procedures.get(owner? as usize)?;
     Some(procedure.name)
 }
 
@@ -113,21 +109,13 @@ fn has_place(object: &TypedObject) -> bool {
 
 // Adds the lines of the objects of a module that have a place.
 fn put_objects(lines: &mut Vec<u8>, view: &ModuleView) -> io::Result<()> {
-    let mut objects = view.typed.objects.as_slice();
-    let mut addresses = view.placed.objects.as_slice();
-    let mut owners = view.marks.owners.as_slice();
-    while let [object, more @ ..] = objects {
-        let [address, more_addresses @ ..] = addresses else {
-            return Ok(());
-        };
-        let (owner, more_owners) = first_owner(owners);
-        if has_place(object) {
-            let owner = name_of_owner(view.typed, owner);
+    for (number, object) in view.typed.objects.iter().enumerate() {
+        if has_place(object)
+            && let Some(address) = view.placed.objects.get(number)
+        {
+            let owner = owner_of(view, number);
             put_object(lines, view.typed, object, owner, *address)?;
         }
-        objects = more;
-        addresses = more_addresses;
-        owners = more_owners;
     }
     Ok(())
 }
@@ -149,7 +137,8 @@ fn first_code(alloc: Global, view: &ModuleView) -> Result<Vec<Option<u16>>, Allo
     let mut first = Vec::new(alloc);
     for mark in view.marks.marks.iter() {
         if mark.line > 0 {
-            note(&mut first, mark.line, address_of(view.code_base, mark))?;
+            let address = address_of(view.code_base, mark.place as u32);
+            note(&mut first, mark.line, address)?;
         }
     }
     Ok(first)
