@@ -17,6 +17,6 @@ mod statements;
 mod targets;
 
 pub use fault::Fault;
-pub use marking::{CodePart, Mark, marks};
+pub use marking::{CodePart, Mark, code_marks};
 pub use meeting::Here;
 pub use module::generate;

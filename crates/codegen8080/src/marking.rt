@@ -89,7 +89,7 @@ fn put_routines(
 }
 
 /// Where the parts of the code that `generate` makes of a module begin, in the order of the code.
-pub fn marks(alloc: Global, tree: &TreeModule) -> Result<Vec<Mark>, Failure<Fault>> {
+pub fn code_marks(alloc: Global, tree: &TreeModule) -> Result<Vec<Mark>, Failure<Fault>> {
     let ModuleCode {
         writer,
         start: _,

@@ -4,7 +4,7 @@ pub use Rattle.command_line.specs.Settings
 pub use Rattle.object_commands.specs.Linking
 pub use Rattle.object_commands.specs.Listing
 pub use Rattle.object_commands.specs.Placing
-pub use Rattle.listings.specs.Listing
+pub use Rattle.listings.specs.Programs
 pub use Rattle.listings.specs.Symbols
 pub use Rattle.commands.specs.Printing
 pub use Rattle.commands.specs.Compiling

@@ -7,7 +7,7 @@ use Rattle.host.specs.Reading.{HasFiles}
 use Rattle.host.specs.Refusals.{Tells, TellsOther, memory_line}
 use Rattle.command_line.specs.declared.orders.PlaceAction.{PlaceAction}
 use Rattle.command_line.specs.declared.orders.PlaceAction.TheVariants.{Listing, Symbols}
-use Rattle.listings.specs.Listing.{ListsProgram}
+use Rattle.listings.specs.Programs.{ListsProgram}
 use Rattle.listings.specs.Symbols.{SymbolsOfProgram}
 use Rattle.mem80.specs.declared.plan.Plan.{Plan}
 use Rattle.object_commands.specs.Listing.{PrintsListing, StopsListing}

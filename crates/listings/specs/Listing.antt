@@ -1,4 +1,4 @@
--- The listing of a program: the lines of its sources, each with the code of what begins there. Which line that is no
+-- The listing of a module: the lines of its source, each with the code of what begins there. Which line that is no
 -- definition says.
 use Rattle.std.specs.Prelude.{◌≡◌, ◌⊎◌, ℕ, zero, suc, ◌+◌, ◌-◌, ◌==◌, ◌||◌, nat_lt, if◌then◌else◌, cond}
 use Rattle.std.specs.Prelude.{List, [], ◌∷◌, ◌++◌, codes, length, replicate, take, slice_get, All, filter, flat_map, Option, Some, None}
@@ -8,17 +8,12 @@ use Rattle.isa8080.specs.Code.{bytes_of}
 use Rattle.isa8080.specs.Text.{byte_digits, text_of}
 use Rattle.isa8080.specs.declared.instr.Instr.{Instr}
 use Rattle.isa8080.specs.declared.instr.Instr.TheVariants.{Lxi, Shld, Lhld, Sta, Lda, JumpIf, CallIf, Jmp, Call}
+use Rattle.mem80.specs.declared.memory.TheConstants.{MEMORY_SIZE}
 use Rattle.mem80.specs.declared.range.Piece.{Piece}
 use Rattle.mem80.specs.declared.range.Range.{Range}
 use Rattle.object_commands.specs.Listing.{part_line}
 use Rattle.object_commands.specs.Placing.{range_line}
-use Rattle.object_modules.specs.Image.{Symbol, range_at}
-use Rattle.object_modules.specs.Module.{ObjectModule, length_of}
-use Rattle.object_modules.specs.declared.segment.Segment.TheVariants.{Code, Data}
-use Rattle.sources.specs.Programs.{program_modules}
-use Rattle.tool.specs.Construction.{Construction}
-use Rattle.typed_trees.specs.TypedTrees.{TypedModule}
-use Rattle.listings.specs.Names.{IsNameOf}
+use Rattle.object_modules.specs.Image.{Symbol}
 
 -- what is shown of an address: the bytes from there on, and a text
 pub record Part : Type 0 where
@@ -39,10 +34,14 @@ abbrev pub byte_of_piece : Piece → (address : ℕ) → Option ℕ
 byte_of_piece piece address =
     if nat_lt address piece.start then None else slice_get piece.bytes (address - piece.start)
 
--- the byte of an image at an address, if it has one there
-abbrev pub byte_in : List Piece → (address : ℕ) → Option ℕ
-byte_in [] address = None
-byte_in (piece ∷ pieces) address = option_or (byte_of_piece piece address) (byte_in pieces address)
+-- the byte of pieces at an address, if one of them has one there
+abbrev pub byte_among : List Piece → (address : ℕ) → Option ℕ
+byte_among [] address = None
+byte_among (piece ∷ pieces) address = option_or (byte_of_piece piece address) (byte_among pieces address)
+
+-- the byte of an image at an address of the memory, if it has one there
+unfoldable pub byte_in : List Piece → (address : ℕ) → Option ℕ
+byte_in pieces address = if nat_lt address MEMORY_SIZE then byte_among pieces address else None
 
 -- so many bytes of an image from an address on, as far as they are there, with their addresses
 abbrev pub cell_of : (address : ℕ) → Option ℕ → List (ℕ × ℕ)
@@ -172,23 +171,3 @@ pub record ListsModule (IsName : Symbol → Type 0) (pieces : List Piece) (code 
       ++ parts_text name_at (parts_beside (length (lines_of source)) code_parts)
       ++ parts_text name_at data_parts
       ++ sizes_text name code data_range
-
--- modules of these sources, whose segments follow one another from these addresses on, are listed as this text
-pub data AreListed (IsName : Symbol → Type 0) (pieces : List Piece) :
-    (code_base data_base : ℕ) → (sources : List (List ℕ)) → List TypedModule → List ObjectModule → (text : List ℕ)
-    → Type 0 where
-  no_module : {code_base data_base : ℕ} → AreListed IsName pieces code_base data_base [] [] [] []
-  next_module : {code_base data_base : ℕ} {source first more : List ℕ} {sources : List (List ℕ)}
-      {typed : TypedModule} {modules : List TypedModule} {object : ObjectModule} {objects : List ObjectModule}
-      → ListsModule IsName pieces (range_at code_base (length_of object Code))
-      (range_at data_base (length_of object Data)) typed.name source first
-      → AreListed IsName pieces (code_base + length_of object Code) (data_base + length_of object Data)
-      sources modules objects more
-      → AreListed IsName pieces code_base data_base (source ∷ sources) (typed ∷ modules) (object ∷ objects)
-      (first ++ more)
-
--- the program of these sources is listed as this text
-abbrev pub ListsProgram : (sources : List (List ℕ)) → Construction → (text : List ℕ) → Type 0
-ListsProgram sources built text =
-    AreListed (IsNameOf built) built.image.pieces built.plan.code built.plan.data_base sources
-    (program_modules built.program) built.objects text

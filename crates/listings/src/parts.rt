@@ -52,7 +52,7 @@ fn alone(line: u32, address: u32, byte: u8) -> Part {
 }
 
 // The part that shows an instruction at an offset of a code segment with these fixes.
-fn coded(line: u32, address: u32, fixes: &[Fix], offset: u32, code: Coded) -> Part {
+fn instruction_part(line: u32, address: u32, fixes: &[Fix], offset: u32, code: Coded) -> Part {
     Part {
         line,
         address,
@@ -73,7 +73,7 @@ fn part_at(pieces: &[Piece], view: &ModuleView, cut: &Cut, offset: u32) -> Optio
         && code.size as u32 <= cut.end.saturating_sub(offset)
     {
         let fixes = view.object.fixes(Segment::Code);
-        return Some(coded(cut.line, address, fixes, offset, code));
+        return Some(instruction_part(cut.line, address, fixes, offset, code));
     }
     Some(alone(cut.line, address, byte))
 }

@@ -2,7 +2,7 @@
 
 ghost use Rattle.std.specs.Prelude.{IfOk};
 ghost use Rattle.sources.specs.Programs.{texts_of};
-ghost use Rattle.listings.specs.Listing.{ListsProgram};
+ghost use Rattle.listings.specs.Programs.{ListsProgram};
 
 use crate::modules::{Shared, put_module};
 use crate::names::names_of;

@@ -43,17 +43,17 @@ impl SourceLines {
 
 // The walk over a module: its procedures so far, with the lines of their statements, and the owners of its objects.
 #[derive(Drop)]
-struct Walk {
+struct LineWalk {
     alloc: Global,
     procedures: Vec<u32>,
     bodies: Vec<Vec<u32>>,
     owners: Vec<Option<u32>>,
 }
 
-impl Walk {
+impl LineWalk {
     // No procedures and no objects.
-    fn new(alloc: Global) -> Walk {
-        Walk {
+    fn new(alloc: Global) -> LineWalk {
+        LineWalk {
             alloc,
             procedures: Vec::new(alloc),
             bodies: Vec::new(alloc),
@@ -218,7 +218,7 @@ impl Walk {
 
     // The lines of the module, from those of its main program.
     fn finish(self, module: u32, main: Vec<u32>) -> Result<SourceLines, AllocError> {
-        let Walk {
+        let LineWalk {
             alloc,
             procedures,
             bodies,
@@ -240,7 +240,7 @@ impl Walk {
 
 // The lines of a module.
 fn lines_of(alloc: Global, module: &Module) -> Result<SourceLines, AllocError> {
-    let mut walk = Walk::new(alloc);
+    let mut walk = LineWalk::new(alloc);
     let mut main = Vec::new(alloc);
     walk.block(None, &module.body, &mut main)?;
     walk.finish(module.place.line, main)

@@ -4,7 +4,7 @@ ghost use Rattle.std.specs.Prelude.{IfOk};
 ghost use Rattle.typed_trees.specs.Jumps.{JumpsAreSound};
 ghost use Rattle.typed_trees.specs.Views.{module_view};
 
-use codegen8080::{CodePart, Mark, marks};
+use codegen8080::{CodePart, Mark, code_marks};
 use failure::Failure;
 use generation::lower;
 use sources::{SourceLines, SourceModule, read_source, source_lines};
@@ -68,7 +68,7 @@ fn places_of(alloc: Global, source: &SourceModule) -> Result<Vec<Mark>, AllocErr
     requires { JumpsAreSound (module_view source.now.typed) }
 {
     let tree = lower(alloc, &source.typed, &source.storage)?;
-    let places = marks(alloc, &tree);
+    let places = code_marks(alloc, &tree);
     drop(tree);
     match places {
         Ok(places) => Ok(places),
