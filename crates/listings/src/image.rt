@@ -1,10 +1,12 @@
 //! The bytes of an image, by their addresses.
 
-ghost use Rattle.std.specs.Prelude.{◌≡◌};
-ghost use Rattle.listings.specs.Listing.{byte_in, byte_of_piece};
+ghost use Rattle.std.specs.Prelude.{◌≡◌, ◌≤◌, IfSome, take};
+ghost use Rattle.isa8080.specs.Code.{bytes_of};
+ghost use Rattle.listings.specs.Listing.{byte_among, byte_in, byte_of_piece};
+ghost use Rattle.listings.specs.internal.Reading.{IsCodedAt, are_there, is_byte};
 
 use isa8080::{Instr, decode, encode};
-use mem80::Piece;
+use mem80::{MEMORY_SIZE, Piece};
 
 // The byte of a piece at an address, if it has one there.
 fn byte_of_piece(piece: &Piece, address: u64) -> Option<u8>
@@ -21,9 +23,9 @@ fn byte_of_piece(piece: &Piece, address: u64) -> Option<u8>
         .copied()
 }
 
-/// The byte at an address, if there is one.
-pub(crate) fn byte_at(pieces: &[Piece], address: u64) -> Option<u8>
-    ensures { result ≡ byte_in pieces.now address }
+// The byte of pieces at an address, if one of them has one there.
+fn byte_among(pieces: &[Piece], address: u64) -> Option<u8>
+    ensures { result ≡ byte_among pieces.now address }
 {
     let mut rest = pieces;
     while let [piece, more @ ..] = rest {
@@ -35,6 +37,18 @@ pub(crate) fn byte_at(pieces: &[Piece], address: u64) -> Option<u8>
     None
 }
 
+/// The byte at an address of the memory, if there is one.
+#[tactic(auto, unfolding(crate::specs::Listing::byte_in))]
+pub(crate) fn byte_at(pieces: &[Piece], address: u64) -> Option<u8>
+    ensures { result ≡ byte_in pieces.now address }
+{
+    if address < MEMORY_SIZE as u64 {
+        byte_among(pieces, address)
+    } else {
+        None
+    }
+}
+
 /// An instruction, its bytes, and how many they are; the places after them are 0.
 #[derive(Clone, Copy)]
 pub(crate) struct Coded {
@@ -44,7 +58,9 @@ pub(crate) struct Coded {
 }
 
 // Whether the byte at an address is this one.
-fn is_there(pieces: &[Piece], address: u64, byte: u8) -> bool {
+fn is_there(pieces: &[Piece], address: u64, byte: u8) -> bool
+    ensures { result ≡ is_byte (byte_in pieces.now address) byte }
+{
     match byte_at(pieces, address) {
         Some(there) => there == byte,
         None => false,
@@ -52,22 +68,38 @@ fn is_there(pieces: &[Piece], address: u64, byte: u8) -> bool {
 }
 
 // Whether the bytes of an instruction lie at an address.
-fn are_there(pieces: &[Piece], address: u32, code: &Coded) -> bool {
+fn are_there(pieces: &[Piece], address: u32, code: Coded) -> bool
+    ensures { result ≡ are_there pieces.now address code.bytes code.size }
+{
     let address = address as u64;
     is_there(pieces, address, code.bytes[0])
-        && (code.size < 2 || is_there(pieces, address + 1, code.bytes[1]))
-        && (code.size < 3 || is_there(pieces, address + 2, code.bytes[2]))
+        && ((code.size < 2 || is_there(pieces, address + 1, code.bytes[1]))
+            && (code.size < 3 || is_there(pieces, address + 2, code.bytes[2])))
+}
+
+// The bytes of an instruction.
+#[tactic(auto, using(crate::proofs::Codes::bytes_taken))]
+fn coded_of(instr: Instr) -> Coded
+    ensures instr { result.instr ≡ instr }
+    ensures some { 1 ≤ result.size }
+    ensures few { result.size ≤ 3 }
+    ensures bytes { take result.size result.bytes ≡ bytes_of instr }
+{
+    let (bytes, size) = encode(instr);
+    Coded { instr, bytes, size }
 }
 
 /// The instruction that the bytes at an address encode, if they are all there.
-pub(crate) fn instruction_at(pieces: &[Piece], address: u32) -> Option<Coded> {
+#[tactic(auto, using(crate::proofs::Codes::coded_at))]
+pub(crate) fn instruction_at(pieces: &[Piece], address: u32) -> Option<Coded>
+    ensures { IfSome result (IsCodedAt pieces.now address) }
+{
     let first = byte_at(pieces, address as u64)?;
     let second = byte_at(pieces, address as u64 + 1).unwrap_or(0);
     let third = byte_at(pieces, address as u64 + 2).unwrap_or(0);
     let (instr, _) = decode([first, second, third])?;
-    let (bytes, size) = encode(instr);
-    let code = Coded { instr, bytes, size };
-    if are_there(pieces, address, &code) {
+    let code = coded_of(instr);
+    if are_there(pieces, address, code) {
         Some(code)
     } else {
         None

@@ -1,8 +1,11 @@
 //! What is shown of the bytes of a module, part by part.
 
+ghost use Rattle.std.specs.Prelude.{◌≡◌, ◌∷◌, [], ◌+◌, ◌-◌, ◌<◌, ◌≤◌, ◌%◌, IfSome, None, OnOk, Some, take};
+ghost use Rattle.listings.specs.Listing.{cells_in};
+ghost use Rattle.listings.specs.internal.Parts.{AddsParts, IsGood, StepsOver, room_of};
+
 use crate::cuts::Cut;
 use crate::image::{Coded, byte_at, instruction_at};
-use crate::views::ModuleView;
 use isa8080::Instr;
 use mem80::Piece;
 use object_modules::{Fix, FixKind, Segment, Target};
@@ -13,11 +16,18 @@ use std::alloc::AllocError;
 #[derive(Clone, Copy)]
 pub(crate) struct Part {
     pub(crate) line: u32,
-    pub(crate) address: u32,
+    pub(crate) address: u16,
     pub(crate) bytes: [u8; 3],
     pub(crate) size: u8,
     pub(crate) instr: Option<Instr>,
     pub(crate) is_address: bool,
+}
+
+/// The code segment of a module: the address where it begins, and its fixes.
+#[derive(Clone, Copy)]
+pub(crate) struct CodeSegment<'a> {
+    pub(crate) start: u32,
+    pub(crate) fixes: &'a [Fix],
 }
 
 // Whether a target is code, data or what has a name, and not the stack.
@@ -30,9 +40,9 @@ fn has_names(target: Target) -> bool {
 }
 
 // Whether the word at an offset is an address in code or data, or that of a name.
-fn is_address(fixes: &[Fix], offset: u32) -> bool {
+fn is_address(fixes: &[Fix], offset: u64) -> bool {
     for fix in fixes {
-        if fix.offset as u32 == offset && has_names(fix.target) {
+        if fix.offset as u64 == offset && has_names(fix.target) {
             return matches!(fix.kind, FixKind::Both);
         }
     }
@@ -40,7 +50,12 @@ fn is_address(fixes: &[Fix], offset: u32) -> bool {
 }
 
 // The part that shows one byte.
-fn alone(line: u32, address: u32, byte: u8) -> Part {
+fn alone(line: u32, address: u16, byte: u8) -> Part
+    ensures address { result.address ≡ address }
+    ensures size { result.size ≡ 1 }
+    ensures bytes { take 1 result.bytes ≡ byte ∷ [] }
+    ensures good { IsGood result }
+{
     Part {
         line,
         address,
@@ -51,55 +66,88 @@ fn alone(line: u32, address: u32, byte: u8) -> Part {
     }
 }
 
-// The part that shows an instruction at an offset of a code segment with these fixes.
-fn instruction_part(line: u32, address: u32, fixes: &[Fix], offset: u32, code: Coded) -> Part {
+// The part that shows an instruction at an offset of a code segment.
+fn instruction_part(
+    line: u32,
+    address: u16,
+    segment: CodeSegment<'_>,
+    offset: u32,
+    code: Coded,
+) -> Part
+    ensures address { result.address ≡ address }
+    ensures size { result.size ≡ code.size }
+    ensures bytes { result.bytes ≡ code.bytes }
+    ensures instr { result.instr ≡ Some code.instr }
+{
     Part {
         line,
         address,
         bytes: code.bytes,
         size: code.size,
         instr: Some(code.instr),
-        is_address: is_address(fixes, offset.saturating_add(1)),
+        is_address: is_address(segment.fixes, offset as u64 + 1),
     }
 }
 
-// What is shown of an offset of the code segment of a module, in a stretch of it, if a byte is there: an instruction that lies
-// whole in the stretch, if that holds code, or the byte.
-fn part_at(pieces: &[Piece], view: &ModuleView, cut: &Cut, offset: u32) -> Option<Part> {
-    let address = view.code_base.saturating_add(offset);
+// What is shown of an address of the code, if a byte is there: an instruction in so many places, if these hold code, or the
+// byte.
+#[tactic(auto, using(crate::proofs::Stepping::steps_nowhere, crate::proofs::Stepping::steps_by_byte, crate::proofs::Stepping::steps_by_code, crate::proofs::Stepping::good_code))]
+fn part_at(
+    pieces: &[Piece],
+    segment: CodeSegment<'_>,
+    cut: &Cut,
+    offset: u32,
+    address: u32,
+    room: u32,
+) -> Option<Part>
+    requires { 0 < room }
+    ensures steps { StepsOver pieces.now address room result }
+    ensures some { 0 < room_of result }
+    ensures within { room_of result ≤ room }
+    ensures good { IfSome result IsGood }
+{
     let byte = byte_at(pieces, address as u64)?;
+    let place = (address % 65_536) as u16;
     if cut.is_code
         && let Some(code) = instruction_at(pieces, address)
-        && code.size as u32 <= cut.end.saturating_sub(offset)
+        && code.size as u32 <= room
     {
-        let fixes = view.object.fixes(Segment::Code);
-        return Some(instruction_part(cut.line, address, fixes, offset, code));
+        return Some(instruction_part(cut.line, place, segment, offset, code));
     }
-    Some(alone(cut.line, address, byte))
+    Some(alone(cut.line, place, byte))
 }
 
-// How many places a part takes: at least one.
-fn room_of(part: &Option<Part>) -> u32 {
+// How many places a part takes, if there is one.
+fn room_of(part: &Option<Part>) -> u32
+    ensures { result ≡ room_of part.now }
+{
     match part {
-        Some(part) => (part.size as u32).max(1),
+        Some(part) => part.size as u32,
         None => 1,
     }
 }
 
-/// Adds the parts of a stretch of the code segment of a module, by rising addresses.
+/// Adds the parts of a stretch of a code segment, by rising addresses.
 pub(crate) fn push_cut(
     parts: &mut Vec<Part>,
     pieces: &[Piece],
-    view: &ModuleView,
+    segment: CodeSegment<'_>,
     cut: &Cut,
-) -> Result<(), AllocError> {
+) -> Result<(), AllocError>
+    requires start { segment.start ≤ 65536 }
+    requires end { cut.now.end ≤ 65536 }
+    ensures { OnOk result (AddsParts
+        (cells_in pieces.now (segment.start + cut.now.start) (cut.now.end - cut.now.start))
+        parts.old.items parts.new.items) }
+{
     let mut offset = cut.start;
     while offset < cut.end {
-        let part = part_at(pieces, view, cut, offset);
+        let address = segment.start + offset;
+        let part = part_at(pieces, segment, cut, offset, address, cut.end - offset);
         if let Some(part) = part {
             parts.push(part)?;
         }
-        offset = offset.saturating_add(room_of(&part));
+        offset += room_of(&part);
     }
     Ok(())
 }
@@ -112,9 +160,9 @@ pub(crate) fn push_bytes(
     count: u32,
 ) -> Result<(), AllocError> {
     for index in 0..count {
-        let address = start.saturating_add(index);
-        if let Some(byte) = byte_at(pieces, address as u64) {
-            parts.push(alone(0, address, byte))?;
+        let address = start as u64 + index as u64;
+        if let Some(byte) = byte_at(pieces, address) {
+            parts.push(alone(0, (address % 65_536) as u16, byte))?;
         }
     }
     Ok(())

@@ -1,0 +1,3 @@
+-- What only private functions and proofs cite.
+pub mod Reading
+pub mod Parts

@@ -1,0 +1,77 @@
+-- Parts as the code keeps them, and what they are shown as.
+use Rattle.std.specs.Prelude.{◌≡◌, ℕ, ◌+◌, ◌-◌, Bool, true, false, List, [], ◌∷◌, ◌++◌, codes, flat_map, take, slice_index, Option, Some, None, option_and_then}
+use Rattle.isa8080.specs.Code.{bytes_of}
+use Rattle.isa8080.specs.Text.{byte_digits, text_of}
+use Rattle.isa8080.specs.declared.instr.Instr.{Instr}
+use Rattle.mem80.specs.declared.range.Piece.{Piece}
+use Rattle.object_modules.specs.Image.{Symbol}
+use Rattle.listings.specs.Listing.{Part as ShownPart, cells_from, cells_in, named_text, word_of}
+use Rattle.listings.specs.declared.parts.Part.{Part}
+
+-- the bytes that a part shows, and these with their addresses
+abbrev pub bytes_shown : Part → List ℕ
+bytes_shown part = take part.size part.bytes
+
+abbrev pub kept_cells : Part → List (ℕ × ℕ)
+kept_cells part = cells_from part.address (bytes_shown part)
+
+-- the text of an instruction, with the name of the address that it ends in, if it is one and has one
+abbrev pub text_by : Instr → Option Symbol → List ℕ
+text_by i None = text_of i
+text_by i (Some symbol) = named_text i symbol.name
+
+abbrev pub instr_text : (name_at : ℕ → Option Symbol) → (is_address : Bool) → Instr → List ℕ
+instr_text name_at false i = text_of i
+instr_text name_at true i = text_by i (option_and_then name_at (word_of i))
+
+-- the text of a part
+abbrev pub text_for : (name_at : ℕ → Option Symbol) → Part → Option Instr → List ℕ
+text_for name_at part None = codes "DB " ++ byte_digits (slice_index part.bytes 0)
+text_for name_at part (Some i) = instr_text name_at part.is_address i
+
+-- what a part is shown as, with the number of its line
+abbrev pub part_view : (name_at : ℕ → Option Symbol) → Part → ShownPart
+part_view name_at part =
+    record { address = part.address; bytes = bytes_shown part; text = text_for name_at part part.instr }
+
+abbrev pub lined : (name_at : ℕ → Option Symbol) → Part → ℕ × ShownPart
+lined name_at part = (part.line, part_view name_at part)
+
+-- a part shows the bytes of its instruction, or one byte
+abbrev pub IsGoodBy : Option Instr → Part → Type 0
+IsGoodBy None part = bytes_shown part ≡ slice_index part.bytes 0 ∷ []
+IsGoodBy (Some i) part = bytes_shown part ≡ bytes_of i
+
+abbrev pub IsGood : Part → Type 0
+IsGood part = IsGoodBy part.instr part
+
+abbrev pub AreGood : List Part → Type 0
+AreGood [] = Unit {0}
+AreGood (part ∷ parts) = IsGood part × AreGood parts
+
+-- how many places a part takes, if there is one, and its cells
+abbrev pub room_of : Option Part → ℕ
+room_of None = 1
+room_of (Some part) = part.size
+
+abbrev pub cells_if : Option Part → List (ℕ × ℕ)
+cells_if None = []
+cells_if (Some part) = kept_cells part
+
+-- Of so many places from an address on, the first ones are shown as a part, or no byte is in the first one.
+pub record StepsOver (pieces : List Piece) (address room : ℕ) (part : Option Part) : Type 0 where
+  pub cells : cells_if part ++ cells_in pieces (address + room_of part) (room - room_of part) ≡ cells_in pieces address room
+
+-- Parts were added that show some places, where these others are left of all.
+pub record IsAdding (all left : List (ℕ × ℕ)) (old now : List Part) : Type 0 where
+  pub added : List Part
+  pub now_is : now ≡ old ++ added
+  pub cells : flat_map kept_cells added ++ left ≡ all
+  pub good : AreGood added
+
+-- parts were added that show these places
+pub record AddsParts (cells : List (ℕ × ℕ)) (old new : List Part) : Type 0 where
+  pub added : List Part
+  pub new_is : new ≡ old ++ added
+  pub cells_are : flat_map kept_cells added ≡ cells
+  pub good : AreGood added
