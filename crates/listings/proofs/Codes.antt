@@ -1,6 +1,6 @@
 -- Instructions that are read from an image.
 use Rattle.std.proofs.Common.{◌≡◌, ℕ, zero, suc, ◌+◌, ◌-◌, ◌≤◌, ◌==◌, Bool, true, false, ◌&&◌, ◌||◌, nat_lt, List, [], ◌∷◌, ◌++◌, length, take, replicate, slice_index, Option, Some, None, refl, ap, sym, ◌∙◌, arith}
-use Rattle.std.proofs.lemmas.Bool.{and_parts}
+use Rattle.std.proofs.lemmas.Bool.{and_parts, eqb-true}
 use Rattle.std.proofs.lemmas.List.{take-append-le, take_all}
 use Rattle.isa8080.specs.Code.{bytes_of}
 use Rattle.isa8080.specs.declared.instr.Instr.{Instr}
@@ -34,8 +34,7 @@ all_there pieces address a b c (suc (suc zero)) some few e =
 all_there pieces address a b c (suc (suc (suc zero))) some few e =
     let first = and_parts (is_byte (byte_in pieces address) a) _ e in
     let second = and_parts (is_byte (byte_in pieces (address + 1)) b) _ first.1 in
-    let two : address + 1 + 1 ≡ address + 2 = omega arith in
-    (
+    let two : address + 1 + 1 ≡ address + 2 = omega arith in (
       there_is (byte_in pieces address) a first.0,
       (
         there_is (byte_in pieces (address + 1)) b second.0,

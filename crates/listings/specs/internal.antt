@@ -1,3 +1,4 @@
 -- What only private functions and proofs cite.
 pub mod Reading
 pub mod Parts
+pub mod Views

@@ -68,10 +68,10 @@ fn is_there(pieces: &[Piece], address: u64, byte: u8) -> bool
 }
 
 // Whether the bytes of an instruction lie at an address.
-fn are_there(pieces: &[Piece], address: u32, code: Coded) -> bool
+fn are_there(pieces: &[Piece], address: u64, code: Coded) -> bool
+    requires { address ≤ 8589934592 }
     ensures { result ≡ are_there pieces.now address code.bytes code.size }
 {
-    let address = address as u64;
     is_there(pieces, address, code.bytes[0])
         && ((code.size < 2 || is_there(pieces, address + 1, code.bytes[1]))
             && (code.size < 3 || is_there(pieces, address + 2, code.bytes[2])))
@@ -91,12 +91,13 @@ fn coded_of(instr: Instr) -> Coded
 
 /// The instruction that the bytes at an address encode, if they are all there.
 #[tactic(auto, using(crate::proofs::Codes::coded_at))]
-pub(crate) fn instruction_at(pieces: &[Piece], address: u32) -> Option<Coded>
+pub(crate) fn instruction_at(pieces: &[Piece], address: u64) -> Option<Coded>
+    requires { address ≤ 8589934592 }
     ensures { IfSome result (IsCodedAt pieces.now address) }
 {
-    let first = byte_at(pieces, address as u64)?;
-    let second = byte_at(pieces, address as u64 + 1).unwrap_or(0);
-    let third = byte_at(pieces, address as u64 + 2).unwrap_or(0);
+    let first = byte_at(pieces, address)?;
+    let second = byte_at(pieces, address + 1).unwrap_or(0);
+    let third = byte_at(pieces, address + 2).unwrap_or(0);
     let (instr, _) = decode([first, second, third])?;
     let code = coded_of(instr);
     if are_there(pieces, address, code) {

@@ -1,5 +1,11 @@
 //! The lines of a listing.
 
+ghost use Rattle.std.specs.Prelude.{◌≡◌, ◌-◌, ◌∷◌, ◌++◌, [], None, OnOk, Some, length, map, option_and_then, option_map, replicate};
+ghost use Rattle.std.specs.Fmt.{decimal};
+ghost use Rattle.listings.specs.Listing.{margin, name_line, numbered_line, part_lines, parts_beside, parts_in, parts_text, word_of};
+ghost use Rattle.listings.specs.internal.Parts.{instr_text, lined, part_view, text_by};
+ghost use Rattle.listings.specs.internal.Views.{name_at, named_view};
+
 use crate::names::{Named, name_at};
 use crate::parts::Part;
 use isa8080::Instr;
@@ -7,11 +13,17 @@ use object_commands::{put_lone, put_start};
 use std::io;
 use std::io::Write;
 
-// The room before what is printed below a line of a source.
-const MARGIN: &[u8] = b"      ";
+// Adds the room before what is printed below a line of a source.
+fn put_margin(lines: &mut Vec<u8>) -> io::Result<()>
+    ensures { OnOk result (lines.new.items ≡ lines.old.items ++ margin) }
+{
+    write!(lines, "      ")
+}
 
 // The room before a number, so that it ends in the fifth column.
-fn room_before(number: u32) -> &'static str {
+fn room_before(number: u32) -> &'static str
+    ensures { result.now ≡ replicate (5 - length (decimal number)) 32 }
+{
     if number < 10 {
         "    "
     } else if number < 100 {
@@ -26,7 +38,9 @@ fn room_before(number: u32) -> &'static str {
 }
 
 /// Adds a line of a source, after its number.
-pub(crate) fn put_line(lines: &mut Vec<u8>, number: u32, line: &[u8]) -> io::Result<()> {
+pub(crate) fn put_line(lines: &mut Vec<u8>, number: u32, line: &[u8]) -> io::Result<()>
+    ensures { OnOk result (lines.new.items ≡ lines.old.items ++ numbered_line number line.now) }
+{
     let room = room_before(number);
     write!(lines, "{room}{number} ")?;
     lines.extend_from_slice(line)?;
@@ -34,17 +48,24 @@ pub(crate) fn put_line(lines: &mut Vec<u8>, number: u32, line: &[u8]) -> io::Res
 }
 
 // Adds the line of the name of an address, if it has one.
-fn put_name(lines: &mut Vec<u8>, names: &[Named], address: u16) -> io::Result<()> {
-    if let Some(named) = name_at(names, address) {
-        lines.extend_from_slice(MARGIN)?;
-        lines.extend_from_slice(named.as_bytes())?;
-        writeln!(lines, ":")?;
+fn put_name(lines: &mut Vec<u8>, names: &[Named], address: u16) -> io::Result<()>
+    ensures { OnOk result (lines.new.items
+        ≡ lines.old.items ++ name_line (name_at names.now address)) }
+{
+    match name_at(names, address) {
+        Some(named) => {
+            put_margin(lines)?;
+            lines.extend_from_slice(named.as_bytes())?;
+            writeln!(lines, ":")
+        }
+        None => Ok(()),
     }
-    Ok(())
 }
 
 // The word of an instruction that ends in one.
-fn word_of(instr: &Instr) -> Option<u16> {
+fn word_of(instr: Instr) -> Option<u16>
+    ensures { result ≡ word_of instr }
+{
     match instr {
         Instr::Lxi(_, word)
         | Instr::Shld(word)
@@ -54,51 +75,71 @@ fn word_of(instr: &Instr) -> Option<u16> {
         | Instr::JumpIf(_, word)
         | Instr::CallIf(_, word)
         | Instr::Jmp(word)
-        | Instr::Call(word) => Some(*word),
+        | Instr::Call(word) => Some(word),
         _ => None,
     }
 }
 
-// The name of the word of an instruction, if that is an address with a name.
-fn name_in<'a>(names: &'a [Named], part: &Part, instr: &Instr) -> Option<&'a Named> {
-    if part.is_address {
-        name_at(names, word_of(instr)?)
-    } else {
-        None
+// The name of the word of an instruction, if it has one.
+fn name_in(names: &[Named], instr: Instr) -> Option<&Named>
+    ensures { option_map (λ named. named_view named.now) result
+        ≡ option_and_then (name_at names.now) (word_of instr) }
+{
+    match word_of(instr) {
+        Some(word) => name_at(names, word),
+        None => None,
     }
 }
 
-// Adds the text of an instruction, with a name in place of the four digits of its word, if there is one.
-fn put_text(lines: &mut Vec<u8>, instr: &Instr, named: Option<&Named>) -> io::Result<()> {
-    write!(lines, "{instr}")?;
-    if let Some(named) = named {
-        lines.truncate(lines.len().saturating_sub(4));
-        lines.extend_from_slice(named.as_bytes())?;
-    }
+// Adds the text of an instruction.
+fn put_plain(lines: &mut Vec<u8>, instr: Instr) -> io::Result<()>
+    ensures { OnOk result (lines.new.items ≡ lines.old.items ++ text_by instr None ++ 10 ∷ []) }
+{
+    writeln!(lines, "{instr}")
+}
+
+// Adds the text of an instruction, with a name in place of the four digits of its word.
+fn put_named(lines: &mut Vec<u8>, instr: Instr, named: &Named) -> io::Result<()>
+    ensures { OnOk result (lines.new.items
+        ≡ lines.old.items ++ text_by instr (Some (named_view named.now)) ++ 10 ∷ []) }
+{
+    let mut text = Vec::new(*lines.allocator());
+    write!(text, "{instr}")?;
+    let kept = text.len().saturating_sub(4);
+    lines.extend_from_slice(&text.as_slice()[..kept])?;
+    drop(text);
+    lines.extend_from_slice(named.as_bytes())?;
     writeln!(lines)
 }
 
-// Adds the line of an instruction at an address.
-fn put_instruction(
-    lines: &mut Vec<u8>,
-    names: &[Named],
-    part: &Part,
-    address: u16,
-    instr: &Instr,
-) -> io::Result<()> {
-    let size = part.size.min(3) as usize;
-    put_start(lines, address, &part.bytes[..size])?;
-    put_text(lines, instr, name_in(names, part, instr))
+// Adds the text of an instruction, with the name of its word if that is an address and has one.
+fn put_text(lines: &mut Vec<u8>, names: &[Named], instr: Instr, is_address: bool) -> io::Result<()>
+    ensures { OnOk result (lines.new.items
+        ≡ lines.old.items ++ instr_text (name_at names.now) is_address instr ++ 10 ∷ []) }
+{
+    if !is_address {
+        return put_plain(lines, instr);
+    }
+    match name_in(names, instr) {
+        Some(named) => put_named(lines, instr, named),
+        None => put_plain(lines, instr),
+    }
 }
 
 // Adds the lines of a part: the name of its address, and its bytes.
-fn put_part(lines: &mut Vec<u8>, names: &[Named], part: &Part) -> io::Result<()> {
-    let address = (part.address % 65_536) as u16;
-    put_name(lines, names, address)?;
-    lines.extend_from_slice(MARGIN)?;
-    match &part.instr {
-        Some(instr) => put_instruction(lines, names, part, address, instr),
-        None => put_lone(lines, address, part.bytes[0]),
+fn put_part(lines: &mut Vec<u8>, names: &[Named], part: &Part) -> io::Result<()>
+    ensures { OnOk result (lines.new.items
+        ≡ lines.old.items ++ part_lines (name_at names.now) (part_view (name_at names.now) part.now)) }
+{
+    put_name(lines, names, part.address)?;
+    put_margin(lines)?;
+    match part.instr {
+        Some(instr) => {
+            let size = part.size.min(3);
+            put_start(lines, part.address, &part.bytes[..size as usize])?;
+            put_text(lines, names, instr, part.is_address)
+        }
+        None => put_lone(lines, part.address, part.bytes[0]),
     }
 }
 
@@ -108,11 +149,16 @@ pub(crate) fn put_parts_in(
     names: &[Named],
     parts: &[Part],
     line: u32,
-) -> io::Result<()> {
-    for part in parts {
+) -> io::Result<()>
+    ensures { OnOk result (lines.new.items ≡ lines.old.items
+        ++ parts_text (name_at names.now) (parts_in line (map (lined (name_at names.now)) parts.now))) }
+{
+    let mut rest = parts;
+    while let [part, more @ ..] = rest {
         if part.line == line {
             put_part(lines, names, part)?;
         }
+        rest = more;
     }
     Ok(())
 }
@@ -123,11 +169,16 @@ pub(crate) fn put_parts_beside(
     names: &[Named],
     parts: &[Part],
     count: u32,
-) -> io::Result<()> {
-    for part in parts {
+) -> io::Result<()>
+    ensures { OnOk result (lines.new.items ≡ lines.old.items ++ parts_text (name_at names.now)
+        (parts_beside count (map (lined (name_at names.now)) parts.now))) }
+{
+    let mut rest = parts;
+    while let [part, more @ ..] = rest {
         if part.line == 0 || count < part.line {
             put_part(lines, names, part)?;
         }
+        rest = more;
     }
     Ok(())
 }

@@ -5,13 +5,14 @@ ghost use Rattle.std.specs.Prelude.{◌-◌, ◌≤◌, length};
 use crate::cuts::cuts_of;
 use crate::lines::{put_line, put_parts_beside, put_parts_in};
 use crate::names::Named;
-use crate::parts::{Part, push_bytes, push_cut};
+use crate::parts::{CodeSegment, Part, push_bytes, push_cut};
 use crate::views::ModuleView;
 use mem80::Piece;
 use object_modules::Segment;
 use std::alloc::{AllocError, Global};
 use std::io;
 use std::io::Write;
+use trees::next_number;
 
 /// What the modules of a program have in common: the pieces of its image, and its names.
 #[derive(Clone, Copy)]
@@ -23,9 +24,13 @@ pub(crate) struct Shared<'a> {
 // The parts of the code segment of a module, by rising addresses.
 fn code_parts(alloc: Global, pieces: &[Piece], view: &ModuleView) -> Result<Vec<Part>, AllocError> {
     let cuts = cuts_of(alloc, view)?;
+    let segment = CodeSegment {
+        start: view.code_base,
+        fixes: view.object.fixes(Segment::Code),
+    };
     let mut parts = Vec::new(alloc);
     for cut in cuts.iter() {
-        push_cut(&mut parts, pieces, view, cut)?;
+        push_cut(&mut parts, pieces, segment, cut)?;
     }
     Ok(parts)
 }
@@ -71,7 +76,7 @@ fn put_lines(
     let mut text = source;
     let mut number: u32 = 0;
     while let [_, ..] = text {
-        number = number.saturating_add(1);
+        number = next_number(number)?;
         let length = line_length(text);
         put_line(lines, number, &text[..length])?;
         put_parts_in(lines, names, parts, number)?;

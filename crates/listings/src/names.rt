@@ -1,5 +1,8 @@
 //! Names that stand for addresses.
 
+ghost use Rattle.std.specs.Prelude.{◌≡◌, option_map};
+ghost use Rattle.listings.specs.internal.Views.{name_at, named_view, routine_name};
+
 use crate::views::ModuleView;
 use codegen8080::CodePart;
 use placing::ModulePlacement;
@@ -8,9 +11,9 @@ use std::alloc::{AllocError, Global};
 use symbols::Name;
 use typed_trees::{Home, Typed, TypedObject};
 
-// What a name is written as: a name of the source, or that of a routine, which has small letters.
+/// What a name is written as: a name of the source, or that of a routine, which has small letters.
 #[derive(Clone, Copy)]
-enum NameText {
+pub(crate) enum NameText {
     Declared(Name),
     Routine(Routine),
 }
@@ -19,30 +22,37 @@ enum NameText {
 #[derive(Clone, Copy)]
 pub(crate) struct Named {
     pub(crate) address: u16,
-    text: NameText,
+    pub(crate) text: NameText,
 }
 
 // The name of a routine.
-fn routine_name(routine: Routine) -> &'static [u8] {
+fn routine_name(routine: Routine) -> &'static str
+    ensures { result.now ≡ routine_name routine }
+{
     match routine {
-        Routine::Multiply => b"Multiply",
-        Routine::Divide => b"Divide",
-        Routine::ShiftLeftByte => b"ShiftLeftByte",
-        Routine::ShiftRightByte => b"ShiftRightByte",
-        Routine::ShiftLeftAddress => b"ShiftLeftAddress",
-        Routine::ShiftRightAddress => b"ShiftRightAddress",
-        Routine::RotateLeft => b"RotateLeft",
-        Routine::RotateRight => b"RotateRight",
-        Routine::Move => b"Move",
+        Routine::Multiply => "Multiply",
+        Routine::Divide => "Divide",
+        Routine::ShiftLeftByte => "ShiftLeftByte",
+        Routine::ShiftRightByte => "ShiftRightByte",
+        Routine::ShiftLeftAddress => "ShiftLeftAddress",
+        Routine::ShiftRightAddress => "ShiftRightAddress",
+        Routine::RotateLeft => "RotateLeft",
+        Routine::RotateRight => "RotateRight",
+        Routine::Move => "Move",
     }
 }
 
 impl Named {
+    ghost use Rattle.std.specs.Prelude.{◌≡◌};
+    ghost use Rattle.listings.specs.internal.Views.{named_view};
+
     /// What the name is written as.
-    pub(crate) fn as_bytes(&self) -> &[u8] {
+    pub(crate) fn as_bytes(&self) -> &[u8]
+        ensures { result.now ≡ (named_view self.now).name }
+    {
         match &self.text {
             NameText::Declared(name) => name.as_slice(),
-            NameText::Routine(routine) => routine_name(*routine),
+            NameText::Routine(routine) => routine_name(*routine).as_bytes(),
         }
     }
 }
@@ -113,11 +123,15 @@ pub(crate) fn names_of(alloc: Global, views: &[ModuleView]) -> Result<Vec<Named>
 }
 
 /// The name of an address, if it has one.
-pub(crate) fn name_at(names: &[Named], address: u16) -> Option<&Named> {
-    for named in names {
+pub(crate) fn name_at(names: &[Named], address: u16) -> Option<&Named>
+    ensures { option_map (λ named. named_view named.now) result ≡ name_at names.now address }
+{
+    let mut rest = names;
+    while let [named, more @ ..] = rest {
         if named.address == address {
             return Some(named);
         }
+        rest = more;
     }
     None
 }

@@ -1,6 +1,6 @@
 //! What is shown of the bytes of a module, part by part.
 
-ghost use Rattle.std.specs.Prelude.{◌≡◌, ◌∷◌, [], ◌+◌, ◌-◌, ◌<◌, ◌≤◌, ◌%◌, IfSome, None, OnOk, Some, take};
+ghost use Rattle.std.specs.Prelude.{◌≡◌, ℕ, ◌∷◌, ◌++◌, [], ◌+◌, ◌-◌, ◌<◌, ◌≤◌, IfSome, OnOk, Some, option_to_list, take};
 ghost use Rattle.listings.specs.Listing.{cells_in};
 ghost use Rattle.listings.specs.internal.Parts.{AddsParts, IsGood, StepsOver, room_of};
 
@@ -89,32 +89,45 @@ fn instruction_part(
     }
 }
 
+// What is shown of an address where bytes stand alone, if one is there.
+#[tactic(auto, using(crate::proofs::Stepping::byte_steps))]
+fn byte_part(pieces: &[Piece], line: u32, address: u64) -> Option<Part>
+    ensures steps { (room : ℕ) → 0 < room → StepsOver pieces.now address room result }
+    ensures one { room_of result ≡ 1 }
+    ensures good { IfSome result IsGood }
+{
+    match byte_at(pieces, address) {
+        Some(byte) => Some(alone(line, (address % 65_536) as u16, byte)),
+        None => None,
+    }
+}
+
 // What is shown of an address of the code, if a byte is there: an instruction in so many places, if these hold code, or the
 // byte.
-#[tactic(auto, using(crate::proofs::Stepping::steps_nowhere, crate::proofs::Stepping::steps_by_byte, crate::proofs::Stepping::steps_by_code, crate::proofs::Stepping::good_code))]
+#[tactic(auto, using(crate::proofs::Stepping::code_steps, crate::proofs::Stepping::good_code))]
 fn part_at(
     pieces: &[Piece],
     segment: CodeSegment<'_>,
     cut: &Cut,
     offset: u32,
-    address: u32,
+    address: u64,
     room: u32,
 ) -> Option<Part>
-    requires { 0 < room }
+    requires some { 0 < room }
+    requires within { address ≤ 8589934592 }
     ensures steps { StepsOver pieces.now address room result }
     ensures some { 0 < room_of result }
     ensures within { room_of result ≤ room }
     ensures good { IfSome result IsGood }
 {
-    let byte = byte_at(pieces, address as u64)?;
-    let place = (address % 65_536) as u16;
     if cut.is_code
         && let Some(code) = instruction_at(pieces, address)
         && code.size as u32 <= room
     {
+        let place = (address % 65_536) as u16;
         return Some(instruction_part(cut.line, place, segment, offset, code));
     }
-    Some(alone(cut.line, place, byte))
+    byte_part(pieces, cut.line, address)
 }
 
 // How many places a part takes, if there is one.
@@ -127,6 +140,16 @@ fn room_of(part: &Option<Part>) -> u32
     }
 }
 
+// Adds a part, if there is one.
+fn push_if(parts: &mut Vec<Part>, part: Option<Part>) -> Result<(), AllocError>
+    ensures { OnOk result (parts.new.items ≡ parts.old.items ++ option_to_list part) }
+{
+    if let Some(part) = part {
+        parts.push(part)?;
+    }
+    Ok(())
+}
+
 /// Adds the parts of a stretch of a code segment, by rising addresses.
 pub(crate) fn push_cut(
     parts: &mut Vec<Part>,
@@ -134,19 +157,15 @@ pub(crate) fn push_cut(
     segment: CodeSegment<'_>,
     cut: &Cut,
 ) -> Result<(), AllocError>
-    requires start { segment.start ≤ 65536 }
-    requires end { cut.now.end ≤ 65536 }
     ensures { OnOk result (AddsParts
         (cells_in pieces.now (segment.start + cut.now.start) (cut.now.end - cut.now.start))
         parts.old.items parts.new.items) }
 {
     let mut offset = cut.start;
     while offset < cut.end {
-        let address = segment.start + offset;
+        let address = segment.start as u64 + offset as u64;
         let part = part_at(pieces, segment, cut, offset, address, cut.end - offset);
-        if let Some(part) = part {
-            parts.push(part)?;
-        }
+        push_if(parts, part)?;
         offset += room_of(&part);
     }
     Ok(())
@@ -158,12 +177,12 @@ pub(crate) fn push_bytes(
     pieces: &[Piece],
     start: u32,
     count: u32,
-) -> Result<(), AllocError> {
+) -> Result<(), AllocError>
+    ensures { OnOk result (AddsParts (cells_in pieces.now start count) parts.old.items parts.new.items) }
+{
     for index in 0..count {
-        let address = start as u64 + index as u64;
-        if let Some(byte) = byte_at(pieces, address) {
-            parts.push(alone(0, (address % 65_536) as u16, byte))?;
-        }
+        let part = byte_part(pieces, 0, start as u64 + index as u64);
+        push_if(parts, part)?;
     }
     Ok(())
 }

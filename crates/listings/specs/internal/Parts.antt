@@ -1,5 +1,5 @@
 -- Parts as the code keeps them, and what they are shown as.
-use Rattle.std.specs.Prelude.{◌≡◌, ℕ, ◌+◌, ◌-◌, Bool, true, false, List, [], ◌∷◌, ◌++◌, codes, flat_map, take, slice_index, Option, Some, None, option_and_then}
+use Rattle.std.specs.Prelude.{◌≡◌, ℕ, ◌+◌, ◌-◌, min, Bool, true, false, List, [], ◌∷◌, ◌++◌, codes, flat_map, take, slice_index, Option, Some, None, option_and_then}
 use Rattle.isa8080.specs.Code.{bytes_of}
 use Rattle.isa8080.specs.Text.{byte_digits, text_of}
 use Rattle.isa8080.specs.declared.instr.Instr.{Instr}
@@ -10,7 +10,7 @@ use Rattle.listings.specs.declared.parts.Part.{Part}
 
 -- the bytes that a part shows, and these with their addresses
 abbrev pub bytes_shown : Part → List ℕ
-bytes_shown part = take part.size part.bytes
+bytes_shown part = take (min part.size 3) part.bytes
 
 abbrev pub kept_cells : Part → List (ℕ × ℕ)
 kept_cells part = cells_from part.address (bytes_shown part)
