@@ -2,3 +2,4 @@
 pub mod Reading
 pub mod Parts
 pub mod Views
+pub mod Modules

@@ -1,6 +1,10 @@
 //! The listing of a module: its lines, each with its code, and what begins in no line.
 
-ghost use Rattle.std.specs.Prelude.{◌-◌, ◌≤◌, length};
+ghost use Rattle.std.specs.Prelude.{◌≡◌, ◌++◌, ◌+◌, ◌≤◌, IfOk, OnOk, drop, length, map};
+ghost use Rattle.listings.specs.Listing.{lines_of, listed_from};
+ghost use Rattle.listings.specs.internal.Modules.{first_length};
+ghost use Rattle.listings.specs.internal.Parts.{lined};
+ghost use Rattle.listings.specs.internal.Views.{name_at};
 
 use crate::cuts::cuts_of;
 use crate::lines::{put_line, put_parts_beside, put_parts_in};
@@ -45,7 +49,8 @@ fn data_parts(alloc: Global, pieces: &[Piece], view: &ModuleView) -> Result<Vec<
 
 // How many bytes come before the first line feed.
 fn line_length(text: &[u8]) -> usize
-    ensures { result ≤ length text.now }
+    ensures length { result ≡ first_length text.now }
+    ensures within { result ≤ length text.now }
 {
     for (index, byte) in text.iter().enumerate() {
         if *byte == b'\n' {
@@ -56,8 +61,9 @@ fn line_length(text: &[u8]) -> usize
 }
 
 // The text after a line of this length, and after the line feed at its end.
+#[tactic(auto, using(crate::proofs::SourceLines::none_left))]
 fn after_line(text: &[u8], length: usize) -> &[u8]
-    ensures { length result.now ≤ length text.now - 1 }
+    ensures { result.now ≡ drop (length + 1) text.now }
 {
     if length < text.len() {
         &text[length + 1..]
@@ -67,12 +73,11 @@ fn after_line(text: &[u8], length: usize) -> &[u8]
 }
 
 // Adds the lines of a source, each with the parts below it, and answers how many they are.
-fn put_lines(
-    lines: &mut Vec<u8>,
-    names: &[Named],
-    source: &[u8],
-    parts: &[Part],
-) -> io::Result<u32> {
+fn put_lines(lines: &mut Vec<u8>, names: &[Named], source: &[u8], parts: &[Part]) -> io::Result<u32>
+    ensures lines { OnOk result (lines.new.items ≡ lines.old.items
+        ++ listed_from 1 (name_at names.now) (lines_of source.now) (map (lined (name_at names.now)) parts.now)) }
+    ensures count { IfOk result (λ count. count ≡ length (lines_of source.now)) }
+{
     let mut text = source;
     let mut number: u32 = 0;
     while let [_, ..] = text {
