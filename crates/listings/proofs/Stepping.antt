@@ -12,7 +12,7 @@ use Rattle.listings.specs.Listing.{byte_among, cell_of, cells_from, cells_in}
 unfoldable use Rattle.listings.specs.Listing.{byte_in}
 use Rattle.listings.specs.declared.image.Coded.{Coded}
 use Rattle.listings.specs.declared.parts.Part.{Part}
-use Rattle.listings.specs.internal.Parts.{AddsParts, AreGood, IsAdding, IsGood, StepsOver, bytes_shown, cells_if, kept_cells}
+use Rattle.listings.specs.internal.Parts.{AddsParts, AreGood, IsAdding, IsGood, StepsOver, bytes_shown, cells_if, kept_cells, room_of}
 use Rattle.listings.specs.internal.Reading.{AllThere, IsCodedAt}
 
 -- a byte has an address of the memory
@@ -158,3 +158,15 @@ adding_ends all left old now so_far none = record {
   cells_are = sym (append-nil (flat_map kept_cells so_far.added)) ∙ ap (λ cells. flat_map kept_cells so_far.added ++ cells) (sym none) ∙ so_far.cells;
   good = so_far.good;
 }
+
+-- one step over places that are counted from a start
+pub stepped : (pieces : List Piece) (start offset end room next address : ℕ) (part : Option Part) → address ≡ start + offset → room ≡ end - offset → next ≡ offset + room_of part
+    → StepsOver pieces address room part → cells_if part ++ cells_in pieces (start + next) (end - next) ≡ cells_in pieces (start + offset) (end - offset)
+stepped pieces start offset end room next address part at room_is next_is step =
+    let here : start + next ≡ address + room_of part = omega (arith, at, next_is) in
+    let left : end - next ≡ room - room_of part = omega (arith, room_is, next_is) in
+    ap (λ (a : ℕ). cells_if part ++ cells_in pieces a (end - next)) here
+    ∙ ap (λ (n : ℕ). cells_if part ++ cells_in pieces (address + room_of part) n) left
+    ∙ step.cells
+    ∙ ap (λ (a : ℕ). cells_in pieces a room) at
+    ∙ ap (cells_in pieces (start + offset)) room_is
