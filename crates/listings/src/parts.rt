@@ -79,10 +79,11 @@ fn instruction_part(
     ensures bytes { result.bytes ≡ code.bytes }
     ensures instr { result.instr ≡ Some code.instr }
 {
+    let bytes = code.bytes;
     Part {
         line,
         address,
-        bytes: code.bytes,
+        bytes,
         size: code.size,
         instr: Some(code.instr),
         is_address: is_address(segment.fixes, offset as u64 + 1),
