@@ -3,7 +3,7 @@ use Rattle.names.proofs.Prelude.{◌≡◌, arith, Place, Block, Block', blocks,
 use Rattle.trees.specs.declared.statement.Declaration.TheVariants as declarations
 use Rattle.trees.specs.declared.statement.IfThen.{None', Some'}
 use Rattle.trees.specs.declared.statement.StatementKind.TheVariants as kinds
-use Rattle.names.specs.internal.Parts.{if_tree, do_tree, while_tree, iterate_tree, case_tree, procedure_parts}
+use Rattle.names.specs.internal.TreesOfParts.{if_tree, do_tree, while_tree, iterate_tree, case_tree, procedure_parts}
 
 pub if_is : (p : _) (branch : IfThen) → kind_tree (kinds.If' p branch) ≡ if_tree branch
 if_is p (IfThen' place condition labels kind None') = grind (arith, ifs)

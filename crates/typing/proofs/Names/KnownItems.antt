@@ -1,7 +1,7 @@
 -- The names in items are known where these are typed, and where they are not typed for a name, one is to blame.
 use Rattle.typing.proofs.Prelude.{◌≡◌, Bool, true, false, inl, inr, sym, subst, append-nil, append_assoc, arith, List, [], ◌∷◌, ◌++◌, Option, None, Some, not, ◌&&◌, is_none, flat_map, Contains-append_right, ScalarType, Identifier, Place, NumberConstant, StringConstant, OriginTree, ConstantOrigin, LocationOrigin, OffsetTree, RestrictedTree, SubjectTree, SingleSubject, GroupSubject, AtTree, ValueListTree, ItemTree, Here, names_in_restricted, names_in_subject, names_in_optional, names_in_item, ObjectType, Known, place_of, Block, Reach, ThisModule, OtherModulesToo, Extents, NoArray, Elements, AsListed, restricted_value, at_address, fill_value, fill, contents, enough_elements, place_of_origin, scalars_of_element, scalars_of_elements, names_parameter, is_base, base_of, typed_base, typed_type, is_plain, typed_at, typed_contents, typed_item, Member, ItemTypeTree, ScalarItem, StructureItem, TypedMember, has_member, DeclaredTwice, ParameterNotScalar, NoBase, MisplacedAt, MisplacedValues, BasedParameter, Fault, Checked, ◌>>=◌, require, place_of_item, place_of_storage, typed_members, members_in_type, twice_declared}
 use Rattle.typing.proofs.Names.Meeting.{Meets, meets_ok, meets_then, meets_as, after_other, before_other, other_required}
-use Rattle.typing.proofs.Names.Others.{not_of_names, constant-other, offsets-other, object-other, static-other, scalar-other, string-other, as_listed-other, bound-other, extents-other, dimension-other, linkage-other}
+use Rattle.typing.proofs.Names.ChecksWithoutNames.{not_of_names, constant-other, offsets-other, object-other, static-other, scalar-other, string-other, as_listed-other, bound-other, extents-other, dimension-other, linkage-other}
 use Rattle.typing.proofs.Names.Bound.{IsUnknown, Finds, names_join, bound-finds}
 
 -- constants and places

@@ -4,7 +4,7 @@ use Rattle.meaning_laws.proofs.Prelude.{ℕ, ◌+◌, List, [], ◌∷◌, ◌++
 use Rattle.trees.specs.Trees as trees
 use Rattle.typing.specs.Typing.{entered}
 use Rattle.typing.proofs.Tables.{Keeps}
-use Rattle.meaning_laws.proofs.Items.{ItemLies, typed_item_lies}
+use Rattle.meaning_laws.proofs.PublicItems.{ItemLies, typed_item_lies}
 use Rattle.meaning_laws.proofs.Locations.{ItemLocates, typed_item_locates, values_later}
 
 -- the objects at a place of a text

@@ -3,7 +3,7 @@ use Rattle.measure_laws.proofs.Prelude.{ℕ, ◌≤◌, Bool, true, false, List,
 use Rattle.asm8080.specs.declared.item.Item.TheVariants as items
 use Rattle.treecode.specs.declared.procedure.ProcedureKind.TheVariants as kinds
 use Rattle.exprgen8080.specs.Emission.{Planned}
-use Rattle.measure_laws.specs.internal.Parts.{IsOfTree}
+use Rattle.measure_laws.specs.internal.TaskWeights.{IsOfTree}
 
 size_of_kind : (procedure : ℕ) (kind : ProcedureKind) → size_of_items (items_of_call procedure kind) ≤ 3
 size_of_kind procedure kinds.Static = omega arith

@@ -5,7 +5,7 @@ use Rattle.typing.proofs.Kept.{Gives, gives_after, gives_fault, gives_ok, in_tur
 use Rattle.typing.proofs.Parameters.Closing.{closed_goes, nothing, own_begins, own_stands}
 use Rattle.typing.proofs.Parameters.Elements.{GoesOn, both_more, declare_elements-go, goes_then, may_below, owned_as}
 use Rattle.typing.proofs.Parameters.Grown.{Grown, NoMore, Numbered, Standing, grown_between, grown_more, grown_same, grown_then, standing_after}
-use Rattle.typing.proofs.Parameters.Items.{Owned, owned_by}
+use Rattle.typing.proofs.Parameters.ParameterItems.{Owned, owned_by}
 use Rattle.typing.proofs.Parameters.Opening.{opens}
 use Rattle.typing.proofs.Parameters.OwnBlock.{Scan}
 use Rattle.typing.proofs.Parameters.Parameters.{objects_are}

@@ -3,7 +3,7 @@ use Rattle.typed_laws.proofs.Prelude.{◌≡◌, ℕ, zero, suc, ◌+◌, ◌<�
 use Rattle.trees.specs.Trees as trees
 use Rattle.names.specs.{Environment.{Here, is_declared_again, into_list}, Events.{labels_of}, Uses.{declared_by}}
 use Rattle.typing.specs.Typing.{labelled}
-use Rattle.typed_laws.proofs.Items.{HomeStands, OwnerFlag, typed_item_stands}
+use Rattle.typed_laws.proofs.DeclaredObjects.{HomeStands, OwnerFlag, typed_item_stands}
 
 -- which procedures are REENTRANT
 abbrev pub flag_of : TypedProcedure → Bool
