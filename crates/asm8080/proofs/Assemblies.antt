@@ -1,6 +1,6 @@
 -- The code of items is what their assembly is to be: it stands wherever it is resolved.
 use Rattle.asm8080.proofs.Prelude.{◌≡◌, ℕ, ◌+◌, ◌≤◌, Bool, true, false, cond, ◌||◌, nat_le, nat_lt, List, [], ◌∷◌, ◌++◌, length, map, replicate, Option, Some, None, option_map, unwrap_or, refl, sym, subst, ap, ◌∙◌, arith, All, list_all, eq-eqb, le-leb, lt-ltb, length-append, length-replicate, All-head, All-tail, Fix, Target, InSegment, External, Code, is_target, words_are_whole, fix_end, fixes_ascend, is_in_a_run, runs_from, SEGMENT_LIMIT, wrap, Reference, AtLabel, AtTarget, AtNumber, Item, Plain, WithWord, Byte, Address, Gap, Mark, BytesStand, SetBytesStand, Assembly, BoundOnce, IsAssembly, IsKnown, IsListed, KnowsLabels, Layout, ListsExternals, Stands, bytes_of_item, flags_of_item, flags_of_items, is_bound, is_set, marks, offset_of, size_of, size_of_items, AllBound, Assembles, fix_at, fixed_bytes, fixes_of_items, layout_at, place_in, target_of, with_fix, bytes_of_items, code_of, layout_from, offset_in, and_from}
-use Rattle.asm8080.proofs.Words.{item_length}
+use Rattle.asm8080.proofs.ItemWords.{item_length}
 use Rattle.asm8080.proofs.Fixing.{cells_are, cells_of_items, fixed_items, some_length, whole_items}
 use Rattle.asm8080.proofs.Filling.{items_filled}
 use Rattle.asm8080.proofs.Moving.{resolved_items}

@@ -1,6 +1,6 @@
 -- All bytes of the fixes of items are set.
 use Rattle.asm8080.proofs.Prelude.{◌≡◌, ℕ, ◌+◌, ◌≤◌, Bool, true, false, cond, ◌==◌, ◌||◌, nat_le, List, [], ◌∷◌, ◌++◌, length, map, replicate, Option, Some, None, refl, sym, subst, ap, ◌∙◌, arith, list_all, eq-eqb, eqb-true, le-leb, leb-true, length-replicate, Fix, Code, Target, fix_end, is_within, content_of_run, is_in_a_run, Run, before_runs, runs_from, bytes_of, high_byte, low_byte, Item, Plain, WithWord, Byte, Address, Gap, Mark, Layout, word_of, fix_at, fixes_of_items, target_of, with_fix, and_from, and_parts, or_left, or_right}
-use Rattle.asm8080.proofs.Words.{form_bytes, opcode}
+use Rattle.asm8080.proofs.ItemWords.{form_bytes, opcode}
 use Rattle.asm8080.proofs.Fixing.{cells_of_items, some_length}
 
 abbrev run_at : (offset : ℕ) → List ℕ → Run ℕ

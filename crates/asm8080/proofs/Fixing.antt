@@ -1,6 +1,6 @@
 -- The bytes of items with their fixes.
 use Rattle.asm8080.proofs.Prelude.{◌≡◌, ℕ, zero, suc, ◌+◌, ◌<◌, ◌==◌, Bool, true, false, cond, List, [], ◌∷◌, ◌++◌, length, map, replicate, Option, Some, None, option_map, refl, sym, ap, ◌∙◌, arith, find, length-replicate, eq-eqb, ne_eqb, Fix, Both, Target, Fixup, SetByte, words_are_whole, fixup_at, high_byte, low_byte, bytes_of, Item, Plain, WithWord, Byte, Address, Gap, Mark, Layout, bytes_of_item, flags_of_items, size_of, word_of, fix_at, fixed_bytes, fixes_of_items, set_bytes, target_of, with_fix, bytes_of_items}
-use Rattle.asm8080.proofs.Words.{form_bytes, item_length, opcode}
+use Rattle.asm8080.proofs.ItemWords.{form_bytes, item_length, opcode}
 
 -- a byte at which no fix begins, and the first byte of a word, which may count from a target
 abbrev pub plain : ℕ → SetByte

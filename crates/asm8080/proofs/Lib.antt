@@ -1,14 +1,14 @@
 mod Prelude
 pub mod ItemLemmas
 pub mod RunLaws
-pub mod Words
+pub mod ItemWords
 pub mod Fixing
 pub mod Moving
 pub mod Filling
 pub mod Assemblies
 pub mod Segments
 pub mod Places
-pub mod Parts
+pub mod CodeInParts
 pub mod Steps
 pub mod Spending
 pub mod Straight

@@ -1,6 +1,6 @@
 -- The bytes of items where targets have addresses.
 use Rattle.asm8080.proofs.Prelude.{◌≡◌, ℕ, ◌+◌, ◌%◌, List, [], ◌∷◌, ◌++◌, map, replicate, Option, Some, None, option_map, refl, sym, ap, ◌∙◌, Target, InSegment, Code, SetByte, moved_after, second_byte_moved, value_after, high_byte, low_byte, wrap, bytes_of, Reference, AtLabel, AtTarget, AtNumber, Item, Plain, WithWord, Byte, Address, Gap, Mark, word_of, fixed_bytes, fixes_of_items, resolved, target_of, code_of, layout_from, offset_in}
-use Rattle.asm8080.proofs.Words.{form_bytes, high_moved, label_moved, layout_moved, low_moved, opcode, target_moved}
+use Rattle.asm8080.proofs.ItemWords.{form_bytes, high_moved, label_moved, layout_moved, low_moved, opcode, target_moved}
 use Rattle.asm8080.proofs.Fixing.{cells_are, cells_of_items, fixed_items, plain, row_of, set_of_items, word_before}
 
 -- nothing stays fixed

@@ -1,7 +1,7 @@
 -- Tables of places, and what code is made by them.
 use Rattle.asm8080.proofs.Prelude.{◌≡◌, ℕ, zero, suc, ◌+◌, ◌<◌, ◌≤◌, ◌==◌, Bool, true, false, cond, ◌||◌, List, [], ◌∷◌, ◌++◌, length, replicate, Option, Some, None, option_map, is_some, unwrap_or, slice_set, Ok, Err, refl, sym, subst, ap, ◌∙◌, arith, All, fun_ext, eq-eqb, eqb-true, ltb-true, lt-ltb, append_assoc, length-append, length-replicate, All-head, All-tail, Fix, Target, SEGMENT_LIMIT, Item, Plain, WithWord, Byte, Address, Gap, Mark, Assembly, BoundOnce, IsAssembly, KnowsLabels, Layout, bytes_of_item, flags_of_item, flags_of_items, is_bound, marks, offset_of, size_of, size_of_items, AllBound, Assembled, Assembles, FitsSegment, IsFinished, fixes_of_items, place_in, target_of, with_fix, all_placed, bytes_of_items, code_of, fixes_of_item, layout_from, no_code, offset_in, places_after, places_of, with_item, with_items, with_mark, with_places}
 use Rattle.asm8080.specs.declared.fault.Fault.TheVariants.{UnboundLabel, TooLong}
-use Rattle.asm8080.proofs.Words.{item_length}
+use Rattle.asm8080.proofs.ItemWords.{item_length}
 use Rattle.asm8080.proofs.Assemblies.{assembles, flags_length}
 
 -- the place of a label in a table, if there is one

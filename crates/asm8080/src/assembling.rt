@@ -49,6 +49,17 @@ fn item_size(item: Item) -> u16
     }
 }
 
+/// How many bytes items take.
+pub(crate) fn items_size(items: &[StoredItem]) -> u128
+    ensures { result ≡ size_of_items items.now }
+{
+    let mut size = 0;
+    for stored in items {
+        size += item_size(stored.item()) as u128;
+    }
+    size
+}
+
 // Puts the offset of an item into the table, if it is a label.
 fn put_mark(places: &mut Vec<Option<u128>>, item: Item, offset: u128)
     ensures { (places.new).items ≡ with_mark item offset (places.old).items }

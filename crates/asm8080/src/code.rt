@@ -1,13 +1,13 @@
 //! Code with labels.
 
-ghost use Rattle.std.specs.Prelude.{◌≡◌, ◌+◌, ◌^◌, ◌<◌, false, [], ◌∷◌, ◌++◌, OnErr, OnOk, IfOk, IfSome, IsTrue, Ok, Err};
+ghost use Rattle.std.specs.Prelude.{◌≡◌, ◌+◌, ◌^◌, ◌<◌, false, [], ◌∷◌, ◌++◌, drop, length, OnErr, OnOk, IfOk, IfSome, IsTrue, Ok, Err};
 ghost use Rattle.failure.specs.Failure.{IfFault};
 ghost use Rattle.asm8080.specs.declared.item.Item.TheVariants.{Plain, WithWord, Byte, Address, Gap, Mark};
 ghost use Rattle.asm8080.specs.declared.item.Reference.TheVariants.{AtLabel, AtTarget, AtNumber};
-ghost use Rattle.asm8080.specs.Items.{BindsSame, BindsSameBut, IsAssembly, is_bound, may_be_target};
+ghost use Rattle.asm8080.specs.Items.{BindsSame, BindsSameBut, IsAssembly, is_bound, may_be_target, size_of_items};
 ghost use Rattle.asm8080.specs.Assembled.{IsFinished};
 
-use crate::assembling::{all_placed, assemble, label_places};
+use crate::assembling::{all_placed, assemble, items_size, label_places};
 use crate::bytes::CodeBytes;
 use crate::fault::Fault;
 use crate::item::{Item, Reference, WordForm};
@@ -160,6 +160,23 @@ impl Code {
     {
         store(&mut self.items, Item::Gap(count))?;
         Ok(())
+    }
+
+    /// How many items there are.
+    pub fn item_count(&self) -> usize
+        ensures { result ≡ length self.now.items }
+    {
+        self.items.len()
+    }
+
+    /// How many bytes the items from one on take.
+    pub fn size_from(&self, first: usize) -> u128
+        ensures { result ≡ size_of_items (drop first self.now.items) }
+    {
+        match self.items.as_slice().get(first..) {
+            Some(items) => items_size(items),
+            None => 0,
+        }
     }
 
     /// How many labels there are. Their numbers are those below, and no label is bound but these, each once.

@@ -8,6 +8,7 @@ pub mod Driving
 pub mod BodyParts
 pub mod ModuleParts
 pub mod ObjectParts
+pub mod Marked
 pub mod Refused
 pub mod NameLoops
 pub mod ItemsByName

@@ -9,7 +9,7 @@ known_at count [] number = refl
 known_at count (first ∷ others) zero = refl
 known_at count (first ∷ others) (suc number) = known_at count others number
 
-known_by :
+pub known_by :
     (written : Written) (bytes : Assembled) (labels : List (Option ℕ)) (number : ℕ)
     → labels ≡ map (known_label written.code.labels) written.labels
     → place_of_known bytes (entry labels number) ≡ place_of_label written bytes number

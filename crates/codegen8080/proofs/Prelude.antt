@@ -6,7 +6,7 @@ pub use Rattle.symbols.specs.Names.{is_name}
 pub use Rattle.trees.proofs.Lists.{drop_found}
 pub use Rattle.object_modules.specs.{Module.{Fixup, ObjectModule, Places, Public, SetByte, are_new, begins_word, is_among, is_both, is_movable, is_plain, is_target, is_valid_public, is_valid_segment, words_are_whole}, Rules.{fix_end}, Runs.{fixup_at, with_run}, Stored.{IsStored, are_longest, fixes_ascend, is_in_a_run, places_stored}, Text.{Run, before_runs, runs_from}, Views.{AreKept, owned_public_view}, declared.object.ModuleParts.{ModuleParts}, declared.segment.Fix.{Fix}, declared.segment.FixKind.{FixKind}, declared.segment.Segment.{Segment}, declared.segment.Segment.TheVariants.{Absolute, Code, Data, Stack}, declared.segment.Target.{Target}, declared.segment.Target.TheVariants.{External, InSegment}, declared.segment.TheConstants.{SEGMENT_LIMIT}, internal.Joining.{run_at, with_runs}}
 pub use Rattle.isa8080.specs.{Code.{bytes_of}, State.{high_byte, low_byte, wrap}, declared.instr.Instr.{Instr, TheVariants.{Hlt}}, declared.instr.Pair.TheVariants.{Sp}}
-pub use Rattle.asm8080.proofs.{Parts.{stands_in_parts}, Segments.{places_length, runs_longest, segment_places_in, set_length, set_well, valid_bytes}}
+pub use Rattle.asm8080.proofs.{CodeInParts.{stands_in_parts}, Segments.{places_length, runs_longest, segment_places_in, set_length, set_well, valid_bytes}}
 pub use Rattle.asm8080.specs.{Assembled.{Assembled, Assembles, FitsSegment, IsFinished, fixed_bytes, places_of, segment_of, set_bytes}, Items.{Assembly, Layout, Stands, instruction_with, size_of_items, word_of}, Standing.{BytesStand}, declared.fault.Fault.{Fault as CodeFault}, declared.item.Item.{Item, TheVariants.{Address, Byte, Gap, Mark, Plain, WithWord}}, declared.item.Reference.{Reference, TheVariants.{AtLabel, AtNumber, AtTarget}}, declared.item.WordForm.TheVariants.{LoadPair}}
 pub use Rattle.runtime8080.specs.{Routines.{IsRoutine, size_of_routine}, declared.routine.Routine.{Routine, TheVariants.{Divide, Move, Multiply, RotateLeft, RotateRight, ShiftLeftAddress, ShiftLeftByte, ShiftRightAddress, ShiftRightByte}}}
 pub use Rattle.treecode.specs.{declared.lists.Range.{Range}, declared.module.Content.{Content}, declared.module.ExternalName.{ExternalName}, declared.module.PublicName.{PublicName}, declared.module.PublicPlace.{PublicPlace, TheVariants.{Object, Procedure}}, declared.module.TreeModule.{TreeModule}, declared.procedure.Parameter.{Parameter}, declared.procedure.ProcedureKind.{ProcedureKind}, declared.procedure.TreeProcedure.{TreeProcedure}, declared.statement.Statement.{Statement, Statement as TreeStatement}, declared.statement.StatementNumber.{StatementNumber}}

@@ -8,4 +8,5 @@ pub mod Driven
 pub mod Targets
 pub mod Modules
 pub mod Refusals
+pub mod Marking
 pub mod internal

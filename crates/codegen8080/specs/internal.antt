@@ -4,3 +4,4 @@ pub mod Segments
 pub mod Carrying
 pub mod Bodies
 pub mod Listing
+pub mod Marks

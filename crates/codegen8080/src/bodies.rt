@@ -8,6 +8,7 @@ ghost use Rattle.codegen8080.specs.internal.Bodies.{AddsEnd, AddsEntry, AddsMain
 
 use crate::carrying::site_of;
 use crate::generator::Generator;
+use crate::marking::CodePart;
 use crate::procedures::{plan_end, plan_entry};
 use asm8080::WordForm;
 use exprgen8080::{LabelNumber, Step};
@@ -101,6 +102,8 @@ fn put_own(
 {
     let frame = frame_of(alloc, procedure)?;
     let body = body_of(generator, tree, procedure, &frame);
+    let part = CodePart::Procedure(entry.index);
+    generator.marks.put(&generator.emission.writer, part)?;
     generator.emission.add(&site_of(&body), Step::Mark(entry))?;
     generator.goes_on = true;
     put_entry(generator, &body)?;
@@ -142,6 +145,8 @@ pub(crate) fn put_main(
 {
     let frame = FramePlan::empty(alloc);
     let body = body_of(generator, tree, &tree.main, &frame);
+    let part = CodePart::Main;
+    generator.marks.put(&generator.emission.writer, part)?;
     generator.emission.add(&site_of(&body), Step::Mark(entry))?;
     generator
         .emission

@@ -11,6 +11,7 @@ ghost use Rattle.codegen8080.specs.Statements.{statement_labels, statement_steps
 ghost use Rattle.codegen8080.specs.internal.Carrying.{CarriesOut};
 
 use crate::carrying::{carry, site_of};
+use crate::marking::{CodePart, Marks};
 use crate::meeting::{Here, here_after, waiting_after};
 use crate::statements::plan_statement;
 use exprgen8080::{Emission, Facts};
@@ -18,11 +19,13 @@ use statements8080::{Body, Plan, Planned};
 use std::alloc::{AllocError, Global};
 use treecode::{Range, Statement, StatementNumber, TreeModule};
 
-/// Code that is being emitted: that of a module, the planned steps, and whether the end of the code can be reached.
+/// Code that is being emitted: that of a module, the planned steps, whether the end of the code can be reached, and where
+/// the parts of the code begin.
 pub(crate) struct Generator {
     pub emission: Emission,
     pub plan: Plan,
     pub goes_on: bool,
+    pub marks: Marks,
 }
 
 // The statement at an index in a list. Its number must be below a bound; fails if it is not.
@@ -52,19 +55,21 @@ impl Generator {
             emission: Emission::new(alloc, tree)?,
             plan: Plan::new(alloc),
             goes_on: true,
+            marks: Marks::new(alloc),
         })
     }
 
-    /// Returns the code.
-    pub(crate) fn into_emission(self) -> Emission
-        ensures { result ≡ self.emission }
+    /// Returns the code, and where its parts begin.
+    pub(crate) fn into_parts(self) -> (Emission, Marks)
+        ensures { result.0 ≡ self.emission }
     {
         let Generator {
             emission,
             plan: _,
             goes_on: _,
+            marks,
         } = self;
-        emission
+        (emission, marks)
     }
 
     // The end of the code.
@@ -137,6 +142,8 @@ impl Generator {
         let Some(statement) = body.tree.statement(number) else {
             return Err(AllocError);
         };
+        let part = CodePart::Statement(number);
+        self.marks.put(&self.emission.writer, part)?;
         let start = self.plan.count();
         self.plan_next(body, statement)?;
         self.goes_on = true;
@@ -221,6 +228,7 @@ impl Drop for Generator {
             emission: _,
             plan: _,
             goes_on: _,
+            marks: _,
         } = self;
     }
 }

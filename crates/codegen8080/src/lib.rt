@@ -6,6 +6,7 @@ mod carrying;
 mod fault;
 mod generator;
 mod linkage;
+mod marking;
 mod meeting;
 mod module;
 mod names;
@@ -16,5 +17,6 @@ mod statements;
 mod targets;
 
 pub use fault::Fault;
+pub use marking::{CodePart, Mark, code_marks};
 pub use meeting::Here;
 pub use module::generate;

@@ -13,6 +13,7 @@ ghost use Rattle.steps8080.specs.Writer.{Finishes, NumbersNames, Writes, numbere
 use crate::bodies::{put_main, put_procedure};
 use crate::fault::Fault;
 use crate::generator::Generator;
+use crate::marking::Marks;
 use crate::names::{ListedNames, listed_names, with_publics};
 use crate::object::object_of;
 use exprgen8080::{Externals, Finished, LabelNumber, Writer, routine_label};
@@ -23,10 +24,11 @@ use std::alloc::{AllocError, Global};
 use treecode::{Content, TreeModule, TreeProcedure};
 use trees::next_number;
 
-// The code of a module, and the label of its main program.
-struct ModuleCode {
-    writer: Writer,
-    start: LabelNumber,
+/// The code of a module, the label of its main program, and where the parts before the routines begin.
+pub(crate) struct ModuleCode {
+    pub(crate) writer: Writer,
+    pub(crate) start: LabelNumber,
+    pub(crate) marks: Marks,
 }
 
 // Adds a piece of the contents of a segment.
@@ -187,15 +189,20 @@ fn put_own_code(
     Ok(start)
 }
 
-// The code segment of a module: its constants, its main program, its procedures and the routines that these call.
-fn code_of(alloc: Global, tree: &TreeModule) -> Result<ModuleCode, AllocError>
+/// The code segment of a module: its constants, its main program, its procedures and the routines that these call.
+pub(crate) fn code_of(alloc: Global, tree: &TreeModule) -> Result<ModuleCode, AllocError>
     ensures { IfOk result (λ code. IsCodeWritten tree.now code.start.index code.writer) }
 {
     let mut generator = Generator::new(alloc, tree)?;
     let start = put_own_code(alloc, &mut generator, tree)?;
-    let (writer, is_called) = generator.into_emission().into_code();
+    let (emission, marks) = generator.into_parts();
+    let (writer, is_called) = emission.into_code();
     let writer = with_routines(writer, tree, is_called.as_slice())?;
-    Ok(ModuleCode { writer, start })
+    Ok(ModuleCode {
+        writer,
+        start,
+        marks,
+    })
 }
 
 // The data segment of a module. It uses the same numbers of EXTERNAL names as the code.
@@ -215,9 +222,9 @@ fn variables_of(
     Ok(writer)
 }
 
-// Code as bytes, and the EXTERNAL names that it refers to.
+/// Code as bytes, and the EXTERNAL names that it refers to.
 #[tactic(auto, using(crate::proofs::KeptSegments::finished_keeps, crate::proofs::Refused::too_long))]
-fn finish(writer: Writer) -> Result<(Finished, Externals), Failure<Fault>>
+pub(crate) fn finish(writer: Writer) -> Result<(Finished, Externals), Failure<Fault>>
     ensures keeps { IfOk result (λ both. KeepsFixes both.0.bytes) }
     ensures finishes { IfOk result (λ both. Finishes writer both.0.bytes both.0.labels.items) }
     ensures externals { IfOk result (λ both. both.1 ≡ writer.externals) }
@@ -265,7 +272,11 @@ pub fn generate(alloc: Global, tree: &TreeModule) -> Result<ObjectModule, Failur
     ensures made { IfOk result (λ object. IsGenerated tree.now object) }
     ensures refused { IfFault result (λ fault. MayRefuse tree.now fault) }
 {
-    let ModuleCode { writer, start } = code_of(alloc, tree)?;
+    let ModuleCode {
+        writer,
+        start,
+        marks: _,
+    } = code_of(alloc, tree)?;
     let (code, externals) = finish(writer)?;
     let (variables, externals) = finish(variables_of(alloc, tree, externals)?)?;
     let listed = names_of(alloc, tree, &externals, &code)?;

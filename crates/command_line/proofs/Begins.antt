@@ -1,5 +1,5 @@
 -- What may come before the files: nothing, an option with its text, or a flag.
-use Rattle.command_line.proofs.Prelude.{◌≡◌, ◌∙◌, List, [], ◌∷◌, ◌++◌, Some, None, false, refl, ap, codes, fold, AllByRecursion, clap_on_literals, Kinds, Row, Shape, Text, Held, Walk, idle, option, has_row, nothing_held, reading_by, settled, walk, walk_from, walked, filled, settle_fault, turn_fault, walk_fault, or_else, CommandLine, PlaceAction, Locate, Hex, Code, DataBase, Input, InputFile, OutputFile, IsBare, Limit, OfPlan, PlanOption, Stack, StackSize, ValueOption, flag_rule, option_name, option_words, plan_option_name, Fill, StartMemory, Listing}
+use Rattle.command_line.proofs.Prelude.{◌≡◌, ◌∙◌, List, [], ◌∷◌, ◌++◌, Some, None, false, refl, ap, codes, fold, AllByRecursion, clap_on_literals, Kinds, Row, Shape, Text, Held, Walk, idle, option, has_row, nothing_held, reading_by, settled, walk, walk_from, walked, filled, settle_fault, turn_fault, walk_fault, or_else, CommandLine, PlaceAction, Locate, Hex, Code, DataBase, Input, InputFile, OutputFile, IsBare, Limit, OfPlan, PlanOption, Stack, StackSize, ValueOption, flag_rule, option_name, option_words, plan_option_name, Fill, StartMemory, Listing, Symbols, Count, UntilDry, WatchOption, watch_option_name}
 use Rattle.command_line.proofs.Files.{all_done, bare_fault, bare_word, done_of, files_fault, files_filled, files_row, files_rows, files_walk, last_of, rows_more, state}
 use Rattle.command_line.proofs.Verbs.{Executed, Form, Listed, Located, Objects, Placed, Sources, form_of, leaf, rules}
 
@@ -72,14 +72,20 @@ flag_row name = record { id = name; values = codes "true" ∷ []; count = None; 
 pub data Flag : Type 0 where
   map_flag : Flag
   need_flag : Flag
+  watch_flag : WatchOption → Flag
+  execute_watch_flag : WatchOption → Flag
 
 abbrev pub flag_name : Flag → Text
 flag_name map_flag = codes "map"
 flag_name need_flag = codes "need"
+flag_name (watch_flag o) = watch_option_name o
+flag_name (execute_watch_flag o) = watch_option_name o
 
 abbrev pub flag_form : Flag → Form
 flag_form map_flag = Sources
 flag_form need_flag = Located
+flag_form (watch_flag o) = Sources
+flag_form (execute_watch_flag o) = Executed
 
 -- the word of a flag
 abbrev pub flag_word : Flag → Text
@@ -92,15 +98,27 @@ flag_step : (f : Flag) → walked (rules (flag_form f)) [] (found_walk []) (flag
 unfolding clap_on_literals
 flag_step map_flag = refl
 flag_step need_flag = refl
+flag_step (watch_flag Count) = refl
+flag_step (watch_flag UntilDry) = refl
+flag_step (execute_watch_flag Count) = refl
+flag_step (execute_watch_flag UntilDry) = refl
 
 flag_turn : (name : Text) (f : Flag) → turn_fault (leaf (flag_form f) name) [] (found_walk []) (flag_word f) ≡ []
 unfolding clap_on_literals
 flag_turn name map_flag = refl
 flag_turn name need_flag = refl
+flag_turn name (watch_flag Count) = refl
+flag_turn name (watch_flag UntilDry) = refl
+flag_turn name (execute_watch_flag Count) = refl
+flag_turn name (execute_watch_flag UntilDry) = refl
 
 no_file_of : (f : Flag) → has_row (codes "FILES") (rows_of_flag f) ≡ false
 no_file_of map_flag = refl
 no_file_of need_flag = refl
+no_file_of (watch_flag Count) = refl
+no_file_of (watch_flag UntilDry) = refl
+no_file_of (execute_watch_flag Count) = refl
+no_file_of (execute_watch_flag UntilDry) = refl
 
 pub flag_begins : (name : Text) (f : Flag) → Begins (flag_form f) name (flag_word f ∷ []) (rows_of_flag f)
 flag_begins name f = record {
@@ -170,15 +188,19 @@ option_step (of_program StartMemory) = refl
 option_step (of_place Locate Code) = refl
 option_step (of_place Hex Code) = refl
 option_step (of_place Listing Code) = refl
+option_step (of_place Symbols Code) = refl
 option_step (of_place Locate DataBase) = refl
 option_step (of_place Hex DataBase) = refl
 option_step (of_place Listing DataBase) = refl
+option_step (of_place Symbols DataBase) = refl
 option_step (of_place Locate Stack) = refl
 option_step (of_place Hex Stack) = refl
 option_step (of_place Listing Stack) = refl
+option_step (of_place Symbols Stack) = refl
 option_step (of_place Locate StackSize) = refl
 option_step (of_place Hex StackSize) = refl
 option_step (of_place Listing StackSize) = refl
+option_step (of_place Symbols StackSize) = refl
 option_step out = refl
 option_step jump = refl
 option_step (of_execute (OfPlan Code)) = refl
@@ -207,15 +229,19 @@ option_turn name (of_program StartMemory) = refl
 option_turn name (of_place Locate Code) = refl
 option_turn name (of_place Hex Code) = refl
 option_turn name (of_place Listing Code) = refl
+option_turn name (of_place Symbols Code) = refl
 option_turn name (of_place Locate DataBase) = refl
 option_turn name (of_place Hex DataBase) = refl
 option_turn name (of_place Listing DataBase) = refl
+option_turn name (of_place Symbols DataBase) = refl
 option_turn name (of_place Locate Stack) = refl
 option_turn name (of_place Hex Stack) = refl
 option_turn name (of_place Listing Stack) = refl
+option_turn name (of_place Symbols Stack) = refl
 option_turn name (of_place Locate StackSize) = refl
 option_turn name (of_place Hex StackSize) = refl
 option_turn name (of_place Listing StackSize) = refl
+option_turn name (of_place Symbols StackSize) = refl
 option_turn name out = refl
 option_turn name jump = refl
 option_turn name (of_execute (OfPlan Code)) = refl
@@ -244,15 +270,19 @@ text_step (of_program StartMemory) text bare = rw (bare_word (rules Sources) (wa
 text_step (of_place Locate Code) text bare = rw (bare_word (rules Located) (waiting_walk (of_place Locate Code)).waiting 1 text (waiting_walk (of_place Locate Code)).held bare) refl
 text_step (of_place Hex Code) text bare = rw (bare_word (rules Placed) (waiting_walk (of_place Hex Code)).waiting 1 text (waiting_walk (of_place Hex Code)).held bare) refl
 text_step (of_place Listing Code) text bare = rw (bare_word (rules Listed) (waiting_walk (of_place Listing Code)).waiting 1 text (waiting_walk (of_place Listing Code)).held bare) refl
+text_step (of_place Symbols Code) text bare = rw (bare_word (rules Listed) (waiting_walk (of_place Symbols Code)).waiting 1 text (waiting_walk (of_place Symbols Code)).held bare) refl
 text_step (of_place Locate DataBase) text bare = rw (bare_word (rules Located) (waiting_walk (of_place Locate DataBase)).waiting 1 text (waiting_walk (of_place Locate DataBase)).held bare) refl
 text_step (of_place Hex DataBase) text bare = rw (bare_word (rules Placed) (waiting_walk (of_place Hex DataBase)).waiting 1 text (waiting_walk (of_place Hex DataBase)).held bare) refl
 text_step (of_place Listing DataBase) text bare = rw (bare_word (rules Listed) (waiting_walk (of_place Listing DataBase)).waiting 1 text (waiting_walk (of_place Listing DataBase)).held bare) refl
+text_step (of_place Symbols DataBase) text bare = rw (bare_word (rules Listed) (waiting_walk (of_place Symbols DataBase)).waiting 1 text (waiting_walk (of_place Symbols DataBase)).held bare) refl
 text_step (of_place Locate Stack) text bare = rw (bare_word (rules Located) (waiting_walk (of_place Locate Stack)).waiting 1 text (waiting_walk (of_place Locate Stack)).held bare) refl
 text_step (of_place Hex Stack) text bare = rw (bare_word (rules Placed) (waiting_walk (of_place Hex Stack)).waiting 1 text (waiting_walk (of_place Hex Stack)).held bare) refl
 text_step (of_place Listing Stack) text bare = rw (bare_word (rules Listed) (waiting_walk (of_place Listing Stack)).waiting 1 text (waiting_walk (of_place Listing Stack)).held bare) refl
+text_step (of_place Symbols Stack) text bare = rw (bare_word (rules Listed) (waiting_walk (of_place Symbols Stack)).waiting 1 text (waiting_walk (of_place Symbols Stack)).held bare) refl
 text_step (of_place Locate StackSize) text bare = rw (bare_word (rules Located) (waiting_walk (of_place Locate StackSize)).waiting 1 text (waiting_walk (of_place Locate StackSize)).held bare) refl
 text_step (of_place Hex StackSize) text bare = rw (bare_word (rules Placed) (waiting_walk (of_place Hex StackSize)).waiting 1 text (waiting_walk (of_place Hex StackSize)).held bare) refl
 text_step (of_place Listing StackSize) text bare = rw (bare_word (rules Listed) (waiting_walk (of_place Listing StackSize)).waiting 1 text (waiting_walk (of_place Listing StackSize)).held bare) refl
+text_step (of_place Symbols StackSize) text bare = rw (bare_word (rules Listed) (waiting_walk (of_place Symbols StackSize)).waiting 1 text (waiting_walk (of_place Symbols StackSize)).held bare) refl
 text_step out text bare = rw (bare_word (rules Objects) (waiting_walk out).waiting 1 text (waiting_walk out).held bare) refl
 text_step jump text bare = rw (bare_word (rules Placed) (waiting_walk jump).waiting 1 text (waiting_walk jump).held bare) refl
 text_step (of_execute (OfPlan Code)) text bare = rw (bare_word (rules Executed) (waiting_walk (of_execute (OfPlan Code))).waiting 1 text (waiting_walk (of_execute (OfPlan Code))).held bare) refl
@@ -293,24 +323,32 @@ text_turn name (of_place Hex Code) text bare =
     rw (bare_word (rules Placed) (waiting_walk (of_place Hex Code)).waiting 1 text (waiting_walk (of_place Hex Code)).held bare, bare_fault (leaf Placed name) (waiting_walk (of_place Hex Code)).waiting text (waiting_walk (of_place Hex Code)).held bare) refl
 text_turn name (of_place Listing Code) text bare =
     rw (bare_word (rules Listed) (waiting_walk (of_place Listing Code)).waiting 1 text (waiting_walk (of_place Listing Code)).held bare, bare_fault (leaf Listed name) (waiting_walk (of_place Listing Code)).waiting text (waiting_walk (of_place Listing Code)).held bare) refl
+text_turn name (of_place Symbols Code) text bare =
+    rw (bare_word (rules Listed) (waiting_walk (of_place Symbols Code)).waiting 1 text (waiting_walk (of_place Symbols Code)).held bare, bare_fault (leaf Listed name) (waiting_walk (of_place Symbols Code)).waiting text (waiting_walk (of_place Symbols Code)).held bare) refl
 text_turn name (of_place Locate DataBase) text bare =
     rw (bare_word (rules Located) (waiting_walk (of_place Locate DataBase)).waiting 1 text (waiting_walk (of_place Locate DataBase)).held bare, bare_fault (leaf Located name) (waiting_walk (of_place Locate DataBase)).waiting text (waiting_walk (of_place Locate DataBase)).held bare) refl
 text_turn name (of_place Hex DataBase) text bare =
     rw (bare_word (rules Placed) (waiting_walk (of_place Hex DataBase)).waiting 1 text (waiting_walk (of_place Hex DataBase)).held bare, bare_fault (leaf Placed name) (waiting_walk (of_place Hex DataBase)).waiting text (waiting_walk (of_place Hex DataBase)).held bare) refl
 text_turn name (of_place Listing DataBase) text bare =
     rw (bare_word (rules Listed) (waiting_walk (of_place Listing DataBase)).waiting 1 text (waiting_walk (of_place Listing DataBase)).held bare, bare_fault (leaf Listed name) (waiting_walk (of_place Listing DataBase)).waiting text (waiting_walk (of_place Listing DataBase)).held bare) refl
+text_turn name (of_place Symbols DataBase) text bare =
+    rw (bare_word (rules Listed) (waiting_walk (of_place Symbols DataBase)).waiting 1 text (waiting_walk (of_place Symbols DataBase)).held bare, bare_fault (leaf Listed name) (waiting_walk (of_place Symbols DataBase)).waiting text (waiting_walk (of_place Symbols DataBase)).held bare) refl
 text_turn name (of_place Locate Stack) text bare =
     rw (bare_word (rules Located) (waiting_walk (of_place Locate Stack)).waiting 1 text (waiting_walk (of_place Locate Stack)).held bare, bare_fault (leaf Located name) (waiting_walk (of_place Locate Stack)).waiting text (waiting_walk (of_place Locate Stack)).held bare) refl
 text_turn name (of_place Hex Stack) text bare =
     rw (bare_word (rules Placed) (waiting_walk (of_place Hex Stack)).waiting 1 text (waiting_walk (of_place Hex Stack)).held bare, bare_fault (leaf Placed name) (waiting_walk (of_place Hex Stack)).waiting text (waiting_walk (of_place Hex Stack)).held bare) refl
 text_turn name (of_place Listing Stack) text bare =
     rw (bare_word (rules Listed) (waiting_walk (of_place Listing Stack)).waiting 1 text (waiting_walk (of_place Listing Stack)).held bare, bare_fault (leaf Listed name) (waiting_walk (of_place Listing Stack)).waiting text (waiting_walk (of_place Listing Stack)).held bare) refl
+text_turn name (of_place Symbols Stack) text bare =
+    rw (bare_word (rules Listed) (waiting_walk (of_place Symbols Stack)).waiting 1 text (waiting_walk (of_place Symbols Stack)).held bare, bare_fault (leaf Listed name) (waiting_walk (of_place Symbols Stack)).waiting text (waiting_walk (of_place Symbols Stack)).held bare) refl
 text_turn name (of_place Locate StackSize) text bare =
     rw (bare_word (rules Located) (waiting_walk (of_place Locate StackSize)).waiting 1 text (waiting_walk (of_place Locate StackSize)).held bare, bare_fault (leaf Located name) (waiting_walk (of_place Locate StackSize)).waiting text (waiting_walk (of_place Locate StackSize)).held bare) refl
 text_turn name (of_place Hex StackSize) text bare =
     rw (bare_word (rules Placed) (waiting_walk (of_place Hex StackSize)).waiting 1 text (waiting_walk (of_place Hex StackSize)).held bare, bare_fault (leaf Placed name) (waiting_walk (of_place Hex StackSize)).waiting text (waiting_walk (of_place Hex StackSize)).held bare) refl
 text_turn name (of_place Listing StackSize) text bare =
     rw (bare_word (rules Listed) (waiting_walk (of_place Listing StackSize)).waiting 1 text (waiting_walk (of_place Listing StackSize)).held bare, bare_fault (leaf Listed name) (waiting_walk (of_place Listing StackSize)).waiting text (waiting_walk (of_place Listing StackSize)).held bare) refl
+text_turn name (of_place Symbols StackSize) text bare =
+    rw (bare_word (rules Listed) (waiting_walk (of_place Symbols StackSize)).waiting 1 text (waiting_walk (of_place Symbols StackSize)).held bare, bare_fault (leaf Listed name) (waiting_walk (of_place Symbols StackSize)).waiting text (waiting_walk (of_place Symbols StackSize)).held bare) refl
 text_turn name out text bare =
     rw (bare_word (rules Objects) (waiting_walk out).waiting 1 text (waiting_walk out).held bare, bare_fault (leaf Objects name) (waiting_walk out).waiting text (waiting_walk out).held bare) refl
 text_turn name jump text bare =
@@ -351,15 +389,19 @@ value_step (of_program StartMemory) text file bare = rw (bare_word (rules Source
 value_step (of_place Locate Code) text file bare = rw (bare_word (rules Located) idle 1 file (pending_walk (of_place Locate Code) text).held bare) refl
 value_step (of_place Hex Code) text file bare = rw (bare_word (rules Placed) idle 1 file (pending_walk (of_place Hex Code) text).held bare) refl
 value_step (of_place Listing Code) text file bare = rw (bare_word (rules Listed) idle 1 file (pending_walk (of_place Listing Code) text).held bare) refl
+value_step (of_place Symbols Code) text file bare = rw (bare_word (rules Listed) idle 1 file (pending_walk (of_place Symbols Code) text).held bare) refl
 value_step (of_place Locate DataBase) text file bare = rw (bare_word (rules Located) idle 1 file (pending_walk (of_place Locate DataBase) text).held bare) refl
 value_step (of_place Hex DataBase) text file bare = rw (bare_word (rules Placed) idle 1 file (pending_walk (of_place Hex DataBase) text).held bare) refl
 value_step (of_place Listing DataBase) text file bare = rw (bare_word (rules Listed) idle 1 file (pending_walk (of_place Listing DataBase) text).held bare) refl
+value_step (of_place Symbols DataBase) text file bare = rw (bare_word (rules Listed) idle 1 file (pending_walk (of_place Symbols DataBase) text).held bare) refl
 value_step (of_place Locate Stack) text file bare = rw (bare_word (rules Located) idle 1 file (pending_walk (of_place Locate Stack) text).held bare) refl
 value_step (of_place Hex Stack) text file bare = rw (bare_word (rules Placed) idle 1 file (pending_walk (of_place Hex Stack) text).held bare) refl
 value_step (of_place Listing Stack) text file bare = rw (bare_word (rules Listed) idle 1 file (pending_walk (of_place Listing Stack) text).held bare) refl
+value_step (of_place Symbols Stack) text file bare = rw (bare_word (rules Listed) idle 1 file (pending_walk (of_place Symbols Stack) text).held bare) refl
 value_step (of_place Locate StackSize) text file bare = rw (bare_word (rules Located) idle 1 file (pending_walk (of_place Locate StackSize) text).held bare) refl
 value_step (of_place Hex StackSize) text file bare = rw (bare_word (rules Placed) idle 1 file (pending_walk (of_place Hex StackSize) text).held bare) refl
 value_step (of_place Listing StackSize) text file bare = rw (bare_word (rules Listed) idle 1 file (pending_walk (of_place Listing StackSize) text).held bare) refl
+value_step (of_place Symbols StackSize) text file bare = rw (bare_word (rules Listed) idle 1 file (pending_walk (of_place Symbols StackSize) text).held bare) refl
 value_step out text file bare = rw (bare_word (rules Objects) idle 1 file (pending_walk out text).held bare) refl
 value_step jump text file bare = rw (bare_word (rules Placed) idle 1 file (pending_walk jump text).held bare) refl
 value_step (of_execute (OfPlan Code)) text file bare = rw (bare_word (rules Executed) idle 1 file (pending_walk (of_execute (OfPlan Code)) text).held bare) refl
@@ -400,24 +442,32 @@ value_turn name (of_place Hex Code) text file bare =
     rw (bare_word (rules Placed) idle 1 file (pending_walk (of_place Hex Code) text).held bare, bare_fault (leaf Placed name) idle file (pending_walk (of_place Hex Code) text).held bare) refl
 value_turn name (of_place Listing Code) text file bare =
     rw (bare_word (rules Listed) idle 1 file (pending_walk (of_place Listing Code) text).held bare, bare_fault (leaf Listed name) idle file (pending_walk (of_place Listing Code) text).held bare) refl
+value_turn name (of_place Symbols Code) text file bare =
+    rw (bare_word (rules Listed) idle 1 file (pending_walk (of_place Symbols Code) text).held bare, bare_fault (leaf Listed name) idle file (pending_walk (of_place Symbols Code) text).held bare) refl
 value_turn name (of_place Locate DataBase) text file bare =
     rw (bare_word (rules Located) idle 1 file (pending_walk (of_place Locate DataBase) text).held bare, bare_fault (leaf Located name) idle file (pending_walk (of_place Locate DataBase) text).held bare) refl
 value_turn name (of_place Hex DataBase) text file bare =
     rw (bare_word (rules Placed) idle 1 file (pending_walk (of_place Hex DataBase) text).held bare, bare_fault (leaf Placed name) idle file (pending_walk (of_place Hex DataBase) text).held bare) refl
 value_turn name (of_place Listing DataBase) text file bare =
     rw (bare_word (rules Listed) idle 1 file (pending_walk (of_place Listing DataBase) text).held bare, bare_fault (leaf Listed name) idle file (pending_walk (of_place Listing DataBase) text).held bare) refl
+value_turn name (of_place Symbols DataBase) text file bare =
+    rw (bare_word (rules Listed) idle 1 file (pending_walk (of_place Symbols DataBase) text).held bare, bare_fault (leaf Listed name) idle file (pending_walk (of_place Symbols DataBase) text).held bare) refl
 value_turn name (of_place Locate Stack) text file bare =
     rw (bare_word (rules Located) idle 1 file (pending_walk (of_place Locate Stack) text).held bare, bare_fault (leaf Located name) idle file (pending_walk (of_place Locate Stack) text).held bare) refl
 value_turn name (of_place Hex Stack) text file bare =
     rw (bare_word (rules Placed) idle 1 file (pending_walk (of_place Hex Stack) text).held bare, bare_fault (leaf Placed name) idle file (pending_walk (of_place Hex Stack) text).held bare) refl
 value_turn name (of_place Listing Stack) text file bare =
     rw (bare_word (rules Listed) idle 1 file (pending_walk (of_place Listing Stack) text).held bare, bare_fault (leaf Listed name) idle file (pending_walk (of_place Listing Stack) text).held bare) refl
+value_turn name (of_place Symbols Stack) text file bare =
+    rw (bare_word (rules Listed) idle 1 file (pending_walk (of_place Symbols Stack) text).held bare, bare_fault (leaf Listed name) idle file (pending_walk (of_place Symbols Stack) text).held bare) refl
 value_turn name (of_place Locate StackSize) text file bare =
     rw (bare_word (rules Located) idle 1 file (pending_walk (of_place Locate StackSize) text).held bare, bare_fault (leaf Located name) idle file (pending_walk (of_place Locate StackSize) text).held bare) refl
 value_turn name (of_place Hex StackSize) text file bare =
     rw (bare_word (rules Placed) idle 1 file (pending_walk (of_place Hex StackSize) text).held bare, bare_fault (leaf Placed name) idle file (pending_walk (of_place Hex StackSize) text).held bare) refl
 value_turn name (of_place Listing StackSize) text file bare =
     rw (bare_word (rules Listed) idle 1 file (pending_walk (of_place Listing StackSize) text).held bare, bare_fault (leaf Listed name) idle file (pending_walk (of_place Listing StackSize) text).held bare) refl
+value_turn name (of_place Symbols StackSize) text file bare =
+    rw (bare_word (rules Listed) idle 1 file (pending_walk (of_place Symbols StackSize) text).held bare, bare_fault (leaf Listed name) idle file (pending_walk (of_place Symbols StackSize) text).held bare) refl
 value_turn name out text file bare =
     rw (bare_word (rules Objects) idle 1 file (pending_walk out text).held bare, bare_fault (leaf Objects name) idle file (pending_walk out text).held bare) refl
 value_turn name jump text file bare =
@@ -457,15 +507,19 @@ no_file_in (of_program StartMemory) text = refl
 no_file_in (of_place Locate Code) text = refl
 no_file_in (of_place Hex Code) text = refl
 no_file_in (of_place Listing Code) text = refl
+no_file_in (of_place Symbols Code) text = refl
 no_file_in (of_place Locate DataBase) text = refl
 no_file_in (of_place Hex DataBase) text = refl
 no_file_in (of_place Listing DataBase) text = refl
+no_file_in (of_place Symbols DataBase) text = refl
 no_file_in (of_place Locate Stack) text = refl
 no_file_in (of_place Hex Stack) text = refl
 no_file_in (of_place Listing Stack) text = refl
+no_file_in (of_place Symbols Stack) text = refl
 no_file_in (of_place Locate StackSize) text = refl
 no_file_in (of_place Hex StackSize) text = refl
 no_file_in (of_place Listing StackSize) text = refl
+no_file_in (of_place Symbols StackSize) text = refl
 no_file_in out text = refl
 no_file_in jump text = refl
 no_file_in (of_execute (OfPlan Code)) text = refl

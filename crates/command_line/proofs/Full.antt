@@ -254,12 +254,12 @@ level_full s all words fine =
     (settle_full s.args_override_self s.rules all end passes.settle_passes (walk_full s all [] words (walk_from nothing_held) passes.words_pass tt))
 
 rules_take : (form : Form) → AllTake (rules form)
-rules_take Sources = (set_takes _ refl refl, (set_takes _ refl refl, (set_takes _ refl refl, (set_takes _ refl refl, (set_takes _ refl refl, (set_takes _ refl refl, (append_takes _ refl refl, (append_takes _ refl refl, (flag_takes _ refl refl, (set_takes _ refl refl, (set_takes _ refl refl, (append_takes _ refl refl, (help_takes _ refl, tt)))))))))))))
+rules_take Sources = (set_takes _ refl refl, (set_takes _ refl refl, (set_takes _ refl refl, (set_takes _ refl refl, (set_takes _ refl refl, (set_takes _ refl refl, (append_takes _ refl refl, (append_takes _ refl refl, (flag_takes _ refl refl, (flag_takes _ refl refl, (flag_takes _ refl refl, (set_takes _ refl refl, (set_takes _ refl refl, (append_takes _ refl refl, (help_takes _ refl, tt)))))))))))))))
 rules_take Objects = (set_takes _ refl refl, (append_takes _ refl refl, (help_takes _ refl, tt)))
 rules_take Placed = (set_takes _ refl refl, (set_takes _ refl refl, (set_takes _ refl refl, (set_takes _ refl refl, (set_takes _ refl refl, (append_takes _ refl refl, (help_takes _ refl, tt)))))))
 rules_take Listed = (set_takes _ refl refl, (set_takes _ refl refl, (set_takes _ refl refl, (set_takes _ refl refl, (append_takes _ refl refl, (help_takes _ refl, tt))))))
 rules_take Located = (set_takes _ refl refl, (set_takes _ refl refl, (set_takes _ refl refl, (set_takes _ refl refl, (flag_takes _ refl refl, (append_takes _ refl refl, (help_takes _ refl, tt)))))))
-rules_take Executed = (set_takes _ refl refl, (set_takes _ refl refl, (set_takes _ refl refl, (set_takes _ refl refl, (set_takes _ refl refl, (set_takes _ refl refl, (append_takes _ refl refl, (append_takes _ refl refl, (set_takes _ refl refl, (set_takes _ refl refl, (append_takes _ refl refl, (help_takes _ refl, tt))))))))))))
+rules_take Executed = (set_takes _ refl refl, (set_takes _ refl refl, (set_takes _ refl refl, (set_takes _ refl refl, (set_takes _ refl refl, (set_takes _ refl refl, (append_takes _ refl refl, (append_takes _ refl refl, (flag_takes _ refl refl, (flag_takes _ refl refl, (set_takes _ refl refl, (set_takes _ refl refl, (append_takes _ refl refl, (help_takes _ refl, tt))))))))))))))
 
 abbrev IfFull : Option Row → Type 0
 IfFull None = Unit {0}

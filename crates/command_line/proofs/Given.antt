@@ -1,7 +1,7 @@
 -- Command lines of one option at most: they have no fault, and give what is wanted.
-use Rattle.command_line.proofs.Prelude.{◌≡◌, ◌∙◌, List, [], ◌∷◌, ◌++◌, Some, Ok, Err, codes, sym, arith, Bool, true, HasKind, Text, fault_of, Error, Failure, Action, Order, PlaceAction, Hex, Locate, LineFault, IsFailureFor, Gives, IsBare, Orders, OrdersCompile, OrdersConvert, OrdersExecute, OrdersExecuteText, OrdersExplain, OrdersFiles, OrdersJump, OrdersLink, OrdersMap, OrdersNeed, OrdersPlace, OrdersPlaceText, OrdersText, PlanOption, ValueOption, usual_execute, wants_execute, with_execute_text, Wanted, name_of_action, name_of_place_action, option_name, option_words, plan_option_name, plm_app, usual, usual_convert, usual_place, usual_plan, medium_words, wanted_by, wanted_in, wants_compile, wants_convert, wants_explain, wants_link, wants_need, wants_place, wants_program, with_plan_text, with_text}
-use Rattle.command_line.proofs.Begins.{ends_by, flag_begins, jump, map_flag, need_flag, of_execute, of_place, of_program, option_begins, option_row, out, plain_begins, rows_of_flag}
-use Rattle.command_line.proofs.Lines.{Line, execute_line, execute_option_line, jump_line, link_line, map_line, need_line, option_line, place_line, place_option_line, plain_line}
+use Rattle.command_line.proofs.Prelude.{◌≡◌, ◌∙◌, List, [], ◌∷◌, ◌++◌, Some, Ok, Err, codes, sym, arith, Bool, true, HasKind, Text, fault_of, Error, Failure, Action, Order, PlaceAction, Hex, Locate, LineFault, IsFailureFor, Gives, IsBare, Orders, OrdersCompile, OrdersConvert, OrdersExecute, OrdersExecuteText, OrdersExplain, OrdersFiles, OrdersJump, OrdersLink, OrdersMap, OrdersNeed, OrdersPlace, OrdersPlaceText, OrdersText, PlanOption, ValueOption, usual_execute, wants_execute, with_execute_text, Wanted, name_of_action, name_of_place_action, option_name, option_words, plan_option_name, plm_app, usual, usual_convert, usual_place, usual_plan, medium_words, wanted_by, wanted_in, wants_compile, wants_convert, wants_explain, wants_link, wants_need, wants_place, wants_program, with_plan_text, with_text, OrdersExecuteWatch, OrdersWatch, WatchOption, watching}
+use Rattle.command_line.proofs.Begins.{ends_by, flag_begins, jump, map_flag, need_flag, of_execute, of_place, of_program, option_begins, option_row, out, plain_begins, rows_of_flag, execute_watch_flag, flag_word, watch_flag}
+use Rattle.command_line.proofs.Lines.{Line, execute_line, execute_option_line, jump_line, link_line, map_line, need_line, option_line, place_line, place_option_line, plain_line, execute_watch_line, watch_line}
 use Rattle.command_line.proofs.Verbs.{Executed, Located, Objects, Placed, Sources, Verb, compile, convert, execute, explain, form_of, link, name_of, place, program}
 use Rattle.command_line.proofs.Compiles.{compile_line}
 use Rattle.command_line.proofs.Explains.{explain_line}
@@ -32,6 +32,14 @@ map_wanted words name action (file ∷ files) g =
     wants_by words (codes "--map" ∷ file ∷ files) name (program action) (wants_program (record (usual action (file ∷ files)) { map = true })) g.words_are
     (map_line action file files
     (ends_by Sources (name_of (program action)) (codes "--map" ∷ []) (rows_of_flag map_flag) (flag_begins (name_of (program action)) map_flag) file files g.bare.0 g.bare.1))
+
+watch_wanted : (words : List Text) (name : Text) (action : Action) (files : List Text) (option : WatchOption)
+    → Gives words name (name_of_action action) (flag_word (watch_flag option) ∷ []) files → Wants words (wants_program (record (usual action files) { watch = watching option }))
+watch_wanted words name action [] option g = absurd (let none = g.some in omega arith)
+watch_wanted words name action (file ∷ files) option g =
+    wants_by words (flag_word (watch_flag option) ∷ file ∷ files) name (program action) (wants_program (record (usual action (file ∷ files)) { watch = watching option })) g.words_are
+    (watch_line action option file files
+    (ends_by Sources (name_of (program action)) (flag_word (watch_flag option) ∷ []) (rows_of_flag (watch_flag option)) (flag_begins (name_of (program action)) (watch_flag option)) file files g.bare.0 g.bare.1))
 
 text_wanted : (words : List Text) (name : Text) (action : Action) (files : List Text) (option : ValueOption) (text : Text) → IsBare text
     → Gives words name (name_of_action action) (option_words (option_name option) text) files → Wants words (wants_program (with_text option text (usual action files)))
@@ -110,6 +118,14 @@ execute_text_wanted words name (file ∷ files) option text bare g =
     (execute_option_line option text file files
     (ends_by Executed (codes "execute") (option_words (option_name option) text) (option_row (of_execute option) text ∷ []) (option_begins (codes "execute") (of_execute option) text bare) file files g.bare.0 g.bare.1))
 
+execute_watch_wanted : (words : List Text) (name : Text) (files : List Text) (option : WatchOption)
+    → Gives words name (codes "execute") (flag_word (execute_watch_flag option) ∷ []) files → Wants words (wants_execute (record (usual_execute files) { watch = watching option }))
+execute_watch_wanted words name [] option g = absurd (let none = g.some in omega arith)
+execute_watch_wanted words name (file ∷ files) option g =
+    wants_by words (flag_word (execute_watch_flag option) ∷ file ∷ files) name execute (wants_execute (record (usual_execute (file ∷ files)) { watch = watching option })) g.words_are
+    (execute_watch_line option file files
+    (ends_by Executed (codes "execute") (flag_word (execute_watch_flag option) ∷ []) (rows_of_flag (execute_watch_flag option)) (flag_begins (codes "execute") (execute_watch_flag option)) file files g.bare.0 g.bare.1))
+
 order_is : (words : List Text) (order : Order) (wanted : Wanted) → Orders words order → Wants words wanted → wanted_in order ≡ wanted
 order_is words order wanted found wants = let same : Some (wanted_in order) ≡ Some wanted = sym found ∙ wants.gives in cc
 
@@ -119,6 +135,9 @@ files_ordered words order found = λ name action files g. order_is words order (
 
 pub map_ordered : (words : List Text) (order : Order) → Orders words order → OrdersMap words (Ok order)
 map_ordered words order found = λ name action files g. order_is words order (wants_program (record (usual action files) { map = true })) found (map_wanted words name action files g)
+
+pub watch_ordered : (words : List Text) (order : Order) → Orders words order → OrdersWatch words (Ok order)
+watch_ordered words order found = λ name action files option g. order_is words order (wants_program (record (usual action files) { watch = watching option })) found (watch_wanted words name action files option g)
 
 pub text_ordered : (words : List Text) (order : Order) → Orders words order → OrdersText words (Ok order)
 text_ordered words order found = λ name action files option text bare g. order_is words order (wants_program (with_text option text (usual action files))) found (text_wanted words name action files option text bare g)
@@ -147,6 +166,9 @@ execute_ordered words order found = λ name files g. order_is words order (wants
 pub execute_text_ordered : (words : List Text) (order : Order) → Orders words order → OrdersExecuteText words (Ok order)
 execute_text_ordered words order found = λ name files option text bare g. order_is words order (wants_execute (with_execute_text option text (usual_execute files))) found (execute_text_wanted words name files option text bare g)
 
+pub execute_watch_ordered : (words : List Text) (order : Order) → Orders words order → OrdersExecuteWatch words (Ok order)
+execute_watch_ordered words order found = λ name files option g. order_is words order (wants_execute (record (usual_execute files) { watch = watching option })) found (execute_watch_wanted words name files option g)
+
 pub explain_ordered : (words : List Text) (order : Order) → Orders words order → OrdersExplain words (Ok order)
 explain_ordered words order found = λ name number g. order_is words order (wants_explain (record { number = number })) found (explain_wanted words name number g)
 
@@ -162,6 +184,10 @@ files_failed words error failure has is = λ name action files g. only_memory er
 pub map_failed : (words : List Text) (error : Error) (failure : Failure LineFault) → HasKind (fault_of plm_app words) error → IsFailureFor error failure
     → OrdersMap words (Err failure)
 map_failed words error failure has is = λ name action files g. only_memory error failure (fault_of plm_app words) (map_wanted words name action files g).fine has is
+
+pub watch_failed : (words : List Text) (error : Error) (failure : Failure LineFault) → HasKind (fault_of plm_app words) error → IsFailureFor error failure
+    → OrdersWatch words (Err failure)
+watch_failed words error failure has is = λ name action files option g. only_memory error failure (fault_of plm_app words) (watch_wanted words name action files option g).fine has is
 
 pub text_failed : (words : List Text) (error : Error) (failure : Failure LineFault) → HasKind (fault_of plm_app words) error → IsFailureFor error failure
     → OrdersText words (Err failure)
@@ -198,6 +224,10 @@ execute_failed words error failure has is = λ name files g. only_memory error f
 pub execute_text_failed : (words : List Text) (error : Error) (failure : Failure LineFault) → HasKind (fault_of plm_app words) error → IsFailureFor error failure
     → OrdersExecuteText words (Err failure)
 execute_text_failed words error failure has is = λ name files option text bare g. only_memory error failure (fault_of plm_app words) (execute_text_wanted words name files option text bare g).fine has is
+
+pub execute_watch_failed : (words : List Text) (error : Error) (failure : Failure LineFault) → HasKind (fault_of plm_app words) error → IsFailureFor error failure
+    → OrdersExecuteWatch words (Err failure)
+execute_watch_failed words error failure has is = λ name files option g. only_memory error failure (fault_of plm_app words) (execute_watch_wanted words name files option g).fine has is
 
 pub explain_failed : (words : List Text) (error : Error) (failure : Failure LineFault) → HasKind (fault_of plm_app words) error → IsFailureFor error failure
     → OrdersExplain words (Err failure)

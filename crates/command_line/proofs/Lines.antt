@@ -1,7 +1,7 @@
 -- Words of one option at most, after a command: they have no fault, and give what is wanted.
-use Rattle.command_line.proofs.Prelude.{◌≡◌, ◌∙◌, List, [], ◌∷◌, ◌++◌, Some, true, false, refl, ap, codes, fold, Row, Text, nothing_held, rows_after, with_default, check_fault, defaults_fault, level_fault, Action, PlaceAction, Locate, Hex, Code, DataBase, Input, InputFile, OutputFile, Limit, OfPlan, PlanOption, Stack, StackSize, ValueOption, usual_execute, wants_execute, with_execute_text, Wanted, option_words, plan_option_name, option_name, usual, usual_place, usual_plan, wants_link, wants_need, wants_place, wants_program, with_plan_text, with_text, Fill, StartMemory, Listing}
+use Rattle.command_line.proofs.Prelude.{◌≡◌, ◌∙◌, List, [], ◌∷◌, ◌++◌, Some, true, false, refl, ap, codes, fold, Row, Text, nothing_held, rows_after, with_default, check_fault, defaults_fault, level_fault, Action, PlaceAction, Locate, Hex, Code, DataBase, Input, InputFile, OutputFile, Limit, OfPlan, PlanOption, Stack, StackSize, ValueOption, usual_execute, wants_execute, with_execute_text, Wanted, option_words, plan_option_name, option_name, usual, usual_place, usual_plan, wants_link, wants_need, wants_place, wants_program, with_plan_text, with_text, Fill, StartMemory, Listing, Symbols, Count, UntilDry, WatchOption, watching}
 use Rattle.command_line.proofs.Files.{files_row, level_of, rows_of_level}
-use Rattle.command_line.proofs.Begins.{Ends, jump, map_flag, need_flag, of_execute, of_place, of_program, option_row, out, rows_of_flag}
+use Rattle.command_line.proofs.Begins.{Ends, execute_watch_flag, flag_word, jump, map_flag, need_flag, of_execute, of_place, of_program, option_row, out, rows_of_flag, watch_flag}
 use Rattle.command_line.proofs.Verbs.{Executed, Located, Objects, Placed, Sources, Verb, execute, form_of, leaf, leaf_of, link, name_of, place, program, rules_of, wanted_of}
 
 -- such words have no fault, and give what is wanted
@@ -27,6 +27,14 @@ pub map_line : (action : Action) (file : Text) (files : List Text) → Ends (lea
 unfolding defaults_fault
 map_line action file files e =
     line_of (program action) (codes "--map" ∷ file ∷ files) (rows_of_flag map_flag ++ files_row (file ∷ files) ∷ []) (wants_program (record (usual action (file ∷ files)) { map = true })) e refl refl refl
+
+pub watch_line : (action : Action) (o : WatchOption) (file : Text) (files : List Text) → Ends (leaf Sources (name_of (program action))) (flag_word (watch_flag o) ∷ file ∷ files) (rows_of_flag (watch_flag o) ++ files_row (file ∷ files) ∷ [])
+    → Line (program action) (flag_word (watch_flag o) ∷ file ∷ files) (wants_program (record (usual action (file ∷ files)) { watch = watching o }))
+unfolding defaults_fault
+watch_line action Count file files e =
+    line_of (program action) (flag_word (watch_flag Count) ∷ file ∷ files) (rows_of_flag (watch_flag Count) ++ files_row (file ∷ files) ∷ []) (wants_program (record (usual action (file ∷ files)) { watch = watching Count })) e refl refl refl
+watch_line action UntilDry file files e =
+    line_of (program action) (flag_word (watch_flag UntilDry) ∷ file ∷ files) (rows_of_flag (watch_flag UntilDry) ++ files_row (file ∷ files) ∷ []) (wants_program (record (usual action (file ∷ files)) { watch = watching UntilDry })) e refl refl refl
 
 pub option_line : (action : Action) (o : ValueOption) (text file : Text) (files : List Text)
     → Ends (leaf Sources (name_of (program action))) (option_words (option_name o) text ++ file ∷ files) (option_row (of_program o) text ∷ files_row (file ∷ files) ∷ [])
@@ -89,6 +97,7 @@ unfolding defaults_fault
 place_line Locate file files e = line_of (place Locate) (file ∷ files) (files_row (file ∷ files) ∷ []) (wants_place (usual_place Locate (file ∷ files))) e refl refl refl
 place_line Hex file files e = line_of (place Hex) (file ∷ files) (files_row (file ∷ files) ∷ []) (wants_place (usual_place Hex (file ∷ files))) e refl refl refl
 place_line Listing file files e = line_of (place Listing) (file ∷ files) (files_row (file ∷ files) ∷ []) (wants_place (usual_place Listing (file ∷ files))) e refl refl refl
+place_line Symbols file files e = line_of (place Symbols) (file ∷ files) (files_row (file ∷ files) ∷ []) (wants_place (usual_place Symbols (file ∷ files))) e refl refl refl
 
 pub place_option_line : (action : PlaceAction) (o : PlanOption) (text file : Text) (files : List Text)
     → Ends (leaf (form_of action) (name_of (place action))) (option_words (plan_option_name o) text ++ file ∷ files) (option_row (of_place action o) text ∷ files_row (file ∷ files) ∷ [])
@@ -104,6 +113,9 @@ place_option_line Hex Code text file files e =
 place_option_line Listing Code text file files e =
     line_of (place Listing) (option_words (plan_option_name Code) text ++ file ∷ files) (option_row (of_place Listing Code) text ∷ files_row (file ∷ files) ∷ [])
     (wants_place (record (usual_place Listing (file ∷ files)) { plan = with_plan_text Code text usual_plan })) e refl refl refl
+place_option_line Symbols Code text file files e =
+    line_of (place Symbols) (option_words (plan_option_name Code) text ++ file ∷ files) (option_row (of_place Symbols Code) text ∷ files_row (file ∷ files) ∷ [])
+    (wants_place (record (usual_place Symbols (file ∷ files)) { plan = with_plan_text Code text usual_plan })) e refl refl refl
 place_option_line Locate DataBase text file files e =
     line_of (place Locate) (option_words (plan_option_name DataBase) text ++ file ∷ files) (option_row (of_place Locate DataBase) text ∷ files_row (file ∷ files) ∷ [])
     (wants_place (record (usual_place Locate (file ∷ files)) { plan = with_plan_text DataBase text usual_plan })) e refl refl refl
@@ -113,6 +125,9 @@ place_option_line Hex DataBase text file files e =
 place_option_line Listing DataBase text file files e =
     line_of (place Listing) (option_words (plan_option_name DataBase) text ++ file ∷ files) (option_row (of_place Listing DataBase) text ∷ files_row (file ∷ files) ∷ [])
     (wants_place (record (usual_place Listing (file ∷ files)) { plan = with_plan_text DataBase text usual_plan })) e refl refl refl
+place_option_line Symbols DataBase text file files e =
+    line_of (place Symbols) (option_words (plan_option_name DataBase) text ++ file ∷ files) (option_row (of_place Symbols DataBase) text ∷ files_row (file ∷ files) ∷ [])
+    (wants_place (record (usual_place Symbols (file ∷ files)) { plan = with_plan_text DataBase text usual_plan })) e refl refl refl
 place_option_line Locate Stack text file files e =
     line_of (place Locate) (option_words (plan_option_name Stack) text ++ file ∷ files) (option_row (of_place Locate Stack) text ∷ files_row (file ∷ files) ∷ [])
     (wants_place (record (usual_place Locate (file ∷ files)) { plan = with_plan_text Stack text usual_plan })) e refl refl refl
@@ -122,6 +137,9 @@ place_option_line Hex Stack text file files e =
 place_option_line Listing Stack text file files e =
     line_of (place Listing) (option_words (plan_option_name Stack) text ++ file ∷ files) (option_row (of_place Listing Stack) text ∷ files_row (file ∷ files) ∷ [])
     (wants_place (record (usual_place Listing (file ∷ files)) { plan = with_plan_text Stack text usual_plan })) e refl refl refl
+place_option_line Symbols Stack text file files e =
+    line_of (place Symbols) (option_words (plan_option_name Stack) text ++ file ∷ files) (option_row (of_place Symbols Stack) text ∷ files_row (file ∷ files) ∷ [])
+    (wants_place (record (usual_place Symbols (file ∷ files)) { plan = with_plan_text Stack text usual_plan })) e refl refl refl
 place_option_line Locate StackSize text file files e =
     line_of (place Locate) (option_words (plan_option_name StackSize) text ++ file ∷ files) (option_row (of_place Locate StackSize) text ∷ files_row (file ∷ files) ∷ [])
     (wants_place (record (usual_place Locate (file ∷ files)) { plan = with_plan_text StackSize text usual_plan })) e refl refl refl
@@ -131,11 +149,22 @@ place_option_line Hex StackSize text file files e =
 place_option_line Listing StackSize text file files e =
     line_of (place Listing) (option_words (plan_option_name StackSize) text ++ file ∷ files) (option_row (of_place Listing StackSize) text ∷ files_row (file ∷ files) ∷ [])
     (wants_place (record (usual_place Listing (file ∷ files)) { plan = with_plan_text StackSize text usual_plan })) e refl refl refl
+place_option_line Symbols StackSize text file files e =
+    line_of (place Symbols) (option_words (plan_option_name StackSize) text ++ file ∷ files) (option_row (of_place Symbols StackSize) text ∷ files_row (file ∷ files) ∷ [])
+    (wants_place (record (usual_place Symbols (file ∷ files)) { plan = with_plan_text StackSize text usual_plan })) e refl refl refl
 
 pub execute_line : (file : Text) (files : List Text) → Ends (leaf Executed (codes "execute")) (file ∷ files) (files_row (file ∷ files) ∷ [])
     → Line execute (file ∷ files) (wants_execute (usual_execute (file ∷ files)))
 unfolding defaults_fault
 execute_line file files e = line_of execute (file ∷ files) (files_row (file ∷ files) ∷ []) (wants_execute (usual_execute (file ∷ files))) e refl refl refl
+
+pub execute_watch_line : (o : WatchOption) (file : Text) (files : List Text) → Ends (leaf Executed (codes "execute")) (flag_word (execute_watch_flag o) ∷ file ∷ files) (rows_of_flag (execute_watch_flag o) ++ files_row (file ∷ files) ∷ [])
+    → Line execute (flag_word (execute_watch_flag o) ∷ file ∷ files) (wants_execute (record (usual_execute (file ∷ files)) { watch = watching o }))
+unfolding defaults_fault
+execute_watch_line Count file files e =
+    line_of execute (flag_word (execute_watch_flag Count) ∷ file ∷ files) (rows_of_flag (execute_watch_flag Count) ++ files_row (file ∷ files) ∷ []) (wants_execute (record (usual_execute (file ∷ files)) { watch = watching Count })) e refl refl refl
+execute_watch_line UntilDry file files e =
+    line_of execute (flag_word (execute_watch_flag UntilDry) ∷ file ∷ files) (rows_of_flag (execute_watch_flag UntilDry) ++ files_row (file ∷ files) ∷ []) (wants_execute (record (usual_execute (file ∷ files)) { watch = watching UntilDry })) e refl refl refl
 
 pub execute_option_line : (o : ValueOption) (text file : Text) (files : List Text)
     → Ends (leaf Executed (codes "execute")) (option_words (option_name o) text ++ file ∷ files) (option_row (of_execute o) text ∷ files_row (file ∷ files) ∷ [])

@@ -1,5 +1,5 @@
 -- The words of a whole command line: without a fault they give an order.
-use Rattle.command_line.proofs.Prelude.{◌≡◌, ℕ, List, [], ◌∷◌, Option, Some, None, Bool, true, false, refl, sym, subst, codes, drop, is_some, ap, ◌∙◌, ◌++◌, append_assoc, ◌<◌, length, arith, find, fold, option_and_then, option_map, if◌then◌else◌, not, ◌&&◌, ◌||◌, AllByRecursion, option_map_or, bytes_eq, App, Kinds, Row, Rule, Shape, Text, fault_of, is_simple, Names, rows_after, settled, Waiting, option, positional, waits, done, refused, next, subcommand, plain_word, bundle, long_met, subcommand_or_other, subcommand_met, to_positional, arg_by_index, walked_from, walk, walk_from, nothing_held, answers_to, Held, Walk, Step, Outcome, plain, idle, value, trailing, walked, after_step, word_met, after_flag, short_or_plain, long_or_other, arg_by_long, finished, long_of, short_of, clap_on_literals, built, entered, filled, label_of, names_of, rows_at, built_leaf, help_rule, help_shape, new_shape, version_rule, level_fault, entered_fault, other_fault, is_simple_and_free, step_fault, turn_fault, walk_fault, word_fault, check_fault, defaults_fault, settle_fault, or_else, ErrorKind, Wanted, named_in, files_of, is_set, located_of, need_of, place_of, plm_app, wanted_by, wanted_of_match, wants_need, wants_place, stopped_fault, append-nil, Locate, Hex, Listing, bytes_eq-Decides}
+use Rattle.command_line.proofs.Prelude.{◌≡◌, ℕ, List, [], ◌∷◌, Option, Some, None, Bool, true, false, refl, sym, subst, codes, drop, is_some, ap, ◌∙◌, ◌++◌, append_assoc, ◌<◌, length, arith, find, fold, option_and_then, option_map, if◌then◌else◌, not, ◌&&◌, ◌||◌, AllByRecursion, option_map_or, bytes_eq, App, Kinds, Row, Rule, Shape, Text, fault_of, is_simple, Names, rows_after, settled, Waiting, option, positional, waits, done, refused, next, subcommand, plain_word, bundle, long_met, subcommand_or_other, subcommand_met, to_positional, arg_by_index, walked_from, walk, walk_from, nothing_held, answers_to, Held, Walk, Step, Outcome, plain, idle, value, trailing, walked, after_step, word_met, after_flag, short_or_plain, long_or_other, arg_by_long, finished, long_of, short_of, clap_on_literals, built, entered, filled, label_of, names_of, rows_at, built_leaf, help_rule, help_shape, new_shape, version_rule, level_fault, entered_fault, other_fault, is_simple_and_free, step_fault, turn_fault, walk_fault, word_fault, check_fault, defaults_fault, settle_fault, or_else, ErrorKind, Wanted, named_in, files_of, is_set, located_of, need_of, place_of, plm_app, wanted_by, wanted_of_match, wants_need, wants_place, stopped_fault, append-nil, Locate, Hex, Listing, Symbols, bytes_eq-Decides}
 use Rattle.command_line.specs.declared.orders.Action.TheVariants.{Run, Interpret}
 use Rattle.command_line.proofs.Full.{some_file}
 use Rattle.command_line.proofs.Verbs.{Executed, Listed, Located, Objects, Placed, Sources, Verb, compile, execute, explain, leaf, leaf_of, link, name_of, place, program, rules, rules_of, wanted_of, convert}
@@ -106,7 +106,7 @@ help_built = built_leaf help_shape
 abbrev plm_built : App
 plm_built = record {
   top = top_built;
-  subs = leaf_of compile ∷ leaf Sources (codes "run") ∷ leaf Sources (codes "interpret") ∷ leaf Objects (codes "link") ∷ leaf Located (codes "locate") ∷ leaf Placed (codes "hex") ∷ leaf Listed (codes "list") ∷ leaf Executed (codes "execute") ∷ leaf_of explain ∷ leaf_of convert ∷ help_built ∷ [];
+  subs = leaf_of compile ∷ leaf Sources (codes "run") ∷ leaf Sources (codes "interpret") ∷ leaf Objects (codes "link") ∷ leaf Located (codes "locate") ∷ leaf Placed (codes "hex") ∷ leaf Listed (codes "list") ∷ leaf Listed (codes "symbols") ∷ leaf Executed (codes "execute") ∷ leaf_of explain ∷ leaf_of convert ∷ help_built ∷ [];
 }
 
 built_is : built plm_app ≡ plm_built
@@ -160,7 +160,10 @@ all_commands name other = (
                 λ e rows missing. some_is_none _ missing,
                 (
                   λ e rows missing. some_is_none _ missing,
-                  (λ e rows missing. some_is_none _ missing, (λ e rows missing. help_named name e other, tt)),
+                  (
+                    λ e rows missing. some_is_none _ missing,
+                    (λ e rows missing. some_is_none _ missing, (λ e rows missing. help_named name e other, tt)),
+                  ),
                 ),
               ),
             ),
@@ -207,6 +210,7 @@ command_met link = refl
 command_met (place Locate) = refl
 command_met (place Hex) = refl
 command_met (place Listing) = refl
+command_met (place Symbols) = refl
 command_met execute = refl
 command_met explain = refl
 command_met convert = refl
@@ -226,6 +230,7 @@ command_turn link = refl
 command_turn (place Locate) = refl
 command_turn (place Hex) = refl
 command_turn (place Listing) = refl
+command_turn (place Symbols) = refl
 command_turn execute = refl
 command_turn explain = refl
 command_turn convert = refl
@@ -245,6 +250,7 @@ entered_is link rest = refl
 entered_is (place Locate) rest = refl
 entered_is (place Hex) rest = refl
 entered_is (place Listing) rest = refl
+entered_is (place Symbols) rest = refl
 entered_is execute rest = refl
 entered_is explain rest = refl
 entered_is convert rest = refl
@@ -257,6 +263,7 @@ entered_fine link rest fine = fine
 entered_fine (place Locate) rest fine = fine
 entered_fine (place Hex) rest fine = fine
 entered_fine (place Listing) rest fine = fine
+entered_fine (place Symbols) rest fine = fine
 entered_fine execute rest fine = fine
 entered_fine explain rest fine = fine
 entered_fine convert rest fine = fine
@@ -283,6 +290,7 @@ wanted_named link rest = refl
 wanted_named (place Locate) rest = refl
 wanted_named (place Hex) rest = refl
 wanted_named (place Listing) rest = refl
+wanted_named (place Symbols) rest = refl
 wanted_named execute rest = refl
 wanted_named explain rest = refl
 wanted_named convert rest = refl
@@ -321,6 +329,7 @@ verb_has_file verb rest wanted fine found = subst (λ (w : Wanted). 0 < length (
     has_file (place Locate) fine = rw (files_located (rows_after (rules Located) [] rest)) (some_file Located (codes "locate") rest fine)
     has_file (place Hex) fine = some_file Placed (codes "hex") rest fine
     has_file (place Listing) fine = some_file Listed (codes "list") rest fine
+    has_file (place Symbols) fine = some_file Listed (codes "symbols") rest fine
     has_file execute fine = some_file Executed (codes "execute") rest fine
     has_file explain fine = omega arith
     has_file convert fine = omega arith
@@ -341,10 +350,13 @@ all_have_files name other = (
             (
               λ e. verb_has_file (place Listing),
               (
-                λ e. verb_has_file execute,
+                λ e. verb_has_file (place Symbols),
                 (
-                  λ e. verb_has_file explain,
-                  (λ e. verb_has_file convert, (λ e rest wanted fine found. absurd (help_named name e other), tt)),
+                  λ e. verb_has_file execute,
+                  (
+                    λ e. verb_has_file explain,
+                    (λ e. verb_has_file convert, (λ e rest wanted fine found. absurd (help_named name e other), tt)),
+                  ),
                 ),
               ),
             ),

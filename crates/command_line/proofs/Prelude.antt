@@ -7,12 +7,12 @@ pub use Rattle.std.proofs.{Common.{Bool, Bor, Err, List, None, Ok, Option, Some,
 pub use Rattle.std.specs.{Char.{digit_value, is_digit}, List.{AllByRecursion, list_all}, Option.{option_map_or}, Prelude.{IfOk, IsErrAnd, Result, encode_utf8, find, fold, if◌then◌else◌, nat_le, nat_lt, not, option_and_then, option_map, slice_get, unwrap_or, ◌&&◌, ◌==◌, ◌||◌}, Str.{bytes_eq}, Str.Parse.{AllDigits, IsNumeral, digits_value, without_leading_plus}}
 unfoldable pub use Rattle.std.specs.Str.{chars}
 pub use Rattle.failure.specs.{Failure.{IfFault}, declared.Failure.{Failure, TheVariants.{Fault, Memory}}}
-pub use Rattle.command_line.specs.Command.{Code, DataBase, Gives, Input, IsBare, IsFaultOf, IsOrderOf, Limit, OfPlan, Orders, OrdersCompile, OrdersExecute, OrdersExecuteText, OrdersFiles, OrdersJump, OrdersLink, OrdersMap, OrdersNeed, OrdersPlace, OrdersPlaceText, OrdersText, PlanOption, Stack, StackSize, ValueOption, Wanted, compile_app, compile_of, execute_app, execute_of, files_of, files_rule, flag_rule, hex_app, is_set, link_app, link_of, locate_app, located_of, name_of_action, name_of_place_action, need_of, option_name, option_words, place_of, plan_option_name, plm_app, program_app, program_of, usual, usual_execute, usual_place, usual_plan, wanted_by, wanted_in, wanted_of_match, wants_compile, wants_execute, wants_link, wants_need, wants_place, wants_program, with_execute_text, with_plan_text, with_text, Fill, StartMemory, InputFile, OutputFile, OrdersExplain, explain_app, explain_of, named_in, wants_explain, list_app, OrdersConvert, convert_app, convert_of, wants_convert, medium_words, usual_convert}
+pub use Rattle.command_line.specs.Command.{Code, DataBase, Gives, Input, IsBare, IsFaultOf, IsOrderOf, Limit, OfPlan, Orders, OrdersCompile, OrdersExecute, OrdersExecuteText, OrdersFiles, OrdersJump, OrdersLink, OrdersMap, OrdersNeed, OrdersPlace, OrdersPlaceText, OrdersText, PlanOption, Stack, StackSize, ValueOption, Wanted, compile_app, compile_of, execute_app, execute_of, files_of, files_rule, flag_rule, hex_app, is_set, link_app, link_of, locate_app, located_of, name_of_action, name_of_place_action, need_of, option_name, option_words, place_of, plan_option_name, plm_app, program_app, program_of, usual, usual_execute, usual_place, usual_plan, wanted_by, wanted_in, wanted_of_match, wants_compile, wants_execute, wants_link, wants_need, wants_place, wants_program, with_execute_text, with_plan_text, with_text, Fill, StartMemory, InputFile, OutputFile, OrdersExplain, explain_app, explain_of, named_in, wants_explain, list_app, OrdersConvert, convert_app, convert_of, wants_convert, medium_words, usual_convert, Count, OrdersExecuteWatch, OrdersWatch, UntilDry, WatchOption, watch_option_name, watching}
 pub use Rattle.command_line.specs.Settings.{Read, byte_of, bytes_for, group_bytes, is_decimal, number_to, address_of, all_groups, bytes_from, memory_group}
 pub use Rattle.command_line.specs.declared.orders.Action.{Action}
 pub use Rattle.command_line.specs.declared.orders.Order.{Order}
 pub use Rattle.command_line.specs.declared.orders.PlaceAction.{PlaceAction}
-pub use Rattle.command_line.specs.declared.orders.PlaceAction.TheVariants.{Hex, Listing, Locate}
+pub use Rattle.command_line.specs.declared.orders.PlaceAction.TheVariants.{Hex, Listing, Symbols, Locate}
 pub use Rattle.command_line.specs.declared.reading.LineFault.{LineFault}
 pub use Rattle.command_line.specs.internal.Errors.{IsFailureFor}
 pub use Rattle.command_line.specs.internal.Reads.{if_read, in_front}

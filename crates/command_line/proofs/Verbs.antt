@@ -1,5 +1,5 @@
 -- The commands, by the form of their arguments.
-use Rattle.command_line.proofs.Prelude.{List, [], codes, Row, Rule, Shape, Text, built_leaf, new_shape, Action, PlaceAction, Locate, Hex, Listing, Wanted, compile_app, compile_of, execute_app, execute_of, explain_app, explain_of, link_app, link_of, list_app, locate_app, located_of, name_of_action, name_of_place_action, hex_app, place_of, program_app, program_of, wants_compile, wants_execute, wants_explain, wants_link, wants_place, wants_program, convert_app, convert_of, wants_convert}
+use Rattle.command_line.proofs.Prelude.{List, [], codes, Row, Rule, Shape, Text, built_leaf, new_shape, Action, PlaceAction, Locate, Hex, Listing, Symbols, Wanted, compile_app, compile_of, execute_app, execute_of, explain_app, explain_of, link_app, link_of, list_app, locate_app, located_of, name_of_action, name_of_place_action, hex_app, place_of, program_app, program_of, wants_compile, wants_execute, wants_explain, wants_link, wants_place, wants_program, convert_app, convert_of, wants_convert}
 
 -- what the files of a command are
 pub data Form : Type 0 where
@@ -24,6 +24,7 @@ abbrev pub form_of : PlaceAction → Form
 form_of Locate = Located
 form_of Hex = Placed
 form_of Listing = Listed
+form_of Symbols = Listed
 
 -- a command that was built
 abbrev pub leaf : Form → Text → Shape
@@ -80,6 +81,7 @@ wanted_of link rows = wants_link (link_of rows)
 wanted_of (place Locate) rows = located_of rows
 wanted_of (place Hex) rows = wants_place (place_of Hex rows)
 wanted_of (place Listing) rows = wants_place (place_of Listing rows)
+wanted_of (place Symbols) rows = wants_place (place_of Symbols rows)
 wanted_of execute rows = wants_execute (execute_of rows)
 wanted_of explain rows = wants_explain (explain_of rows)
 wanted_of convert rows = wants_convert (convert_of rows)

@@ -16,7 +16,7 @@ use Rattle.failure.specs.declared.Failure.TheVariants.{Memory}
 use Rattle.command_line.specs.declared.orders.Action.{Action}
 use Rattle.command_line.specs.declared.orders.Action.TheVariants.{Run, Interpret}
 use Rattle.command_line.specs.declared.orders.PlaceAction.{PlaceAction}
-use Rattle.command_line.specs.declared.orders.PlaceAction.TheVariants.{Locate, Hex, Listing}
+use Rattle.command_line.specs.declared.orders.PlaceAction.TheVariants.{Locate, Hex, Listing, Symbols}
 use Rattle.command_line.specs.declared.orders.CompileOrder.{CompileOrder}
 use Rattle.command_line.specs.declared.orders.ConvertOrder.{ConvertOrder}
 use Rattle.command_line.specs.declared.orders.ExecuteOrder.{ExecuteOrder}
@@ -28,6 +28,7 @@ use Rattle.command_line.specs.declared.orders.Order.TheVariants.{Compile, Conver
 use Rattle.command_line.specs.declared.orders.PlaceOrder.{PlaceOrder}
 use Rattle.command_line.specs.declared.orders.PlanTexts.{PlanTexts}
 use Rattle.command_line.specs.declared.orders.ProgramOrder.{ProgramOrder}
+use Rattle.command_line.specs.declared.orders.Watch.{Watch}
 use Rattle.command_line.specs.declared.reading.LineFault.{LineFault}
 use Rattle.command_line.specs.declared.reading.LineFault.TheVariants.{Help, Version, Wrong}
 
@@ -75,20 +76,25 @@ with_memory app =
     (default_rule (codes "fill") (codes "00")))
     (option_rule (codes "memory"))
 
--- a command with the options of a limit and an input
+-- a command with the options of what is watched while a program runs
+abbrev pub with_watch : App → App
+with_watch app = with_rule (with_rule app (flag_rule (codes "until-dry"))) (flag_rule (codes "count"))
+
+-- a command with the options of a limit, of an input, and of what is watched
 abbrev pub with_limit_and_input : App → App
 with_limit_and_input app =
-    with_rule (with_rule (with_rule (with_rule app
+    with_watch (with_rule (with_rule (with_rule (with_rule app
     (default_rule (codes "limit") (codes "10000000")))
     (option_rule (codes "input")))
     (many_rule (codes "input-file")))
-    (many_rule (codes "output-file"))
+    (many_rule (codes "output-file")))
 
 -- a command with the options of a run
 abbrev pub with_run : App → App
 with_run app = with_memory (with_rule (with_limit_and_input app) (flag_rule (codes "map")))
 
--- the command `name [plan] [--limit N] [--input T] [--input-file T]... [--output-file T]... [--map] [--fill T]
+-- the command `name [plan] [--limit N] [--input T] [--input-file T]... [--output-file T]... [--until-dry] [--count]
+-- [--map] [--fill T]
 -- [--memory T] SOURCE...`
 abbrev pub program_app : Text → App
 program_app name = with_rule (with_run (with_plan (new_app name))) files_rule
@@ -106,7 +112,7 @@ link_app name = with_rule (with_rule (new_app name) out_rule) files_rule
 abbrev pub hex_app : Text → App
 hex_app name = with_rule (with_rule (with_plan (new_app name)) (option_rule (codes "jump"))) files_rule
 
--- the command `name [plan] FILE...`, which asks for one file when it is carried out
+-- the command `name [plan] FILE...`
 abbrev pub list_app : Text → App
 list_app name = with_rule (with_plan (new_app name)) files_rule
 
@@ -114,7 +120,8 @@ list_app name = with_rule (with_plan (new_app name)) files_rule
 abbrev pub locate_app : Text → App
 locate_app name = with_rule (with_rule (with_plan (new_app name)) (flag_rule (codes "need"))) files_rule
 
--- the command `name [plan] [--limit N] [--input T] [--input-file T]... [--output-file T]... [--fill T] [--memory T]
+-- the command `name [plan] [--limit N] [--input T] [--input-file T]... [--output-file T]... [--until-dry] [--count]
+-- [--fill T] [--memory T]
 -- OBJECT...`
 abbrev pub execute_app : Text → App
 execute_app name =
@@ -124,14 +131,15 @@ execute_app name =
 abbrev pub explain_app : Text → App
 explain_app name = with_rule (new_app name) (file_rule (codes "NUMBER"))
 
--- the command `name [--listing] [--cards] [--folder DIR]... [--set NAME]... FILE`
+-- the command `name [--listing] [--cards] [--folder DIR]... [--set NAME]... [--lines TABLE] FILE`
 abbrev pub convert_app : Text → App
 convert_app name =
-    with_rule (with_rule (with_rule (with_rule (with_rule (new_app name)
+    with_rule (with_rule (with_rule (with_rule (with_rule (with_rule (new_app name)
     (flag_rule (codes "listing")))
     (flag_rule (codes "cards")))
     (many_rule (codes "folder")))
     (many_rule (codes "set")))
+    (option_rule (codes "lines")))
     (file_rule (codes "FILE"))
 
 -- the program, which has to have a command, and which knows its version
@@ -151,11 +159,13 @@ programs_app =
 -- the program `plm` with its commands
 abbrev pub plm_app : App
 plm_app =
-    with_subcommand (with_subcommand (with_subcommand (with_subcommand (with_subcommand (with_subcommand (with_subcommand programs_app
+    with_subcommand (with_subcommand (with_subcommand (with_subcommand (with_subcommand (with_subcommand
+    (with_subcommand (with_subcommand programs_app
     (link_app (codes "link")).top)
     (locate_app (codes "locate")).top)
     (hex_app (codes "hex")).top)
     (list_app (codes "list")).top)
+    (list_app (codes "symbols")).top)
     (execute_app (codes "execute")).top)
     (explain_app (codes "explain")).top)
     (convert_app (codes "convert")).top
@@ -176,6 +186,7 @@ pub record ProgramWanted : Type 0 where
   pub input : Option Text
   pub input_files : List Text
   pub output_files : List Text
+  pub watch : Watch
   pub map : Bool
   pub fill : Text
   pub memory : Option Text
@@ -190,7 +201,7 @@ pub record LinkWanted : Type 0 where
   pub out : Text
   pub objects : List Text
 
--- what is wanted of an object that is placed, with the address of a jump to its start, which `hex` alone takes
+-- what is wanted of an object or of sources that are placed, with the address of a jump to the start, which `hex` alone takes
 pub record PlaceWanted : Type 0 where
   pub action : PlaceAction
   pub files : List Text
@@ -205,6 +216,7 @@ pub record ExecuteWanted : Type 0 where
   pub input : Option Text
   pub input_files : List Text
   pub output_files : List Text
+  pub watch : Watch
   pub fill : Text
   pub memory : Option Text
 
@@ -217,14 +229,15 @@ pub record NeedWanted : Type 0 where
 pub record ExplainWanted : Type 0 where
   pub number : Text
 
--- the source that is converted; whether it is a listing, and on cards; the folders of the files that it includes; and the
--- switches that are set
+-- the source that is converted; whether it is a listing, and on cards; the folders of the files that it includes; the
+-- switches that are set; and the file to which the table of lines goes, where one is wanted
 pub record ConvertWanted : Type 0 where
   pub file : Text
   pub listing : Bool
   pub cards : Bool
   pub folders : List Text
   pub sets : List Text
+  pub lines : Option Text
 
 -- what the words want, as texts
 pub data Wanted : Type 0 where
@@ -273,6 +286,13 @@ plan_of rows = record {
   stack_size = text_of (codes "stack-size") rows;
 }
 
+-- what is to be watched
+abbrev pub watch_of : List Row → Watch
+watch_of rows = record {
+  count = is_set (codes "count") rows;
+  until_dry = is_set (codes "until-dry") rows;
+}
+
 -- what a command with these matches wants
 abbrev pub program_of : Action → List Row → ProgramWanted
 program_of action rows = record {
@@ -283,6 +303,7 @@ program_of action rows = record {
   input = first_of (codes "input") rows;
   input_files = texts_of (codes "input-file") rows;
   output_files = texts_of (codes "output-file") rows;
+  watch = watch_of rows;
   map = is_set (codes "map") rows;
   fill = text_of (codes "fill") rows;
   memory = first_of (codes "memory") rows;
@@ -313,6 +334,7 @@ execute_of rows = record {
   input = first_of (codes "input") rows;
   input_files = texts_of (codes "input-file") rows;
   output_files = texts_of (codes "output-file") rows;
+  watch = watch_of rows;
   fill = text_of (codes "fill") rows;
   memory = first_of (codes "memory") rows;
 }
@@ -327,6 +349,7 @@ convert_of rows = record {
   cards = is_set (codes "cards") rows;
   folders = texts_of (codes "folder") rows;
   sets = texts_of (codes "set") rows;
+  lines = first_of (codes "lines") rows;
 }
 
 -- what `locate` wants: the places of an object or, with its flag, the need of sources
@@ -344,9 +367,10 @@ wanted_of_match (name, rows) =
     else (if bytes_eq name (codes "locate") then Some (located_of rows)
     else (if bytes_eq name (codes "hex") then Some (wants_place (place_of Hex rows))
     else (if bytes_eq name (codes "list") then Some (wants_place (place_of Listing rows))
+    else (if bytes_eq name (codes "symbols") then Some (wants_place (place_of Symbols rows))
     else (if bytes_eq name (codes "execute") then Some (wants_execute (execute_of rows))
     else (if bytes_eq name (codes "explain") then Some (wants_explain (explain_of rows))
-    else (if bytes_eq name (codes "convert") then Some (wants_convert (convert_of rows)) else None)))))))))
+    else (if bytes_eq name (codes "convert") then Some (wants_convert (convert_of rows)) else None))))))))))
 
 -- what the words, with the program's name in front, want
 abbrev pub wanted_by : List Text → Option Wanted
@@ -370,6 +394,7 @@ program_in order = record {
   input = option_map (λ text. text.now) order.input;
   input_files = texts order.input_files.items;
   output_files = texts order.output_files.items;
+  watch = order.watch;
   map = order.map;
   fill = order.fill.now;
   memory = option_map (λ text. text.now) order.memory;
@@ -400,6 +425,7 @@ execute_in order = record {
   input = option_map (λ text. text.now) order.input;
   input_files = texts order.input_files.items;
   output_files = texts order.output_files.items;
+  watch = order.watch;
   fill = order.fill.now;
   memory = option_map (λ text. text.now) order.memory;
 }
@@ -414,6 +440,7 @@ convert_in order = record {
   cards = order.cards;
   folders = texts order.folders.items;
   sets = texts order.sets.items;
+  lines = option_map (λ text. text.now) order.lines;
 }
 
 abbrev pub wanted_in : Order → Wanted
@@ -439,6 +466,7 @@ abbrev pub name_of_place_action : PlaceAction → Text
 name_of_place_action Locate = codes "locate"
 name_of_place_action Hex = codes "hex"
 name_of_place_action Listing = codes "list"
+name_of_place_action Symbols = codes "symbols"
 
 -- a word that is no option: it doesn't begin with a hyphen (45)
 abbrev pub IsBare : Text → Type 0
@@ -453,6 +481,10 @@ usual_plan = record {
   stack_size = codes "1024";
 }
 
+-- what is watched where no option is given
+abbrev pub nothing_watched : Watch
+nothing_watched = record { count = false; until_dry = false }
+
 -- what a command wants with these files, where no option is given
 abbrev pub usual : Action → List Text → ProgramWanted
 usual action files = record {
@@ -463,6 +495,7 @@ usual action files = record {
   input = None;
   input_files = [];
   output_files = [];
+  watch = nothing_watched;
   map = false;
   fill = codes "00";
   memory = None;
@@ -479,6 +512,7 @@ usual_execute objects = record {
   input = None;
   input_files = [];
   output_files = [];
+  watch = nothing_watched;
   fill = codes "00";
   memory = None;
 }
@@ -500,6 +534,11 @@ pub data ValueOption : Type 0 where
   Fill : ValueOption
   StartMemory : ValueOption
 
+-- the options of what is watched
+pub data WatchOption : Type 0 where
+  Count : WatchOption
+  UntilDry : WatchOption
+
 -- the name of an option
 abbrev pub plan_option_name : PlanOption → Text
 plan_option_name Code = codes "code"
@@ -515,6 +554,15 @@ option_name InputFile = codes "input-file"
 option_name OutputFile = codes "output-file"
 option_name Fill = codes "fill"
 option_name StartMemory = codes "memory"
+
+abbrev pub watch_option_name : WatchOption → Text
+watch_option_name Count = codes "count"
+watch_option_name UntilDry = codes "until-dry"
+
+-- what is watched where one option is given
+abbrev pub watching : WatchOption → Watch
+watching Count = record { count = true; until_dry = false }
+watching UntilDry = record { count = false; until_dry = true }
 
 -- what is wanted, with the text of an option
 abbrev pub with_plan_text : PlanOption → Text → PlanWanted → PlanWanted
@@ -576,6 +624,12 @@ OrdersMap words answer = (name : Text) (action : Action) (files : List Text)
     → Gives words name (name_of_action action) (codes "--map" ∷ []) files
     → IsOrderOf (wants_program (record (usual action files) { map = true })) answer
 
+-- with an option of what is watched before them, it wants that watched
+abbrev pub OrdersWatch : List Text → Result Order (Failure LineFault) → Type 0
+OrdersWatch words answer = (name : Text) (action : Action) (files : List Text) (option : WatchOption)
+    → Gives words name (name_of_action action) ((45 ∷ 45 ∷ watch_option_name option) ∷ []) files
+    → IsOrderOf (wants_program (record (usual action files) { watch = watching option })) answer
+
 -- `compile` with two bare files wants the first compiled to the second
 abbrev pub OrdersCompile : List Text → Result Order (Failure LineFault) → Type 0
 OrdersCompile words answer = (name source object : Text)
@@ -590,7 +644,7 @@ OrdersLink words answer = (name out : Text) (files : List Text)
     → Gives words name (codes "link") (option_words (codes "out") out) files
     → IsOrderOf (wants_link (record { out = out; objects = files })) answer
 
--- a command that places an object, with bare files alone
+-- a command that places an object or sources, with bare files alone
 abbrev pub OrdersPlace : List Text → Result Order (Failure LineFault) → Type 0
 OrdersPlace words answer = (name : Text) (action : PlaceAction) (files : List Text)
     → Gives words name (name_of_place_action action) [] files
@@ -632,6 +686,12 @@ OrdersExecuteText words answer = (name : Text) (files : List Text) (option : Val
     → Gives words name (codes "execute") (option_words (option_name option) text) files
     → IsOrderOf (wants_execute (with_execute_text option text (usual_execute files))) answer
 
+-- with an option of what is watched before them, it wants that watched
+abbrev pub OrdersExecuteWatch : List Text → Result Order (Failure LineFault) → Type 0
+OrdersExecuteWatch words answer = (name : Text) (files : List Text) (option : WatchOption)
+    → Gives words name (codes "execute") ((45 ∷ 45 ∷ watch_option_name option) ∷ []) files
+    → IsOrderOf (wants_execute (record (usual_execute files) { watch = watching option })) answer
+
 -- `explain` with a bare word wants that number explained
 abbrev pub OrdersExplain : List Text → Result Order (Failure LineFault) → Type 0
 OrdersExplain words answer = (name number : Text)
@@ -646,7 +706,7 @@ medium_words listing cards =
 -- what `convert` wants with this file and these flags, where no other option is given
 abbrev pub usual_convert : Text → (listing cards : Bool) → ConvertWanted
 usual_convert file listing cards =
-    record { file = file; listing = listing; cards = cards; folders = []; sets = [] }
+    record { file = file; listing = listing; cards = cards; folders = []; sets = []; lines = None }
 
 -- `convert` with a bare word, after these flags or none, wants that file converted
 abbrev pub OrdersConvert : List Text → Result Order (Failure LineFault) → Type 0

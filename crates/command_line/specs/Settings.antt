@@ -11,6 +11,7 @@ use Rattle.failure.specs.declared.Failure.{Failure}
 use Rattle.failure.specs.declared.Failure.TheVariants.{Fault, Memory}
 use Rattle.command_line.specs.Command.{ExecuteWanted, ExplainWanted, PlanWanted, ProgramWanted}
 use Rattle.command_line.specs.Explained.{page_of}
+use Rattle.command_line.specs.declared.orders.Watch.{Watch}
 use Rattle.command_line.specs.declared.values.InputByte.{InputByte}
 use Rattle.command_line.specs.declared.port_files.PortFile.{PortFile}
 use Rattle.command_line.specs.declared.start_memory.MemoryByte.{MemoryByte}
@@ -234,6 +235,7 @@ pub record Values : Type 0 where
   pub memory : List MemoryByte
   pub input_files : List NamedPort
   pub output_files : List NamedPort
+  pub watch : Watch
 
 -- the plan that texts write
 abbrev pub plan_read : PlanWanted → Read Plan
@@ -247,8 +249,8 @@ plan_read wanted = do
 -- the values that the texts of all options write, or the first text that is no value
 abbrev pub texts_read :
     PlanWanted → (limit : Text) → (input : Option Text) → (fill : Text) → (memory : Option Text)
-    → (input_files output_files : List Text) → Read Values
-texts_read plan_text limit_text input_text fill_text memory_text input_file_texts output_file_texts = do
+    → (input_files output_files : List Text) → Watch → Read Values
+texts_read plan_text limit_text input_text fill_text memory_text input_file_texts output_file_texts watch = do
   plan ← plan_read plan_text
   limit ← limit_number limit_text
   input ← input_read input_text
@@ -264,17 +266,20 @@ texts_read plan_text limit_text input_text fill_text memory_text input_file_text
     memory = memory;
     input_files = input_files;
     output_files = output_files;
+    watch = watch;
   })
 
 -- the values of what is wanted of sources
 abbrev pub values_read : ProgramWanted → Read Values
 values_read wanted =
     texts_read wanted.plan wanted.limit wanted.input wanted.fill wanted.memory wanted.input_files wanted.output_files
+    wanted.watch
 
 -- the values of what is wanted of objects
 abbrev pub execute_read : ExecuteWanted → Read Values
 execute_read wanted =
     texts_read wanted.plan wanted.limit wanted.input wanted.fill wanted.memory wanted.input_files wanted.output_files
+    wanted.watch
 
 -- the address of a jump, where one is wanted
 abbrev pub jump_read : Option Text → Read (Option ℕ)
@@ -315,6 +320,7 @@ values_in settings = record {
   memory = settings.memory.items;
   input_files = map port_file_in settings.input_files.items;
   output_files = map port_file_in settings.output_files.items;
+  watch = settings.watch;
 }
 
 -- the files of the settings have the names that these texts write

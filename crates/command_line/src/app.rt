@@ -3,11 +3,11 @@
 ghost use Rattle.std.specs.Prelude.{◌≡◌, codes, false};
 ghost use Rattle.clap.specs.Words.{App, Rule, new_app, rule_of, with_rule, with_subcommand};
 ghost use Rattle.command_line.specs.internal.Building.{Builds, IsBuilt};
-ghost use Rattle.command_line.specs.Command.{bare_app, compile_app, default_rule, execute_app, file_rule, files_rule, flag_rule, hex_app, link_app, locate_app, option_rule, out_rule, plm_app, program_app, programs_app, with_limit_and_input, with_plan, with_run, with_memory, many_rule, explain_app, list_app, convert_app};
+ghost use Rattle.command_line.specs.Command.{bare_app, compile_app, default_rule, execute_app, file_rule, files_rule, flag_rule, hex_app, link_app, locate_app, option_rule, out_rule, plm_app, program_app, programs_app, with_limit_and_input, with_plan, with_run, with_memory, with_watch, many_rule, explain_app, list_app, convert_app};
 
 use crate::help::{
     ABOUT, COMPILE, CONVERT, EXECUTE, EXPLAIN, GUIDE, HEX, INTERPRET, INTERPRET_LIMIT, LINK, LIST,
-    LOCATE, RUN, RUN_LIMIT, Teaching, VERSION,
+    LOCATE, RUN, RUN_LIMIT, SYMBOLS, Teaching, VERSION,
 };
 use clap::{Arg, ArgAction, Command};
 use std::alloc::{AllocError, Global};
@@ -145,7 +145,7 @@ fn add_plan<'a>(alloc: Global, command: Built<'a>) -> Built<'a>
     )
 }
 
-// The command with the options of a limit and an input.
+// The command with the options of a limit, of an input, and of what is watched.
 fn add_limit_and_input<'a>(alloc: Global, command: Built<'a>, limit_help: &'a str) -> Built<'a>
     ensures { (app : App) → Builds app command.entry → Builds (with_limit_and_input app) result }
 {
@@ -170,7 +170,25 @@ fn add_limit_and_input<'a>(alloc: Global, command: Built<'a>, limit_help: &'a st
         "PORT:FILE",
         "A file to which the bytes of a port go, as 01:out.bin, or - for standard output",
     );
-    add(with_input_file, output_file)
+    add_watch(alloc, add(with_input_file, output_file))
+}
+
+// The command with the options of what is watched while a program runs.
+fn add_watch<'a>(alloc: Global, command: Built<'a>) -> Built<'a>
+    ensures { (app : App) → Builds app command.entry → Builds (with_watch app) result }
+{
+    let until_dry = flag(
+        alloc,
+        "until-dry",
+        "End before the first read of a port past its input",
+    );
+    let with_until_dry = add(command, until_dry);
+    let count = flag(
+        alloc,
+        "count",
+        "Print how many steps the run took, before its end",
+    );
+    add(with_until_dry, count)
 }
 
 // The command with the options of a run.
@@ -310,12 +328,30 @@ fn hex<'a>(alloc: Global) -> Built<'a>
     add(with_jump, files(alloc, "FILE", "The one object file"))
 }
 
-// The command that lists an object file that is placed.
+// The command that lists sources, or an object file that is placed.
 fn list<'a>(alloc: Global) -> Built<'a>
     ensures { Builds (list_app (codes "list")) result }
 {
     let planned = add_plan(alloc, named(alloc, "list", LIST));
-    add(planned, files(alloc, "FILE", "The one object file"))
+    add(
+        planned,
+        files(
+            alloc,
+            "FILE",
+            "The files with the sources, or one object file",
+        ),
+    )
+}
+
+// The command that prints the symbols of sources.
+fn symbols<'a>(alloc: Global) -> Built<'a>
+    ensures { Builds (list_app (codes "symbols")) result }
+{
+    let planned = add_plan(alloc, named(alloc, "symbols", SYMBOLS));
+    add(
+        planned,
+        files(alloc, "SOURCE", "The files with the sources"),
+    )
 }
 
 // The command that tells where an object lies or, with its flag, how much of the stack sources need.
@@ -383,7 +419,14 @@ fn convert<'a>(alloc: Global) -> Built<'a>
     let with_cards = add(with_listing, cards);
     let with_folder = add(with_cards, folder);
     let with_set = add(with_folder, set);
-    add(with_set, file(alloc, "FILE", "The source to convert"))
+    let lines = option(
+        alloc,
+        "lines",
+        "TABLE",
+        "A file to write, which tells where each line comes from",
+    );
+    let with_lines = add(with_set, lines);
+    add(with_lines, file(alloc, "FILE", "The source to convert"))
 }
 
 // The program `plm`, which has to have a command.
@@ -417,7 +460,8 @@ pub(crate) fn plm_command<'a>(alloc: Global) -> Result<Command<'a>, AllocError>
     let with_locate = add_leaf(with_link, locate(alloc));
     let with_hex = add_leaf(with_locate, hex(alloc));
     let with_list = add_leaf(with_hex, list(alloc));
-    let with_execute = add_leaf(with_list, execute(alloc));
+    let with_symbols = add_leaf(with_list, symbols(alloc));
+    let with_execute = add_leaf(with_symbols, execute(alloc));
     let with_explain = add_leaf(with_execute, explain(alloc));
     add_leaf(with_explain, convert(alloc))
 }

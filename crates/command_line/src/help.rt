@@ -145,7 +145,8 @@ Both `plm run FILE` and `plm interpret FILE` print
   HALT
 
 With each command, before or after its name:
-  --explain  shows where a fault is, what it means and what is likely wrong
+  --explain        shows where a fault is, what it means and what is likely wrong
+  --explain=TABLE  also tells from where its line comes, by a table of plm convert --lines
 
 Numbers, where X is the name or the text that is printed with one:
 " TEXTS CODE MODULES SEGMENTS MERGES OBJECTS PLACES IMAGES COUNTS LENGTHS FILES VALUES MEMORY "\n\
@@ -187,8 +188,13 @@ pub(crate) const HEX: Teaching = Teaching {
 };
 
 pub(crate) const LIST: Teaching = Teaching {
-    about: "Places an object file in memory, and prints its bytes with the instructions that they encode",
+    about: "Lists sources with their code, or the bytes of an object file with their instructions",
     printed: PRINTED_BY_LIST,
+};
+
+pub(crate) const SYMBOLS: Teaching = Teaching {
+    about: "Prints where the procedures, the variables and the lines of sources lie in memory",
+    printed: PRINTED_BY_SYMBOLS,
 };
 
 pub(crate) const EXECUTE: Teaching = Teaching {
@@ -244,6 +250,10 @@ Prints a line for each byte at a port, and then how the run ended:
   LIMIT      as many instructions were run as --limit says
   ILLEGAL    an undocumented instruction code was met
   PORT       a port failed
+  DRY        with --until-dry: a port was to be read past its input
+With --count a line before that last one says how many instructions were carried out:
+  STEPS n    in decimal, HLT among them
+With --count or --until-dry all is printed once the run has ended.
 
 With --map it first prints where each object lies, by its address and its number of bytes:
   MAP module name aaaa n
@@ -264,7 +274,7 @@ Exit status:
   0  the program halted, or help was asked for
   1  a source was refused, memory ran out, or a file can't be read or written
   2  the command line is wrong, or a value in it
-  3  LIMIT
+  3  LIMIT or DRY
   4  ILLEGAL or PORT
 
 A refused source prints `number file line` to standard error, and a refused value `U4 text 0`.
@@ -276,7 +286,8 @@ prints
   HALT
 
 With each command, before or after its name:
-  --explain  shows where a fault is, what it means and what is likely wrong
+  --explain        shows where a fault is, what it means and what is likely wrong
+  --explain=TABLE  also tells from where its line comes, by a table of plm convert --lines
 
 Numbers, where X is the name or the text that is printed with one:
 " TEXTS CODE MODULES SEGMENTS PLACES COUNTS LENGTHS FILES VALUES MEMORY "\n\
@@ -291,11 +302,14 @@ Prints a line for each byte at a port, and then how the program ended:
   HALT              the program halted, or reached the end of its main module
   LIMIT             the budget of --limit was used up
   PORT              a port failed
+  DRY               with --until-dry: a port was to be read past its input
   OUTSIDE DIVIDE    it divided by 0
   OUTSIDE BYTE      it read or wrote a byte that nothing declares
   OUTSIDE CONSTANT  it wrote a byte of a constant
   OUTSIDE STACK     its calls took more room than --stack-size says
 After OUTSIDE the language promises nothing more of the program.
+With --count a line before that last one says how much of the budget was used:
+  STEPS n           in decimal
 
 With --map it first prints where each object lies, by its address and its number of bytes:
   MAP module name aaaa n
@@ -317,7 +331,7 @@ Exit status:
   0  the program ended, or help was asked for
   1  a source was refused, memory ran out, or a file can't be read or written
   2  the command line is wrong, or a value in it
-  3  LIMIT
+  3  LIMIT or DRY
   4  PORT
   5  OUTSIDE
 
@@ -330,7 +344,8 @@ prints
   HALT
 
 With each command, before or after its name:
-  --explain  shows where a fault is, what it means and what is likely wrong
+  --explain        shows where a fault is, what it means and what is likely wrong
+  --explain=TABLE  also tells from where its line comes, by a table of plm convert --lines
 
 Numbers, where X is the name or the text that is printed with one:
 " TEXTS CODE MODULES SEGMENTS PLACES COUNTS LENGTHS FILES VALUES MEMORY "\n\
@@ -423,23 +438,35 @@ Numbers, where X is the name or the text that is printed with one:
 Read more in the folder docs: faults.md (each number with an example and its cure), commands.md");
 
 const PRINTED_BY_LIST: &str = text_of!([] "\
-The object is a main module without external names, such as `plm link` writes.
+The sources are the modules of one program, with one main module. A single file that begins with the
+byte 02 is an object: a main module without external names, such as `plm link` writes.
 
-Prints a line for each instruction, by rising addresses:
+Prints each line of a source with its number in five columns, and below it the code of what begins
+there, a line for each instruction, as
+        7 N = N + 1;
+          0103 21 00 40  LXI H,N
+          0106 34        INR M
+After the last line come the constants of the module, the routines that it calls and what its data
+are at the start, and then
+  CODE module aaaa n  where its code begins, and how many bytes it has
+  DATA module aaaa n  the same of its data
+
+Of an object it prints a line for each instruction, by rising addresses.
   aaaa bb bb bb  text  the address, the bytes there, and the instruction that they encode
   aaaa bb        DB bb  a byte that is shown alone
-  name:          the line before that of the address where a public name lies
-Addresses, bytes and numbers in a text are hexadecimal digits. The bytes of the data are shown alone,
-and in the code those that begin no whole instruction. Constants lie among the code too, so that
-lines may show them as instructions that the program never comes to.
+  name:          the line before that of the address where a name lies
+Addresses, bytes and numbers in a text are hexadecimal digits. In a listing of sources the name of a
+procedure, of a variable or of a routine stands in place of its address. In an object the bytes of the
+data are shown alone, and in the code those that begin no whole instruction. Constants lie among the
+code too, so that lines may show them as instructions that the program never comes to.
 
 Exit status:
   0  all was printed, or help was asked for
-  1  the object or its place was refused, memory ran out, or a file can't be read
+  1  a source, the object or its place was refused, memory ran out, or a file can't be read
   2  the command line is wrong, or a value in it
 
-A refused object prints `number file 0` to standard error, a refused place `number - 0`, and a
-refused value or a second file `U4 text 0`.
+A refused source prints `number file line` to standard error, a refused object `number file 0`, a
+refused place `number - 0`, and a refused value `U4 text 0`.
 
 Example: an object with the code cd 04 00 76 3e 08 c9, whose bytes 04 00 are an address in the
 code, and a public name S at offset 4 prints
@@ -450,7 +477,34 @@ code, and a public name S at offset 4 prints
   0106 C9        RET
 
 Numbers, where X is the name or the text that is printed with one:
-" OBJECTS PLACES IMAGES FILES VALUES MEMORY "\n\
+" TEXTS CODE MODULES SEGMENTS OBJECTS PLACES IMAGES COUNTS LENGTHS FILES VALUES MEMORY "\n\
+Read more in the folder docs: faults.md (each number with an example and its cure), commands.md");
+
+const PRINTED_BY_SYMBOLS: &str = text_of!([] "\
+The sources are the modules of one program, with one main module.
+
+Prints for each module, in the order of its text, addresses as four hexadecimal digits, and numbers in
+decimal ones:
+  PROC module name aaaa n           a procedure, and how many bytes its code has
+  VAR module procedure name aaaa n  a variable or a constant, and how many bytes it has; `-` stands
+                                    for the procedure where it is declared in none
+  LINE module n aaaa                where the first code of what begins in line n lies
+
+Exit status:
+  0  all was printed, or help was asked for
+  1  a source was refused, memory ran out, or a file can't be read
+  2  the command line is wrong, or a value in it
+
+A refused source prints `number file line` to standard error, and a refused value `U4 text 0`.
+
+Example: a file with the line
+  M: DO; DECLARE A BYTE; A = 42; END M;
+prints
+  VAR M - A 4000 1
+  LINE M 1 0100
+
+Numbers, where X is the name or the text that is printed with one:
+" TEXTS CODE MODULES SEGMENTS PLACES COUNTS LENGTHS FILES VALUES MEMORY "\n\
 Read more in the folder docs: faults.md (each number with an example and its cure), commands.md");
 
 const PRINTED_BY_EXECUTE: &str = text_of!([] "\
@@ -464,6 +518,10 @@ Prints what `plm run` prints, a line for each byte at a port, and then how the r
   LIMIT      as many instructions were run as --limit says
   ILLEGAL    an undocumented instruction code was met
   PORT       a port failed
+  DRY        with --until-dry: a port was to be read past its input
+With --count a line before that last one says how many instructions were carried out:
+  STEPS n    in decimal, HLT among them
+With --count or --until-dry all is printed once the run has ended.
 
 Input is groups joined by `/`, each a port, a colon and the bytes that the port gives, all in
 hexadecimal digits: 01:0904/02:FF gives 09 and then 04 at port 01, and FF at port 02.
@@ -482,7 +540,7 @@ Exit status:
   1  an object, the merge or its place was refused, memory ran out, or a file can't be read
      or written
   2  the command line is wrong, or a value in it
-  3  LIMIT
+  3  LIMIT or DRY
   4  ILLEGAL or PORT
 
 A refused object prints `number file 0` to standard error, a refused merge the name of a public
@@ -525,12 +583,16 @@ The file of an INCLUDE is put in, but not into a listing: it is looked for in ea
 FILE, as written, in capital and in small letters. Lines of an IF that do not apply become empty;
 switches are set by --set and by SET.
 
+With --lines it also writes TABLE, which tells of each line that is printed, in order, the file and
+the line from which it comes (plm --explain=TABLE looks a fault's line up in it):
+  NAME LINE
+
 What has no cure is left, and told on standard error, a line each:
   FILE LINE: what, and what to write
 
 Exit status:
   0  it was printed with nothing told, or help was asked for
-  1  something was told, or the source was refused, or standard output can't be written
+  1  something was told, or the source was refused, or TABLE or standard output can't be written
   2  the command line is wrong
 
 Example: convert a source of the time, and run what comes out

@@ -14,7 +14,7 @@ mod values;
 pub use mem80::Plan;
 pub use orders::{
     Action, CompileOrder, ConvertOrder, ExecuteOrder, ExplainOrder, LinkOrder, NeedOrder, Order,
-    PlaceAction, PlaceOrder, PlanTexts, ProgramOrder,
+    PlaceAction, PlaceOrder, PlanTexts, ProgramOrder, Watch,
 };
 pub use port_files::PortFile;
 pub use reading::{LineFault, command};

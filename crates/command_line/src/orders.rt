@@ -9,15 +9,26 @@ pub enum Action {
     Interpret,
 }
 
-/// What is printed of an object file that is placed in memory.
+/// What is printed of an object file, or of sources, that are placed in memory.
 #[derive(Clone, Copy)]
 pub enum PlaceAction {
-    /// Where its segments, its start and its public names lie.
+    /// Where the segments of an object, its start and its public names lie.
     Locate,
-    /// Its bytes, as Intel HEX.
+    /// The bytes of an object, as Intel HEX.
     Hex,
-    /// Its bytes, with the instructions that they encode.
+    /// The bytes of an object, with the instructions that they encode; or the lines of sources, with their code.
     Listing,
+    /// Where the procedures, the variables and the lines of sources lie.
+    Symbols,
+}
+
+/// What is watched while a program runs.
+#[derive(Clone, Copy)]
+pub struct Watch {
+    /// Whether it is printed how many steps the run took.
+    pub count: bool,
+    /// Whether the run ends before the first read of a port past its input.
+    pub until_dry: bool,
 }
 
 /// The texts of the options that say where the parts of a program are to lie.
@@ -50,6 +61,8 @@ pub struct ProgramOrder<'a> {
     pub input_files: Vec<&'a str>,
     /// The files of ports to which their bytes go.
     pub output_files: Vec<&'a str>,
+    /// What is watched while it runs.
+    pub watch: Watch,
     /// Whether it is first printed where each object lies.
     pub map: bool,
     /// The byte that the memory has at the start where nothing else is said.
@@ -76,7 +89,7 @@ pub struct LinkOrder<'a> {
     pub objects: Vec<&'a str>,
 }
 
-/// An order to place an object file in memory. More files than one are refused by `PlaceOrder::file`.
+/// An order to place an object file, or sources, in memory. More files than one are refused by `PlaceOrder::file`.
 #[derive(Drop)]
 pub struct PlaceOrder<'a> {
     /// What is printed.
@@ -113,6 +126,8 @@ pub struct ExecuteOrder<'a> {
     pub input_files: Vec<&'a str>,
     /// The files of ports to which their bytes go.
     pub output_files: Vec<&'a str>,
+    /// What is watched while it runs.
+    pub watch: Watch,
     /// The byte that the memory has at the start where nothing else is said.
     pub fill: &'a str,
     /// Other bytes of the memory at the start, where that was said.
@@ -139,6 +154,8 @@ pub struct ConvertOrder<'a> {
     pub folders: Vec<&'a str>,
     /// The switches that are set.
     pub sets: Vec<&'a str>,
+    /// The file to which the table of lines goes, where that was said.
+    pub lines: Option<&'a str>,
 }
 
 /// What the command line asks for.

@@ -5,13 +5,13 @@ ghost use Rattle.std.specs.Prelude.{Some, option_and_then, option_map};
 ghost use Rattle.clap.specs.Walk.{texts};
 ghost use Rattle.clap.specs.Words.{fault_of, first_of, found_of, rows_of, subcommand_rows_of};
 ghost use Rattle.failure.specs.Failure.{IfFault};
-ghost use Rattle.command_line.specs.Command.{IsFaultOf, Orders, OrdersCompile, OrdersFiles, OrdersJump, OrdersLink, OrdersMap};
-ghost use Rattle.command_line.specs.Command.{OrdersExecute, OrdersExecuteText, execute_of, wants_execute};
+ghost use Rattle.command_line.specs.Command.{IsFaultOf, Orders, OrdersCompile, OrdersFiles, OrdersJump, OrdersLink, OrdersMap, OrdersWatch};
+ghost use Rattle.command_line.specs.Command.{OrdersExecute, OrdersExecuteText, OrdersExecuteWatch, execute_of, wants_execute};
 ghost use Rattle.command_line.specs.Command.{OrdersExplain, explain_of, wants_explain};
 ghost use Rattle.command_line.specs.Command.{OrdersConvert, convert_of, wants_convert};
 ghost use Rattle.command_line.specs.Command.{OrdersNeed, OrdersPlace, OrdersPlaceText, OrdersText};
 ghost use Rattle.command_line.specs.Command.{is_set, link_of, located_of, need_of, place_of, plan_in, plan_of, files_of, named_in};
-ghost use Rattle.command_line.specs.Command.{plm_app, program_of, text_of, texts_of};
+ghost use Rattle.command_line.specs.Command.{plm_app, program_of, text_of, texts_of, watch_of};
 ghost use Rattle.command_line.specs.Command.{wanted_in, wanted_of_match};
 ghost use Rattle.command_line.specs.Command.{compile_of, wants_compile, wants_link, wants_need, wants_place, wants_program};
 ghost use Rattle.command_line.specs.internal.Errors.{IsFailureFor};
@@ -19,7 +19,7 @@ ghost use Rattle.command_line.specs.internal.Errors.{IsFailureFor};
 use crate::app::plm_command;
 use crate::orders::{
     Action, CompileOrder, ConvertOrder, ExecuteOrder, ExplainOrder, LinkOrder, NeedOrder, Order,
-    PlaceAction, PlaceOrder, PlanTexts, ProgramOrder,
+    PlaceAction, PlaceOrder, PlanTexts, ProgramOrder, Watch,
 };
 use clap::ArgMatches;
 use clap::error::ErrorKind;
@@ -97,6 +97,16 @@ fn flag(matches: &ArgMatches, name: &str) -> bool
     }
 }
 
+// What is to be watched while a program runs.
+fn watch(matches: &ArgMatches) -> Watch
+    ensures { result ≡ watch_of (rows_of (found_of matches.now)) }
+{
+    Watch {
+        count: flag(matches, "count"),
+        until_dry: flag(matches, "until-dry"),
+    }
+}
+
 // The texts of the options of a plan.
 fn plan<'a>(matches: &ArgMatches<'a>) -> PlanTexts<'a>
     ensures { plan_in result ≡ plan_of (rows_of (found_of matches.now)) }
@@ -130,6 +140,7 @@ fn program<'a>(
         input: first(matches, "input"),
         input_files,
         output_files,
+        watch: watch(matches),
         map: flag(matches, "map"),
         fill: text(matches, "fill"),
         memory: first(matches, "memory"),
@@ -159,7 +170,7 @@ fn link<'a>(alloc: Global, matches: &ArgMatches<'a>) -> Result<Option<Order<'a>>
     })))
 }
 
-// The order for a command that places an object file, from the matches of its arguments.
+// The order for a command that places an object file or sources, from the matches of its arguments.
 fn place<'a>(
     alloc: Global,
     action: PlaceAction,
@@ -204,6 +215,7 @@ fn execute<'a>(alloc: Global, matches: &ArgMatches<'a>) -> Result<Option<Order<'
         input: first(matches, "input"),
         input_files,
         output_files,
+        watch: watch(matches),
         fill: text(matches, "fill"),
         memory: first(matches, "memory"),
     })))
@@ -232,6 +244,7 @@ fn convert<'a>(alloc: Global, matches: &ArgMatches<'a>) -> Result<Option<Order<'
         cards: flag(matches, "cards"),
         folders,
         sets,
+        lines: first(matches, "lines"),
     })))
 }
 
@@ -264,6 +277,7 @@ fn order_named<'a>(
         "locate" => locate(alloc, matches),
         "hex" => place(alloc, PlaceAction::Hex, matches),
         "list" => place(alloc, PlaceAction::Listing, matches),
+        "symbols" => place(alloc, PlaceAction::Symbols, matches),
         "execute" => execute(alloc, matches),
         "explain" => explain(matches),
         "convert" => convert(alloc, matches),
@@ -299,6 +313,7 @@ pub fn command<'a>(alloc: Global, words: &'a [&'a str]) -> Result<Order<'a>, Fai
     ensures files { OrdersFiles (texts words.entry.now) result }
     ensures option { OrdersText (texts words.entry.now) result }
     ensures map { OrdersMap (texts words.entry.now) result }
+    ensures watch { OrdersWatch (texts words.entry.now) result }
     ensures compile { OrdersCompile (texts words.entry.now) result }
     ensures link { OrdersLink (texts words.entry.now) result }
     ensures place { OrdersPlace (texts words.entry.now) result }
@@ -307,6 +322,7 @@ pub fn command<'a>(alloc: Global, words: &'a [&'a str]) -> Result<Order<'a>, Fai
     ensures need { OrdersNeed (texts words.entry.now) result }
     ensures execute { OrdersExecute (texts words.entry.now) result }
     ensures execute_option { OrdersExecuteText (texts words.entry.now) result }
+    ensures execute_watch { OrdersExecuteWatch (texts words.entry.now) result }
     ensures explain { OrdersExplain (texts words.entry.now) result }
     ensures convert { OrdersConvert (texts words.entry.now) result }
     ensures order { IfOk result (λ order. Orders (texts words.entry.now) order) }

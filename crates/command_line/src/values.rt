@@ -15,7 +15,9 @@ ghost use Rattle.command_line.specs.Settings.{Reads, ReadsFile};
 ghost use Rattle.command_line.specs.internal.Reads.{if_read, in_front};
 
 use crate::explained::page;
-use crate::orders::{ExecuteOrder, ExplainOrder, NeedOrder, PlaceOrder, PlanTexts, ProgramOrder};
+use crate::orders::{
+    ExecuteOrder, ExplainOrder, NeedOrder, PlaceOrder, PlanTexts, ProgramOrder, Watch,
+};
 use crate::output_files::output_files;
 use crate::port_files::{PortFile, port_files};
 use crate::start_memory::{MemoryByte, fill, memory};
@@ -53,6 +55,8 @@ pub struct Settings<'a> {
     pub input_files: Vec<PortFile<'a>>,
     /// The files to which the bytes of ports go, one of a port at most, no two with the same name. A dash is standard output.
     pub output_files: Vec<PortFile<'a>>,
+    /// What is watched while the program runs.
+    pub watch: Watch,
 }
 
 /// U4: an option has a text that is none of its values, or no fault has this number.
@@ -247,11 +251,12 @@ fn settings_of<'a>(
     memory_text: Option<&'a str>,
     input_file_texts: &[&'a str],
     output_file_texts: &[&'a str],
+    watch: Watch,
 ) -> Result<Settings<'a>, Failure<ValueFault<'a>>>
     ensures values { IsSettingsOf (texts_read (plan_in plan_texts.now) limit_text.entry.now
         (option_map (λ text. text.now) input_text.entry) fill_text.entry.now
         (option_map (λ text. text.now) memory_text.entry) (texts input_file_texts.now)
-        (texts output_file_texts.now)) result }
+        (texts output_file_texts.now) watch) result }
     ensures names { HasNames (texts input_file_texts.now) result }
     ensures outputs { HasOutputs (texts output_file_texts.now) result }
     ensures memory { input_text.entry ≡ None → memory_text.entry ≡ None →
@@ -281,6 +286,7 @@ fn settings_of<'a>(
         memory,
         input_files,
         output_files,
+        watch,
     })
 }
 
@@ -339,6 +345,7 @@ impl<'a> ExecuteOrder<'a> {
             self.memory,
             self.input_files.as_slice(),
             self.output_files.as_slice(),
+            self.watch,
         )
     }
 }
@@ -387,6 +394,7 @@ impl<'a> ProgramOrder<'a> {
             self.memory,
             self.input_files.as_slice(),
             self.output_files.as_slice(),
+            self.watch,
         )
     }
 }

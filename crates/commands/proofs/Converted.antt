@@ -1,5 +1,5 @@
 -- Sources that were converted, or not.
-use Rattle.commands.proofs.Prelude.{◌≡◌, ◌<◌, ◌≤◌, ℕ, List, [], length, map, Option, inl, inr, refl, sym, ap, subst, ◌∙◌, ◌⊎◌, arith, Ending, Done, Refused, status_of, AppendsBeginning, Appends, Keeps, Directory, HasFile, KeepsFiles, Tells, memory_line, refusal_line, file_line, CountsFailure, TellsUnwritten, ConvertWanted}
+use Rattle.commands.proofs.Prelude.{◌≡◌, ◌<◌, ◌≤◌, ℕ, List, [], length, map, Option, None, Some, inl, inr, refl, sym, ap, subst, ◌∙◌, ◌⊎◌, arith, Ending, Done, Refused, status_of, AppendsBeginning, Appends, Keeps, ChangesFiles, Directory, HasFile, KeepsFiles, stays_on, Tells, memory_line, refusal_line, file_line, CountsFailure, TellsUnwritten, ConvertWanted}
 use Rattle.words.specs.declared.limits.TheConstants.{LONGEST_SOURCE}
 use Rattle.literally.specs.declared.fault.Fault as expansion_fault
 use Rattle.words.specs.Spelling.{Lexeme, lexemes_of}
@@ -8,14 +8,19 @@ use Rattle.literally.specs.Expansion.{Expands}
 use Rattle.literally.proofs.LawsOneExpansion.{not_both}
 use Rattle.typed_trees.specs.TypedTrees.{TypedModule}
 use Rattle.sources.specs.{Causes.{HasReadCause}, Faults.{line_of, number_of}, Reading.{IsSourceOf}, declared.read.ReadFault.{ReadFault, TheVariants.{Expansion, Storage, Syntax, TooLong, Typing, Words}}}
-use Rattle.convert.specs.{Advice.{advice_view, usual_advice}, Assembly.{Parts, as_it_is, assembled}, Conversion.{IsRefused, no_expansion, no_words}, Lines.{plain}, Preparing.{prepared, prepared_notes}, Table.{rule_view, table_of_rules}, Sources.{IsConverted, note_lines, place_at}, declared.advice.Advice.{Advice}, declared.assembly.PlacedNote.{PlacedNote}, declared.includes.Entry.{Entry}, declared.rule.Rule.{Rule}}
+use Rattle.convert.specs.{Advice.{advice_view, usual_advice}, Assembly.{Parts, as_it_is, assembled}, Conversion.{IsRefused, no_expansion, no_words}, Edits.{Change}, Lines.{plain}, Origins.{line_table}, Preparing.{prepared, prepared_notes}, Table.{rule_view, table_of_rules}, Sources.{IsConverted, note_lines, place_at}, declared.advice.Advice.{Advice}, declared.assembly.PlacedNote.{PlacedNote}, declared.includes.Entry.{Entry}, declared.rule.Rule.{Rule}}
 use Rattle.commands.specs.Including.{IsIncluded, StopsLookingForNext}
-use Rattle.commands.specs.Converting.{Converts, ConvertsByTables, HasNoConversion, IsMistyped, IsModule, IsNoModule, IsPutTogether, StopsIncluding, changed, fault_line_at, medium_of, rewritten, stays}
-use Rattle.commands.specs.internal.Converting.{IsOfForm, form_of_fault}
+use Rattle.commands.specs.Converting.{Converts, ConvertsByTables, HasNoConversion, IsMistyped, IsModule, IsNoModule, IsPutTogether, StopsIncluding, StopsSource, changed, fault_line_at, medium_of, rewritten, stays}
+use Rattle.commands.specs.Tables.{BeginsTable, WritesTable}
+use Rattle.commands.specs.internal.Converting.{IsOfForm, PrintsModule, form_of_fault, table_if}
 unfoldable use Rattle.commands.specs.Converting.{ConvertsFile, ConvertsText, RefusesText}
-unfoldable use Rattle.commands.specs.internal.Converting.{ConvertsHeld, ConvertsParts, PrintsNoted}
+unfoldable use Rattle.commands.specs.internal.Converting.{ConvertsHeld, ConvertsParts, PrintsNoted, PrintsTabled}
 use Rattle.commands.proofs.Printed.{stays_written}
 use Rattle.commands.proofs.Included.{was_included, was_stopped_for_next}
+use Rattle.commands.proofs.Tables.{kept_begins, table_begun, table_stopped, table_written, was_begun, was_stopped_writing, was_written}
+use Rattle.host.proofs.FilesRead.{stays as unchanged}
+use Rattle.host.specs.Files.{with_file}
+use Rattle.object_commands.specs.Linking.{StopsWriting}
 
 module _ (text : List ℕ) where
   pub source_is_module : (typed : TypedModule) → IsSourceOf text typed → IsModule text
@@ -59,63 +64,246 @@ module _ (name : List ℕ) (entries : List Entry) (text : List ℕ) (notes : Lis
   noted_written ending lines (inr refused) none some tells is appended =
       inr (inl (ap status_of refused, some refused, appended, subst (λ (l : List ℕ). AppendsBeginning old new l) is (tells refused)))
 
--- what was put together was converted and printed, or not
-module _ (name : List ℕ) (entries : List Entry) (rules : List Rule) (parts : Parts) (old new out now : Option (List ℕ)) where
-  pub parts_printed : (status : ℕ) (text : List ℕ) (notes : List PlacedNote) → IsConverted rules parts text notes → PrintsNoted name entries text notes status old new out now
-      → ConvertsParts name entries rules parts status old new out now
-  unfolding ConvertsParts
-  parts_printed status text notes converted printed = inl (record { text = text; notes = notes; converted = converted; printed = printed })
+-- a text was printed after its table was written that is wanted, or not
+module _ (wanted : ConvertWanted) (entries : List Entry) (text : List ℕ) (notes : List PlacedNote) (table : List ℕ) (files later : Option Directory) (before after : ℕ) (old new out now : Option (List ℕ)) where
+  pub tabled_without : (status : ℕ) → wanted.lines ≡ None → PrintsNoted wanted.file entries text notes status old new out now
+      → PrintsTabled wanted entries text notes table files files status before before old new out now
+  unfolding PrintsTabled
+  tabled_without status none printed = inl (refl, rw none (unchanged files), printed)
 
-  pub parts_unheld : (status : ℕ) → status ≡ 1 → Tells memory_line old new → ConvertsParts name entries rules parts status old new out out
+  pub tabled_written : (status : ℕ) (name : List ℕ) → wanted.lines ≡ Some name → after ≡ before → ChangesFiles files later (with_file name table)
+      → PrintsNoted wanted.file entries text notes status old new out now → PrintsTabled wanted entries text notes table files later status before after old new out now
+  unfolding PrintsTabled
+  tabled_written status name is same written printed = inl (same, subst (λ (o : Option (List ℕ)). WritesTable o files later table) (sym is) written, printed)
+
+  pub tabled_stopped : (status : ℕ) (name : List ℕ) → wanted.lines ≡ Some name → status ≡ 1 → CountsFailure before after → StopsWriting files later name table → Tells (file_line name) old new
+      → PrintsTabled wanted entries text notes table files later status before after old new out out
+  unfolding PrintsTabled
+  tabled_stopped status name is one counted stopped told =
+      inr (inl (one, stays_written out, record { counted = counted; name = name; stopped = (is, stopped); told = told }))
+
+  pub tabled_unwritten : (status : ℕ) (name : List ℕ) → wanted.lines ≡ Some name → status ≡ 1 → after ≡ before → StopsWriting files later name table → Tells memory_line old new
+      → PrintsTabled wanted entries text notes table files later status before after old new out out
+  unfolding PrintsTabled
+  tabled_unwritten status name is one same stopped told = inr (inr (
+    one,
+    same,
+    subst (λ (o : Option (List ℕ)). BeginsTable o files later table) (sym is) stopped,
+    told,
+    stays_written out,
+  ))
+
+  pub tabled_unheld : (status : ℕ) → status ≡ 1 → Tells memory_line old new → PrintsTabled wanted entries text notes table files files status before before old new out out
+  unfolding PrintsTabled
+  tabled_unheld status one told = inr (inr (one, refl, kept_begins wanted.lines files files table (unchanged files), told, stays_written out))
+
+  -- with the table that is wanted, or none
+  pub tabled_as_wanted : (status : ℕ) (some : List ℕ) → some ≡ table_if wanted.lines table → PrintsTabled wanted entries text notes some files later status before after old new out now
+      → PrintsTabled wanted entries text notes table files later status before after old new out now
+  unfolding PrintsTabled
+  tabled_as_wanted status some is (inl (same, written, printed)) = inl (same, table_written wanted.lines files later table some is written, printed)
+  tabled_as_wanted status some is (inr (inl (one, nothing, told))) = inr (inl (
+    one,
+    nothing,
+    record {
+      counted = told.counted;
+      name = told.name;
+      stopped = (told.stopped.0, table_stopped wanted.lines told.name files later table some is told.stopped.0 told.stopped.1);
+      told = told.told;
+    },
+  ))
+  tabled_as_wanted status some is (inr (inr (one, same, begun, told, nothing))) =
+      inr (inr (one, same, table_begun wanted.lines files later table some is begun, told, nothing))
+
+-- what was put together was converted and printed, or not
+module _ (wanted : ConvertWanted) (entries : List Entry) (rules : List Rule) (parts : Parts) (files later : Option Directory) (before after : ℕ) (old new out now : Option (List ℕ)) where
+  pub parts_printed : (status : ℕ) (changes : List Change) (text : List ℕ) (notes : List PlacedNote) → IsConverted rules parts changes text notes
+      → PrintsTabled wanted entries text notes (line_table wanted.file entries parts changes text) files later status before after old new out now
+      → ConvertsParts wanted entries rules parts files later status before after old new out now
   unfolding ConvertsParts
-  parts_unheld status one told = inr (one, stays_written out, inl told)
+  parts_printed status changes text notes converted printed = inl (record { changes = changes; text = text; notes = notes; converted = converted; printed = printed })
+
+  pub parts_unheld : (status : ℕ) → status ≡ 1 → Tells memory_line old new → ConvertsParts wanted entries rules parts files files status before before old new out out
+  unfolding ConvertsParts
+  parts_unheld status one told = inr (one, refl, unchanged files, stays_written out, inl told)
 
   pub parts_refused : (status : ℕ) (fault : ReadFault) → status ≡ 1 → HasNoConversion parts.text fault
-      → Tells (fault_line_at name entries (place_at parts.places (line_of fault)) fault) old new → ConvertsParts name entries rules parts status old new out out
+      → Tells (fault_line_at wanted.file entries (place_at parts.places (line_of fault)) fault) old new
+      → ConvertsParts wanted entries rules parts files files status before before old new out out
   unfolding ConvertsParts
-  parts_refused status fault one cause told = inr (one, stays_written out, inr (record { fault = fault; cause = cause; told = told }))
+  parts_refused status fault one cause told = inr (one, refl, unchanged files, stays_written out, inr (record { fault = fault; cause = cause; told = told }))
 
--- what converting a text prints and tells
-module _ (rules : List Rule) (advice : Advice) (wanted : ConvertWanted) (files : Option Directory) (before : List PlacedNote) (text : List ℕ) (old new out now : Option (List ℕ)) where
-  converted_printed : (status : ℕ) (entries : List Entry) (printed : List ℕ) (notes : List PlacedNote) → Converts rules advice wanted files before text entries printed notes
-      → PrintsNoted wanted.file entries printed notes status old new out now → ConvertsText rules advice wanted files before text status old new out now
+-- what is printed with files is printed with them as they were
+module _ (was files later : Option Directory) (kept : KeepsFiles was files) (wanted : ConvertWanted) (entries : List Entry) (before middle after : ℕ) (uncounted : middle ≡ before) (old new out now : Option (List ℕ)) where
+  was_tabled : (status : ℕ) (text : List ℕ) (notes : List PlacedNote) (table : List ℕ) → PrintsTabled wanted entries text notes table files later status middle after old new out now
+      → PrintsTabled wanted entries text notes table was later status before after old new out now
+  unfolding PrintsTabled
+  was_tabled status text notes table (inl (same, written, printed)) = inl (same ∙ uncounted, was_written wanted.lines was files later table kept written, printed)
+  was_tabled status text notes table (inr (inl (one, nothing, told))) = inr (inl (
+    one,
+    nothing,
+    record {
+      counted = subst (λ (n : ℕ). CountsFailure n after) uncounted told.counted;
+      name = told.name;
+      stopped = (told.stopped.0, was_stopped_writing was files later told.name table kept told.stopped.1);
+      told = told.told;
+    },
+  ))
+  was_tabled status text notes table (inr (inr (one, same, begun, told, nothing))) =
+      inr (inr (one, same ∙ uncounted, was_begun wanted.lines was files later table kept begun, told, nothing))
+
+  pub parts_before : (status : ℕ) (rules : List Rule) (parts : Parts) → ConvertsParts wanted entries rules parts files later status middle after old new out now
+      → ConvertsParts wanted entries rules parts was later status before after old new out now
+  unfolding ConvertsParts
+  parts_before status rules parts (inl done) = inl (record {
+    changes = done.changes;
+    text = done.text;
+    notes = done.notes;
+    converted = done.converted;
+    printed = was_tabled status done.text done.notes (line_table wanted.file entries parts done.changes done.text) done.printed;
+  })
+  parts_before status rules parts (inr (one, same, stay, nothing, told)) = inr (one, same ∙ uncounted, stays_on was files later kept stay, nothing, told)
+
+-- what converting a text prints, tells and writes, or a file that it includes or that of its table stops it
+module _ (rules : List Rule) (advice : Advice) (wanted : ConvertWanted) (files later : Option Directory) (notes : List PlacedNote) (text : List ℕ) (before after : ℕ) (old new out now : Option (List ℕ)) where
+  text_printed : (status : ℕ) (entries : List Entry) (printed : List ℕ) (told : List PlacedNote) (table : List ℕ)
+      → Converts rules advice wanted files notes text entries printed told table → WritesTable wanted.lines files later table
+      → PrintsNoted wanted.file entries printed told status old new out now → ConvertsText rules advice wanted files notes text later status old new out now
   unfolding ConvertsText RefusesText PrintsNoted
-  converted_printed status entries printed notes converts (inl (zero, none, appended)) = inl (
+  text_printed status entries printed told table converts written (inl (zero, none, appended)) = inl (
     zero,
     record {
       entries = entries;
       printed = printed;
-      converts = subst (λ (l : List PlacedNote). Converts rules advice wanted files before text entries printed l) none converts;
+      table = table;
+      converts = subst (λ (l : List PlacedNote). Converts rules advice wanted files notes text entries printed l table) none converts;
       appended = appended;
+      tabled = written;
     },
   )
-  converted_printed status entries printed notes converts (inr (inl (one, some, appended, told))) =
-      inr (one, inr (inl (record { entries = entries; printed = printed; notes = notes; some = some; converts = converts; appended = appended; told = told })))
-  converted_printed status entries printed notes converts (inr (inr (one, told, begun))) =
-      inr (one, inr (inr (record { entries = entries; printed = printed; notes = notes; converts = converts; told = told; begun = begun })))
+  text_printed status entries printed told table converts written (inr (inl (one, some, appended, telling))) = inr (
+    one,
+    inr (inl (record {
+      entries = entries;
+      printed = printed;
+      notes = told;
+      table = table;
+      some = some;
+      converts = converts;
+      appended = appended;
+      tabled = written;
+      told = telling;
+    })),
+  )
+  text_printed status entries printed told table converts written (inr (inr (one, telling, begun))) = inr (
+    one,
+    inr (inr (inl (record {
+      entries = entries;
+      printed = printed;
+      notes = told;
+      table = table;
+      converts = converts;
+      tabled = written;
+      told = telling;
+      begun = begun;
+    }))),
+  )
 
-  pub module_printed : (status : ℕ) → IsModule text → PrintsNoted wanted.file [] text before status old new out now → ConvertsText rules advice wanted files before text status old new out now
-  module_printed status is printed = converted_printed status [] text before (stays is) printed
+  held_printed : (status : ℕ) (entries : List Entry) (printed : List ℕ) (told : List PlacedNote) (table : List ℕ)
+      → Converts rules advice wanted files notes text entries printed told table
+      → PrintsTabled wanted entries printed told table files later status before after old new out now
+      → ConvertsHeld rules advice wanted files notes text later status before after old new out now
+  unfolding ConvertsHeld ConvertsText RefusesText PrintsTabled
+  held_printed status entries printed told table converts (inl (same, written, noted)) =
+      inr (same, text_printed status entries printed told table converts written noted)
+  held_printed status entries printed told table converts (inr (inl (one, nothing, telling))) = inl (
+    one,
+    nothing,
+    record {
+      counted = telling.counted;
+      name = telling.name;
+      stopped = inr (record {
+        entries = entries;
+        printed = printed;
+        notes = told;
+        table = table;
+        converts = converts;
+        wanted_is = telling.stopped.0;
+        begun = telling.stopped.1;
+      });
+      told = telling.told;
+    },
+  )
+  held_printed status entries printed told table converts (inr (inr (one, same, begun, telling, nothing))) = inr (
+    same,
+    inr (
+      one,
+      inr (inr (inr (record {
+        entries = entries;
+        printed = printed;
+        notes = told;
+        table = table;
+        converts = converts;
+        tabled = begun;
+        told = telling;
+        nothing = nothing;
+      }))),
+    ),
+  )
 
-  text_told : (status : ℕ) → status ≡ 1 → Keeps out now → Tells memory_line old new → ConvertsText rules advice wanted files before text status old new out now
-  unfolding ConvertsText RefusesText
-  text_told status one kept told = inr (one, inl (kept, inl told))
+  pub module_printed : (status : ℕ) → IsModule text → PrintsModule wanted notes text files later status before after old new out now
+      → ConvertsHeld rules advice wanted files notes text later status before after old new out now
+  module_printed status is printed = held_printed status [] text notes (line_table wanted.file [] (as_it_is notes text) [] text) (stays is) printed
 
-  pub rewritten_printed : (status : ℕ) → length text ≤ LONGEST_SOURCE → IsMistyped text → ConvertsParts wanted.file [] rules (as_it_is before text) status old new out now
-      → ConvertsText rules advice wanted files before text status old new out now
+  held_told : (status : ℕ) → status ≡ 1 → after ≡ before → KeepsFiles files later → Keeps out now → Tells memory_line old new
+      → ConvertsHeld rules advice wanted files notes text later status before after old new out now
+  unfolding ConvertsHeld ConvertsText RefusesText
+  held_told status one same stay nothing told = inr (same, inr (one, inl (stay, nothing, inl told)))
+
+  pub rewritten_printed : (status : ℕ) → length text ≤ LONGEST_SOURCE → IsMistyped text → ConvertsParts wanted [] rules (as_it_is notes text) files later status before after old new out now
+      → ConvertsHeld rules advice wanted files notes text later status before after old new out now
   unfolding ConvertsParts
-  rewritten_printed status short mistyped (inl done) = converted_printed status [] done.text done.notes (rewritten mistyped done.converted) done.printed
-  rewritten_printed status short mistyped (inr (one, kept, inl told)) = text_told status one kept told
-  rewritten_printed status short mistyped (inr (one, kept, inr told)) = absurd (mistyped_is_converted text told.fault short mistyped told.cause)
+  rewritten_printed status short mistyped (inl done) =
+      held_printed status [] done.text done.notes (line_table wanted.file [] (as_it_is notes text) done.changes done.text) (rewritten mistyped done.converted) done.printed
+  rewritten_printed status short mistyped (inr (one, same, stay, nothing, inl told)) = held_told status one same stay nothing told
+  rewritten_printed status short mistyped (inr (one, same, stay, nothing, inr told)) = absurd (mistyped_is_converted text told.fault short mistyped told.cause)
 
-  pub old_converted : (status : ℕ) (entries : List Entry) (parts : Parts) → IsPutTogether advice wanted files before text entries parts
-      → ConvertsParts wanted.file entries rules parts status old new out now → ConvertsText rules advice wanted files before text status old new out now
-  unfolding ConvertsText RefusesText ConvertsParts
-  old_converted status entries parts put (inl done) = converted_printed status entries done.text done.notes (changed put done.converted) done.printed
-  old_converted status entries parts put (inr (one, kept, inl told)) = text_told status one kept told
-  old_converted status entries parts put (inr (one, kept, inr told)) =
-      inr (one, inl (kept, inr (inr (record { entries = entries; parts = parts; together = put; fault = told.fault; cause = told.cause; told = told.told }))))
+  pub old_converted : (status : ℕ) (entries : List Entry) (parts : Parts) → IsPutTogether advice wanted files notes text entries parts
+      → ConvertsParts wanted entries rules parts files later status before after old new out now → ConvertsHeld rules advice wanted files notes text later status before after old new out now
+  unfolding ConvertsHeld ConvertsText RefusesText ConvertsParts
+  old_converted status entries parts put (inl done) =
+      held_printed status entries done.text done.notes (line_table wanted.file entries parts done.changes done.text) (changed put done.converted) done.printed
+  old_converted status entries parts put (inr (one, same, stay, nothing, inl told)) = held_told status one same stay nothing told
+  old_converted status entries parts put (inr (one, same, stay, nothing, inr told)) = inr (
+    same,
+    inr (
+      one,
+      inl (
+        stay,
+        nothing,
+        inr (inr (record { entries = entries; parts = parts; together = put; fault = told.fault; cause = told.cause; told = told.told })),
+      ),
+    ),
+  )
 
+  pub held_unheld : (status : ℕ) → status ≡ 1 → after ≡ before → KeepsFiles files later → Tells memory_line old new
+      → ConvertsHeld rules advice wanted files notes text later status before after old new out out
+  unfolding ConvertsHeld ConvertsText RefusesText
+  held_unheld status one same stay told = inr (same, inr (one, inl (stay, stays_written out, inl told)))
+
+  pub held_too_long : (status : ℕ) → status ≡ 1 → LONGEST_SOURCE < length text → Tells (refusal_line (number_of TooLong) wanted.file 0) old new
+      → ConvertsHeld rules advice wanted files notes text files status before before old new out out
+  unfolding ConvertsHeld ConvertsText RefusesText
+  held_too_long status one long told = inr (refl, inr (one, inl (unchanged files, stays_written out, inr (inl (record { long = long; told = told })))))
+
+  pub held_stopped : (status : ℕ) (stop : List ℕ) → status ≡ 1 → CountsFailure before after → KeepsFiles files later → StopsIncluding advice wanted files notes text stop
+      → Tells (file_line stop) old new → ConvertsHeld rules advice wanted files notes text later status before after old new out out
+  unfolding ConvertsHeld
+  held_stopped status stop one counted stay stopped told =
+      inl (one, stays_written out, record { counted = counted; name = stop; stopped = inl (stay, stopped); told = told })
+
+-- what a text that is no module is put together of
+module _ (advice : Advice) (wanted : ConvertWanted) (files : Option Directory) (before : List PlacedNote) (text : List ℕ) where
   pub are_put : (entries : List Entry) (parts : Parts) (source : List ℕ) (sets : List (List ℕ)) → source ≡ plain text → sets ≡ wanted.sets → IsNoModule text
       → IsIncluded advice wanted files before source entries → parts ≡ assembled advice entries before sets source → IsPutTogether advice wanted files before text entries parts
   are_put entries parts source sets source_is sets_are none included parts_are = record {
@@ -132,29 +320,8 @@ module _ (rules : List Rule) (advice : Advice) (wanted : ConvertWanted) (files :
   stops_including source stop source_is none next =
       record { none = none; next = subst (λ (s : List ℕ). StopsLookingForNext advice wanted files before s stop) source_is next }
 
-  pub text_unheld : (status : ℕ) → status ≡ 1 → Tells memory_line old new → ConvertsText rules advice wanted files before text status old new out out
-  unfolding ConvertsText RefusesText
-  text_unheld status one told = inr (one, inl (stays_written out, inl told))
-
-  pub text_too_long : (status : ℕ) → status ≡ 1 → LONGEST_SOURCE < length text → Tells (refusal_line (number_of TooLong) wanted.file 0) old new
-      → ConvertsText rules advice wanted files before text status old new out out
-  unfolding ConvertsText RefusesText
-  text_too_long status one long told = inr (one, inl (stays_written out, inr (inl (record { long = long; told = told }))))
-
--- the same, or a file that is included can't be read
-module _ (rules : List Rule) (advice : Advice) (wanted : ConvertWanted) (files : Option Directory) (notes : List PlacedNote) (text : List ℕ) (before after : ℕ) (old new out now : Option (List ℕ)) where
-  pub held_converted : (status : ℕ) → after ≡ before → ConvertsText rules advice wanted files notes text status old new out now
-      → ConvertsHeld rules advice wanted files notes text status before after old new out now
-  unfolding ConvertsHeld
-  held_converted status same converts = inr (same, converts)
-
-  pub held_stopped : (status : ℕ) (stop : List ℕ) → status ≡ 1 → CountsFailure before after → StopsIncluding advice wanted files notes text stop → Tells (file_line stop) old new
-      → ConvertsHeld rules advice wanted files notes text status before after old new out out
-  unfolding ConvertsHeld
-  held_stopped status stop one counted stopped told = inl (one, stays_written out, record { counted = counted; name = stop; stopped = stopped; told = told })
-
 -- what is put together of files is put together of them as they were
-module _ (was files : Option Directory) (kept : KeepsFiles was files) (rules : List Rule) (advice : Advice) (wanted : ConvertWanted) (before : List PlacedNote) (text : List ℕ) where
+module _ (was files later : Option Directory) (kept : KeepsFiles was files) (rules : List Rule) (advice : Advice) (wanted : ConvertWanted) (before : List PlacedNote) (text : List ℕ) where
   was_put : (entries : List Entry) (parts : Parts) → IsPutTogether advice wanted files before text entries parts → IsPutTogether advice wanted was before text entries parts
   was_put entries parts put = record {
     none = put.none;
@@ -162,26 +329,48 @@ module _ (was files : Option Directory) (kept : KeepsFiles was files) (rules : L
     parts_are = put.parts_are;
   }
 
-  was_changed : {entries : List Entry} {printed : List ℕ} {notes : List PlacedNote} → Converts rules advice wanted files before text entries printed notes
-      → Converts rules advice wanted was before text entries printed notes
+  was_changed : {entries : List Entry} {printed : List ℕ} {notes : List PlacedNote} {table : List ℕ} → Converts rules advice wanted files before text entries printed notes table
+      → Converts rules advice wanted was before text entries printed notes table
   was_changed (stays is) = stays is
   was_changed (rewritten mistyped converted) = rewritten mistyped converted
   was_changed (changed {entries = entries} {parts = parts} put converted) = changed (was_put entries parts put) converted
 
-  pub was_stopped_including : (stop : List ℕ) → StopsIncluding advice wanted files before text stop → StopsIncluding advice wanted was before text stop
-  was_stopped_including stop stopped =
-      record { none = stopped.none; next = was_stopped_for_next was files kept advice wanted before (plain text) stop stopped.next }
+  was_stopped : (stop : List ℕ) → StopsSource rules advice wanted files before text later stop → StopsSource rules advice wanted was before text later stop
+  was_stopped stop (inl (stay, stopped)) = inl (
+    stays_on was files later kept stay,
+    record { none = stopped.none; next = was_stopped_for_next was files kept advice wanted before (plain text) stop stopped.next },
+  )
+  was_stopped stop (inr tabled) = inr (record {
+    entries = tabled.entries;
+    printed = tabled.printed;
+    notes = tabled.notes;
+    table = tabled.table;
+    converts = was_changed tabled.converts;
+    wanted_is = tabled.wanted_is;
+    begun = was_stopped_writing was files later stop tabled.table kept tabled.begun;
+  })
 
-  pub was_converted : (status : ℕ) (old new out now : Option (List ℕ)) → ConvertsText rules advice wanted files before text status old new out now
-      → ConvertsText rules advice wanted was before text status old new out now
+  was_converted : (status : ℕ) (old new out now : Option (List ℕ)) → ConvertsText rules advice wanted files before text later status old new out now
+      → ConvertsText rules advice wanted was before text later status old new out now
   unfolding ConvertsText RefusesText
-  was_converted status old new out now (inl (zero, done)) =
-      inl (zero, record { entries = done.entries; printed = done.printed; converts = was_changed done.converts; appended = done.appended })
-  was_converted status old new out now (inr (one, inl (same, inl told))) = inr (one, inl (same, inl told))
-  was_converted status old new out now (inr (one, inl (same, inr (inl told)))) = inr (one, inl (same, inr (inl (record { long = told.long; told = told.told }))))
-  was_converted status old new out now (inr (one, inl (same, inr (inr told)))) = inr (
+  was_converted status old new out now (inl (zero, done)) = inl (
+    zero,
+    record {
+      entries = done.entries;
+      printed = done.printed;
+      table = done.table;
+      converts = was_changed done.converts;
+      appended = done.appended;
+      tabled = was_written wanted.lines was files later done.table kept done.tabled;
+    },
+  )
+  was_converted status old new out now (inr (one, inl (stay, same, inl told))) = inr (one, inl (stays_on was files later kept stay, same, inl told))
+  was_converted status old new out now (inr (one, inl (stay, same, inr (inl told)))) =
+      inr (one, inl (stays_on was files later kept stay, same, inr (inl (record { long = told.long; told = told.told }))))
+  was_converted status old new out now (inr (one, inl (stay, same, inr (inr told)))) = inr (
     one,
     inl (
+      stays_on was files later kept stay,
       same,
       inr (inr (record {
         entries = told.entries;
@@ -199,38 +388,58 @@ module _ (was files : Option Directory) (kept : KeepsFiles was files) (rules : L
       entries = told.entries;
       printed = told.printed;
       notes = told.notes;
+      table = told.table;
       some = told.some;
       converts = was_changed told.converts;
       appended = told.appended;
+      tabled = was_written wanted.lines was files later told.table kept told.tabled;
       told = told.told;
     })),
   )
-  was_converted status old new out now (inr (one, inr (inr told))) = inr (
+  was_converted status old new out now (inr (one, inr (inr (inl told)))) = inr (
     one,
-    inr (inr (record {
+    inr (inr (inl (record {
       entries = told.entries;
       printed = told.printed;
       notes = told.notes;
+      table = told.table;
       converts = was_changed told.converts;
+      tabled = was_written wanted.lines was files later told.table kept told.tabled;
       told = told.told;
       begun = told.begun;
-    })),
+    }))),
+  )
+  was_converted status old new out now (inr (one, inr (inr (inr told)))) = inr (
+    one,
+    inr (inr (inr (record {
+      entries = told.entries;
+      printed = told.printed;
+      notes = told.notes;
+      table = told.table;
+      converts = was_changed told.converts;
+      tabled = was_begun wanted.lines was files later told.table kept told.tabled;
+      told = told.told;
+      nothing = told.nothing;
+    }))),
   )
 
 -- what converting a file does
-module _ (rules : List Rule) (advice : Advice) (wanted : ConvertWanted) (files : Option Directory) (before after : ℕ) (old new out now : Option (List ℕ)) where
-  pub file_unread : (status : ℕ) → status ≡ 1 → CountsFailure before after → Tells (file_line wanted.file) old new → ConvertsFile rules advice wanted files status before after old new out out
+module _ (rules : List Rule) (advice : Advice) (wanted : ConvertWanted) (files later : Option Directory) (before after : ℕ) (old new out now : Option (List ℕ)) where
+  pub file_unread : (status : ℕ) → status ≡ 1 → CountsFailure before after → KeepsFiles files later → Tells (file_line wanted.file) old new
+      → ConvertsFile rules advice wanted files later status before after old new out out
   unfolding ConvertsFile
-  file_unread status one counted told = inl (one, stays_written out, record { counted = counted; name = wanted.file; stopped = inl refl; told = told })
+  file_unread status one counted stay told =
+      inl (one, stays_written out, record { counted = counted; name = wanted.file; stopped = inl (stay, refl); told = told })
 
-  pub file_unheld : (status : ℕ) → status ≡ 1 → after ≡ before → Tells memory_line old new → ConvertsFile rules advice wanted files status before after old new out out
+  pub file_unheld : (status : ℕ) → status ≡ 1 → after ≡ before → KeepsFiles files later → Tells memory_line old new
+      → ConvertsFile rules advice wanted files later status before after old new out out
   unfolding ConvertsFile
-  file_unheld status one same told = inr (inl (one, record { count = same; told = told; nothing = stays_written out }))
+  file_unheld status one same stay told = inr (inl (one, stay, record { count = same; told = told; nothing = stays_written out }))
 
   -- with the source of the file, and what was told of its lines
   source_converted : (status middle : ℕ) (text : List ℕ) (held : Option Directory) → KeepsFiles files held → middle ≡ before → HasFile files wanted.file text
-      → ConvertsHeld rules advice wanted held (prepared_notes advice (medium_of wanted) text) (prepared (medium_of wanted) text) status middle after old new out now
-      → ConvertsFile rules advice wanted files status before after old new out now
+      → ConvertsHeld rules advice wanted held (prepared_notes advice (medium_of wanted) text) (prepared (medium_of wanted) text) later status middle after old new out now
+      → ConvertsFile rules advice wanted files later status before after old new out now
   unfolding ConvertsFile ConvertsHeld
   source_converted status middle text held kept same read (inl (one, nothing, stopped)) = inl (
     one,
@@ -241,29 +450,29 @@ module _ (rules : List Rule) (advice : Advice) (wanted : ConvertWanted) (files :
       stopped = inr (record {
         text = text;
         read = read;
-        stops = was_stopped_including files held kept rules advice wanted (prepared_notes advice (medium_of wanted) text) (prepared (medium_of wanted) text) stopped.name stopped.stopped;
+        stops = was_stopped files held later kept rules advice wanted (prepared_notes advice (medium_of wanted) text) (prepared (medium_of wanted) text) stopped.name stopped.stopped;
       });
       told = stopped.told;
     },
   )
-  source_converted status middle text held kept same read (inr (unchanged, converts)) = inr (inr (
-    unchanged ∙ same,
+  source_converted status middle text held kept same read (inr (unfailed, converts)) = inr (inr (
+    unfailed ∙ same,
     record {
       text = text;
       read = read;
-      converted = was_converted files held kept rules advice wanted (prepared_notes advice (medium_of wanted) text) (prepared (medium_of wanted) text) status old new out now converts;
+      converted = was_converted files held later kept rules advice wanted (prepared_notes advice (medium_of wanted) text) (prepared (medium_of wanted) text) status old new out now converts;
     },
   ))
 
   pub file_converted : (status middle : ℕ) (text source : List ℕ) (notes : List PlacedNote) (held : Option Directory) → KeepsFiles files held → middle ≡ before → HasFile files wanted.file text
       → source ≡ prepared (medium_of wanted) text → notes ≡ prepared_notes advice (medium_of wanted) text
-      → ConvertsHeld rules advice wanted held notes source status middle after old new out now → ConvertsFile rules advice wanted files status before after old new out now
+      → ConvertsHeld rules advice wanted held notes source later status middle after old new out now → ConvertsFile rules advice wanted files later status before after old new out now
   file_converted status middle text source notes held kept same read source_is notes_are converts =
       source_converted status middle text held kept same read (rw (sym source_is, sym notes_are) converts)
 
 -- the rules and what is told are those of the tables
-pub by_tables : (rules : List Rule) (advice : Advice) (wanted : ConvertWanted) (files : Option Directory) (status before after : ℕ) (old new out now : Option (List ℕ))
-    → map rule_view rules ≡ table_of_rules → advice_view advice ≡ usual_advice → ConvertsFile rules advice wanted files status before after old new out now
-    → ConvertsByTables wanted files status before after old new out now
-by_tables rules advice wanted files status before after old new out now first second converts =
+pub by_tables : (rules : List Rule) (advice : Advice) (wanted : ConvertWanted) (files later : Option Directory) (status before after : ℕ) (old new out now : Option (List ℕ))
+    → map rule_view rules ≡ table_of_rules → advice_view advice ≡ usual_advice → ConvertsFile rules advice wanted files later status before after old new out now
+    → ConvertsByTables wanted files later status before after old new out now
+by_tables rules advice wanted files later status before after old new out now first second converts =
     record { rules = rules; advice = advice; rules_are = first; advice_is = second; converts = converts }

@@ -59,7 +59,7 @@ no_outputs texts files none named = no_files files (named ∙ ap outputs_in none
 none_built : (action : Action) (before : List ℕ) (values : Values) (built : Construction) (status : ℕ) (outputs : List (List ℕ)) (old new : Option (List ℕ)) → values.output_files ≡ []
     → PrintsBuilt action before values built status outputs old new → outputs ≡ []
 none_built ToRun before values built status outputs old new none printed =
-    printed.gathered ∙ ap (λ (files : List NamedPort). outputs_for files printed.machine.state.events) none
+    printed.gathered ∙ ap (λ (files : List NamedPort). outputs_for files printed.events) none
 none_built Interpret before values built status outputs old new none printed = printed.gathered ∙ ap (λ (files : List NamedPort). outputs_for files printed.events) none
 
 pub plain_program : (wanted : ProgramWanted) (values : Values) (files : Option Directory) (status : ℕ) (outputs : List (List ℕ)) (old new : Option (List ℕ)) → wanted.output_files ≡ []
@@ -81,7 +81,7 @@ plain_execution wanted values files status outputs old new none named written pr
     let same : read.full.output_files ≡ values.output_files = ap (λ (v : Values). v.output_files) read.input.full_is in
     let empty : outputs ≡ [] =
     read.printed.gathered
-    ∙ ap (λ (held : List NamedPort). outputs_for held read.printed.machine.state.events) (same ∙ no_outputs wanted.output_files values.output_files none named) in
+    ∙ ap (λ (held : List NamedPort). outputs_for held read.printed.events) (same ∙ no_outputs wanted.output_files values.output_files none named) in
     record { values = values; written = written; printed = subst (λ (l : List (List ℕ)). PrintsMerge wanted values files status l old new) empty printed }
 
 -- what was told where a run that was kept was not delivered

@@ -1,69 +1,24 @@
 -- Merges of objects that were run, or not.
-use Rattle.commands.proofs.Prelude.{◌≡◌, ℕ, List, [], Ok, Option, inl, inr, refl, sym, ap, subst, ◌∙◌, ◌++◌, Event, Session, Directory, KeepsFiles, Tells, TellsRefusal, memory_line, RefusesFor, RunsOut, started, IsStart, Values}
-use Rattle.printing.specs.Printing.{BeginsRun, PrintsRun}
-use Rattle.cpu8080.specs.{Machine.{Machine}, declared.machine.End.{End}}
+use Rattle.commands.proofs.Prelude.{◌≡◌, ℕ, List, [], Ok, Option, inl, inr, sym, subst, ◌++◌, Directory, KeepsFiles, Tells, TellsRefusal, memory_line, RefusesFor, RunsOut, PrintsImage, Values}
 use Rattle.locate.specs.Locating.{Absolute}
 use Rattle.command_line.specs.{Command.{ExecuteWanted}, Settings.{execute_read}}
 use Rattle.object_commands.specs.Merging.{PlacesMerge}
 unfoldable use Rattle.object_commands.specs.Merging.{RefusesPlacing}
-use Rattle.commands.specs.Executing.{PrintsExecution, PrintsImage, PrintsMerge, PrintsRead, StopsImage, StopsRead}
-use Rattle.commands.specs.InputFiles.{HasInput, input_names, quiet_ports}
-use Rattle.commands.specs.OutputFiles.{outputs_of}
+use Rattle.commands.specs.Executing.{PrintsExecution, PrintsMerge, PrintsRead, StopsImage, StopsRead}
+use Rattle.commands.specs.InputFiles.{HasInput, input_names}
 unfoldable use Rattle.commands.specs.Executing.{RefusesExecution, RefusesObjects}
 use Rattle.commands.specs.Refusing.{TellsUnwritten}
-use Rattle.commands.specs.Running.{GivesInput, end_status}
 use Rattle.commands.proofs.InputFiles.{input_there, refused_after, told_after}
-use Rattle.commands.proofs.Printed.{stays_written, whole_begins}
-
-pub no_image : (values : Values) (image : Absolute) (known : Option (List ℕ)) → StopsImage values image known known
-no_image values image known = inl (stays_written known)
-
--- a run of an image that was printed, or a beginning of it
-module _ (values : Values) (image : Absolute) (memory : List ℕ) (script : Session) (from : Machine) (old new : Option (List ℕ)) (start : IsStart values memory)
-    (gives : GivesInput values.input script.script) (none : script.events ≡ []) (unfailed : script.failures ≡ 0)
-    (starts : from ≡ started image memory script.script script.events script.failures) (quiet : List ℕ) (silent : quiet ≡ quiet_ports values) where
-  same_start : from ≡ started image memory script.script [] 0
-  same_start =
-      starts ∙ ap (λ (es : List Event). started image memory script.script es script.failures) none
-      ∙ ap (λ (n : ℕ). started image memory script.script [] n) unfailed
-
-  pub prints_image : (end : End) (machine : Machine) (outputs : List (List ℕ)) → PrintsRun quiet values.limit from end machine old new → outputs ≡ outputs_of values machine.state.events
-      → PrintsImage values image (end_status end) outputs old new
-  prints_image end machine outputs ran gathered = record {
-    memory = memory;
-    start = start;
-    script = script.script;
-    gives = gives;
-    end = end;
-    machine = machine;
-    run = subst (λ (q : List ℕ). PrintsRun q values.limit (started image memory script.script [] 0) end machine old new) silent
-        (subst (λ (m : Machine). PrintsRun quiet values.limit m end machine old new) same_start ran);
-    ended = refl;
-    gathered = gathered;
-  }
-
-  pub begins_image : BeginsRun quiet values.limit from old new → StopsImage values image old new
-  begins_image ran = inr (record {
-    memory = memory;
-    start = start;
-    script = script.script;
-    gives = gives;
-    begun = subst (λ (q : List ℕ). BeginsRun q values.limit (started image memory script.script [] 0) old new) silent
-        (subst (λ (m : Machine). BeginsRun quiet values.limit m old new) same_start ran);
-  })
-
-  -- a run that was printed whole, of which not all was gathered
-  pub image_whole : (end : End) (machine : Machine) → PrintsRun quiet values.limit from end machine old new → StopsImage values image old new
-  image_whole end machine ran = begins_image (record { end = end; machine = machine; run = ran.run; printed = whole_begins old new _ ran.printed })
+use Rattle.commands.proofs.Printed.{stays_written}
 
 -- the status of the ending is that of the end
-pub image_status : (values : Values) (image : Absolute) (outputs : List (List ℕ)) (old new : Option (List ℕ)) (status of_end : ℕ) → status ≡ of_end → PrintsImage values image of_end outputs old new
-    → PrintsImage values image status outputs old new
-image_status values image outputs old new status of_end same printed = subst (λ (s : ℕ). PrintsImage values image s outputs old new) (sym same) printed
+pub image_status : (values : Values) (image : Absolute) (outputs : List (List ℕ)) (old new : Option (List ℕ)) (status of_end : ℕ) → status ≡ of_end → PrintsImage [] values image of_end outputs old new
+    → PrintsImage [] values image status outputs old new
+image_status values image outputs old new status of_end same printed = subst (λ (s : ℕ). PrintsImage [] values image s outputs old new) (sym same) printed
 
 -- the files of the input were read, and the image was run, or not whole
 module _ (values full : Values) (files : Option Directory) (image : Absolute) (old new : Option (List ℕ)) (input : HasInput files values full) where
-  pub prints_read : (status : ℕ) (outputs : List (List ℕ)) → PrintsImage full image status outputs old new → PrintsRead values files image status outputs old new
+  pub prints_read : (status : ℕ) (outputs : List (List ℕ)) → PrintsImage [] full image status outputs old new → PrintsRead values files image status outputs old new
   prints_read status outputs printed = record { full = full; input = input; printed = printed }
 
   pub stops_read : (told was : Option (List ℕ)) → TellsUnwritten was told → StopsImage full image old new → StopsRead values files image was told old new

@@ -1,4 +1,5 @@
 mod Prelude
+pub mod Tables
 pub mod OrdersKept
 pub mod NeedTold
 pub mod TextsTold
@@ -15,7 +16,14 @@ pub mod Delivered
 pub mod Names
 pub mod Refused
 pub mod Printed
+pub mod PrintedReports
+pub mod PortReads
+pub mod Steps
+pub mod StepReads
+pub mod ImageRuns
+pub mod SourceRuns
 pub mod Untold
+pub mod Shown
 pub mod Executed
 pub mod Explained
 pub mod Included

@@ -4,6 +4,7 @@ use Rattle.commands.specs.Refusing.{RunsOut}
 use Rattle.command_line.specs.Settings.{outputs_in}
 use Rattle.commands.specs.Converting.{ConvertsAsWanted, ConvertsByWords, TellsAsWanted, TellsByWords, TellsOutput}
 use Rattle.commands.proofs.Delivered.{by_any, kept_changes}
+use Rattle.commands.proofs.Tables.{kept_all_but}
 
 -- where no file changed, none changed but what was wanted
 pub kept_as_wanted : (wanted : Wanted) (old new : Option Directory) → KeepsFiles old new → ChangesAsWanted wanted old new
@@ -14,7 +15,7 @@ kept_as_wanted (wants_place place) old new kept = kept
 kept_as_wanted (wants_need need) old new kept = kept
 kept_as_wanted (wants_execute execute) old new kept = kept_changes (outputs_in execute.output_files) old new kept
 kept_as_wanted (wants_explain explain) old new kept = kept
-kept_as_wanted (wants_convert convert) old new kept = kept
+kept_as_wanted (wants_convert convert) old new kept = kept_all_but convert.lines old new kept
 
 pub kept_by_words : (found : Option Wanted) (old new : Option Directory) → KeepsFiles old new → ChangesByWords found old new
 kept_by_words None old new kept = kept
@@ -36,7 +37,7 @@ stops_as_wanted (wants_place place) old new kept = kept
 stops_as_wanted (wants_need need) old new kept = kept
 stops_as_wanted (wants_execute execute) old new kept = kept_changes (outputs_in execute.output_files) old new kept
 stops_as_wanted (wants_explain explain) old new kept = kept
-stops_as_wanted (wants_convert convert) old new kept = kept
+stops_as_wanted (wants_convert convert) old new kept = kept_all_but convert.lines old new kept
 
 pub kept_stops : (found : Option Wanted) (old new : Option Directory) → KeepsFiles old new → StopsByWords found old new
 kept_stops None old new kept = kept
@@ -71,18 +72,18 @@ tells_any (Some (wants_execute execute)) output refusal told = by_any execute.ou
 tells_any (Some (wants_explain explain)) output refusal told = told
 tells_any (Some (wants_convert convert)) output refusal told = tt
 
-pub converts_by_words : (found : Option Wanted) (wanted : Wanted) (files : Option Directory) (status before after : ℕ) (old new out now : Option (List ℕ))
-    → found ≡ Some wanted → ConvertsAsWanted wanted files status before after old new out now → ConvertsByWords found files status before after old new out now
-converts_by_words found wanted files status before after old new out now e converts = rw e (inr converts)
+pub converts_by_words : (found : Option Wanted) (wanted : Wanted) (files later : Option Directory) (status before after : ℕ) (old new out now : Option (List ℕ))
+    → found ≡ Some wanted → ConvertsAsWanted wanted files later status before after old new out now → ConvertsByWords found files later status before after old new out now
+converts_by_words found wanted files later status before after old new out now e converts = rw e (inr converts)
 
-pub memory_converts : (found : Option Wanted) (files : Option Directory) (status before after : ℕ) (old new out now : Option (List ℕ)) → status ≡ 1 → RunsOut before after old new out now
-    → ConvertsByWords found files status before after old new out now
-memory_converts None files status before after old new out now one out_of = tt
-memory_converts (Some wanted) files status before after old new out now one out_of = inl (one, out_of)
+pub memory_converts : (found : Option Wanted) (files later : Option Directory) (status before after : ℕ) (old new out now : Option (List ℕ)) → status ≡ 1 → KeepsFiles files later
+    → RunsOut before after old new out now → ConvertsByWords found files later status before after old new out now
+memory_converts None files later status before after old new out now one stay out_of = tt
+memory_converts (Some wanted) files later status before after old new out now one stay out_of = inl (one, stay, out_of)
 
-pub converts_with_status : (found : Option Wanted) (files : Option Directory) (status other before after : ℕ) (old new out now : Option (List ℕ)) → status ≡ other
-    → ConvertsByWords found files other before after old new out now → ConvertsByWords found files status before after old new out now
-converts_with_status found files status other before after old new out now same converts = rw same converts
+pub converts_with_status : (found : Option Wanted) (files later : Option Directory) (status other before after : ℕ) (old new out now : Option (List ℕ)) → status ≡ other
+    → ConvertsByWords found files later other before after old new out now → ConvertsByWords found files later status before after old new out now
+converts_with_status found files later status other before after old new out now same converts = rw same converts
 
 one_alone : (files : List (List ℕ)) (file : List ℕ) → only_file files ≡ Ok file → file ∷ [] ≡ files
 one_alone [] file e = cc

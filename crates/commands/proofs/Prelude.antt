@@ -31,7 +31,8 @@ pub use Rattle.commands.specs.ProgramFaults.{fault_line, fault_place, file_place
 pub use Rattle.commands.specs.Refusing.{RefusesFiles, RunsOut}
 unfoldable pub use Rattle.commands.specs.Refusing.{RefusesCompiling, RefusesFor, RefusesProgram, RefusesTexts, TellsUnwritten}
 pub use Rattle.commands.specs.Starting.{IsStart}
-pub use Rattle.commands.specs.Running.{DoesAs, GivesInput, PrintsFiles, PrintsMachine, PrintsMeaning, PrintsProgram, PrintsTexts, bytes_to, end_status, source_status, source_word}
+pub use Rattle.commands.specs.Ends.{GivesInput, bytes_to, machine_status, machine_word, source_status, source_word}
+pub use Rattle.commands.specs.Running.{BeginsImage, BeginsMeaning, ImageDoes, PrintsBuilt, PrintsFiles, PrintsImage, PrintsMeaning, PrintsProgram, PrintsTexts, SourceDoes, run_report}
 unfoldable pub use Rattle.commands.specs.Running.{StopsBuilt}
 pub use Rattle.commands.specs.declared.needs.fault.NeedFault.{NeedFault}
 pub use Rattle.commands.specs.internal.LineFaults.{IsWrong}

@@ -1,13 +1,11 @@
 -- What was printed of programs, step by step.
-use Rattle.commands.proofs.Prelude.{◌≡◌, ℕ, ◌≤◌, Bool, true, false, List, [], ◌++◌, length, map, Bor, Option, None, Some, inl, inr, refl, sym, ap, subst, ◌∙◌, append-nil, Appends, Keeps, Appends-trans, AppendsBeginning, beginning_after, texts, Event, Session, Directory, HasFiles, Plan, Joined, CodePlacement, placement_view, ProgramWanted, Values, Action, ToRun, Interpret, MOST_SOURCES, IsProgramOf, program_modules, Construction, IsConstruction, source_of, started, map_if, map_of, DoesAs, GivesInput, IsStart, PrintsFiles, PrintsMachine, PrintsMeaning, PrintsTexts, StopsBuilt, end_status, source_status, source_word, KeepsFiles}
+use Rattle.commands.proofs.Prelude.{◌≡◌, ℕ, ◌≤◌, Bool, true, false, List, [], ◌++◌, length, map, Bor, Option, None, Some, inl, inr, refl, sym, ap, subst, ◌∙◌, append-nil, Appends, Keeps, Appends-trans, AppendsBeginning, beginning_after, texts, Event, Directory, HasFiles, Plan, Joined, CodePlacement, placement_view, ProgramWanted, Values, Action, ToRun, Interpret, MOST_SOURCES, IsProgramOf, program_modules, Construction, IsConstruction, source_of, map_if, map_of, BeginsImage, PrintsBuilt, PrintsFiles, PrintsImage, PrintsTexts, StopsBuilt, machine_word, run_report, source_word, KeepsFiles}
 use Rattle.commands.proofs.InputFiles.{input_there, named}
-use Rattle.commands.specs.InputFiles.{HasInput, quiet_ports}
-use Rattle.commands.specs.OutputFiles.{outputs_of}
+use Rattle.commands.specs.Executing.{StopsImage}
+use Rattle.commands.specs.InputFiles.{HasInput}
 use Rattle.commands.specs.Running.{PrintsRead}
-use Rattle.ports.specs.Events.{IsBeginning}
-use Rattle.printing.specs.{Report.{report_of}, Printing.{BeginsRun, PrintsRun, end_word}}
-use Rattle.cpu8080.specs.{Machine.{Machine}, Runs.{IsRun}, declared.machine.End.{End}}
-use Rattle.meaning.specs.{Outcomes.{Stop}, Run.{Run, source_run}}
+use Rattle.locate.specs.Locating.{Absolute}
+use Rattle.meaning.specs.Run.{source_run}
 
 -- a writer that nothing was sent to
 pub stays_written : (known : Option (List ℕ)) → Keeps known known
@@ -26,95 +24,37 @@ pub nothing_stops : (action : Action) (before : List ℕ) (values : Values) (bui
 unfolding StopsBuilt
 nothing_stops action before values built known = inl (nothing_begun known before)
 
--- a run of an image that was printed, or a beginning of it
-module _ (values : Values) (built : Construction) (memory : List ℕ) (script : Session) (old new : Option (List ℕ)) (start : IsStart values memory) (gives : GivesInput values.input script.script)
-    (none : script.events ≡ []) (unfailed : script.failures ≡ 0) (quiet : List ℕ) (silent : quiet ≡ quiet_ports values) where
-  same_start : started built.image memory script.script script.events script.failures ≡ started built.image memory script.script [] 0
-  same_start =
-      ap (λ (es : List Event). started built.image memory script.script es script.failures) none
-      ∙ ap (λ (n : ℕ). started built.image memory script.script [] n) unfailed
+kept_begun : (old new : Option (List ℕ)) → Keeps old new → AppendsBeginning old new []
+kept_begun None new kept = ([], ([], refl), tt)
+kept_begun (Some one) None kept = absurd kept
+kept_begun (Some one) (Some other) kept = ([], ([], refl), kept ∙ sym (append-nil one))
 
-  pub prints_machine : (end : End) (machine : Machine) (outputs : List (List ℕ)) → PrintsRun quiet values.limit (started built.image memory script.script script.events script.failures) end machine old new
-      → outputs ≡ outputs_of values machine.state.events → PrintsMachine [] values built (end_status end) outputs old new
-  prints_machine end machine outputs ran gathered = record {
-    memory = memory;
-    start = start;
-    script = script.script;
-    gives = gives;
-    end = end;
-    machine = machine;
-    run = subst (λ (from : Machine). IsRun values.limit from end machine) same_start ran.run;
-    ended = refl;
-    gathered = gathered;
-    printed = subst (λ (q : List ℕ). Appends old new (report_of q machine.state.events (end_word end))) silent ran.printed;
-  }
+-- the image of a program is the one that was run
+module _ (values : Values) (built : Construction) (image : Absolute) (old new : Option (List ℕ)) (same : image ≡ built.image) where
+  pub runs_image : (status : ℕ) (outputs : List (List ℕ)) → PrintsImage [] values image status outputs old new → PrintsBuilt ToRun [] values built status outputs old new
+  runs_image status outputs printed = subst (λ (one : Absolute). PrintsImage [] values one status outputs old new) same printed
 
-  pub begins_machine : BeginsRun quiet values.limit (started built.image memory script.script script.events script.failures) old new → StopsBuilt ToRun [] values built old new
+  pub image_stopped : StopsImage values image old new → StopsBuilt ToRun [] values built old new
   unfolding StopsBuilt
-  begins_machine ran = inr (record {
-    memory = memory;
-    start = start;
-    script = script.script;
-    gives = gives;
-    end = ran.end;
-    machine = ran.machine;
-    run = subst (λ (from : Machine). IsRun values.limit from ran.end ran.machine) same_start ran.run;
-    printed = subst (λ (q : List ℕ). AppendsBeginning old new (report_of q ran.machine.state.events (end_word ran.end))) silent ran.printed;
-  })
+  image_stopped (inl kept) = inl (kept_begun old new kept)
+  image_stopped (inr begun) = inr (subst (λ (one : Absolute). BeginsImage [] values one old new) same begun)
 
-  -- a run that was printed whole, of which not all was gathered
-  pub stops_whole : (end : End) (machine : Machine) → PrintsRun quiet values.limit (started built.image memory script.script script.events script.failures) end machine old new
-      → StopsBuilt ToRun [] values built old new
-  stops_whole end machine ran = begins_machine (record { end = end; machine = machine; run = ran.run; printed = whole_begins old new _ ran.printed })
-
--- the meaning of a program that was printed, or a beginning of it
-module _ (values : Values) (built : Construction) (memory : List ℕ) (script : Session) (end : Option Stop) (events : List Event) (old new : Option (List ℕ)) (start : IsStart values memory)
-    (gives : GivesInput values.input script.script) (none : script.events ≡ []) (does : DoesAs (source_of built memory script.script script.events values.limit) end events) where
-  same_run : DoesAs (source_of built memory script.script [] values.limit) end events
-  same_run =
-      let same : source_of built memory script.script script.events values.limit ≡ source_of built memory script.script [] values.limit =
-      ap (λ (es : List Event). source_of built memory script.script es values.limit) none in
-      subst (λ (run : Run). DoesAs run end events) same does
-
-  pub prints_meaning : (outputs : List (List ℕ)) → outputs ≡ outputs_of values events → Appends old new (report_of (quiet_ports values) events (source_word end))
-      → PrintsMeaning [] values built (source_status end) outputs old new
-  prints_meaning outputs gathered printed =
-      record { memory = memory; start = start; script = script.script; gives = gives; end = end; events = events; does = same_run; ended = refl; gathered = gathered; printed = printed }
-
-  pub begins_meaning : (quiet : List ℕ) (shown : List Event) (word : List ℕ) → quiet ≡ quiet_ports values → shown ≡ events → word ≡ source_word end
-      → AppendsBeginning old new (report_of quiet shown word) → StopsBuilt Interpret [] values built old new
-  unfolding StopsBuilt
-  begins_meaning quiet shown word silent are is printed =
-      let begun : AppendsBeginning old new (report_of (quiet_ports values) events (source_word end)) =
-      subst (λ (q : List ℕ). AppendsBeginning old new (report_of q events (source_word end))) silent
-      (subst (λ (es : List Event). AppendsBeginning old new (report_of quiet es (source_word end))) are
-      (subst (λ (w : List ℕ). AppendsBeginning old new (report_of quiet shown w)) is printed)) in
-      inr (record { memory = memory; start = start; script = script.script; gives = gives; end = end; events = events; does = same_run; printed = begun })
-
-module _ (before : List ℕ) (values : Values) (built : Construction) (outputs : List (List ℕ)) (a b c : Option (List ℕ)) where
-  -- after a text that was printed before
-  pub machine_after : (status : ℕ) → Appends a b before → PrintsMachine [] values built status outputs b c → PrintsMachine before values built status outputs a c
-  machine_after status first printed = record {
-    memory = printed.memory;
-    start = printed.start;
-    script = printed.script;
-    gives = printed.gives;
+-- after a text that was printed before
+module _ (before : List ℕ) (values : Values) (built : Construction) (outputs : List (List ℕ)) (a b c : Option (List ℕ)) (status : ℕ) (first : Appends a b before) where
+  action_after : (action : Action) → PrintsBuilt action [] values built status outputs b c → PrintsBuilt action before values built status outputs a c
+  action_after ToRun printed = record {
     end = printed.end;
-    machine = printed.machine;
-    run = printed.run;
+    events = printed.events;
+    steps = printed.steps;
+    does = printed.does;
     ended = printed.ended;
     gathered = printed.gathered;
     printed = Appends-trans a b c before _ first printed.printed;
   }
-
-  pub meaning_after : (status : ℕ) → Appends a b before → PrintsMeaning [] values built status outputs b c → PrintsMeaning before values built status outputs a c
-  meaning_after status first printed = record {
-    memory = printed.memory;
-    start = printed.start;
-    script = printed.script;
-    gives = printed.gives;
+  action_after Interpret printed = record {
     end = printed.end;
     events = printed.events;
+    steps = printed.steps;
     does = printed.does;
     ended = printed.ended;
     gathered = printed.gathered;
@@ -126,43 +66,31 @@ module _ (before : List ℕ) (values : Values) (built : Construction) (a b c : O
   begun_after : (next : List ℕ) → Appends a b before → AppendsBeginning b c next → AppendsBeginning a c (before ++ next)
   begun_after next first begun = beginning_after a b c before next (before ++ next) [] (ap (λ (l : List ℕ). before ++ l) (sym (append-nil next))) first begun
 
-  pub stops_after : (action : Action) → Appends a b before → StopsBuilt action [] values built b c → StopsBuilt action before values built a c
+  stops_after : (action : Action) → Appends a b before → StopsBuilt action [] values built b c → StopsBuilt action before values built a c
   unfolding StopsBuilt
   stops_after action first (inl begun) = inl (subst (λ (l : List ℕ). AppendsBeginning a c l) (append-nil before) (begun_after [] first begun))
   stops_after ToRun first (inr begun) = inr (record {
-    memory = begun.memory;
-    start = begun.start;
-    script = begun.script;
-    gives = begun.gives;
-    end = begun.end;
-    machine = begun.machine;
-    run = begun.run;
-    printed = begun_after (report_of (quiet_ports values) begun.machine.state.events (end_word begun.end)) first begun.printed;
-  })
-  stops_after Interpret first (inr begun) = inr (record {
-    memory = begun.memory;
-    start = begun.start;
-    script = begun.script;
-    gives = begun.gives;
     end = begun.end;
     events = begun.events;
+    steps = begun.steps;
     does = begun.does;
-    printed = begun_after (report_of (quiet_ports values) begun.events (source_word begun.end)) first begun.printed;
+    printed = begun_after (run_report values begun.events begun.steps (machine_word begun.end)) first begun.printed;
+  })
+  stops_after Interpret first (inr begun) = inr (record {
+    end = begun.end;
+    events = begun.events;
+    steps = begun.steps;
+    does = begun.does;
+    printed = begun_after (run_report values begun.events begun.steps (source_word begun.end)) first begun.printed;
   })
 
 -- after the map, where it is wanted
-module _ (wanted : Bool) (values : Values) (built : Construction) (outputs : List (List ℕ)) (a b c : Option (List ℕ)) (status : ℕ) where
-  pub machine_with_map : wanted ≡ true → Appends a b (map_of built) → PrintsMachine [] values built status outputs b c → PrintsMachine (map_if wanted built) values built status outputs a c
-  machine_with_map is_on first printed = rw is_on (machine_after (map_of built) values built outputs a b c status first printed)
+module _ (action : Action) (wanted : Bool) (values : Values) (built : Construction) (outputs : List (List ℕ)) (a b c : Option (List ℕ)) (status : ℕ) where
+  pub with_map : wanted ≡ true → Appends a b (map_of built) → PrintsBuilt action [] values built status outputs b c → PrintsBuilt action (map_if wanted built) values built status outputs a c
+  with_map is_on first printed = rw is_on (action_after (map_of built) values built outputs a b c status first action printed)
 
-  pub meaning_with_map : wanted ≡ true → Appends a b (map_of built) → PrintsMeaning [] values built status outputs b c → PrintsMeaning (map_if wanted built) values built status outputs a c
-  meaning_with_map is_on first printed = rw is_on (meaning_after (map_of built) values built outputs a b c status first printed)
-
-  pub machine_alone : wanted ≡ false → PrintsMachine [] values built status outputs a c → PrintsMachine (map_if wanted built) values built status outputs a c
-  machine_alone is_off printed = rw is_off printed
-
-  pub meaning_alone : wanted ≡ false → PrintsMeaning [] values built status outputs a c → PrintsMeaning (map_if wanted built) values built status outputs a c
-  meaning_alone is_off printed = rw is_off printed
+  pub alone : wanted ≡ false → PrintsBuilt action [] values built status outputs a c → PrintsBuilt action (map_if wanted built) values built status outputs a c
+  alone is_off printed = rw is_off printed
 
 -- the same of what was not printed whole
 module _ (action : Action) (wanted : Bool) (values : Values) (built : Construction) (a b c : Option (List ℕ)) where
@@ -177,36 +105,26 @@ module _ (action : Action) (wanted : Bool) (values : Values) (built : Constructi
   stops_alone is_off stops = rw is_off stops
 
 -- the status of the ending is that of the end
-module _ (before : List ℕ) (values : Values) (built : Construction) (outputs : List (List ℕ)) (old new : Option (List ℕ)) (status of_end : ℕ) where
-  pub machine_status : status ≡ of_end → PrintsMachine before values built of_end outputs old new → PrintsMachine before values built status outputs old new
-  machine_status same printed = subst (λ (s : ℕ). PrintsMachine before values built s outputs old new) (sym same) printed
-
-  pub meaning_status : status ≡ of_end → PrintsMeaning before values built of_end outputs old new → PrintsMeaning before values built status outputs old new
-  meaning_status same printed = subst (λ (s : ℕ). PrintsMeaning before values built s outputs old new) (sym same) printed
+module _ (action : Action) (before : List ℕ) (values : Values) (built : Construction) (outputs : List (List ℕ)) (old new : Option (List ℕ)) (status of_end : ℕ) where
+  pub built_status : status ≡ of_end → PrintsBuilt action before values built of_end outputs old new → PrintsBuilt action before values built status outputs old new
+  built_status same printed = subst (λ (s : ℕ). PrintsBuilt action before values built s outputs old new) (sym same) printed
 
 -- what a program of the interpreter does is what was built
-pub same_source : (built : Construction) (joined : Joined) (placement : CodePlacement) (plan : Plan) (memory : List ℕ) (script : List (List ℕ)) (events : List Event) (budget : ℕ)
+pub same_source : (built : Construction) (joined : Joined) (placement : CodePlacement) (plan : Plan) (memory : List ℕ) (script : List (List ℕ)) (events : List Event)
     → joined ≡ built.program → placement_view placement ≡ built.placement → plan ≡ built.plan
-    → source_run (program_modules joined) (placement_view placement) plan.stack_size memory script events budget ≡ source_of built memory script events budget
-same_source built joined placement plan memory script events budget same at planned =
-    ap (λ (program : Joined). source_run (program_modules program) (placement_view placement) plan.stack_size memory script events budget) same
-    ∙ ap (λ place. source_run (program_modules built.program) place plan.stack_size memory script events budget) at
-    ∙ ap (λ (by : Plan). source_run (program_modules built.program) built.placement by.stack_size memory script events budget) planned
-
-module _ (run source : Run) (same : run ≡ source) where
-  pub ends_so : (stop : Stop) (events : List Event) → run ≡ record { end = stop; events = events } → DoesAs source (Some stop) events
-  ends_so stop events means = sym same ∙ means
-
-  pub fails_so : (events : List Event) → IsBeginning events run.events → DoesAs source None events
-  fails_so events begins = subst (λ (r : Run). IsBeginning events r.events) same begins
+    → source_run (program_modules joined) (placement_view placement) plan.stack_size memory script events ≡ source_of built memory script events
+same_source built joined placement plan memory script events same at planned =
+    ap (λ (program : Joined). source_run (program_modules program) (placement_view placement) plan.stack_size memory script events) same
+    ∙ ap (λ place. source_run (program_modules built.program) place plan.stack_size memory script events) at
+    ∙ ap (λ (by : Plan). source_run (program_modules built.program) built.placement by.stack_size memory script events) planned
 
 -- what was printed of a program that was built of texts
 module _ (with_map : Bool) (values : Values) (texts : List (List ℕ)) (built : Construction) (status : ℕ) (outputs : List (List ℕ)) (old new : Option (List ℕ)) (few : length texts ≤ MOST_SOURCES)
     (program : IsProgramOf texts (program_modules built.program)) (plan : built.plan ≡ values.plan) (construction : IsConstruction built) where
-  pub run_of_texts : PrintsMachine (map_if with_map built) values built status outputs old new → PrintsTexts ToRun with_map values texts status outputs old new
+  pub run_of_texts : PrintsBuilt ToRun (map_if with_map built) values built status outputs old new → PrintsTexts ToRun with_map values texts status outputs old new
   run_of_texts printed = record { built = built; few = few; program = program; plan = plan; construction = construction; printed = printed }
 
-  pub meaning_of_texts : PrintsMeaning (map_if with_map built) values built status outputs old new → PrintsTexts Interpret with_map values texts status outputs old new
+  pub meaning_of_texts : PrintsBuilt Interpret (map_if with_map built) values built status outputs old new → PrintsTexts Interpret with_map values texts status outputs old new
   meaning_of_texts printed = record { built = built; few = few; program = program; plan = plan; construction = construction; printed = printed }
 
 -- the texts are those of files with these names

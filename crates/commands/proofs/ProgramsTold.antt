@@ -1,9 +1,9 @@
 -- What was printed of programs, and why not.
-use Rattle.commands.proofs.Prelude.{◌≡◌, ℕ, List, [], ◌∷◌, Ok, None, Option, Some, inl, inr, sym, subst, ◌∙◌, Directory, KeepsFiles, status_of, TellsRefusal, Ending, Refused, WrongLine, CompileWanted, PlaceWanted, ProgramWanted, Wanted, wants_compile, wants_convert, wants_execute, wants_explain, wants_link, wants_need, wants_place, wants_program, Values, jump_read, only_file, plan_read, values_read, Plan, RefusesCompiling, RunsOut, PrintsFiles, PrintsProgram, RefusesAsWanted, RefusesByWords, RefusesPlaced, RunsAsWanted, RunsByWords, StopsPlaced}
+use Rattle.commands.proofs.Prelude.{◌≡◌, ℕ, List, [], ◌∷◌, Ok, None, Option, Some, inl, inr, sym, subst, ◌∙◌, Directory, KeepsFiles, status_of, TellsRefusal, Ending, Refused, WrongLine, CompileWanted, PlaceWanted, ProgramWanted, Wanted, wants_compile, wants_convert, wants_execute, wants_explain, wants_link, wants_need, wants_place, wants_program, Values, jump_read, only_file, plan_read, values_read, Plan, RefusesCompiling, RunsOut, PrintsFiles, PrintsProgram, RefusesAsWanted, RefusesByWords, RunsAsWanted, RunsByWords, StopsPlaced}
 use Rattle.commands.proofs.Printed.{stays_written}
 use Rattle.commands.proofs.OrdersKept.{not_refused, not_wrong}
 use Rattle.commands.proofs.Delivered.{by_any}
-use Rattle.commands.specs.Orders.{QuietAsWanted, QuietByWords}
+use Rattle.commands.specs.Orders.{QuietAsWanted, QuietByWords, RefusesObject}
 
 -- the values are those that are written
 pub prints_program : (files : Option Directory) (wanted : ProgramWanted) (values : Values) (status : ℕ) (outputs : List (List ℕ)) (old new : Option (List ℕ)) → values_read wanted ≡ Ok values
@@ -11,10 +11,10 @@ pub prints_program : (files : Option Directory) (wanted : ProgramWanted) (values
 prints_program files wanted values status outputs old new written printed = record { values = values; written = written; printed = printed }
 
 -- the one file, the plan and the jump are values, and what was printed of the file stops
-pub refuses_placed : (place : PlaceWanted) (name : List ℕ) (plan : Plan) (jump : Option ℕ) (files : Option Directory) (before after : ℕ) (old new out now : Option (List ℕ))
+pub refuses_object : (place : PlaceWanted) (name : List ℕ) (plan : Plan) (jump : Option ℕ) (files : Option Directory) (before after : ℕ) (old new out now : Option (List ℕ))
     → only_file place.files ≡ Ok name → plan_read place.plan ≡ Ok plan → jump_read place.jump ≡ Ok jump → TellsRefusal files (name ∷ []) before after old new
-    → StopsPlaced place.action files name plan jump out now → RefusesPlaced place files before after old new out now
-refuses_placed place name plan jump files before after old new out now only planned jumping told printed =
+    → StopsPlaced place.action files name plan jump out now → RefusesObject place files before after old new out now
+refuses_object place name plan jump files before after old new out now only planned jumping told printed =
     record { name = name; plan = plan; jump = jump; only = only; planned = planned; jumping = jumping; told = told; printed = printed }
 
 -- compiling prints nothing

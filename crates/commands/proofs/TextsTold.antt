@@ -1,5 +1,8 @@
 -- Texts of the command line that are refused.
 use Rattle.commands.proofs.Prelude.{◌≡◌, ◌⊎◌, ℕ, List, Err, Ok, Option, Some, codes, inl, inr, refl, subst, arith, Kinds, kind_of, DisplayHelp, DisplayVersion, status_of, Tells, refusal_line, Ending, Done, Refused, WrongLine, Limit, Stopped, Outside, IsFaultOf, PlaceWanted, Wanted, wants_place, Read, ◌>>=◌, jump_read, only_file, plan_read, LineFault, Help, Version, Wrong, Plan, AsksHelpAtMost, RefusesNoText, TellsText, TellsTextByWords, IsWrong}
+use Rattle.command_line.specs.declared.orders.PlaceAction.{PlaceAction}
+use Rattle.command_line.specs.declared.orders.PlaceAction.TheVariants.{Locate, Hex, Listing, Symbols}
+use Rattle.commands.specs.Orders.{RefusesPlaceText, TellsObjectText}
 
 pub text_by_words : (found : Option Wanted) (wanted : Wanted) (old new : Option (List ℕ)) → found ≡ Some wanted → TellsText wanted old new → TellsTextByWords found old new
 text_by_words found wanted old new e told = rw e told
@@ -24,23 +27,30 @@ pub done_or_refused : (ending : Ending) → (ending ≡ Done) ⊎ (ending ≡ Re
 done_or_refused ending (inl done) wrong = cc
 done_or_refused ending (inr refused) wrong = cc
 
--- a text of the plan, that of a jump once the plan was read, and a second file after both
+-- a text of the plan
+plan_first : (place : PlaceWanted) (text : List ℕ) (read : Read Plan) → read ≡ Err text → (read >>= (λ plan. jump_read place.jump >>= (λ jump. only_file place.files))) ≡ Err text
+plan_first place text read e = rw e refl
+
+plan_refused : (action : PlaceAction) (place : PlaceWanted) (text : List ℕ) → plan_read place.plan ≡ Err text → RefusesPlaceText action place text
+plan_refused Locate place text refused = plan_first place text (plan_read place.plan) refused
+plan_refused Hex place text refused = plan_first place text (plan_read place.plan) refused
+plan_refused Listing place text refused = refused
+plan_refused Symbols place text refused = refused
+
 pub tells_plan : (place : PlaceWanted) (text : List ℕ) (old new : Option (List ℕ)) → plan_read place.plan ≡ Err text → Tells (refusal_line (codes "U4") text 0) old new
     → TellsText (wants_place place) old new
-tells_plan place text old new refused told = record { text = text; refused = plan_first (plan_read place.plan) refused; told = told }
-  where
-    plan_first : (read : Read Plan) → read ≡ Err text → (read >>= (λ plan. jump_read place.jump >>= (λ jump. only_file place.files))) ≡ Err text
-    plan_first read e = rw e refl
+tells_plan place text old new refused told = record { text = text; refused = plan_refused place.action place text refused; told = told }
 
+-- of an order on one object, that of a jump once the plan was read, and a second file after both
 pub tells_jump : (place : PlaceWanted) (plan : Plan) (text : List ℕ) (old new : Option (List ℕ)) → plan_read place.plan ≡ Ok plan → jump_read place.jump ≡ Err text
-    → Tells (refusal_line (codes "U4") text 0) old new → TellsText (wants_place place) old new
+    → Tells (refusal_line (codes "U4") text 0) old new → TellsObjectText place old new
 tells_jump place plan text old new planned refused told = record { text = text; refused = jump_next (plan_read place.plan) (jump_read place.jump) planned refused; told = told }
   where
     jump_next : (read : Read Plan) (jumping : Read (Option ℕ)) → read ≡ Ok plan → jumping ≡ Err text → (read >>= (λ plan. jumping >>= (λ jump. only_file place.files))) ≡ Err text
     jump_next read jumping e f = rw (e, f) refl
 
 pub tells_second : (place : PlaceWanted) (plan : Plan) (jump : Option ℕ) (text : List ℕ) (old new : Option (List ℕ)) → plan_read place.plan ≡ Ok plan → jump_read place.jump ≡ Ok jump
-    → only_file place.files ≡ Err text → Tells (refusal_line (codes "U4") text 0) old new → TellsText (wants_place place) old new
+    → only_file place.files ≡ Err text → Tells (refusal_line (codes "U4") text 0) old new → TellsObjectText place old new
 tells_second place plan jump text old new planned jumping second told =
     record { text = text; refused = file_next (plan_read place.plan) (jump_read place.jump) (only_file place.files) planned jumping second; told = told }
   where

@@ -4,7 +4,7 @@ use Rattle.std.specs.Io.KnownBytes.{Appends, Keeps}
 use Rattle.failure.specs.Writing.{AppendsBeginning}
 use Rattle.clap.specs.Words.{Text}
 use Rattle.words.specs.declared.limits.TheConstants.{LONGEST_SOURCE}
-use Rattle.host.specs.Files.{Directory, HasFile}
+use Rattle.host.specs.Files.{Directory, HasFile, KeepsFiles}
 use Rattle.host.specs.Refusals.{Tells, memory_line, refusal_line}
 use Rattle.sources.specs.declared.read.ReadFault.{ReadFault}
 use Rattle.sources.specs.declared.read.ReadFault.TheVariants.{TooLong, Words, Expansion, Syntax, Typing, Storage}
@@ -20,7 +20,9 @@ use Rattle.convert.specs.declared.rule.Rule.{Rule}
 use Rattle.convert.specs.Advice.{advice_view, usual_advice}
 use Rattle.convert.specs.Assembly.{Parts, as_it_is}
 use Rattle.convert.specs.Conversion.{IsRefused}
+use Rattle.convert.specs.Edits.{Change}
 use Rattle.convert.specs.Includes.{name_of_file}
+use Rattle.convert.specs.Origins.{line_table}
 use Rattle.convert.specs.Lines.{plain}
 use Rattle.convert.specs.Preparing.{prepared, prepared_notes}
 use Rattle.convert.specs.Table.{rule_view, table_of_rules}
@@ -28,9 +30,11 @@ use Rattle.convert.specs.Sources.{IsConverted, note_lines, place_at}
 use Rattle.command_line.specs.Command.{ConvertWanted, Wanted, wants_compile, wants_convert, wants_execute}
 use Rattle.command_line.specs.Command.{wants_explain, wants_link, wants_need, wants_place, wants_program}
 use Rattle.command_line.specs.Settings.{outputs_in}
+use Rattle.object_commands.specs.Linking.{StopsWriting}
 use Rattle.commands.specs.Including.{IsIncluded, StopsLookingForNext, put_together}
 use Rattle.commands.specs.OutputFiles.{ByOutputs, is_output}
 use Rattle.commands.specs.Refusing.{RunsOut, TellsFile, TellsUnwritten}
+use Rattle.commands.specs.Tables.{BeginsTable, WritesTable}
 
 -- a text is a module of this language, with no fault of names or of types
 abbrev pub IsModule : (text : List ℕ) → Type 0
@@ -88,45 +92,78 @@ medium_of wanted = record { listing = wanted.listing; cards = wanted.cards }
 
 module _ (rules : List Rule) (advice : Advice) (wanted : ConvertWanted) (files : Option Directory)
     (before : List PlacedNote) (text : List ℕ) where
-  -- What a text is printed as with these files, and what is told of it after what was told before: a module stays as it is.
-  -- Of one with a fault of names or of types the words alone are changed.
-  pub data Converts : List Entry → List ℕ → List PlacedNote → Type 0 where
+  -- What a text is printed as with these files, what is told of it after what was told before, and the table of its lines: a
+  -- module stays as it is. Of one with a fault of names or of types the words alone are changed.
+  pub data Converts : List Entry → List ℕ → List PlacedNote → (table : List ℕ) → Type 0 where
     stays : IsModule text
-        → Converts [] text before
-    rewritten : {printed : List ℕ} {notes : List PlacedNote}
+        → Converts [] text before (line_table wanted.file [] (as_it_is before text) [] text)
+    rewritten : {changes : List Change} {printed : List ℕ} {notes : List PlacedNote}
         → IsMistyped text
-        → IsConverted rules (as_it_is before text) printed notes
-        → Converts [] printed notes
-    changed : {entries : List Entry} {parts : Parts} {printed : List ℕ} {notes : List PlacedNote}
+        → IsConverted rules (as_it_is before text) changes printed notes
+        → Converts [] printed notes (line_table wanted.file [] (as_it_is before text) changes printed)
+    changed : {entries : List Entry} {parts : Parts} {changes : List Change} {printed : List ℕ} {notes : List PlacedNote}
         → IsPutTogether advice wanted files before text entries parts
-        → IsConverted rules parts printed notes
-        → Converts entries printed notes
+        → IsConverted rules parts changes printed notes
+        → Converts entries printed notes (line_table wanted.file entries parts changes printed)
 
-  -- all was printed, with nothing to tell
-  pub record PrintsText (old new : Option (List ℕ)) : Type 0 where
+  -- all was printed, with nothing to tell, and the table was written that is wanted
+  pub record PrintsText (now : Option Directory) (old new : Option (List ℕ)) : Type 0 where
     pub entries : List Entry
     pub printed : List ℕ
-    pub converts : Converts entries printed []
+    pub table : List ℕ
+    pub converts : Converts entries printed [] table
     pub appended : Appends old new printed
+    pub tabled : WritesTable wanted.lines files now table
 
-  -- all was printed, and there are notes, which were told, or a beginning of them
-  pub record TellsNotes (err_old err_new out_old out_new : Option (List ℕ)) : Type 0 where
+  -- all was printed, the table was written that is wanted, and there are notes, which were told, or a beginning of them
+  pub record TellsNotes (now : Option Directory) (err_old err_new out_old out_new : Option (List ℕ)) : Type 0 where
     pub entries : List Entry
     pub printed : List ℕ
     pub notes : List PlacedNote
+    pub table : List ℕ
     pub some : 0 < length notes
-    pub converts : Converts entries printed notes
+    pub converts : Converts entries printed notes table
     pub appended : Appends out_old out_new printed
+    pub tabled : WritesTable wanted.lines files now table
     pub told : AppendsBeginning err_old err_new (note_lines wanted.file entries notes)
 
-  -- memory ran out or standard output was not written, where a beginning was printed, which may be nothing or all
-  pub record StopsText (err_old err_new out_old out_new : Option (List ℕ)) : Type 0 where
+  -- memory ran out or standard output was not written, once all of the table was written that is wanted: a beginning was
+  -- printed, which may be nothing or all
+  pub record StopsText (now : Option Directory) (err_old err_new out_old out_new : Option (List ℕ)) : Type 0 where
     pub entries : List Entry
     pub printed : List ℕ
     pub notes : List PlacedNote
-    pub converts : Converts entries printed notes
+    pub table : List ℕ
+    pub converts : Converts entries printed notes table
+    pub tabled : WritesTable wanted.lines files now table
     pub told : TellsUnwritten err_old err_new
     pub begun : AppendsBeginning out_old out_new printed
+
+  -- memory ran out while the table was written that is wanted, of which there is a beginning, and nothing was printed
+  pub record StopsBeforeText (now : Option Directory) (err_old err_new out_old out_new : Option (List ℕ)) : Type 0 where
+    pub entries : List Entry
+    pub printed : List ℕ
+    pub notes : List PlacedNote
+    pub table : List ℕ
+    pub converts : Converts entries printed notes table
+    pub tabled : BeginsTable wanted.lines files now table
+    pub told : Tells memory_line err_old err_new
+    pub nothing : Keeps out_old out_new
+
+  -- the table is wanted in a file of this name, which can't be written: all files are as before, or it has a beginning
+  pub record StopsTable (now : Option Directory) (stop : List ℕ) : Type 0 where
+    pub entries : List Entry
+    pub printed : List ℕ
+    pub notes : List PlacedNote
+    pub table : List ℕ
+    pub converts : Converts entries printed notes table
+    pub wanted_is : wanted.lines ≡ Some stop
+    pub begun : StopsWriting files now stop table
+
+  -- the file at which converting a text stops: one that it includes, with no file changed, or that of the table
+  abbrev pub StopsSource : (now : Option Directory) → (stop : List ℕ) → Type 0
+  StopsSource now stop =
+      (KeepsFiles files now × StopsIncluding advice wanted files before text stop) ⊎ StopsTable now stop
 
   -- the text is not converted, and its fault was told, at the place of its line
   pub record TellsFault (old new : Option (List ℕ)) : Type 0 where
@@ -142,80 +179,86 @@ module _ (rules : List Rule) (advice : Advice) (wanted : ConvertWanted) (files :
     pub long : LONGEST_SOURCE < length text
     pub told : Tells (refusal_line (number_of TooLong) wanted.file 0) old new
 
-  -- why a text was not printed, or not without a word
-  unfoldable pub RefusesText : (err_old err_new out_old out_new : Option (List ℕ)) → Type 0
-  RefusesText err_old err_new out_old out_new =
-      (Keeps out_old out_new
+  -- Why a text was not printed, or not without a word. Where it is refused, no file changes; the table that is wanted is
+  -- written before anything is printed.
+  unfoldable pub RefusesText : (now : Option Directory) → (err_old err_new out_old out_new : Option (List ℕ)) → Type 0
+  RefusesText now err_old err_new out_old out_new =
+      (KeepsFiles files now × Keeps out_old out_new
       × (Tells memory_line err_old err_new ⊎ (TellsLength err_old err_new ⊎ TellsFault err_old err_new)))
-      ⊎ (TellsNotes err_old err_new out_old out_new ⊎ StopsText err_old err_new out_old out_new)
+      ⊎ (TellsNotes now err_old err_new out_old out_new
+      ⊎ (StopsText now err_old err_new out_old out_new ⊎ StopsBeforeText now err_old err_new out_old out_new))
 
-  -- what converting a text prints and tells, and the status
-  unfoldable pub ConvertsText : (status : ℕ) → (err_old err_new out_old out_new : Option (List ℕ)) → Type 0
-  ConvertsText status err_old err_new out_old out_new =
-      ((status ≡ 0) × PrintsText out_old out_new)
-      ⊎ ((status ≡ 1) × RefusesText err_old err_new out_old out_new)
+  -- what converting a text prints, tells and writes, and the status
+  unfoldable pub ConvertsText :
+      (now : Option Directory) → (status : ℕ) → (err_old err_new out_old out_new : Option (List ℕ)) → Type 0
+  ConvertsText now status err_old err_new out_old out_new =
+      ((status ≡ 0) × PrintsText now out_old out_new)
+      ⊎ ((status ≡ 1) × RefusesText now err_old err_new out_old out_new)
 
 -- the file that is wanted has a text, whose source was converted, after what is told of its lines
-pub record ConvertsRead (rules : List Rule) (advice : Advice) (wanted : ConvertWanted) (files : Option Directory)
+pub record ConvertsRead (rules : List Rule) (advice : Advice) (wanted : ConvertWanted) (files now : Option Directory)
     (status : ℕ) (err_old err_new out_old out_new : Option (List ℕ)) : Type 0 where
   pub text : List ℕ
   pub read : HasFile files wanted.file text
   pub converted : ConvertsText rules advice wanted files (prepared_notes advice (medium_of wanted) text)
-      (prepared (medium_of wanted) text) status err_old err_new out_old out_new
+      (prepared (medium_of wanted) text) now status err_old err_new out_old out_new
 
--- the file that is wanted has a text, and a file that its source includes can't be read
-pub record StopsRead (advice : Advice) (wanted : ConvertWanted) (files : Option Directory) (stop : List ℕ) : Type 0 where
+-- the file that is wanted has a text, and a file that its source includes can't be read, or that of the table not written
+pub record StopsRead (rules : List Rule) (advice : Advice) (wanted : ConvertWanted) (files now : Option Directory)
+    (stop : List ℕ) : Type 0 where
   pub text : List ℕ
   pub read : HasFile files wanted.file text
-  pub stops : StopsIncluding advice wanted files (prepared_notes advice (medium_of wanted) text)
-      (prepared (medium_of wanted) text) stop
+  pub stops : StopsSource rules advice wanted files (prepared_notes advice (medium_of wanted) text)
+      (prepared (medium_of wanted) text) now stop
 
--- the file at which converting stops: the one that is wanted, or one that its source includes
-abbrev pub StopsConverting : Advice → ConvertWanted → Option Directory → List ℕ → Type 0
-StopsConverting advice wanted files stop = (stop ≡ wanted.file) ⊎ StopsRead advice wanted files stop
+-- the file at which converting stops: the one that is wanted, with no file changed, or one at which its source stops
+abbrev pub StopsConverting :
+    List Rule → Advice → ConvertWanted → (files now : Option Directory) → (stop : List ℕ) → Type 0
+StopsConverting rules advice wanted files now stop =
+    (KeepsFiles files now × (stop ≡ wanted.file)) ⊎ StopsRead rules advice wanted files now stop
 
--- What converting a file prints and tells, and the status: 1 where it or a file that it includes can't be read or memory ran
--- out, with nothing printed, or else what converting its text does.
+-- What converting a file prints, tells and writes, and the status: 1 where it or a file that it includes can't be read, that
+-- of the table can't be written, or memory ran out, with nothing printed, or else what converting its text does.
 unfoldable pub ConvertsFile :
-    List Rule → Advice → ConvertWanted → Option Directory → (status before after : ℕ)
+    List Rule → Advice → ConvertWanted → (files now : Option Directory) → (status before after : ℕ)
     → (err_old err_new out_old out_new : Option (List ℕ)) → Type 0
-ConvertsFile rules advice wanted files status before after err_old err_new out_old out_new =
+ConvertsFile rules advice wanted files now status before after err_old err_new out_old out_new =
     ((status ≡ 1) × Keeps out_old out_new
-    × TellsFile (StopsConverting advice wanted files) before after err_old err_new)
-    ⊎ (((status ≡ 1) × RunsOut before after err_old err_new out_old out_new)
-    ⊎ ((after ≡ before) × ConvertsRead rules advice wanted files status err_old err_new out_old out_new))
+    × TellsFile (StopsConverting rules advice wanted files now) before after err_old err_new)
+    ⊎ (((status ≡ 1) × KeepsFiles files now × RunsOut before after err_old err_new out_old out_new)
+    ⊎ ((after ≡ before) × ConvertsRead rules advice wanted files now status err_old err_new out_old out_new))
 
 -- the same with the rules and what is told of controls as they are
-pub record ConvertsByTables (wanted : ConvertWanted) (files : Option Directory) (status before after : ℕ)
+pub record ConvertsByTables (wanted : ConvertWanted) (files now : Option Directory) (status before after : ℕ)
     (err_old err_new out_old out_new : Option (List ℕ)) : Type 0 where
   pub rules : List Rule
   pub advice : Advice
   pub rules_are : map rule_view rules ≡ table_of_rules
   pub advice_is : advice_view advice ≡ usual_advice
-  pub converts : ConvertsFile rules advice wanted files status before after err_old err_new out_old out_new
+  pub converts : ConvertsFile rules advice wanted files now status before after err_old err_new out_old out_new
 
--- what an order to convert prints and tells; of other orders that is said elsewhere
+-- what an order to convert prints, tells and writes; of other orders that is said elsewhere
 abbrev pub ConvertsAsWanted :
-    Wanted → Option Directory → (status before after : ℕ)
+    Wanted → (files now : Option Directory) → (status before after : ℕ)
     → (err_old err_new out_old out_new : Option (List ℕ)) → Type 0
-ConvertsAsWanted (wants_convert convert) files status before after err_old err_new out_old out_new =
-    ConvertsByTables convert files status before after err_old err_new out_old out_new
-ConvertsAsWanted (wants_compile compile) files status before after err_old err_new out_old out_new = Unit {0}
-ConvertsAsWanted (wants_program program) files status before after err_old err_new out_old out_new = Unit {0}
-ConvertsAsWanted (wants_link link) files status before after err_old err_new out_old out_new = Unit {0}
-ConvertsAsWanted (wants_place place) files status before after err_old err_new out_old out_new = Unit {0}
-ConvertsAsWanted (wants_need need) files status before after err_old err_new out_old out_new = Unit {0}
-ConvertsAsWanted (wants_execute execute) files status before after err_old err_new out_old out_new = Unit {0}
-ConvertsAsWanted (wants_explain explain) files status before after err_old err_new out_old out_new = Unit {0}
+ConvertsAsWanted (wants_convert convert) files now status before after err_old err_new out_old out_new =
+    ConvertsByTables convert files now status before after err_old err_new out_old out_new
+ConvertsAsWanted (wants_compile compile) files now status before after err_old err_new out_old out_new = Unit {0}
+ConvertsAsWanted (wants_program program) files now status before after err_old err_new out_old out_new = Unit {0}
+ConvertsAsWanted (wants_link link) files now status before after err_old err_new out_old out_new = Unit {0}
+ConvertsAsWanted (wants_place place) files now status before after err_old err_new out_old out_new = Unit {0}
+ConvertsAsWanted (wants_need need) files now status before after err_old err_new out_old out_new = Unit {0}
+ConvertsAsWanted (wants_execute execute) files now status before after err_old err_new out_old out_new = Unit {0}
+ConvertsAsWanted (wants_explain explain) files now status before after err_old err_new out_old out_new = Unit {0}
 
--- the same of what words want, or memory ran out before that was known
+-- the same of what words want, or memory ran out before that was known, with no file changed
 abbrev pub ConvertsByWords :
-    Option Wanted → Option Directory → (status before after : ℕ)
+    Option Wanted → (files now : Option Directory) → (status before after : ℕ)
     → (err_old err_new out_old out_new : Option (List ℕ)) → Type 0
-ConvertsByWords None files status before after err_old err_new out_old out_new = Unit {0}
-ConvertsByWords (Some wanted) files status before after err_old err_new out_old out_new =
-    ((status ≡ 1) × RunsOut before after err_old err_new out_old out_new)
-    ⊎ ConvertsAsWanted wanted files status before after err_old err_new out_old out_new
+ConvertsByWords None files now status before after err_old err_new out_old out_new = Unit {0}
+ConvertsByWords (Some wanted) files now status before after err_old err_new out_old out_new =
+    ((status ≡ 1) × KeepsFiles files now × RunsOut before after err_old err_new out_old out_new)
+    ⊎ ConvertsAsWanted wanted files now status before after err_old err_new out_old out_new
 
 -- one of these files of ports was told, which could not be written, and its failure was counted
 abbrev pub TellsOutput : (before after : ℕ) → (old new : Option (List ℕ)) → (names : List (List ℕ)) → Type 0

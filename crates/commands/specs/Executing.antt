@@ -2,52 +2,24 @@
 use Rattle.std.specs.Prelude.{◌≡◌, ◌⊎◌, ℕ, List, [], Ok, Option}
 use Rattle.std.specs.Io.KnownBytes.{Keeps}
 use Rattle.host.specs.Files.{Directory}
-use Rattle.cpu8080.specs.Machine.{Machine}
-use Rattle.cpu8080.specs.declared.machine.End.{End}
-use Rattle.printing.specs.Printing.{BeginsRun, PrintsRun}
 use Rattle.locate.specs.Locating.{Absolute}
-use Rattle.tool.specs.Execution.{started}
 use Rattle.command_line.specs.Command.{ExecuteWanted}
 use Rattle.command_line.specs.Settings.{Values, execute_read}
 use Rattle.object_commands.specs.Merging.{PlacesMerge, RefusesPlacing}
-use Rattle.commands.specs.InputFiles.{HasInput, input_names, quiet_ports}
-use Rattle.commands.specs.OutputFiles.{outputs_of}
+use Rattle.commands.specs.InputFiles.{HasInput, input_names}
 use Rattle.commands.specs.Refusing.{RefusesFor, RunsOut, TellsUnwritten}
-use Rattle.commands.specs.Running.{GivesInput, end_status}
-use Rattle.commands.specs.Starting.{IsStart}
+use Rattle.commands.specs.Running.{BeginsImage, PrintsImage}
 
--- what an image does on a memory as these values start it, with their input and their limit, was printed, and these
--- are the bytes for the files of ports
-pub record PrintsImage (values : Values) (image : Absolute) (status : ℕ)
-    (outputs : List (List ℕ)) (old new : Option (List ℕ)) : Type 0 where
-  pub memory : List ℕ
-  pub start : IsStart values memory
-  pub script : List (List ℕ)
-  pub gives : GivesInput values.input script
-  pub end : End
-  pub machine : Machine
-  pub run : PrintsRun (quiet_ports values) values.limit (started image memory script [] 0) end machine old new
-  pub ended : status ≡ end_status end
-  pub gathered : outputs ≡ outputs_of values machine.state.events
-
--- a beginning of that was printed
-pub record BeginsImage (values : Values) (image : Absolute) (old new : Option (List ℕ)) : Type 0 where
-  pub memory : List ℕ
-  pub start : IsStart values memory
-  pub script : List (List ℕ)
-  pub gives : GivesInput values.input script
-  pub begun : BeginsRun (quiet_ports values) values.limit (started image memory script [] 0) old new
-
--- nothing was printed, or a beginning of that
+-- of what an image does nothing was printed, or a beginning
 abbrev pub StopsImage : Values → Absolute → (old new : Option (List ℕ)) → Type 0
-StopsImage values image old new = Keeps old new ⊎ BeginsImage values image old new
+StopsImage values image old new = Keeps old new ⊎ BeginsImage [] values image old new
 
 -- the files of the input were read, and with the values that they give this was printed of an image
 pub record PrintsRead (values : Values) (files : Option Directory) (image : Absolute) (status : ℕ)
     (outputs : List (List ℕ)) (old new : Option (List ℕ)) : Type 0 where
   pub full : Values
   pub input : HasInput files values full
-  pub printed : PrintsImage full image status outputs old new
+  pub printed : PrintsImage [] full image status outputs old new
 
 -- the merge of the objects that are wanted, placed by the plan of these values, was run, and this was printed
 pub record PrintsMerge (wanted : ExecuteWanted) (values : Values) (files : Option Directory) (status : ℕ)

@@ -4,6 +4,8 @@ pub use Rattle.command_line.specs.Settings
 pub use Rattle.object_commands.specs.Linking
 pub use Rattle.object_commands.specs.Listing
 pub use Rattle.object_commands.specs.Placing
+pub use Rattle.listings.specs.Programs as ListedPrograms
+pub use Rattle.listings.specs.Symbols
 pub use Rattle.commands.specs.Printing
 pub use Rattle.commands.specs.Compiling
 pub use Rattle.commands.specs.Running
@@ -13,6 +15,7 @@ pub mod Explaining
 pub mod Needing
 pub mod Orders
 pub mod Including
+pub mod Tables
 pub mod Converting
 pub mod internal
 pub use Rattle.commands.specs.NeedFaults as NeedFaults
@@ -23,9 +26,12 @@ pub mod OutputFiles
 pub mod RefusedRuns
 pub mod Map
 pub mod Starting
+pub mod Ends
+pub mod Steps
 pub mod Running
 pub mod ProgramFaults
 pub mod Refusing
+pub mod Showing
 pub use Rattle.commands.specs.Needs
 pub mod NeedFaults
 pub mod Printing

@@ -11,9 +11,8 @@ use Rattle.command_line.specs.Command.{wants_link, wants_need, wants_place, want
 use Rattle.command_line.specs.Settings.{Read, ◌>>=◌, execute_read, jump_read, names_in, only_file, outputs_in, page_read}
 use Rattle.command_line.specs.Settings.{plan_read, values_read}
 use Rattle.command_line.specs.declared.orders.PlaceAction.{PlaceAction}
-use Rattle.command_line.specs.declared.orders.PlaceAction.TheVariants.{Locate, Hex, Listing}
+use Rattle.command_line.specs.declared.orders.PlaceAction.TheVariants.{Locate, Hex, Listing, Symbols}
 use Rattle.object_commands.specs.Linking.{KeepsOthers, LinksFiles, StopsLinking}
-use Rattle.object_commands.specs.Listing.{PrintsListing, StopsListing}
 use Rattle.object_commands.specs.Placing.{PrintsHex, PrintsPlaces, StopsHex, StopsPlaces}
 use Rattle.commands.specs.Compiling.{CompilesFile, StopsCompiling}
 use Rattle.commands.specs.Executing.{PrintsExecution, RefusesExecution}
@@ -22,11 +21,13 @@ use Rattle.commands.specs.OutputFiles.{ByOutputs, ChangesOutputs, DeliversRun}
 use Rattle.commands.specs.RefusedRuns.{RefusesRun}
 use Rattle.commands.specs.Refusing.{RefusesCompiling, RefusesFor, RefusesProgram, RunsOut}
 use Rattle.commands.specs.Running.{PrintsProgram}
+use Rattle.commands.specs.Showing.{PrintsShown, RefusesShown}
 use Rattle.commands.specs.Needing.{PrintsNeedOf, RefusesNeedOf}
+use Rattle.commands.specs.Tables.{KeepsAllBut}
 use Rattle.mem80.specs.declared.plan.Plan.{Plan}
 
--- an order to compile or to link changes no file but the one that it names, and one to run or to interpret none but
--- those of ports that it names; others change none
+-- an order to compile or to link changes no file but the one that it names, one to run or to interpret none but those of
+-- ports that it names, and one to convert none but that of the table that it names, if it does; others change none
 abbrev pub ChangesAsWanted : Wanted → Option Directory → Option Directory → Type 0
 ChangesAsWanted (wants_compile compile) old new = KeepsOthers old new compile.object
 ChangesAsWanted (wants_link link) old new = KeepsOthers old new link.out
@@ -35,10 +36,10 @@ ChangesAsWanted (wants_place place) old new = KeepsFiles old new
 ChangesAsWanted (wants_need need) old new = KeepsFiles old new
 ChangesAsWanted (wants_execute execute) old new = ChangesOutputs (outputs_in execute.output_files) old new
 ChangesAsWanted (wants_explain explain) old new = KeepsFiles old new
-ChangesAsWanted (wants_convert convert) old new = KeepsFiles old new
+ChangesAsWanted (wants_convert convert) old new = KeepsAllBut convert.lines old new
 
 -- the objects that an order to link names are merged in its file, and the source of an order to compile is
--- compiled to its object
+-- compiled to its object; of the table of an order to convert Converting says all
 abbrev pub WritesAsWanted : Wanted → Option Directory → Option Directory → Type 0
 WritesAsWanted (wants_compile compile) old new = CompilesFile old new compile.source compile.object
 WritesAsWanted (wants_link link) old new = LinksFiles old new link.objects link.out
@@ -50,7 +51,8 @@ WritesAsWanted (wants_explain explain) old new = Unit {0}
 WritesAsWanted (wants_convert convert) old new = Unit {0}
 
 -- where an order ends with another status than 0, no file changes, but that of an order to compile or to link may have
--- a beginning of its object, and those of ports may change, of which more is said below
+-- a beginning of its object, and those of ports may change, of which more is said below; and so may that of a table, of
+-- which Converting says all
 abbrev pub StopsAsWanted : Wanted → Option Directory → Option Directory → Type 0
 StopsAsWanted (wants_compile compile) old new = StopsCompiling old new compile.source compile.object
 StopsAsWanted (wants_link link) old new = StopsLinking old new link.objects link.out
@@ -59,18 +61,17 @@ StopsAsWanted (wants_place place) old new = KeepsFiles old new
 StopsAsWanted (wants_need need) old new = KeepsFiles old new
 StopsAsWanted (wants_execute execute) old new = ChangesOutputs (outputs_in execute.output_files) old new
 StopsAsWanted (wants_explain explain) old new = KeepsFiles old new
-StopsAsWanted (wants_convert convert) old new = KeepsFiles old new
+StopsAsWanted (wants_convert convert) old new = KeepsAllBut convert.lines old new
 
 -- what a command on an object file prints of the file of this name, placed by this plan, where a jump may be wanted
 abbrev pub PrintsPlaced :
     PlaceAction → Option Directory → (name : List ℕ) → Plan → (jump : Option ℕ)
     → (old new : Option (List ℕ)) → Type 0
-PrintsPlaced Locate files name plan jump old new = PrintsPlaces files name plan old new
 PrintsPlaced Hex files name plan jump old new = PrintsHex files name plan jump old new
-PrintsPlaced Listing files name plan jump old new = PrintsListing files name plan old new
+PrintsPlaced action files name plan jump old new = PrintsPlaces files name plan old new
 
 -- the one file that is wanted, placed by the plan that the texts write, was printed
-pub record PrintsWanted (place : PlaceWanted) (files : Option Directory)
+pub record PrintsObject (place : PlaceWanted) (files : Option Directory)
     (old new : Option (List ℕ)) : Type 0 where
   pub name : List ℕ
   pub plan : Plan
@@ -80,13 +81,27 @@ pub record PrintsWanted (place : PlaceWanted) (files : Option Directory)
   pub jumping : jump_read place.jump ≡ Ok jump
   pub printed : PrintsPlaced place.action files name plan jump old new
 
--- of that a beginning was printed, or nothing
+-- what is wanted of the files, placed by the plan that the texts write, was printed
+pub record PrintsFilesShown (place : PlaceWanted) (files : Option Directory) (old new : Option (List ℕ)) : Type 0 where
+  pub plan : Plan
+  pub planned : plan_read place.plan ≡ Ok plan
+  pub printed : PrintsShown place.action files place.files plan old new
+
+-- what is wanted of an object, or of files that are listed or whose symbols are wanted, was printed
+abbrev pub PrintsByAction : PlaceAction → PlaceWanted → Option Directory → (old new : Option (List ℕ)) → Type 0
+PrintsByAction Listing place files old new = PrintsFilesShown place files old new
+PrintsByAction Symbols place files old new = PrintsFilesShown place files old new
+PrintsByAction action place files old new = PrintsObject place files old new
+
+abbrev pub PrintsWanted : PlaceWanted → Option Directory → (old new : Option (List ℕ)) → Type 0
+PrintsWanted place files old new = PrintsByAction place.action place files old new
+
+-- of that of an object a beginning was printed, or nothing
 abbrev pub StopsPlaced :
     PlaceAction → Option Directory → (name : List ℕ) → Plan → (jump : Option ℕ)
     → (old new : Option (List ℕ)) → Type 0
-StopsPlaced Locate files name plan jump old new = StopsPlaces files name plan old new
 StopsPlaced Hex files name plan jump old new = StopsHex files name plan jump old new
-StopsPlaced Listing files name plan jump old new = StopsListing files name plan old new
+StopsPlaced action files name plan jump old new = StopsPlaces files name plan old new
 
 -- the need of the sources that are wanted, beside texts that write a plan, was printed
 pub record PrintsNeedWanted (need : NeedWanted) (files : Option Directory)
@@ -95,7 +110,7 @@ pub record PrintsNeedWanted (need : NeedWanted) (files : Option Directory)
   pub planned : plan_read need.plan ≡ Ok plan
   pub printed : PrintsNeedOf files need.files old new
 
--- what an order on an object file prints, one that tells a need, and one to explain a number; one to compile or to
+-- what an order that places prints, one that tells a need, and one to explain a number; one to compile or to
 -- link prints nothing.
 -- What one to run sources or objects or to interpret prints is said below, and of one to convert in Converting
 abbrev pub PrintsAsWanted : Wanted → Option Directory → (old new : Option (List ℕ)) → Type 0
@@ -143,10 +158,10 @@ QuietAsWanted (wants_execute execute) err_old err_new =
 QuietAsWanted (wants_explain explain) err_old err_new = err_new ≡ err_old
 QuietAsWanted (wants_convert convert) err_old err_new = err_new ≡ err_old
 
--- Why an order on an object file is refused. Its plan is one, its jump has an address, and it has one file. What is told is the line of
--- that file, where its failure was counted, or that of another fault, of which no cause is said. Nothing was
+-- Why an order on one object file is refused. Its plan is one, its jump has an address, and it has one file. What is told
+-- is the line of that file, where its failure was counted, or that of another fault, of which no cause is said. Nothing was
 -- printed by then, or a beginning of what is printed of the file.
-pub record RefusesPlaced (place : PlaceWanted) (files : Option Directory) (before after : ℕ)
+pub record RefusesObject (place : PlaceWanted) (files : Option Directory) (before after : ℕ)
     (err_old err_new out_old out_new : Option (List ℕ)) : Type 0 where
   pub name : List ℕ
   pub plan : Plan
@@ -156,6 +171,32 @@ pub record RefusesPlaced (place : PlaceWanted) (files : Option Directory) (befor
   pub jumping : jump_read place.jump ≡ Ok jump
   pub told : TellsRefusal files (name ∷ []) before after err_old err_new
   pub printed : StopsPlaced place.action files name plan jump out_old out_new
+
+-- why files that are listed, or whose symbols are wanted, are refused; their plan is one
+pub record RefusesFilesShown (place : PlaceWanted) (files : Option Directory) (before after : ℕ)
+    (err_old err_new out_old out_new : Option (List ℕ)) : Type 0 where
+  pub plan : Plan
+  pub planned : plan_read place.plan ≡ Ok plan
+  pub refused :
+      RefusesFor (RefusesShown place.action files place.files plan err_old err_new out_old out_new)
+      files place.files before after err_old err_new out_old out_new
+
+-- why an order on an object, or on files that are listed or whose symbols are wanted, is refused
+abbrev pub RefusesByAction :
+    PlaceAction → PlaceWanted → Option Directory → (before after : ℕ)
+    → (err_old err_new out_old out_new : Option (List ℕ)) → Type 0
+RefusesByAction Listing place files before after err_old err_new out_old out_new =
+    RefusesFilesShown place files before after err_old err_new out_old out_new
+RefusesByAction Symbols place files before after err_old err_new out_old out_new =
+    RefusesFilesShown place files before after err_old err_new out_old out_new
+RefusesByAction action place files before after err_old err_new out_old out_new =
+    RefusesObject place files before after err_old err_new out_old out_new
+
+abbrev pub RefusesPlaced :
+    PlaceWanted → Option Directory → (before after : ℕ)
+    → (err_old err_new out_old out_new : Option (List ℕ)) → Type 0
+RefusesPlaced place files before after err_old err_new out_old out_new =
+    RefusesByAction place.action place files before after err_old err_new out_old out_new
 
 -- why an order to tell a need is refused: its plan is one
 pub record RefusesNeed (need : NeedWanted) (files : Option Directory) (before after : ℕ)
@@ -255,11 +296,17 @@ file_read place = do
   jump ← jump_read place.jump
   only_file place.files
 
+-- this text of an order that places is the first that is refused: the name of a second file is one of an object alone
+abbrev pub RefusesPlaceText : PlaceAction → PlaceWanted → (text : List ℕ) → Type 0
+RefusesPlaceText Listing place text = plan_read place.plan ≡ Err text
+RefusesPlaceText Symbols place text = plan_read place.plan ≡ Err text
+RefusesPlaceText action place text = file_read place ≡ Err text
+
 -- this text of what is wanted is the first that is refused: it is none of its option's values, the name of
 -- a second file, or no number of a fault
 abbrev pub RefusesText : Wanted → (text : List ℕ) → Type 0
 RefusesText (wants_program program) text = values_read program ≡ Err text
-RefusesText (wants_place place) text = file_read place ≡ Err text
+RefusesText (wants_place place) text = RefusesPlaceText place.action place text
 RefusesText (wants_need need) text = plan_read need.plan ≡ Err text
 RefusesText (wants_compile compile) text = ⊥
 RefusesText (wants_link link) text = ⊥
@@ -271,6 +318,12 @@ RefusesText (wants_convert convert) text = ⊥
 pub record TellsText (wanted : Wanted) (old new : Option (List ℕ)) : Type 0 where
   pub text : List ℕ
   pub refused : RefusesText wanted text
+  pub told : Tells (refusal_line (codes "U4") text 0) old new
+
+-- the line of the first text of an order on one object was printed that is refused, or a beginning of it
+pub record TellsObjectText (place : PlaceWanted) (old new : Option (List ℕ)) : Type 0 where
+  pub text : List ℕ
+  pub refused : file_read place ≡ Err text
   pub told : Tells (refusal_line (codes "U4") text 0) old new
 
 -- the same of what words want; those that give no order have no such text

@@ -1,3 +1,5 @@
 pub mod LineFaults
 pub mod Reading
 pub mod Converting
+pub mod InputPorts
+pub mod SourceRuns

@@ -1,17 +1,17 @@
 //! Carrying out a command line.
 
-ghost use Rattle.std.specs.Prelude.{◌≡◌, ◌≤◌, []};
+ghost use Rattle.std.specs.Prelude.{◌≡◌, ◌≤◌, [], Ok};
 ghost use Rattle.host.specs.Endings.{status_of};
 ghost use Rattle.host.specs.Refusals.{TellsOther, TellsRefusal};
 ghost use Rattle.clap.specs.Walk.{texts};
 ghost use Rattle.clap.specs.Words.{fault_of};
 ghost use Rattle.host.specs.Files.{KeepsFiles};
 ghost use Rattle.command_line.specs.Command.{plm_app, place_in, program_in, wanted_by, wanted_in, wants_place, wants_program};
-ghost use Rattle.command_line.specs.Settings.{outputs_in};
+ghost use Rattle.command_line.specs.Settings.{outputs_in, plan_read};
 ghost use Rattle.commands.specs.OutputFiles.{ChangesOutputs};
 ghost use Rattle.commands.specs.Refusing.{RefusesProgram};
 ghost use Rattle.commands.specs.Running.{PrintsProgram};
-ghost use Rattle.commands.specs.Orders.{AsksHelpAtMost, ChangesAsWanted, ChangesByWords, PrintsAsWanted, PrintsByWords, PrintsWanted, RefusesAsWanted, RefusesByWords, RefusesNoText, RefusesPlaced, RunsAsWanted, RunsByWords, StopsAsWanted, StopsByWords, QuietAsWanted, QuietByWords, TellsText, TellsTextByWords, WritesAsWanted, WritesByWords, names_by_words, names_of};
+ghost use Rattle.commands.specs.Orders.{AsksHelpAtMost, ChangesAsWanted, ChangesByWords, PrintsAsWanted, PrintsByWords, PrintsObject, PrintsWanted, RefusesAsWanted, RefusesByWords, RefusesNoText, RefusesObject, RefusesPlaced, RunsAsWanted, RunsByWords, StopsAsWanted, StopsByWords, QuietAsWanted, QuietByWords, TellsObjectText, TellsText, TellsTextByWords, WritesAsWanted, WritesByWords, names_by_words, names_of};
 ghost use Rattle.commands.specs.Converting.{ConvertsAsWanted, ConvertsByWords, TellsAsWanted, TellsByWords, TellsOutput, TellsRun};
 ghost use Rattle.commands.specs.internal.LineFaults.{IsWrong};
 
@@ -21,17 +21,20 @@ use crate::explaining::explain_number;
 use crate::needing::tell_need;
 use crate::programs::{carry_out_sources, carry_out_to_files, compile_file};
 use crate::refusals::refuse_value;
+use crate::showing::show_files;
 use command_line::{LineFault, Order, PlaceAction, PlaceOrder, ProgramOrder, command};
 use failure::Failure;
 use host::{Ending, Files, refuse_memory, refuse_write};
-use object_commands::{link_files, print_hex, print_list, print_places};
+use mem80::Plan;
+use object_commands::{link_files, print_hex, print_places};
 use std::alloc::Global;
 use std::io::Write;
 
 /// Carries out the words of a command line, the first of which is the program's name, and answers the exit status. What it
 /// prints goes to `out`, and faults go to `err`, which has nothing more where the status is neither 1 nor 2; a failure of
 /// `err` changes no status. It changes no file but that of `link --out`, which has the merge of the objects where the status
-/// is 0, and that of `compile`, which has an object module then; both may have a beginning of it otherwise. None changes
+/// is 0, that of `compile`, which has an object module then, and that of `convert --lines`, which has the table of the text
+/// that is printed; each may have a beginning of it otherwise. None changes
 /// where the words have a fault or ask for help or the version. Sources that are run or interpreted, where the status is
 /// neither 1 nor 2, have had printed what the machine does with their image, or what they mean, and the status tells how
 /// that ended; any other command ends with status 0 then, and `compile` and `link` print nothing. A file that can't be read
@@ -75,7 +78,8 @@ pub fn run_command<F: Files, O: Write, E: Write>(
         (TellsRefusal (F.files files.old) (names_by_words (wanted_by (texts words.now)))
         (F.failures files.old) (F.failures files.new) (E.contents err.old) (E.contents err.new)) }
     ensures converted { fault_of plm_app (texts words.now) ≡ [] → ConvertsByWords
-        (wanted_by (texts words.now)) (F.files files.old) result (F.failures files.old) (F.failures files.new)
+        (wanted_by (texts words.now)) (F.files files.old) (F.files files.new) result
+        (F.failures files.old) (F.failures files.new)
         (E.contents err.old) (E.contents err.new) (O.contents out.old) (O.contents out.new) }
     ensures refused { fault_of plm_app (texts words.now) ≡ [] → result ≡ 1 → RefusesByWords
         (wanted_by (texts words.now)) (F.files files.old) (F.files files.new)
@@ -125,7 +129,7 @@ fn end_words<F: Files, O: Write, E: Write>(
         (TellsRefusal (F.files files.old) (names_by_words (wanted_by (texts words.now)))
         (F.failures files.old) (F.failures files.new) (E.contents err.old) (E.contents err.new)) }
     ensures converted { fault_of plm_app (texts words.now) ≡ [] → ConvertsByWords
-        (wanted_by (texts words.now)) (F.files files.old) (status_of result)
+        (wanted_by (texts words.now)) (F.files files.old) (F.files files.new) (status_of result)
         (F.failures files.old) (F.failures files.new)
         (E.contents err.old) (E.contents err.new) (O.contents out.old) (O.contents out.new) }
     ensures refused { fault_of plm_app (texts words.now) ≡ [] → result ≡ Ending.Refused → RefusesByWords
@@ -194,7 +198,7 @@ fn carry_out<F: Files, O: Write, E: Write>(
         (TellsRefusal (F.files files.old) (names_of (wanted_in order.now))
         (F.failures files.old) (F.failures files.new) (E.contents err.old) (E.contents err.new)) }
     ensures converted { ConvertsAsWanted (wanted_in order.now) (F.files files.old)
-        (status_of result) (F.failures files.old) (F.failures files.new)
+        (F.files files.new) (status_of result) (F.failures files.old) (F.failures files.new)
         (E.contents err.old) (E.contents err.new) (O.contents out.old) (O.contents out.new) }
     ensures refused { result ≡ Ending.Refused → RefusesAsWanted (wanted_in order.now)
         (F.files files.old) (F.files files.new) (F.failures files.old) (F.failures files.new)
@@ -216,8 +220,8 @@ fn carry_out<F: Files, O: Write, E: Write>(
     }
 }
 
-// Carries out an order on an object file, once the values of its options are known.
-#[tactic(auto, using(host::proofs::FilesRead::stays, crate::proofs::OrdersKept::told_of_only, crate::proofs::TextsTold::done_or_refused, crate::proofs::TextsTold::tells_plan, crate::proofs::TextsTold::tells_jump, crate::proofs::TextsTold::tells_second, crate::proofs::NeedTold::is_done, crate::proofs::NeedTold::refused_not_done, crate::proofs::ProgramsTold::refuses_placed))]
+// Carries out an order on an object file or on sources that are placed, once the values of its options are known.
+#[tactic(auto, using(host::proofs::FilesRead::stays, crate::proofs::TextsTold::done_or_refused, crate::proofs::TextsTold::tells_plan, crate::proofs::NeedTold::is_done, crate::proofs::NeedTold::refused_not_done))]
 fn carry_out_place<F: Files, O: Write, E: Write>(
     alloc: Global,
     order: &PlaceOrder,
@@ -247,6 +251,45 @@ fn carry_out_place<F: Files, O: Write, E: Write>(
         Ok(plan) => plan,
         Err(fault) => return refuse_value(&fault, err),
     };
+    match order.action {
+        PlaceAction::Locate | PlaceAction::Hex => {
+            carry_out_object(alloc, order, &plan, files, out, err)
+        }
+        PlaceAction::Listing | PlaceAction::Symbols => {
+            show_files(alloc, order, &plan, files, out, err)
+        }
+    }
+}
+
+// Carries out an order on one object file, once its plan is known.
+#[tactic(auto, using(host::proofs::FilesRead::stays, crate::proofs::OrdersKept::told_of_only, crate::proofs::TextsTold::done_or_refused, crate::proofs::TextsTold::tells_jump, crate::proofs::TextsTold::tells_second, crate::proofs::NeedTold::is_done, crate::proofs::NeedTold::refused_not_done, crate::proofs::ProgramsTold::refuses_object))]
+fn carry_out_object<F: Files, O: Write, E: Write>(
+    alloc: Global,
+    order: &PlaceOrder,
+    plan: &Plan,
+    files: &mut F,
+    out: &mut O,
+    err: &mut E,
+) -> Ending
+    requires { plan_read (place_in order.now).plan ≡ Ok plan.now }
+    ensures unchanged { KeepsFiles (F.files files.old) (F.files files.new) }
+    ensures printed { result ≡ Ending.Done → PrintsObject (place_in order.now) (F.files files.old)
+        (O.contents out.old) (O.contents out.new) }
+    ensures done { (result ≡ Ending.Refused → ⊥) → (result ≡ Ending.WrongLine → ⊥) →
+        result ≡ Ending.Done }
+    ensures refused_text { result ≡ Ending.WrongLine → TellsObjectText (place_in order.now)
+        (E.contents err.old) (E.contents err.new) }
+    ensures silent { result ≡ Ending.WrongLine → O.contents out.new ≡ O.contents out.old }
+    ensures refused { result ≡ Ending.Refused → RefusesObject (place_in order.now) (F.files files.old)
+        (F.failures files.old) (F.failures files.new)
+        (E.contents err.old) (E.contents err.new) (O.contents out.old) (O.contents out.new) }
+    ensures told { result ≡ Ending.Refused → TellsRefusal (F.files files.old)
+        (place_in order.now).files
+        (F.failures files.old) (F.failures files.new) (E.contents err.old) (E.contents err.new) }
+    ensures count { (result ≡ Ending.Refused → ⊥) → F.failures files.new ≡ F.failures files.old }
+    ensures quiet { (result ≡ Ending.Refused → ⊥) → (result ≡ Ending.WrongLine → ⊥) →
+        E.contents err.new ≡ E.contents err.old }
+{
     let jump = match order.jump() {
         Ok(jump) => jump,
         Err(fault) => return refuse_value(&fault, err),
@@ -256,9 +299,10 @@ fn carry_out_place<F: Files, O: Write, E: Write>(
         Err(fault) => return refuse_value(&fault, err),
     };
     match order.action {
-        PlaceAction::Locate => print_places(alloc, file, &plan, files, out, err),
-        PlaceAction::Hex => print_hex(alloc, file, &plan, jump, files, out, err),
-        PlaceAction::Listing => print_list(alloc, file, &plan, files, out, err),
+        PlaceAction::Hex => print_hex(alloc, file, plan, jump, files, out, err),
+        PlaceAction::Locate | PlaceAction::Listing | PlaceAction::Symbols => {
+            print_places(alloc, file, plan, files, out, err)
+        }
     }
 }
 

@@ -5,23 +5,26 @@ ghost use Rattle.failure.specs.Failure.{IfFault};
 ghost use Rattle.failure.specs.Writing.{AppendsBeginning};
 ghost use Rattle.words.specs.declared.limits.TheConstants.{LONGEST_SOURCE};
 ghost use Rattle.host.specs.Endings.{status_of};
-ghost use Rattle.host.specs.Files.{KeepsFiles};
 ghost use Rattle.host.specs.Refusals.{Tells};
 ghost use Rattle.command_line.specs.Command.{convert_in};
 ghost use Rattle.convert.specs.Assembly.{as_it_is, parts_of};
+ghost use Rattle.convert.specs.Edits.{changes_of};
+ghost use Rattle.convert.specs.Origins.{line_table};
 ghost use Rattle.convert.specs.Sources.{IsConverted, place_at};
 ghost use Rattle.sources.specs.Faults.{line_of};
 ghost use Rattle.commands.specs.Converting.{ConvertsByTables, ConvertsFile, HasNoConversion, IsNoModule, fault_line_at, medium_of};
-ghost use Rattle.commands.specs.internal.Converting.{ConvertsHeld, ConvertsParts, IsOfForm, PrintsNoted, form_of_fault};
+ghost use Rattle.commands.specs.Tables.{KeepsAllBut};
+ghost use Rattle.commands.specs.internal.Converting.{ConvertsHeld, ConvertsParts, IsOfForm, PrintsConverted, PrintsModule, PrintsNoted, PrintsTabled, form_of_fault, table_if};
 
 use crate::including::included_files;
 use command_line::ConvertOrder;
 use convert::{
     Advice, Assembly, Converted, Entry, Medium, PlacedNote, Rule, all_advice, all_rules, assemble,
-    assemble_as_is, convert_source, name_of_file, note_lines, place_at, plain, prepare,
+    assemble_as_is, convert_source, line_table, name_of_file, note_lines, place_at, plain, prepare,
 };
 use failure::{Failure, write_bytes};
 use host::{Ending, Files, refuse, refuse_file, refuse_memory, refuse_name, refuse_output};
+use object_commands::write_file;
 use sources::{LONGEST_SOURCE, ReadFault, read_source};
 use std::alloc::{AllocError, Global};
 use std::io::Write;
@@ -46,9 +49,9 @@ pub(crate) fn convert_by_tables<F: Files, O: Write, E: Write>(
     out: &mut O,
     err: &mut E,
 ) -> Ending
-    ensures unchanged { KeepsFiles (F.files files.old) (F.files files.new) }
+    ensures unchanged { KeepsAllBut (convert_in order.now).lines (F.files files.old) (F.files files.new) }
     ensures converted { ConvertsByTables (convert_in order.now) (F.files files.old)
-        (status_of result) (F.failures files.old) (F.failures files.new)
+        (F.files files.new) (status_of result) (F.failures files.old) (F.failures files.new)
         (E.contents err.old) (E.contents err.new) (O.contents out.old) (O.contents out.new) }
     ensures ending { (result ≡ Ending.Done) ⊎ (result ≡ Ending.Refused) }
     ensures count { (result ≡ Ending.Refused → ⊥) → F.failures files.new ≡ F.failures files.old }
@@ -58,6 +61,7 @@ pub(crate) fn convert_by_tables<F: Files, O: Write, E: Write>(
 }
 
 // Converts the source of an order.
+#[tactic(auto, using(crate::proofs::Tables::kept_same, crate::proofs::Tables::kept_all_but))]
 fn convert_file<F: Files, O: Write, E: Write>(
     alloc: Global,
     rules: &[Rule],
@@ -67,9 +71,9 @@ fn convert_file<F: Files, O: Write, E: Write>(
     out: &mut O,
     err: &mut E,
 ) -> Ending
-    ensures unchanged { KeepsFiles (F.files files.old) (F.files files.new) }
+    ensures unchanged { KeepsAllBut (convert_in order.now).lines (F.files files.old) (F.files files.new) }
     ensures converted { ConvertsFile rules.now advice.now (convert_in order.now) (F.files files.old)
-        (status_of result) (F.failures files.old) (F.failures files.new)
+        (F.files files.new) (status_of result) (F.failures files.old) (F.failures files.new)
         (E.contents err.old) (E.contents err.new) (O.contents out.old) (O.contents out.new) }
     ensures ending { (result ≡ Ending.Done) ⊎ (result ≡ Ending.Refused) }
     ensures count { (result ≡ Ending.Refused → ⊥) → F.failures files.new ≡ F.failures files.old }
@@ -107,6 +111,7 @@ fn medium_of(order: &ConvertOrder) -> Medium
 }
 
 // Converts the source of the file of an order, after what was told before.
+#[tactic(auto, using(crate::proofs::Tables::kept_same, crate::proofs::Tables::kept_all_but))]
 fn convert_text<F: Files, O: Write, E: Write>(
     alloc: Global,
     rules: &[Rule],
@@ -118,9 +123,9 @@ fn convert_text<F: Files, O: Write, E: Write>(
     out: &mut O,
     err: &mut E,
 ) -> Ending
-    ensures unchanged { KeepsFiles (F.files files.old) (F.files files.new) }
+    ensures unchanged { KeepsAllBut (convert_in order.now).lines (F.files files.old) (F.files files.new) }
     ensures converted { ConvertsHeld rules.now advice.now (convert_in order.now) (F.files files.old) before.now
-        text.now (status_of result) (F.failures files.old) (F.failures files.new)
+        text.now (F.files files.new) (status_of result) (F.failures files.old) (F.failures files.new)
         (E.contents err.old) (E.contents err.new) (O.contents out.old) (O.contents out.new) }
     ensures ending { (result ≡ Ending.Done) ⊎ (result ≡ Ending.Refused) }
     ensures count { (result ≡ Ending.Refused → ⊥) → F.failures files.new ≡ F.failures files.old }
@@ -130,8 +135,8 @@ fn convert_text<F: Files, O: Write, E: Write>(
         return refuse(ReadFault::TooLong.number(), order.file, 0, err);
     }
     match form_of(alloc, text) {
-        Ok(Form::Module) => print_noted(alloc, order.file, &[], text, before, out, err),
-        Ok(Form::Mistyped) => rewrite(alloc, rules, order.file, before, text, out, err),
+        Ok(Form::Module) => print_module(alloc, order, before, text, files, out, err),
+        Ok(Form::Mistyped) => rewrite(alloc, rules, order, before, text, files, out, err),
         Ok(Form::Old) => { convert_old(alloc, rules, advice, order, before, text, files, out, err) }
         Err(_) => refuse_memory(err),
     }
@@ -162,28 +167,88 @@ fn form_of_fault(fault: ReadFault) -> Form
     }
 }
 
-// Changes the words of a text that would be a module but for a fault of names or of types.
-fn rewrite<O: Write, E: Write>(
+// Prints a module as it is.
+#[tactic(auto, using(crate::proofs::Tables::kept_same, crate::proofs::Tables::kept_all_but))]
+fn print_module<F: Files, O: Write, E: Write>(
     alloc: Global,
-    rules: &[Rule],
-    name: &str,
+    order: &ConvertOrder,
     before: &[PlacedNote],
     text: &[u8],
+    files: &mut F,
     out: &mut O,
     err: &mut E,
 ) -> Ending
-    ensures converted { ConvertsParts name.now [] rules.now (as_it_is before.now text.now) (status_of result)
+    ensures unchanged { KeepsAllBut (convert_in order.now).lines (F.files files.old) (F.files files.new) }
+    ensures printed { PrintsModule (convert_in order.now) before.now text.now (F.files files.old)
+        (F.files files.new) (status_of result) (F.failures files.old) (F.failures files.new)
         (E.contents err.old) (E.contents err.new) (O.contents out.old) (O.contents out.new) }
     ensures ending { (result ≡ Ending.Done) ⊎ (result ≡ Ending.Refused) }
+    ensures count { (result ≡ Ending.Refused → ⊥) → F.failures files.new ≡ F.failures files.old }
+    ensures quiet { (result ≡ Ending.Refused → ⊥) → E.contents err.new ≡ E.contents err.old }
+{
+    let Ok(table) = module_table(alloc, order, before, text) else {
+        return refuse_memory(err);
+    };
+    print_tabled(
+        alloc,
+        order,
+        table.as_slice(),
+        &[],
+        text,
+        before,
+        files,
+        out,
+        err,
+    )
+}
+
+// The table of lines of a module, if it is wanted.
+fn module_table(
+    alloc: Global,
+    order: &ConvertOrder,
+    before: &[PlacedNote],
+    text: &[u8],
+) -> Result<Vec<u8>, AllocError>
+    ensures { IfOk result (λ table. table.items ≡ table_if (convert_in order.now).lines
+        (line_table order.now.file.now [] (as_it_is before.now text.now) [] text.now)) }
+{
+    match order.lines {
+        Some(_) => {
+            let assembly = assemble_as_is(alloc, before, text)?;
+            line_table(alloc, order.file, &[], &assembly, &[], text)
+        }
+        None => Ok(Vec::new(alloc)),
+    }
+}
+
+// Changes the words of a text that would be a module but for a fault of names or of types.
+#[tactic(auto, using(crate::proofs::Tables::kept_same, crate::proofs::Tables::kept_all_but))]
+fn rewrite<F: Files, O: Write, E: Write>(
+    alloc: Global,
+    rules: &[Rule],
+    order: &ConvertOrder,
+    before: &[PlacedNote],
+    text: &[u8],
+    files: &mut F,
+    out: &mut O,
+    err: &mut E,
+) -> Ending
+    ensures unchanged { KeepsAllBut (convert_in order.now).lines (F.files files.old) (F.files files.new) }
+    ensures converted { ConvertsParts (convert_in order.now) [] rules.now (as_it_is before.now text.now)
+        (F.files files.old) (F.files files.new) (status_of result) (F.failures files.old) (F.failures files.new)
+        (E.contents err.old) (E.contents err.new) (O.contents out.old) (O.contents out.new) }
+    ensures ending { (result ≡ Ending.Done) ⊎ (result ≡ Ending.Refused) }
+    ensures count { (result ≡ Ending.Refused → ⊥) → F.failures files.new ≡ F.failures files.old }
     ensures quiet { (result ≡ Ending.Refused → ⊥) → E.contents err.new ≡ E.contents err.old }
 {
     match assemble_as_is(alloc, before, text) {
-        Ok(assembly) => print_assembly(alloc, rules, name, &[], &assembly, out, err),
+        Ok(assembly) => print_assembly(alloc, rules, order, &[], &assembly, files, out, err),
         Err(_) => refuse_memory(err),
     }
 }
 
 // Converts a text that is no module.
+#[tactic(auto, using(crate::proofs::Tables::kept_same, crate::proofs::Tables::kept_all_but))]
 fn convert_old<F: Files, O: Write, E: Write>(
     alloc: Global,
     rules: &[Rule],
@@ -196,9 +261,9 @@ fn convert_old<F: Files, O: Write, E: Write>(
     err: &mut E,
 ) -> Ending
     requires { IsNoModule text.now }
-    ensures unchanged { KeepsFiles (F.files files.old) (F.files files.new) }
+    ensures unchanged { KeepsAllBut (convert_in order.now).lines (F.files files.old) (F.files files.new) }
     ensures converted { ConvertsHeld rules.now advice.now (convert_in order.now) (F.files files.old) before.now
-        text.now (status_of result) (F.failures files.old) (F.failures files.new)
+        text.now (F.files files.new) (status_of result) (F.failures files.old) (F.failures files.new)
         (E.contents err.old) (E.contents err.new) (O.contents out.old) (O.contents out.new) }
     ensures ending { (result ≡ Ending.Done) ⊎ (result ≡ Ending.Refused) }
     ensures count { (result ≡ Ending.Refused → ⊥) → F.failures files.new ≡ F.failures files.old }
@@ -224,9 +289,10 @@ fn convert_old<F: Files, O: Write, E: Write>(
         Ok(assembly) => print_assembly(
             alloc,
             rules,
-            order.file,
+            order,
             entries.as_slice(),
             &assembly,
+            files,
             out,
             err,
         ),
@@ -235,35 +301,90 @@ fn convert_old<F: Files, O: Write, E: Write>(
 }
 
 // Prints what was put together, converted.
-fn print_assembly<O: Write, E: Write>(
+#[tactic(auto, using(crate::proofs::Tables::kept_same, crate::proofs::Tables::kept_all_but))]
+fn print_assembly<F: Files, O: Write, E: Write>(
     alloc: Global,
     rules: &[Rule],
-    name: &str,
+    order: &ConvertOrder,
     entries: &[Entry],
     assembly: &Assembly,
+    files: &mut F,
     out: &mut O,
     err: &mut E,
 ) -> Ending
-    ensures converted { ConvertsParts name.now entries.now rules.now (parts_of assembly.now) (status_of result)
+    ensures unchanged { KeepsAllBut (convert_in order.now).lines (F.files files.old) (F.files files.new) }
+    ensures converted { ConvertsParts (convert_in order.now) entries.now rules.now (parts_of assembly.now)
+        (F.files files.old) (F.files files.new) (status_of result) (F.failures files.old) (F.failures files.new)
         (E.contents err.old) (E.contents err.new) (O.contents out.old) (O.contents out.new) }
     ensures ending { (result ≡ Ending.Done) ⊎ (result ≡ Ending.Refused) }
+    ensures count { (result ≡ Ending.Refused → ⊥) → F.failures files.new ≡ F.failures files.old }
     ensures quiet { (result ≡ Ending.Refused → ⊥) → E.contents err.new ≡ E.contents err.old }
 {
     match converted_text(alloc, rules, assembly) {
         Ok(converted) => {
-            let notes = converted.notes.as_slice();
-            print_noted(
-                alloc,
-                name,
-                entries,
-                converted.text.as_slice(),
-                notes,
-                out,
-                err,
-            )
+            print_converted(alloc, order, entries, assembly, &converted, files, out, err)
         }
-        Err(Failure::Fault(fault)) => refuse_fault(name, entries, assembly, &fault, err),
+        Err(Failure::Fault(fault)) => refuse_fault(order.file, entries, assembly, &fault, err),
         Err(Failure::Memory) => refuse_memory(err),
+    }
+}
+
+// Prints what was converted.
+#[tactic(auto, using(crate::proofs::Tables::kept_same, crate::proofs::Tables::kept_all_but))]
+fn print_converted<F: Files, O: Write, E: Write>(
+    alloc: Global,
+    order: &ConvertOrder,
+    entries: &[Entry],
+    assembly: &Assembly,
+    converted: &Converted,
+    files: &mut F,
+    out: &mut O,
+    err: &mut E,
+) -> Ending
+    ensures unchanged { KeepsAllBut (convert_in order.now).lines (F.files files.old) (F.files files.new) }
+    ensures printed { PrintsConverted (convert_in order.now) entries.now (parts_of assembly.now)
+        (changes_of converted.now.edits.items) converted.now.text.items converted.now.notes.items
+        (F.files files.old) (F.files files.new) (status_of result) (F.failures files.old) (F.failures files.new)
+        (E.contents err.old) (E.contents err.new) (O.contents out.old) (O.contents out.new) }
+    ensures ending { (result ≡ Ending.Done) ⊎ (result ≡ Ending.Refused) }
+    ensures count { (result ≡ Ending.Refused → ⊥) → F.failures files.new ≡ F.failures files.old }
+    ensures quiet { (result ≡ Ending.Refused → ⊥) → E.contents err.new ≡ E.contents err.old }
+{
+    let Ok(table) = converted_table(alloc, order, entries, assembly, converted) else {
+        return refuse_memory(err);
+    };
+    print_tabled(
+        alloc,
+        order,
+        table.as_slice(),
+        entries,
+        converted.text.as_slice(),
+        converted.notes.as_slice(),
+        files,
+        out,
+        err,
+    )
+}
+
+// The table of lines of what was converted, if it is wanted.
+fn converted_table(
+    alloc: Global,
+    order: &ConvertOrder,
+    entries: &[Entry],
+    assembly: &Assembly,
+    converted: &Converted,
+) -> Result<Vec<u8>, AllocError>
+    ensures { IfOk result (λ table. table.items ≡ table_if (convert_in order.now).lines
+        (line_table order.now.file.now entries.now (parts_of assembly.now)
+        (changes_of converted.now.edits.items) converted.now.text.items)) }
+{
+    match order.lines {
+        Some(_) => {
+            let edits = converted.edits.as_slice();
+            let text = converted.text.as_slice();
+            line_table(alloc, order.file, entries, assembly, edits, text)
+        }
+        None => Ok(Vec::new(alloc)),
     }
 }
 
@@ -274,7 +395,7 @@ fn converted_text(
     assembly: &Assembly,
 ) -> Result<Converted, Failure<ReadFault>>
     ensures converted { IfOk result (λ converted. IsConverted rules.now (parts_of assembly.now)
-        converted.text.items converted.notes.items) }
+        (changes_of converted.edits.items) converted.text.items converted.notes.items) }
     ensures refused { IfFault result (HasNoConversion (parts_of assembly.now).text) }
 {
     if assembly.text.len() > LONGEST_SOURCE {
@@ -304,6 +425,37 @@ fn refuse_fault<E: Write>(
     let file = name_of_file(name.as_bytes(), entries, place.file);
     let line = place.line.min(4_294_967_295) as u32;
     refuse_name(fault.number(), file, line, err)
+}
+
+// Writes the table of a text if it is wanted, prints the text, and tells its notes.
+#[tactic(auto, using(crate::proofs::Tables::kept_same, crate::proofs::Tables::kept_all_but))]
+fn print_tabled<F: Files, O: Write, E: Write>(
+    alloc: Global,
+    order: &ConvertOrder,
+    table: &[u8],
+    entries: &[Entry],
+    text: &[u8],
+    notes: &[PlacedNote],
+    files: &mut F,
+    out: &mut O,
+    err: &mut E,
+) -> Ending
+    ensures unchanged { KeepsAllBut (convert_in order.now).lines (F.files files.old) (F.files files.new) }
+    ensures printed { PrintsTabled (convert_in order.now) entries.now text.now notes.now table.now
+        (F.files files.old) (F.files files.new) (status_of result) (F.failures files.old) (F.failures files.new)
+        (E.contents err.old) (E.contents err.new) (O.contents out.old) (O.contents out.new) }
+    ensures ending { (result ≡ Ending.Done) ⊎ (result ≡ Ending.Refused) }
+    ensures count { (result ≡ Ending.Refused → ⊥) → F.failures files.new ≡ F.failures files.old }
+    ensures quiet { (result ≡ Ending.Refused → ⊥) → E.contents err.new ≡ E.contents err.old }
+{
+    let Some(name) = order.lines else {
+        return print_noted(alloc, order.file, entries, text, notes, out, err);
+    };
+    match write_file(name, table, files) {
+        Ok(()) => print_noted(alloc, order.file, entries, text, notes, out, err),
+        Err(Failure::Fault(fault)) => refuse_file(fault, name, err),
+        Err(Failure::Memory) => refuse_memory(err),
+    }
 }
 
 // Prints a text, and tells its notes.

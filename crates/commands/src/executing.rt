@@ -1,34 +1,29 @@
 //! Orders to run objects, carried out.
 
-ghost use Rattle.std.specs.Prelude.{◌≡◌, ◌⊎◌, ◌++◌, [], IfOk, OnErr, map};
+ghost use Rattle.std.specs.Prelude.{◌≡◌, ◌⊎◌, ◌++◌, [], map};
 ghost use Rattle.host.specs.Endings.{status_of};
 ghost use Rattle.host.specs.Files.{KeepsFiles};
 ghost use Rattle.host.specs.Refusals.{TellsOther, TellsRefusal};
 ghost use Rattle.command_line.specs.Command.{execute_in, wants_execute};
 ghost use Rattle.command_line.specs.Settings.{outputs_in, values_in};
 ghost use Rattle.commands.specs.Converting.{TellsOutput, TellsRun};
-ghost use Rattle.tool.specs.Execution.{started};
-ghost use Rattle.commands.specs.Executing.{PrintsExecution, PrintsImage, PrintsMerge, PrintsRead, RefusesExecution, RefusesObjects, StopsImage, StopsRead};
+ghost use Rattle.commands.specs.Executing.{PrintsExecution, PrintsMerge, PrintsRead, RefusesExecution, RefusesObjects, StopsImage, StopsRead};
 ghost use Rattle.commands.specs.InputFiles.{input_names};
 ghost use Rattle.commands.specs.OutputFiles.{ChangesOutputs, DeliversRun, KeepsAllBut, output_names};
 ghost use Rattle.commands.specs.RefusedRuns.{RefusesRun};
 ghost use Rattle.commands.specs.Refusing.{RefusesFor, TellsUnwritten};
 ghost use Rattle.commands.specs.Orders.{QuietAsWanted, RefusesAsWanted, RunsAsWanted, TellsText, names_of};
-ghost use Rattle.commands.specs.Running.{end_status};
+ghost use Rattle.commands.specs.Running.{PrintsImage};
 
-use crate::port_inputs::{quiet_of, read_input};
-use crate::port_outputs::{deliver, put_outputs};
-use crate::programs::{ending_of, script_of, start_memory};
+use crate::image_runs::{ending_of, print_image};
+use crate::port_inputs::read_input;
+use crate::port_outputs::deliver;
 use crate::refusals::refuse_value;
 use command_line::{ExecuteOrder, Settings};
-use cpu8080::{DecodeTable, End, Machine};
-use failure::{Failure, WriteFault};
+use failure::Failure;
 use host::{Ending, Files, refuse_file, refuse_memory, refuse_output};
 use locate::Absolute;
-use mem80::Memory;
 use object_commands::place_merge;
-use ports::Script;
-use printing::print_machine;
 use std::alloc::Global;
 use std::io::Write;
 
@@ -276,62 +271,13 @@ fn run_placed<O: Write, E: Write>(
     ensures stopped { result ≡ Ending.Refused → StopsImage (values_in values.now) image.now
         (O.contents out.old) (O.contents out.new) }
     ensures quiet { (result ≡ Ending.Refused → ⊥) → E.contents err.new ≡ E.contents err.old }
-    ensures ran { (result ≡ Ending.Refused → ⊥) → PrintsImage (values_in values.now) image.now
+    ensures ran { (result ≡ Ending.Refused → ⊥) → PrintsImage [] (values_in values.now) image.now
         (status_of result) (map (λ output. output.items) outputs.new.items)
         (O.contents out.old) (O.contents out.new) }
 {
-    match print_placed(alloc, image, values, outputs, out) {
+    match print_image(alloc, image, values, outputs, out) {
         Ok(end) => ending_of(end),
         Err(Failure::Fault(_)) => refuse_output(err),
         Err(Failure::Memory) => refuse_memory(err),
     }
-}
-
-// Prints what an image does on a memory as values start it, and gathers the bytes for the files of ports. After a failure
-// nothing was printed, or a beginning of that.
-#[tactic(auto, using(crate::proofs::Executed::no_image, crate::proofs::Executed::prints_image, crate::proofs::Executed::begins_image, crate::proofs::Executed::image_whole))]
-fn print_placed<O: Write>(
-    alloc: Global,
-    image: &Absolute,
-    values: &Settings,
-    outputs: &mut Vec<Vec<u8>>,
-    out: &mut O,
-) -> Result<End, Failure<WriteFault>>
-    ensures ok { IfOk result (λ end. PrintsImage (values_in values.now) image.now (end_status end)
-        (map (λ output. output.items) outputs.new.items) (O.contents out.old) (O.contents out.new)) }
-    ensures err { OnErr result
-        (StopsImage (values_in values.now) image.now (O.contents out.old) (O.contents out.new)) }
-{
-    let Ok(memory) = start_memory(alloc, values) else {
-        return Err(Failure::Memory);
-    };
-    let Ok(script) = script_of(alloc, values.input.as_slice()) else {
-        return Err(Failure::Memory);
-    };
-    let Ok(quiet) = quiet_of(alloc, values) else {
-        return Err(Failure::Memory);
-    };
-    let Ok(table) = DecodeTable::new(alloc) else {
-        return Err(Failure::Memory);
-    };
-    let mut machine = machine_of(image, memory, script, table);
-    let end = print_machine(&mut machine, values.limit, quiet.as_slice(), out)?;
-    let Ok(()) = put_outputs(alloc, values, machine.ports().events(), outputs) else {
-        return Err(Failure::Memory);
-    };
-    Ok(end)
-}
-
-// A machine at its start: with an image loaded into a memory, this script, and a table for what it decodes.
-fn machine_of(
-    image: &Absolute,
-    memory: Memory,
-    script: Script,
-    table: DecodeTable,
-) -> Machine<Script>
-    ensures { result ≡ started image.now memory script.script script.events script.failures }
-{
-    let mut memory = memory;
-    image.load(&mut memory);
-    Machine::with_table(memory, script, image.start(), table)
 }

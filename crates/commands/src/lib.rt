@@ -5,7 +5,9 @@ mod console;
 mod converting;
 mod executing;
 mod explaining;
+mod image_runs;
 mod including;
+mod input_ports;
 mod needing;
 mod needs;
 mod port_inputs;
@@ -13,5 +15,7 @@ mod port_outputs;
 mod printed_needs;
 mod programs;
 mod refusals;
+mod reports;
+mod showing;
 
 pub use console::run_command;

@@ -1,3 +1,5 @@
 pub mod Short
 pub mod Taken
 pub mod Deeper
+pub mod LinesOfPlaces
+pub mod LinesCounted

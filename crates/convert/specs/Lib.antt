@@ -18,6 +18,7 @@ pub mod Includes
 pub mod Advice
 pub mod Assembly
 pub mod Sources
+pub mod Origins
 pub mod Columns
 pub mod Cards
 pub mod Listings

@@ -24,10 +24,10 @@ place_at places line =
 abbrev pub placed : List Place → Note → PlacedNote
 placed places note = record { place = place_at places note.line; text = note.text }
 
--- What was put together is converted to a text, and this is told: first of lines with controls, and then of words, which are
--- changed by the rules.
-pub record IsConverted (rules : List Rule) (parts : Parts) (text : List ℕ) (notes : List PlacedNote) : Type 0 where
-  pub changes : List Change
+-- What was put together is converted to a text by these changes, and this is told: first of lines with controls, and then of
+-- words, which are changed by the rules.
+pub record IsConverted (rules : List Rule) (parts : Parts) (changes : List Change) (text : List ℕ) (notes : List PlacedNote)
+    : Type 0 where
   pub told : List Note
   pub conversion : IsConversion rules parts.text text changes told
   pub notes_are : notes ≡ parts.notes ++ map (placed parts.places) told

@@ -5,11 +5,13 @@ ghost use Rattle.failure.specs.Failure.{IfFault};
 ghost use Rattle.words.specs.declared.limits.TheConstants.{LONGEST_SOURCE};
 ghost use Rattle.convert.specs.Assembly.{parts_of};
 ghost use Rattle.convert.specs.Conversion.{IsRefused};
+ghost use Rattle.convert.specs.Edits.{changes_of};
 ghost use Rattle.convert.specs.Sources.{IsConverted, note_line, note_lines, place_at, placed};
 
 use crate::assembly::{Assembly, Place, PlacedNote};
 use crate::conversion::{Conversion, convert};
 use crate::converting::Note;
+use crate::edit::Edit;
 use crate::includes::{Entry, name_of_file};
 use crate::rule::Rule;
 use failure::Failure;
@@ -18,10 +20,11 @@ use literally::Fault;
 use std::alloc::{AllocError, Global};
 use words::LONGEST_SOURCE;
 
-/// A converted source: its text, and what could not be carried out or changed.
+/// A converted source: its text, the changes that made it, and what could not be carried out or changed.
 #[derive(Drop)]
 pub struct Converted {
     pub text: Vec<u8>,
+    pub edits: Vec<Edit>,
     pub notes: Vec<PlacedNote>,
 }
 
@@ -46,7 +49,7 @@ pub fn convert_source(
 ) -> Result<Converted, Failure<Fault>>
     requires { length assembly.now.text.items ≤ LONGEST_SOURCE }
     ensures converted { IfOk result (λ converted. IsConverted rules.now (parts_of assembly.now)
-        converted.text.items converted.notes.items) }
+        (changes_of converted.edits.items) converted.text.items converted.notes.items) }
     ensures fault { IfFault result (IsRefused (parts_of assembly.now).text) }
 {
     let conversion = convert(alloc, rules, assembly.text.as_slice())?;
@@ -67,6 +70,7 @@ fn join_notes(
     conversion: Conversion,
 ) -> Result<Converted, AllocError>
     ensures text { IfOk result (λ converted. converted.text ≡ conversion.text) }
+    ensures edits { IfOk result (λ converted. converted.edits ≡ conversion.edits) }
     ensures notes { IfOk result (λ converted. converted.notes.items
         ≡ first.now ++ map (placed places.now) conversion.notes.items) }
 {
@@ -74,6 +78,7 @@ fn join_notes(
     add_notes(places, conversion.notes.as_slice(), &mut notes)?;
     Ok(Converted {
         text: conversion.text,
+        edits: conversion.edits,
         notes,
     })
 }

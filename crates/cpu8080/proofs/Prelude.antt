@@ -13,5 +13,5 @@ pub use Rattle.cpu8080.specs.declared.lines.TheConstants.{CODES, LINE_BYTES, LIN
 pub use Rattle.cpu8080.specs.declared.machine.End.TheVariants.{Halted, Illegal, PortFault}
 pub use Rattle.cpu8080.specs.internal.Finish.{Performs, Unchanged, finish, registers_at}
 pub use Rattle.cpu8080.specs.internal.Lines.{AreNumbered, Follows, IsLine, IsOneOf, after_part, after_parts, all_lines, are_near, begin_within, line_parts, near_at, parts_at, parts_of, stand}
-pub use Rattle.cpu8080.specs.internal.Parts.{ComesAlone, MayTake, machine_at}
+pub use Rattle.cpu8080.specs.internal.MachineParts.{ComesAlone, MayTake, machine_at}
 pub use Rattle.cpu8080.specs.internal.Tables.{AreEmptied, AreKnown, AreMarked}

@@ -2,5 +2,5 @@
 pub mod Finish
 pub mod Lines
 pub mod PairBytes
-pub mod Parts
+pub mod MachineParts
 pub mod Tables

@@ -7,6 +7,7 @@ use Rattle.command_line.specs.Command.{plm_app, wanted_by}
 use Rattle.commands.specs.Orders.{AsksHelpAtMost, ChangesByWords, PrintsByWords, QuietByWords, RefusesByWords, RefusesNoText, RunsByWords, StopsByWords, TellsTextByWords, WritesByWords, names_by_words}
 use Rattle.commands.specs.Converting.{ConvertsByWords, TellsByWords, TellsOutput}
 use Rattle.explaining.specs.Growing.{Grows}
+use Rattle.explaining.specs.Looking.{Looks}
 
 -- These words end with this status; the files, the count of their failures, standard error and standard output go from the
 -- first of each pair to the second. Each field is the clause of `run_command` that has its name.
@@ -30,7 +31,7 @@ pub record Ends
   pub told : status ≡ 1 → TellsByWords (wanted_by words) (TellsOutput before after err_old err_new)
       (TellsRefusal files (names_by_words (wanted_by words)) before after err_old err_new)
   pub converted : fault_of plm_app words ≡ [] → ConvertsByWords
-      (wanted_by words) files status before after err_old err_new out_old out_new
+      (wanted_by words) files new status before after err_old err_new out_old out_new
   pub refused : fault_of plm_app words ≡ [] → status ≡ 1 → RefusesByWords
       (wanted_by words) files new before after err_old err_new out_old out_new
   pub silent : fault_of plm_app words ≡ [] → status ≡ 2 → out_new ≡ out_old
@@ -38,10 +39,13 @@ pub record Ends
   pub count : (status ≡ 1 → ⊥) → after ≡ before
   pub quiet : (status ≡ 1 → ⊥) → (status ≡ 2 → ⊥) → QuietByWords (wanted_by words) err_old err_new
 
--- the same, and then something more on standard error
+-- the same, and then so many tables were looked for at most, and something more is on standard error
 pub record EndsExplained
-    (words : List Text) (status : ℕ) (files new : Option Directory) (before after : ℕ)
+    (words : List Text) (tables status : ℕ) (files new : Option Directory) (before after : ℕ)
     (err_old err_new out_old out_new : Option (List ℕ)) : Type 0 where
   pub left : Option (List ℕ)
-  pub ends : Ends words status files new before after err_old left out_old out_new
+  pub ended : Option Directory
+  pub counted : ℕ
+  pub ends : Ends words status files ended before counted err_old left out_old out_new
+  pub looks : Looks tables ended new counted after
   pub grows : Grows left err_new

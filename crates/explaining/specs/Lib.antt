@@ -1,3 +1,4 @@
 pub mod Asking
 pub mod Growing
+pub mod Looking
 pub mod Ending

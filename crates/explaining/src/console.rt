@@ -1,13 +1,14 @@
 //! Carrying out a command line, and explaining how it ended.
 
-ghost use Rattle.std.specs.Prelude.{◌≡◌, false, true, IfOk, OnErr};
+ghost use Rattle.std.specs.Prelude.{◌≡◌, false, true, length, IfOk, OnErr};
 ghost use Rattle.clap.specs.Walk.{texts};
-ghost use Rattle.explaining.specs.Asking.{asks, plain_words};
+ghost use Rattle.explaining.specs.Asking.{asks, plain_words, table_count};
 ghost use Rattle.explaining.specs.Ending.{Ends, EndsExplained};
 ghost use Rattle.explaining.specs.Growing.{Grows};
+ghost use Rattle.explaining.specs.Looking.{Looks};
 
-use crate::asking::{asks, plain_words};
-use crate::explanation::explanation;
+use crate::asking::{asks, plain_words, table_names};
+use crate::explanation::{explanation, is_of_line};
 use crate::kept_files::KeptFiles;
 use crate::kept_lines::KeptLines;
 use commands::run_command;
@@ -17,9 +18,10 @@ use std::alloc::{AllocError, Global};
 use std::io::Write;
 
 /// Carries out the words of a command line, as `run_command` does, and answers the exit status. Where one of them is
-/// `--explain`, before a word `--`, it carries out the others, and then explains on `err` how they ended: `err` has what
-/// `run_command` leaves there, and maybe something after it. It fails only if memory runs out for the words, before
-/// anything is done.
+/// `--explain`, or begins with `--explain=`, before a word `--`, it carries out the others, and then explains on `err` how
+/// they ended: `err` has what `run_command` leaves there, and maybe something after it. What follows `--explain=` is the
+/// name of a table of lines, which is read after that, where a fault in a line of a source was told. It fails only if
+/// memory runs out for the words, before anything is done.
 pub fn run_words<F: Files, O: Write, E: Write>(
     alloc: Global,
     words: &[&str],
@@ -32,7 +34,8 @@ pub fn run_words<F: Files, O: Write, E: Write>(
         (F.failures files.old.inner) (F.failures files.new.inner)
         (E.contents err.old.inner) (E.contents err.new.inner) (O.contents out.old) (O.contents out.new)) }
     ensures explained { IfOk result (λ status. asks (texts words.now) ≡ true → EndsExplained
-        (plain_words (texts words.now)) status (F.files files.old.inner) (F.files files.new.inner)
+        (plain_words (texts words.now)) (table_count (texts words.now)) status
+        (F.files files.old.inner) (F.files files.new.inner)
         (F.failures files.old.inner) (F.failures files.new.inner)
         (E.contents err.old.inner) (E.contents err.new.inner) (O.contents out.old) (O.contents out.new)) }
     ensures files { OnErr result (files.new ≡ files.old) }
@@ -71,7 +74,8 @@ fn run_asked<F: Files, O: Write, E: Write>(
     err: &mut KeptLines<E>,
 ) -> Result<u8, AllocError>
     ensures explained { IfOk result (λ status. EndsExplained
-        (plain_words (texts words.now)) status (F.files files.old.inner) (F.files files.new.inner)
+        (plain_words (texts words.now)) (table_count (texts words.now)) status
+        (F.files files.old.inner) (F.files files.new.inner)
         (F.failures files.old.inner) (F.failures files.new.inner)
         (E.contents err.old.inner) (E.contents err.new.inner) (O.contents out.old) (O.contents out.new)) }
     ensures files { OnErr result (files.new ≡ files.old) }
@@ -79,39 +83,70 @@ fn run_asked<F: Files, O: Write, E: Write>(
     ensures out { OnErr result (out.new ≡ out.old) }
 {
     let plain = plain_words(alloc, words)?;
-    Ok(run_explained(alloc, plain.as_slice(), files, out, err))
+    let tables = table_names(alloc, words)?;
+    Ok(run_explained(alloc, plain.as_slice(), tables.as_slice(), files, out, err))
 }
 
-// Carries out words, and explains how they ended.
+// Carries out words, and explains how they ended, with tables of these names.
+#[tactic(auto, using(crate::proofs::Looked::explained))]
 fn run_explained<F: Files, O: Write, E: Write>(
     alloc: Global,
     words: &[&str],
+    tables: &[&str],
     files: &mut KeptFiles<F>,
     out: &mut O,
     err: &mut KeptLines<E>,
 ) -> u8
     ensures { EndsExplained
-        (texts words.now) result (F.files files.old.inner) (F.files files.new.inner)
+        (texts words.now) (length tables.now) result (F.files files.old.inner) (F.files files.new.inner)
         (F.failures files.old.inner) (F.failures files.new.inner)
         (E.contents err.old.inner) (E.contents err.new.inner) (O.contents out.old) (O.contents out.new) }
 {
     files.keep();
     err.keep();
     let status = run_whole(alloc, words, files, out, err);
-    explain(alloc, words, files, status, err);
+    explain(alloc, words, tables, files, status, err);
     status
 }
 
 // Prints how a command ended, of which the files that it read and the lines that it printed are kept.
-fn explain<F, E: Write>(
+fn explain<F: Files, E: Write>(
     alloc: Global,
     words: &[&str],
-    files: &KeptFiles<F>,
+    tables: &[&str],
+    files: &mut KeptFiles<F>,
     status: u8,
     err: &mut KeptLines<E>,
 )
-    ensures { Grows (E.contents err.old.inner) (E.contents err.new.inner) }
+    ensures looks { Looks (length tables.now) (F.files files.old.inner) (F.files files.new.inner)
+        (F.failures files.old.inner) (F.failures files.new.inner) }
+    ensures grows { Grows (E.contents err.old.inner) (E.contents err.new.inner) }
 {
-    let page = explanation(alloc, words, files.kept(), status, err.kept());
+    look_if(is_of_line(status, err.kept()), tables, files);
+    let page = explanation(alloc, words, tables, files.kept(), status, err.kept());
     let _ = write_bytes(err, page.bytes());
+}
+
+// Looks for files, if they are wanted.
+#[tactic(auto, using(crate::proofs::Looked::looks_none))]
+fn look_if<F: Files>(are_wanted: bool, names: &[&str], files: &mut KeptFiles<F>)
+    ensures { Looks (length names.now) (F.files files.old.inner) (F.files files.new.inner)
+        (F.failures files.old.inner) (F.failures files.new.inner) }
+{
+    if are_wanted {
+        look_for_all(names, files);
+    }
+}
+
+// Looks for files.
+#[tactic(auto, using(crate::proofs::Looked::begun, crate::proofs::Looked::ended))]
+fn look_for_all<F: Files>(names: &[&str], files: &mut KeptFiles<F>)
+    ensures { Looks (length names.now) (F.files files.old.inner) (F.files files.new.inner)
+        (F.failures files.old.inner) (F.failures files.new.inner) }
+{
+    let mut rest = names;
+    while let [name, more @ ..] = rest {
+        files.look_for(name);
+        rest = more;
+    }
 }

@@ -3,18 +3,21 @@
 use crate::globals::{add_missing, show_declarations};
 use crate::kept_files::{Content, KeptFile, find_kept};
 use crate::kinds::{as_object, kind_of};
-use crate::options::{add_plan, add_values};
+use crate::options::{add_plan, add_values, has_flag};
+use crate::origins::add_origins;
 use crate::page::Page;
 use crate::refused::explain_source;
 use crate::sentences::{meaning_of, meaning_of_end};
 use crate::told::{Told, told_in};
 use std::alloc::Global;
 
-// What is looked at beside the line of a fault: the words of the command line, and the files that were read.
+// What is looked at beside the line of a fault: the words of the command line, the names of tables of lines, and the files
+// that were read.
 #[derive(Clone, Copy)]
 struct Seen<'s> {
     alloc: Global,
     words: &'s [&'s str],
+    tables: &'s [&'s str],
     files: &'s [KeptFile],
 }
 
@@ -118,15 +121,17 @@ fn explain_fault(page: &mut Page, seen: &Seen, told: Told) {
     } else if is_of_group(told.number, b'C')
         && let Some(text) = bytes_of(seen, told.place)
     {
-        explain_source(page, seen.alloc, told, text);
+        let mut origins = Page::new(seen.alloc);
+        add_origins(&mut origins, seen.files, seen.tables, told, text);
+        explain_source(page, seen.alloc, told, text, &origins);
     } else {
         explain_program(page, seen, told);
     }
 }
 
 // Adds how a run ended that did not halt.
-fn explain_end(page: &mut Page, status: u8) {
-    if let Some(meaning) = meaning_of_end(status) {
+fn explain_end(page: &mut Page, words: &[&str], status: u8) {
+    if let Some(meaning) = meaning_of_end(status, has_flag(words, "--until-dry")) {
         page.begin();
         page.text(meaning);
         page.text(". See docs/faults.md, \"How a run ends\"");
@@ -134,11 +139,20 @@ fn explain_end(page: &mut Page, status: u8) {
     }
 }
 
-/// What is said of how a command ended, by its words, the files that it read, its status, and what it printed on standard
-/// error.
+/// Whether a fault in a line of a source was told, by the status of a command and what it printed on standard error.
+pub(crate) fn is_of_line(status: u8, printed: &[u8]) -> bool {
+    match told_in(printed) {
+        Some(told) => (status == 1 || status == 2) && is_of_group(told.number, b'C'),
+        None => false,
+    }
+}
+
+/// What is said of how a command ended, by its words, the names of tables of lines, the files that were read, its status, and
+/// what it printed on standard error.
 pub(crate) fn explanation(
     alloc: Global,
     words: &[&str],
+    tables: &[&str],
     files: &[KeptFile],
     status: u8,
     printed: &[u8],
@@ -147,11 +161,12 @@ pub(crate) fn explanation(
     let seen = Seen {
         alloc,
         words,
+        tables,
         files,
     };
     match told_in(printed) {
         Some(told) if status == 1 || status == 2 => explain_fault(&mut page, &seen, told),
-        _ => explain_end(&mut page, status),
+        _ => explain_end(&mut page, words, status),
     }
     page
 }

@@ -1,6 +1,6 @@
 //! Files that are remembered as they are read.
 
-ghost use Rattle.std.specs.Prelude.{◌≡◌, IfErr, IfOk, OnOk, option_map};
+ghost use Rattle.std.specs.Prelude.{◌≡◌, ◌≤◌, ◌+◌, min, IfErr, IfOk, OnOk, option_map};
 ghost use Rattle.host.specs.Files.{Counts, FindsFile, HasFile, KeepsFiles};
 
 use failure::Failure;
@@ -134,6 +134,23 @@ impl<F: Files> KeptFiles<F> {
                 self.add(name.as_bytes(), Content::Closed);
                 Err(failure)
             }
+        }
+    }
+
+    /// Looks for a file, and keeps what is known of it, where that is not known yet.
+    #[tactic(auto, using(host::proofs::FilesRead::stays, crate::proofs::Looked::counted_up, crate::proofs::Looked::not_down))]
+    pub(crate) fn look_for(&mut self, name: &str)
+        ensures kept { KeepsFiles (F.files self.old.inner) (F.files self.new.inner) }
+        ensures most { F.failures self.new.inner ≤ F.failures self.old.inner + 1 }
+        ensures least { min (F.failures self.old.inner) 18446744073709551615 ≤ F.failures self.new.inner }
+    {
+        if find_kept(self.kept.as_slice(), name.as_bytes()).is_some() {
+            return;
+        }
+        match self.inner.find_file(name) {
+            Ok(Some(bytes)) => self.add_bytes(name.as_bytes(), bytes.as_slice()),
+            Ok(None) => self.add(name.as_bytes(), Content::Missing),
+            Err(_) => self.add(name.as_bytes(), Content::Closed),
         }
     }
 

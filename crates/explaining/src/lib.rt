@@ -15,6 +15,7 @@ mod meanings;
 mod named;
 mod openers;
 mod options;
+mod origins;
 mod page;
 mod refused;
 mod sentences;

@@ -39,8 +39,8 @@ fn length_of(text: &[u8]) -> usize {
     text.len()
 }
 
-// A line without the carriage return that ends it.
-fn without_return(line: &[u8]) -> &[u8] {
+/// A line without the carriage return that ends it.
+pub(crate) fn without_return(line: &[u8]) -> &[u8] {
     match line {
         [before @ .., b'\r'] => before,
         _ => line,
@@ -51,6 +51,11 @@ fn without_return(line: &[u8]) -> &[u8] {
 fn line_at(text: &[u8], start: usize) -> &[u8] {
     let rest = text.get(start..).unwrap_or(&[]);
     without_return(rest.get(..length_of(rest)).unwrap_or(rest))
+}
+
+/// The line of this number, counted from 1, without its end.
+pub(crate) fn numbered_line(text: &[u8], number: u32) -> &[u8] {
+    line_at(text, start_of(text, number))
 }
 
 // What is shown of a line of so many bytes: all of a short one, else what stands around a column.
@@ -92,7 +97,7 @@ fn show_mark(page: &mut Page, number: u32, line: &[u8], range: Range, column: us
 
 // Adds the number of a line, counted from 1, and the first part of it.
 fn show_number(page: &mut Page, text: &[u8], number: u32) {
-    let line = line_at(text, start_of(text, number));
+    let line = numbered_line(text, number);
     show_part(page, number, line, range_of(line.len(), 0));
 }
 

@@ -22,6 +22,16 @@ fn option_with<'a>(words: &[&'a str], value: &str) -> Option<&'a str> {
     None
 }
 
+/// Whether an option without a value is among words.
+pub(crate) fn has_flag(words: &[&str], flag: &str) -> bool {
+    for word in words {
+        if *word == flag {
+            return true;
+        }
+    }
+    false
+}
+
 // What an option takes.
 fn values_of(option: &str) -> Option<&'static str> {
     match option {

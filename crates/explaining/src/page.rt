@@ -43,6 +43,12 @@ impl Page {
         self.note(is_added);
     }
 
+    /// Adds what another text has, or notes that a piece is missing.
+    pub(crate) fn add_page(&mut self, other: &Page) {
+        self.add(other.text.as_slice());
+        self.note(other.is_whole);
+    }
+
     /// Adds a text.
     pub(crate) fn text(&mut self, text: &str) {
         self.add(text.as_bytes());

@@ -74,8 +74,8 @@ fn split_at_place<'w, 'a>(words: &'w [Word<'a>], start: u32) -> (&'w [Word<'a>],
     words.split_at(count_before(words, start).min(words.len()))
 }
 
-// A text that is refused, its words as they stand, and with those of its LITERALLY definitions, and the place of the word
-// at fault.
+// A text that is refused, its words as they stand, and with those of its LITERALLY definitions, the place of the word at
+// fault, and what is said below its line of the places from which that comes.
 #[derive(Clone, Copy)]
 struct Refused<'w, 'a> {
     alloc: Global,
@@ -83,12 +83,14 @@ struct Refused<'w, 'a> {
     plain: &'w [Word<'a>],
     words: &'w [Word<'a>],
     place: Place,
+    origins: &'w Page,
 }
 
 impl<'w, 'a> Refused<'w, 'a> {
-    // Shows the line of the word at fault, and marks the word.
+    // Shows the line of the word at fault, marks the word, and says from where the line comes.
     fn show(&self, page: &mut Page) {
         show_place(page, self.text, self.place.line, self.place.start as usize);
+        page.add_page(self.origins);
     }
 
     // The words before the one at fault, and this one with those after it.
@@ -190,6 +192,7 @@ fn explain_word(page: &mut Page, refused: &Refused) {
 // Adds that a text ends before its module does, and what is still open.
 fn explain_end(page: &mut Page, refused: &Refused) {
     if refused.words.is_empty() {
+        page.add_page(refused.origins);
         page.cause("The text has no words, and is no module", "C7");
         return;
     }
@@ -351,7 +354,7 @@ fn explain_fault(page: &mut Page, refused: &Refused, fault: &ReadFault) {
 }
 
 // Adds why a text is refused at a place.
-fn explain_at(page: &mut Page, alloc: Global, text: &[u8], place: Place, fault: &ReadFault) {
+fn explain_at(page: &mut Page, alloc: Global, text: &[u8], fault: &ReadFault, origins: &Page) {
     let plain = plain_words(page, alloc, text);
     let words = expanded(page, alloc, plain.as_slice());
     let refused = Refused {
@@ -359,7 +362,8 @@ fn explain_at(page: &mut Page, alloc: Global, text: &[u8], place: Place, fault: 
         text,
         plain: plain.as_slice(),
         words: words.as_slice(),
-        place,
+        place: place_of(fault),
+        origins,
     };
     explain_fault(page, &refused, fault);
 }
@@ -373,23 +377,32 @@ fn place_of(fault: &ReadFault) -> Place {
 }
 
 // Adds what is told of a text without another look at it.
-fn explain_line(page: &mut Page, told: Told, text: &[u8]) {
+fn explain_line(page: &mut Page, told: Told, text: &[u8], origins: &Page) {
     if told.line > 0 {
         show_line(page, text, told.line);
+        page.add_page(origins);
     }
     page.cause(meaning_of(told.number), told.number);
 }
 
-/// Adds why a source is refused, as the line of its fault and another look at it tell.
-pub(crate) fn explain_source(page: &mut Page, alloc: Global, told: Told, text: &[u8]) {
+/// Adds why a source is refused, as the line of its fault and another look at it tell, with what is said below that line of
+/// the places from which it comes.
+pub(crate) fn explain_source(
+    page: &mut Page,
+    alloc: Global,
+    told: Told,
+    text: &[u8],
+    origins: &Page,
+) {
     if let Some(other) = as_source(kind_of(text)) {
+        page.add_page(origins);
         page.cause(other, told.number);
         return;
     }
     match fault_of(page, alloc, text) {
         Some(fault) if fault.number() == told.number && fault.line() == told.line => {
-            explain_at(page, alloc, text, place_of(&fault), &fault);
+            explain_at(page, alloc, text, &fault, origins);
         }
-        _ => explain_line(page, told, text),
+        _ => explain_line(page, told, text, origins),
     }
 }

@@ -14,8 +14,12 @@ pub(crate) fn meaning_of(number: &str) -> &'static str {
     ""
 }
 
-/// What the end of a run means, by its exit status, where it did not halt.
-pub(crate) fn meaning_of_end(status: u8) -> Option<&'static str> {
+/// What the end of a run means, by its exit status, where it did not halt; and by whether it was to end before it reads a port
+/// past its input.
+pub(crate) fn meaning_of_end(status: u8, until_dry: bool) -> Option<&'static str> {
+    if until_dry && status == 3 {
+        return Some("A port was to be read past its input, or the budget of --limit was used up");
+    }
     match status {
         3 => Some(
             "The budget of --limit was used up: mostly a loop that never ends, as a wait for input",

@@ -19,8 +19,8 @@ fn is_number(text: &str) -> bool {
     }
 }
 
-// Whether bytes are digits.
-fn are_digits(bytes: &[u8]) -> bool {
+/// Whether bytes are digits.
+pub(crate) fn are_digits(bytes: &[u8]) -> bool {
     for byte in bytes {
         if !byte.is_ascii_digit() {
             return false;

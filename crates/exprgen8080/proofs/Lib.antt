@@ -1,5 +1,5 @@
 mod Prelude
 pub mod Arguments
-pub mod Parts
+pub mod PlansWithoutLabels
 pub mod Emitting
 pub mod CodeLaws

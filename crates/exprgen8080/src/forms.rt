@@ -13,7 +13,7 @@ use std::alloc::AllocError;
 use steps8080::{Part, Site, Steps, Task};
 
 /// The steps of a task. Only the first step uses the facts of the site.
-#[tactic(auto, unfolding(crate::specs::Forms::task_steps, crate::specs::Forms::task_labels, crate::specs::Forms::steps_of, crate::specs::Forms::labels_of), using(crate::proofs::Parts::none_taken))]
+#[tactic(auto, unfolding(crate::specs::Forms::task_steps, crate::specs::Forms::task_labels, crate::specs::Forms::steps_of, crate::specs::Forms::labels_of), using(crate::proofs::PlansWithoutLabels::none_taken))]
 pub fn plan_task(site: &Site<'_>, part: Part, steps: &mut Steps) -> Result<(), AllocError>
     ensures { OnOk result (AddsWithLabels steps.old steps.new
         (task_labels site.now part) (task_steps site.now part)) }

@@ -1,6 +1,6 @@
 -- One pass over a frame computes the distances of its plan.
 use Rattle.frames.proofs.Prelude.{◌≡◌, ℕ, zero, suc, ◌+◌, ◌-◌, ◌*◌, ◌<◌, ◌≤◌, List, [], ◌∷◌, length, drop, take, Option, Some, None, refl, ap, sym, ◌∙◌, subst, arith, unwrap_or, slice_get, slice_index_or, drop_of_length-le, none-some, slice_get_within, ScalarType, size_of_scalar, FrameVariable, Parameter, TreeProcedure, FramePlan, bytes_by_parameter, variable_bytes, distance_by_parameter, bytes_of_call, HasSize, parameter_distance, HasFrame, IsPlanOf, capped, capped_parameter, capped_distance, next_after, distances_from, IsFound}
-use Rattle.frames.proofs.Words.{parameter_is}
+use Rattle.frames.proofs.ParameterWords.{parameter_is}
 
 -- after a pass over a frame its variables are counted
 pub bytes_passed :

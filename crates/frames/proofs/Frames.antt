@@ -4,7 +4,7 @@ use Rattle.mem80.specs.declared.memory.TheConstants.{MEMORY_SIZE}
 use Rattle.treecode.specs.declared.place.Home.{Home}
 use Rattle.frames.proofs.Entries.{entries, entry_at, IsEntry}
 use Rattle.frames.proofs.Parameters.{as_many, has_parameters, frame_fits, IsFramed, framed}
-use Rattle.frames.proofs.Bytes.{scalar_size, bytes_are}
+use Rattle.frames.proofs.FrameBytes.{scalar_size, bytes_are}
 
 -- the object of a variable of a frame
 record IsVariable (typed : TypedModule) (procedure position : ℕ) (variable : FrameVariable) : Type 0 where

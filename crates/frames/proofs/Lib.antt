@@ -1,10 +1,10 @@
 mod Prelude
-pub mod Words
+pub mod ParameterWords
 pub mod Distances
 pub mod Places
 pub mod Entries
 pub mod Parameters
-pub mod Bytes
+pub mod FrameBytes
 pub mod Frames
 pub mod Homes
 pub mod Short

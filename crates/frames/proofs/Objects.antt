@@ -6,7 +6,7 @@ use Rattle.frames.specs.Calls.{call_bytes}
 use Rattle.frames.specs.internal.Objects.{HasByte, place_of_byte, ObjectsLie, IsFramedAs}
 use Rattle.frames.proofs.Entries.{entries, stands_at}
 use Rattle.frames.proofs.Parameters.{has_parameters, frame_fits}
-use Rattle.frames.proofs.Bytes.{object_fits}
+use Rattle.frames.proofs.FrameBytes.{object_fits}
 use Rattle.frames.proofs.Frames.{parameter_count, has_frame, is_charged, same_charge}
 use Rattle.frames.proofs.Short.{position_small}
 

@@ -1,6 +1,6 @@
 -- The bytes of a frame do not overlap each other or the return address.
 use Rattle.frames.proofs.Prelude.{◌≡◌, ◌⊎◌, inl, inr, ℕ, zero, suc, ◌+◌, ◌-◌, ◌<◌, ◌≤◌, List, [], ◌∷◌, length, take, Option, Some, None, refl, ap, sym, ◌∙◌, subst, arith, unwrap_or, slice_get, option_map_or, none-some, slice_get_within, FrameVariable, Parameter, TreeProcedure, FramePlan, bytes_by_parameter, variable_bytes, return_distance, word_distance, parameter_distance, distance_by_parameter, bytes_of_call, HasSize, HasFrame, distance_of, IsPlanOf, size_in, LiesApart}
-use Rattle.frames.proofs.Words.{words_apart, word_after, word_within, word_off_return, return_after, return_within, in_word}
+use Rattle.frames.proofs.ParameterWords.{words_apart, word_after, word_within, word_off_return, return_after, return_within, in_word}
 
 -- the variables up to one are among all
 pub ends_within :

@@ -2,7 +2,7 @@
 use Rattle.frames.proofs.Prelude.{◌≡◌, ℕ, zero, suc, ◌+◌, ◌<◌, ◌≤◌, ◌==◌, Bool, true, false, not, ◌||◌, cond, if◌then◌else◌, List, [], ◌∷◌, length, slice_get, sum_by, Some, refl, ap, ◌∙◌, subst, arith, eqb-true, eq-eqb, ne_eqb, All-get_or, sum_by-cons, none-some, same_Some, slice_get_within, get_or_from_slice_get, InFrame, TypedObject, TypedProcedure, TypedModule, size_of_object, FrameFits, HasParameters, frame_position, TakeBytes, or-true, zero-add, sym}
 use Rattle.typed_trees.specs.Frames.{variable_bytes}
 use Rattle.frames.proofs.Entries.{in_frame, home_is, lives_there, entries, position_of, stands_at}
-use Rattle.frames.proofs.Bytes.{bytes_there, IsListed, listed}
+use Rattle.frames.proofs.FrameBytes.{bytes_there, IsListed, listed}
 
 -- whether a number is among others
 abbrev is_among : List ℕ → (number : ℕ) → Bool

@@ -1,7 +1,7 @@
 pub use Rattle.program_laws.specs.Agreement
 pub use Rattle.program_laws.specs.Typed
 pub mod Bounded
-pub mod Items
+pub mod CodeItems
 pub mod Modules
 pub mod Kept
 pub mod TreeCode

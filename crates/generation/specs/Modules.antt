@@ -11,7 +11,7 @@ use Rattle.treecode.specs.Lowered.{IsLowered}
 use Rattle.codegen8080.specs.declared.fault.Fault.{Fault}
 use Rattle.measure_laws.specs.Bounds.{bound_of_tree}
 use Rattle.generation.specs.Bounded.{IsNotMade}
-use Rattle.generation.specs.Items.{BodiesPushWithinCharges, HasItems}
+use Rattle.generation.specs.CodeItems.{BodiesPushWithinCharges, HasItems}
 
 -- tree code of a module that is soundly typed, with the storage that `layout` gives it
 pub record IsSoundTreeCode (typed : TypedModule) (tree : TreeModule) : Type 0 where

@@ -6,7 +6,7 @@ pub mod TextsAgain
 pub mod Counting
 pub mod Rows
 pub mod TextLines
-pub mod Written
+pub mod TextsOfPieces
 pub mod Ordered
 pub mod SumLemmas
 pub mod ReadLemmas

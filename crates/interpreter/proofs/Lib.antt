@@ -1,7 +1,8 @@
 mod Prelude
 pub mod MainModules
+pub mod Budgets
 pub mod Runs
-pub mod Written
+pub mod WrittenContents
 pub mod Loops
 pub mod Pairs
 pub mod ModuleLoops

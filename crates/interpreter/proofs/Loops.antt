@@ -1,7 +1,7 @@
 -- The loops over bytes and over values.
 use Rattle.interpreter.proofs.Prelude.{◌≡◌, ℕ, ◌+◌, ◌<◌, ◌≤◌, List, [], ◌∷◌, ◌++◌, length, set, drop, get_or, refl, ap, sym, ◌∙◌, arith, flat_map, at_drop_more, InitialValue, written, bytes_of_value, at_drop_all, drop_item}
 use Rattle.mem80.specs.{declared.memory.TheConstants.{MEMORY_SIZE}, Memory.{IsMemory}}
-use Rattle.interpreter.proofs.Written.{written_past, written_after}
+use Rattle.interpreter.proofs.WrittenContents.{written_past, written_after}
 
 -- one part of what is written, and then the others
 module _ (memory total first others new : List ℕ) (address : ℕ) (rest : written memory address (first ++ others) ≡ total)

@@ -1,7 +1,7 @@
 -- One pass over the modules of a program.
 use Rattle.interpreter.proofs.Prelude.{◌≡◌, ℕ, ◌+◌, ◌≤◌, List, [], ◌∷◌, ◌++◌, length, drop, map, zip, flat_map, Option, None, Some, option_map, vec_items, length-drop, refl, ap, sym, ◌∙◌, arith, slice_get, enumerate_from, option_map_or, drop_of_length-le, slice_get-map, Typed, TypedModule, module_view, object_view, ModulePlacement, Contents, address_of_object, contents_of_list, contents_of_module, contents_of_object, starting_memory, CodePlacement, module_placement_view, Program, Surroundings, address_of, Site, site_view, contents_at, contents_from, module_in, with_all, drop_past, at_drop_all}
 use Rattle.placing.proofs.Passes.{found_first, zip_nothing}
-use Rattle.interpreter.proofs.Written.{all_after}
+use Rattle.interpreter.proofs.WrittenContents.{all_after}
 
 -- the objects of a module and then its lists are its contents
 abbrev contents_with : Surroundings → ModulePlacement → Option TypedModule → List Contents

@@ -1,5 +1,5 @@
 -- The names that the proofs of this crate cite, passed on from one place. Declares nothing.
-pub use Rattle.std.proofs.{Common.{All, Bool, Err, Global, IfOk, List, None, Ok, OnErr, Option, Result, Some, [], ap, arith, cond, drop, false, find, flat_map, get_or, length, length-drop, map, min, nat_lt, option_map, position, refl, set, slice_get, subst, suc, sym, true, vec_items, zip, ℕ, ◌++◌, ◌+◌, ◌-◌, ◌<◌, ◌∙◌, ◌∷◌, ◌≡◌, ◌≤◌}, Math.Decide.{dec_le}, Math.ListN.{drop_of_length-le}, lemmas.Iterator.Adapters.{position_from-zero}, lemmas.List.{at_drop_all, at_drop_more, set_past}, lemmas.Option.{slice_get-map, slice_get_read}, lemmas.Slice.Zip.{zip_end}}
+pub use Rattle.std.proofs.{Common.{All, Bool, Err, Global, IfErr, IfOk, List, None, Ok, OnErr, Option, Result, Some, [], ap, arith, cond, drop, false, find, flat_map, get_or, length, length-drop, map, min, nat_lt, option_map, position, refl, set, slice_get, subst, suc, sym, true, vec_items, zip, ℕ, ◌++◌, ◌+◌, ◌-◌, ◌<◌, ◌∙◌, ◌∷◌, ◌≡◌, ◌≤◌}, Math.Decide.{dec_le}, Math.ListN.{drop_of_length-le}, lemmas.Iterator.Adapters.{position_from-zero}, lemmas.List.{at_drop_all, at_drop_more, set_past}, lemmas.Option.{slice_get-map, slice_get_read}, lemmas.Slice.Zip.{zip_end}}
 pub use Rattle.std.specs.{List.{enumerate_from, position_from}, Option.{option_map_or}, Prelude.{Vec}}
 pub use Rattle.mem80.proofs.Results.{if_ok_then}
 pub use Rattle.ports.proofs.Beginnings.{begins_itself}

@@ -1,11 +1,17 @@
 -- Runs of stack code are runs of the source.
-use Rattle.interpreter.proofs.Prelude.{◌≡◌, ℕ, suc, ◌-◌, Bool, true, false, cond, List, Option, None, Some, Result, Ok, Err, IfOk, OnErr, All, find, nat_lt, slice_get, refl, sym, ap, ◌∙◌, subst, option_map_or, JumpsAreSound, charge_of, TypedList, ListOf, TypedModule, is_main, Placement, starting_memory, Stack, Surroundings, done_list, later_by, State, Stop, Ended, Outside, Outcome, Gave, Stopped, Flow, Run, main_done, number_of_main, run_of, source_run, ComesAfter, found_from, adds_both}
+use Rattle.interpreter.proofs.Prelude.{◌≡◌, ℕ, suc, ◌-◌, Bool, true, false, cond, List, Option, None, Some, Result, Ok, Err, IfErr, IfOk, OnErr, All, find, nat_lt, slice_get, refl, sym, ap, ◌∙◌, arith, subst, option_map_or, JumpsAreSound, charge_of, TypedList, ListOf, TypedModule, is_main, Placement, starting_memory, Stack, Surroundings, done_list, later_by, State, Stop, Ended, Outside, Outcome, Gave, Stopped, Flow, Run, main_done, number_of_main, run_of, source_run, ComesAfter, found_from, adds_both}
 use Rattle.ports.specs.{declared.event.Event.{Event}, Events.{IsBeginning}}
 use Rattle.meaning.proofs.Added.{adds_if, adds_rest, begins_itself, later_adds}
 use Rattle.stack_code.specs.{Program.{AreTablesOf}, declared.program.StackProgram.{StackProgram}, declared.instruction.Instruction.{Instruction}, Machine.{Machine, Progress, Going, Done, and_then_steps, progress_of, steps}, Run.{machine_in, stack_run, start_state, start_surroundings, started as charged_start}, internal.Simulation.{Adds}}
 use Rattle.stack_code.proofs.{Events.{adds_steps}, Meant.{begins_as_meant, done_as_meant, main_at}}
 use Rattle.stack_compiler.specs.Compiled.{IsCompiled}
-use Rattle.stack_machine.specs.Runs.{Reaches, Stops, state_at_start}
+use Rattle.stack_machine.specs.Runs.{Reaches, ReachesCall, Stops, state_at_start}
+unfoldable use Rattle.stack_machine.specs.Runs.{ReachesFault}
+use Rattle.stack_machine.specs.declared.end.RunFault.{RunFault}
+use Rattle.stack_machine.specs.declared.end.RunFault.TheVariants as faults
+use Rattle.stack_code.specs.Code.{program_code}
+use Rattle.interpreter.specs.Budgets.{FailsAt, StopsBefore, Uses}
+use Rattle.interpreter.proofs.Budgets.{comes_next, used_to_end, used_to_event}
 use Rattle.interpreter.proofs.MainModules.{main_is, main_is_none, number_is}
 
 module _ (modules : List TypedModule) (placement : Placement) (room : ℕ) (start memory : List ℕ) (script : List (List ℕ)) (events after : List Event) (budget number : ℕ) (main : TypedModule) (program : StackProgram)
@@ -23,11 +29,39 @@ module _ (modules : List TypedModule) (placement : Placement) (room : ℕ) (star
       ∙ ap (λ bytes. run_at number bytes count) (sym filled)
 
   -- where the code stops, the source does
-  pub meant : (why : Stop) → Stops (run_at number memory) why after → source_run modules placement room start script events budget ≡ record { end = why; events = after }
-  meant why stops =
+  pub meant : (why : Stop) (left : ℕ) → Stops (run_at number memory) why after left → source_run modules placement room start script events budget ≡ record { end = why; events = after }
+  meant why left stops =
       done_as_meant modules placement room start script events budget main there sound program.instructions.items
       (compiled main (main_at modules main there)).code stops.count why stops.state (same_run stops.count ∙ stops.stopped)
       ∙ ap (λ (es : List Event). record { end = why; events = es }) stops.events_are
+
+  -- it has used of its budget what is gone;
+  pub spent : (why : Stop) (left : ℕ) → Stops (run_at number memory) why after left → Uses (source_run modules placement room start script events) budget why (budget - left)
+  spent why left stops =
+      subst (λ rest. Uses (source_run modules placement room start script events) budget why (budget - rest)) stops.left_is
+      (used_to_end modules placement room start script events main there sound program.instructions.items
+      (compiled main (main_at modules main there)).code budget stops.count why stops.state (same_run stops.count ∙ stops.stopped))
+
+  -- where a port fails, its event is the next one of the source;
+  stopped : (fault : RunFault) (left : ℕ) → ReachesCall (run_at number memory) fault after left → StopsBefore (source_run modules placement room start script events) budget fault after (budget - left)
+  stopped fault left stops =
+      let code : program.instructions.items ≡ program_code modules placement (number_of_main modules) main = (compiled main (main_at modules main there)).code in
+      let going = same_run stops.count ∙ stops.going in
+      let onward = same_run (suc stops.count) ∙ stops.onward in
+      record {
+        next = stops.next;
+        is_call = stops.is_call;
+        begins = comes_next modules placement room start script events main there sound program.instructions.items code budget stops.count left stops.machine stops.after after stops.next
+            going stops.events_are stops.left_is onward stops.adds stops.left_after;
+        used_is = used_to_event modules placement room start script events main there sound program.instructions.items code budget stops.count left stops.machine stops.after after stops.next
+            going stops.events_are stops.left_is onward stops.adds stops.left_after;
+      }
+
+  pub fails : (fault : RunFault) (left : ℕ) → ReachesFault (run_at number memory) fault after left → FailsAt (source_run modules placement room start script events) budget fault after (budget - left)
+  unfolding ReachesFault
+  fails (faults.Input port) left stops = stopped (faults.Input port) left stops
+  fails (faults.Output port) left stops = stopped (faults.Output port) left stops
+  fails faults.Memory left stops = tt
 
   -- and on its way its events are a beginning of the source's
   pub begun : Reaches (run_at number memory) after → IsBeginning after (source_run modules placement room start script events budget).events
@@ -44,6 +78,16 @@ module _ (modules : List TypedModule) (placement : Placement) (room : ℕ) (star
       ap
       (λ (one : Option TypedModule). run_of (option_map_or (λ (typed : TypedModule). main_done budget typed (start_surroundings modules placement script (number_of_main modules) room) (start_state modules placement start events budget)) one (Gave Flow.Onward (start_state modules placement start events budget))))
       (main_is_none modules none)
+
+-- and uses nothing
+pub ended_with_none : (modules : List TypedModule) (placement : Placement) (room : ℕ) (start : List ℕ) (script : List (List ℕ)) (events : List Event) (budget left : ℕ) → found_from 0 modules ≡ None → left ≡ budget
+    → Uses (source_run modules placement room start script events) budget Ended (budget - left)
+ended_with_none modules placement room start script events budget left none same =
+    let nothing : budget - left ≡ 0 = omega (arith, same) in
+    record {
+      here = ap (λ (run : Run). run.end) (ended modules placement room start script events (budget - left) none);
+      below = λ less within ends. omega (arith, within, nothing);
+    }
 
 -- the tables of the code are there
 pub tables : (modules : List TypedModule) (placement : Placement) (number : ℕ) (main : TypedModule) (program : StackProgram) → found_from 0 modules ≡ Some (number, main) → IsCompiled modules placement program
@@ -96,8 +140,8 @@ module _ (code : List Instruction) (main : TypedModule) (around : Surroundings) 
   abbrev run_here : (count : ℕ) → Progress
   run_here count = stack_run code main around (state_at_start memory events budget) count
 
-  pub kept_stopped : (why : Stop) → Stops run_here why after → IsBeginning events after
-  kept_stopped why stops =
+  pub kept_stopped : (why : Stop) (left : ℕ) → Stops run_here why after left → IsBeginning events after
+  kept_stopped why left stops =
       let added : IsBeginning events stops.state.events = subst (λ progress. Adds (state_at_start memory events budget) progress) stops.stopped (adds_run code main around (state_at_start memory events budget) stops.count) in
       subst (λ (es : List Event). IsBeginning events es) stops.events_are added
 
@@ -110,3 +154,8 @@ module _ (code : List Instruction) (main : TypedModule) (around : Surroundings) 
 pub either : {A E : Type 0} (P : A → Type 0) (Q R : Type 0) (answer : Result A E) → ((found : A) → P found → R) → (Q → R) → IfOk answer P → OnErr answer Q → R
 either P Q R (Ok found) one other holds none = one found holds
 either P Q R (Err fault) one other none holds = other holds
+
+-- what holds of each fault
+pub if_err_then : {A E : Type 0} (P Q : E → Type 0) (answer : Result A E) → ((fault : E) → P fault → Q fault) → IfErr answer P → IfErr answer Q
+if_err_then P Q (Ok found) go holds = tt
+if_err_then P Q (Err fault) go holds = go fault holds

@@ -1,1 +1,4 @@
+pub use Rattle.stack_machine.specs.Runs
+pub use Rattle.stack_machine.specs.declared.end.RunFault
+pub mod Budgets
 pub mod internal

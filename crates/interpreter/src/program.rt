@@ -1,6 +1,6 @@
 //! Interpreting a program.
 
-ghost use Rattle.std.specs.Prelude.{◌≡◌, All, IfErr, IfOk, OnErr, OnOk};
+ghost use Rattle.std.specs.Prelude.{◌≡◌, ◌-◌, All, IfErr, IfOk, OnErr, OnOk};
 ghost use Rattle.ports.specs.Events.{IsBeginning};
 ghost use Rattle.typed_trees.specs.Jumps.{JumpsAreSound};
 ghost use Rattle.layout.specs.StartingMemory.{starting_memory};
@@ -8,6 +8,7 @@ ghost use Rattle.placing.specs.Views.{placement_view};
 ghost use Rattle.declared.specs.Access.{modules_in};
 ghost use Rattle.meaning.specs.Run.{source_run};
 ghost use Rattle.stack_machine.specs.Runs.{FaultCounts, stop_of};
+ghost use Rattle.interpreter.specs.Budgets.{FailsAt, Uses};
 
 use crate::contents::fill;
 use crate::main_module::main_module;
@@ -21,10 +22,11 @@ use stack_machine::{RunFault, SourceEnd, run};
 use std::alloc::{AllocError, Global};
 
 /// Interprets a joined program that lies at a placement: from a memory, in which its initial values and constants are put
-/// first; with so much room on the stack, in bytes; with these ports; and with a budget of turns of loops, jumps and calls.
-/// Where no port fails it does just what the program means. After a fault, of a port or of memory, the events are a
-/// beginning of those, and the events that there were before stay.
-#[tactic(auto, using(crate::proofs::Runs::meant, crate::proofs::Runs::begun, crate::proofs::Runs::ended))]
+/// first; with so much room on the stack, in bytes; with these ports; and with a budget of turns of loops, jumps and calls,
+/// which becomes what is left of it. Where no port fails it does just what the program means. After a fault, of a port or of
+/// memory, the events are a beginning of those, and the events that there were before stay. A port that failed is the next
+/// one that the program reads or writes.
+#[tactic(auto, using(crate::proofs::Runs::meant, crate::proofs::Runs::begun, crate::proofs::Runs::ended, crate::proofs::Runs::ended_with_none))]
 pub fn interpret<P: Ports>(
     alloc: Global,
     joined: &Joined,
@@ -32,16 +34,24 @@ pub fn interpret<P: Ports>(
     room: u16,
     memory: Memory,
     ports: &mut P,
-    budget: u64,
+    budget: &mut u64,
 ) -> Result<SourceEnd, RunFault>
     requires jumps { All JumpsAreSound (modules_in joined.now) }
     ensures meaning { IfOk result (λ end.
         source_run (modules_in joined.now) (placement_view placement.now) room memory
-        (P.script ports.old) (P.events ports.old) budget
+        (P.script ports.old) (P.events ports.old) budget.old
         ≡ record { end = stop_of end; events = P.events ports.new }) }
     ensures beginning { OnErr result (IsBeginning (P.events ports.new)
         (source_run (modules_in joined.now) (placement_view placement.now) room memory
-        (P.script ports.old) (P.events ports.old) budget).events) }
+        (P.script ports.old) (P.events ports.old) budget.old).events) }
+    ensures used { IfOk result (λ end. Uses
+        (source_run (modules_in joined.now) (placement_view placement.now) room memory
+        (P.script ports.old) (P.events ports.old))
+        budget.old (stop_of end) (budget.old - budget.new)) }
+    ensures called { IfErr result (λ fault. FailsAt
+        (source_run (modules_in joined.now) (placement_view placement.now) room memory
+        (P.script ports.old) (P.events ports.old))
+        budget.old fault (P.events ports.new) (budget.old - budget.new)) }
     ensures kept { IsBeginning (P.events ports.old) (P.events ports.new) }
     ensures count { OnOk result (P.failures ports.new ≡ P.failures ports.old) }
     ensures failed { IfErr result (λ fault. FaultCounts fault (P.failures ports.old) (P.failures ports.new)) }

@@ -1,6 +1,6 @@
 -- The contents of a lawful placement lie apart, each within what it fills.
 use Rattle.layout.proofs.Prelude.{◌≡◌, ◌≢◌, ℕ, zero, suc, ◌+◌, ◌-◌, ◌<◌, ◌≤◌, ◌⊎◌, inl, inr, Bool, true, false, ◌||◌, List, [], ◌∷◌, ◌++◌, length, Option, Some, None, option_map, refl, sym, ap, ap₂, ◌∙◌, subst, arith, if◌then◌else◌, All, AllPairs, map, zip, filter, filter_map, flat_map, sum_by, enumerate_from, list_any, flat_map-cons, length-flat_map, All-append, All-cons, All-filter, filter_map-append, filter-append, sum_by-cons, MEMORY_SIZE, Range, IsIn, InitialValue, size_of_object, IsStorable, bytes_filled, size_of_value, Home, InData, InConstants, Placed, BasedOn, Elsewhere, Nowhere, InFrame, TypedObject, TypedModule, StaticPiece, ConstantPiece, ModulePlacement, Placement, PlacedPiece, EndsInMemory, has_own_place, holds_byte, kind_of, list_piece, object_piece, own_pieces, piece_of, pieces_of, pieces_of_module, AreDisjoint, IsLawful, Contents, Covers, IsAmong, StartsAs, address_of_object, bytes_of_value, contents_of, contents_of_list, contents_of_module, contents_of_object, starting_memory, values_in, or_kept, or_right}
-use Rattle.layout.proofs.Written.{AreApart, EachApart, all_elsewhere, all_here, all_size}
+use Rattle.layout.proofs.WrittenBytes.{AreApart, EachApart, all_elsewhere, all_here, all_size}
 use Rattle.layout.proofs.Declared.{Decides-holds}
 use Rattle.layout.proofs.Sums.{value_bytes}
 

@@ -6,9 +6,9 @@ ghost use Rattle.mem80.specs.Pieces.{AreWritable, EndsInMemory, IsLoaded, are_ru
 ghost use Rattle.locate.specs.Locating.{loaded, symbol_view};
 
 use mem80::{Bytes, Memory, Piece};
+use object_modules::Name;
 use std::alloc::{AllocError, Global};
 use std::marker::Model;
-use symbols::Name;
 
 /// A public name with its address.
 #[derive(Clone, Copy)]

@@ -6,12 +6,12 @@ pub mod Leaving
 pub mod Frames
 pub mod Changes
 pub mod References
-pub mod Bytes
+pub mod WritableBytes
 pub mod Named
 pub mod Declared
 pub mod Places
 pub mod Defaults
-pub mod Items
+pub mod PublicItems
 pub mod Locations
-pub mod Walks
+pub mod PublicsOfTexts
 pub mod Publics

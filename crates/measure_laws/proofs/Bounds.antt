@@ -1,6 +1,6 @@
 pub mod Fitting
 pub mod Pieces
-pub mod Parts
+pub mod ExpressionParts
 pub mod KnownValues
 pub mod Singles
 pub mod Targets

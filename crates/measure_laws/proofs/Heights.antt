@@ -14,9 +14,9 @@ pub mod Words
 pub mod Calls
 pub mod Values
 pub mod Rooms
-pub mod Written
+pub mod HeightsOfItems
 pub mod Planning
-pub mod Parts
+pub mod ExpressionParts
 pub mod Singles
 pub mod Assignments
 pub mod Moves

@@ -6,7 +6,7 @@ pub mod Words
 pub mod Tasks
 pub mod Going
 pub mod Branches
-pub mod Written
+pub mod LabelsOfItems
 pub mod Planning
 pub mod Carried
 pub mod Assigning

@@ -10,7 +10,7 @@ pub use Rattle.layout.specs.Storage.{Storage, bytes_in_constants, bytes_in_data,
 unfoldable pub use Rattle.layout.specs.Storage.{storage_of}
 pub use Rattle.object_modules.specs.{Module.{ObjectModule, length_of}, declared.segment.Segment.TheVariants.{Code}, declared.segment.TheConstants.{SEGMENT_LIMIT}}
 pub use Rattle.isa8080.specs.{Act.{act, with_operand}, Arithmetic.{decrement_of, increment_of}, State.{Registers, State, register_of, two_less, wrap}, declared.instr.Condition.{Condition, TheVariants.{Carry, NoCarry, NotZero, Zero}}, declared.instr.Instr.{Instr, TheVariants.{AccumulateImmediate, Cma, Dad, Dcr, Dcx, Hlt, Inr, Inx, Lxi, MovToMemory, Mvi, Nop, Pchl, Pop, Push, Ret, Rlc, Rrc, Sphl, Xchg, Xthl}}, declared.instr.Operand.{Operand, TheVariants.{M, Of}}, declared.instr.Operation.{Operation, TheVariants.{Add, AddWithCarry, And, Compare, ExclusiveOr, Or, Subtract, SubtractWithBorrow}}, declared.instr.Pair.TheVariants.{Bc, De, Hl, Sp}, declared.instr.Register.{Register, TheVariants.{A, B, C, D, E, H, L}}, declared.instr.StackPair.{StackPair, TheVariants.{Psw, StackBc, StackDe, StackHl}}}
-pub use Rattle.asm8080.proofs.{Parts.{size_in_parts}, Segments.{places_length, set_length}}
+pub use Rattle.asm8080.proofs.{CodeInParts.{size_in_parts}, Segments.{places_length, set_length}}
 pub use Rattle.asm8080.specs.{Assembled.{set_bytes}, Items.{instruction_with, size_of, size_of_items}, Standing.{size_of_instruction}, declared.item.Item.{Item, TheVariants.{Plain, WithWord}}, declared.item.WordForm.{WordForm, TheVariants.{Jump, JumpWhere, LoadA, LoadHl, LoadPair, StoreA, StoreHl}}}
 pub use Rattle.runtime8080.specs.{Routines.{size_of_routine}, declared.routine.Routine.{Routine, TheVariants.{Move}}}
 pub use Rattle.treecode.proofs.LabelNumbers.{at_or_after}
@@ -38,9 +38,9 @@ unfoldable pub use Rattle.measure_laws.specs.Weights.{beside_at}
 pub use Rattle.measure_laws.specs.internal.Bodies.{ListRuns, StatementRuns, StepsRun}
 pub use Rattle.measure_laws.specs.internal.Fits.{AllPartsFit, ListFits, StatementFits, StepsFit, spared_by}
 pub use Rattle.measure_laws.specs.internal.Going.{AimHolds, AreGiven, Go, GoesOn, GoesOnWithLabel, GoesOnWithWord, HasParts, IsAimed, IsBelow, IsOfTree, IsOperand, IsPlaced, Runs, Source}
-pub use Rattle.measure_laws.specs.internal.Items.{ItemGoes, ItemsBind, ItemsGo}
+pub use Rattle.measure_laws.specs.internal.ItemLabels.{ItemGoes, ItemsBind, ItemsGo}
 pub use Rattle.measure_laws.specs.internal.Modules.{HasItsPlace, LabelsHavePlaces}
-pub use Rattle.measure_laws.specs.internal.Parts.{AreOfTrees, Fit, HasTwo, beside, given, indices, more_for_byte, more_for_word, size_of_task, type_at}
+pub use Rattle.measure_laws.specs.internal.TaskWeights.{AreOfTrees, Fit, HasTwo, beside, given, indices, more_for_byte, more_for_word, size_of_task, type_at}
 pub use Rattle.measure_laws.specs.internal.Plans.{ListGoes, PlanBinds, PlanGoes, PlannedBinds, StatementGoes, TaskThen}
 pub use Rattle.measure_laws.specs.internal.Sizes.{PartsFit, TaskFits, bytes_for, size_of_step, size_of_steps}
 pub use Rattle.measure_laws.specs.internal.Steps.{NoLabels, StepsBind, StepsGo, TaskGoes, with_no_branch}

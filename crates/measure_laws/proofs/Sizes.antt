@@ -1,6 +1,6 @@
 pub mod Joining
 pub mod Trees
-pub mod Written
+pub mod SizesOfItems
 pub mod Found
 pub mod Chains
 pub mod Pairs

@@ -1,7 +1,7 @@
 mod Prelude
 pub mod Lists
 pub mod Numbering
-pub mod Parts
-pub mod Walks
+pub mod TreesOfParts
+pub mod BindingWalks
 pub mod Loops
 pub mod References

@@ -1,6 +1,6 @@
 -- Loops over lists whose items are bound one by one.
 use Rattle.names.proofs.Prelude.{◌≡◌, ℕ, ◌+◌, ◌<◌, List, length, drop, get_or, ◌∷◌, ap, sym, subst, Option, Result, Ok, Err, ◌≤◌, [], ◌∙◌, drop_of_length-le, Failure, Fault, FailsBy, Does, fault_in, bind_more, drop_item}
-use Rattle.names.proofs.Walks.{fails_more}
+use Rattle.names.proofs.BindingWalks.{fails_more}
 
 -- A loop over a list, each of whose items gives a state from the one before, where all items together give `total`.
 module _ {T S : Type 0} (step : T → S → Result S Fault) (all : List T → S → Result S Fault) (cons : (first : T) (others : List T) (state : S) → all (first ∷ others) state ≡ bind_more (step first state) (all others)) where

@@ -11,5 +11,5 @@ unfoldable pub use Rattle.names.specs.Events.{declares, in_turn, jumps_to, moves
 pub use Rattle.names.specs.Uses.{names_in_arguments, names_in_expression, names_in_reference, names_in_restricted}
 pub use Rattle.names.specs.declared.entity.Binding.{Binding}
 pub use Rattle.names.specs.declared.fault.Fault.{Fault}
-pub use Rattle.names.specs.internal.Walks.{Does, FailsBy, Walk, bind_more, bound_name, fault_in, unless}
-unfoldable pub use Rattle.names.specs.internal.Walks.{bound_at, gives}
+pub use Rattle.names.specs.internal.BindingWalks.{Does, FailsBy, Walk, bind_more, bound_name, fault_in, unless}
+unfoldable pub use Rattle.names.specs.internal.BindingWalks.{bound_at, gives}

@@ -1,6 +1,6 @@
 -- The names in references, from the parts of the code's trees.
 use Rattle.names.proofs.Prelude.{◌≡◌, List, [], ◌∷◌, ◌++◌, Option, None, Some, Ok, ap, sym, subst, ◌∙◌, arith, Global, Box, Reference, Reference', out-Reference, None', Some', the_lemmas, Selector, Identifier, reference_tree, argument_trees, row_trees_are, Expression, Binding, Fault, Here, FailsBy, bind_more, bound_at, names_in_reference, names_in_arguments}
-use Rattle.names.proofs.Walks.{fails_more, bound_cons_ok, bind_more_append}
+use Rattle.names.proofs.BindingWalks.{fails_more, bound_cons_ok, bind_more_append}
 
 -- the names in the member that a reference names
 abbrev pub member_names : Option (Box Selector Global) → List Identifier

@@ -1,4 +1,4 @@
 pub mod Numbering
-pub mod Parts
-pub mod Walks
+pub mod TreesOfParts
+pub mod BindingWalks
 pub mod Examples

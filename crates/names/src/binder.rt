@@ -8,8 +8,8 @@ ghost use Rattle.trees.specs.Views.{argument_trees, block_declarations, block_st
 ghost use Rattle.names.specs.Environment.{into_block, into_body, into_list, out_of_block, out_of_body, out_of_list};
 ghost use Rattle.names.specs.Events.{in_body, see_else, declares_definition, declares_label, declares_object, declares_parameter, declares_procedure, in_list, jumps_to, labels_of, moves, see_all, see_block, see_cases, see_declaration, see_declarations, see_element, see_kind, see_statement, see_statements, uses_of};
 ghost use Rattle.names.specs.Uses.{declared_by, names_in_arguments, names_in_expression, names_in_iteration, names_in_optional, names_in_reference};
-ghost use Rattle.names.specs.internal.Parts.{see_body, case_tree, do_tree, if_tree, iterate_tree, procedure_parts, while_tree};
-ghost use Rattle.names.specs.internal.Walks.{Does, at_start, gives};
+ghost use Rattle.names.specs.internal.TreesOfParts.{see_body, case_tree, do_tree, if_tree, iterate_tree, procedure_parts, while_tree};
+ghost use Rattle.names.specs.internal.BindingWalks.{Does, at_start, gives};
 
 use crate::uses::{
     bind_assignment, bind_call, bind_expression, bind_item, bind_iteration, bind_optional,
@@ -31,7 +31,7 @@ pub(crate) struct Binder {
 }
 
 impl Model for Binder {
-    ghost use Rattle.names.specs.internal.Walks.{Walk};
+    ghost use Rattle.names.specs.internal.BindingWalks.{Walk};
 
     ghost Value = { Walk };
 
@@ -40,7 +40,7 @@ impl Model for Binder {
 
 impl Binder {
     // Declares an object.
-    #[tactic(auto, using(crate::proofs::Walks::gives_declared, crate::proofs::Walks::gives_again))]
+    #[tactic(auto, using(crate::proofs::BindingWalks::gives_declared, crate::proofs::BindingWalks::gives_again))]
     fn object(&mut self, name: Identifier) -> Result<(), Failure<Fault>>
         ensures { Does result self.new (gives (declares_object name) self.old) }
     {
@@ -48,7 +48,7 @@ impl Binder {
     }
 
     // Takes in a parameter of a heading.
-    #[tactic(auto, using(crate::proofs::Walks::gives_declared, crate::proofs::Walks::gives_again))]
+    #[tactic(auto, using(crate::proofs::BindingWalks::gives_declared, crate::proofs::BindingWalks::gives_again))]
     fn parameter(&mut self, name: Identifier) -> Result<(), Failure<Fault>>
         ensures { Does result self.new (gives (declares_parameter name) self.old) }
     {
@@ -56,7 +56,7 @@ impl Binder {
     }
 
     // Takes in a label.
-    #[tactic(auto, using(crate::proofs::Walks::gives_declared, crate::proofs::Walks::gives_again))]
+    #[tactic(auto, using(crate::proofs::BindingWalks::gives_declared, crate::proofs::BindingWalks::gives_again))]
     fn label(&mut self, name: Identifier) -> Result<(), Failure<Fault>>
         ensures { Does result self.new (gives (declares_label name) self.old) }
     {
@@ -64,7 +64,7 @@ impl Binder {
     }
 
     // Declares the name of a LITERALLY definition.
-    #[tactic(auto, using(crate::proofs::Walks::gives_declared, crate::proofs::Walks::gives_again))]
+    #[tactic(auto, using(crate::proofs::BindingWalks::gives_declared, crate::proofs::BindingWalks::gives_again))]
     fn definition(&mut self, name: Identifier) -> Result<(), Failure<Fault>>
         ensures { Does result self.new (gives (declares_definition name) self.old) }
     {
@@ -72,7 +72,7 @@ impl Binder {
     }
 
     // Declares a procedure.
-    #[tactic(auto, using(crate::proofs::Walks::gives_declared, crate::proofs::Walks::gives_again))]
+    #[tactic(auto, using(crate::proofs::BindingWalks::gives_declared, crate::proofs::BindingWalks::gives_again))]
     fn procedure_name(&mut self, name: Identifier) -> Result<(), Failure<Fault>>
         ensures { Does result self.new (gives (declares_procedure name) self.old) }
     {
@@ -198,7 +198,7 @@ impl Binder {
     }
 
     // Binds the name after GOTO.
-    #[tactic(auto, using(crate::proofs::Walks::gives_jump))]
+    #[tactic(auto, using(crate::proofs::BindingWalks::gives_jump))]
     fn jump(&mut self, label: Identifier) -> Result<(), Failure<Fault>>
         ensures { Does result self.new (gives (jumps_to label) self.old) }
     {
@@ -207,7 +207,7 @@ impl Binder {
     }
 
     // Goes into a simple DO.
-    #[tactic(auto, using(crate::proofs::Walks::gives_move))]
+    #[tactic(auto, using(crate::proofs::BindingWalks::gives_move))]
     fn open_block(&mut self) -> Result<(), Failure<Fault>>
         ensures { Does result self.new (gives (moves into_block) self.old) }
     {
@@ -215,7 +215,7 @@ impl Binder {
     }
 
     // Goes into the body of a procedure.
-    #[tactic(auto, using(crate::proofs::Walks::gives_move))]
+    #[tactic(auto, using(crate::proofs::BindingWalks::gives_move))]
     fn open_body(&mut self) -> Result<(), Failure<Fault>>
         ensures { Does result self.new (gives (moves into_body) self.old) }
     {
@@ -223,7 +223,7 @@ impl Binder {
     }
 
     // Goes into a list of statements.
-    #[tactic(auto, using(crate::proofs::Walks::gives_move))]
+    #[tactic(auto, using(crate::proofs::BindingWalks::gives_move))]
     fn open_list(&mut self, statements: &[Statement]) -> Result<(), Failure<Fault>>
         ensures { Does result self.new
             (gives (moves (into_list (labels_of (statement_trees statements.now)))) self.old) }
@@ -232,7 +232,7 @@ impl Binder {
     }
 
     // Goes out of a simple DO.
-    #[tactic(auto, using(crate::proofs::Walks::gives_move))]
+    #[tactic(auto, using(crate::proofs::BindingWalks::gives_move))]
     fn close_block(&mut self)
         ensures { gives (moves out_of_block) self.old ≡ Ok self.new }
     {
@@ -240,7 +240,7 @@ impl Binder {
     }
 
     // Goes out of the body of a procedure.
-    #[tactic(auto, using(crate::proofs::Walks::gives_move))]
+    #[tactic(auto, using(crate::proofs::BindingWalks::gives_move))]
     fn close_body(&mut self)
         ensures { gives (moves out_of_body) self.old ≡ Ok self.new }
     {
@@ -248,7 +248,7 @@ impl Binder {
     }
 
     // Goes out of a list of statements.
-    #[tactic(auto, using(crate::proofs::Walks::gives_move))]
+    #[tactic(auto, using(crate::proofs::BindingWalks::gives_move))]
     fn close_list(&mut self)
         ensures { gives (moves out_of_list) self.old ≡ Ok self.new }
     {

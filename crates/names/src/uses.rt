@@ -5,7 +5,7 @@ ghost use Rattle.std.specs.Prelude.{[], ◌∷◌, ◌++◌, map};
 ghost use Rattle.std.specs.List.{flat_map};
 ghost use Rattle.std.specs.Option.{option_map};
 ghost use Rattle.names.specs.Uses.{names_in_arguments, names_in_bounds, names_in_expression, names_in_item, names_in_iteration, names_in_optional, names_in_reference, names_in_restricted, names_in_subject};
-ghost use Rattle.names.specs.internal.Walks.{Does, bound_at};
+ghost use Rattle.names.specs.internal.BindingWalks.{Does, bound_at};
 
 use crate::{Binding, Fault, Scopes};
 use failure::Failure;
@@ -15,7 +15,7 @@ use trees::{
 };
 
 /// Binds a name.
-#[tactic(auto, using(crate::proofs::Walks::bound_known, crate::proofs::Walks::bound_unknown))]
+#[tactic(auto, using(crate::proofs::BindingWalks::bound_known, crate::proofs::BindingWalks::bound_unknown))]
 pub(crate) fn bind_name(
     scopes: &Scopes,
     name: Identifier,

@@ -1,12 +1,16 @@
 -- Object files that are read and placed.
-use Rattle.object_commands.proofs.Prelude.{◌≡◌, ◌⊎◌, ℕ, List, Option, None, inl, inr, subst, Appends, Keeps, AppendsBeginning, Directory, HasFile, Absolute, IsPlaced, plan_view, ObjectModule, Spells, PlacesFile, PrintsHex, PrintsPlaces, StopsHex, StopsPlaces, jump_refusal, pieces_with, places_text, Keeps-refl}
+use Rattle.object_commands.proofs.Prelude.{◌≡◌, ◌⊎◌, ℕ, List, Option, None, Result, Ok, Err, IfOk, inl, inr, subst, Appends, Keeps, AppendsBeginning, Directory, HasFile, Absolute, IsPlaced, plan_view, ObjectModule, Spells, PlacesBytes, PlacesFile, PrintsHex, PrintsPlaces, StopsHex, StopsPlaces, jump_refusal, pieces_with, places_text, Keeps-refl}
 use Rattle.hex80.specs.Texts.{BeginsText, WritesText}
 use Rattle.mem80.specs.declared.plan.Plan.{Plan}
 use Rattle.object_commands.specs.Listing.{ListsModule, PrintsListing, StopsListing}
 
-pub placed : (files : Option Directory) (name bytes : List ℕ) (plan : Plan) (object : ObjectModule) (absolute : Absolute) → HasFile files name bytes → Spells bytes object
-    → IsPlaced (plan_view plan) object absolute → PlacesFile files name plan object absolute
-placed files name bytes plan object absolute read spelled is = record { bytes = bytes; read = read; spelled = spelled; placed = is }
+-- what the bytes of a file spell is what the file spells
+pub file_placed : {X E : Type 0} (object : X → ObjectModule) (absolute : X → Absolute) (files : Option Directory) (name bytes slice : List ℕ) (plan : Plan) (result : Result X E)
+    → HasFile files name bytes → slice ≡ bytes → IfOk result (λ placed. PlacesBytes slice plan (object placed) (absolute placed))
+    → IfOk result (λ placed. PlacesFile files name plan (object placed) (absolute placed))
+file_placed object absolute files name bytes slice plan (Ok placed) read is there =
+    record { bytes = bytes; read = read; spelled = subst (λ (b : List ℕ). Spells b (object placed)) is there.spelled; placed = there.placed }
+file_placed object absolute files name bytes slice plan (Err ending) read is there = there
 
 pub prints_hex : (files : Option Directory) (name : List ℕ) (plan : Plan) (jump : Option ℕ) (object : ObjectModule) (absolute : Absolute) (old new : Option (List ℕ))
     → PlacesFile files name plan object absolute → jump_refusal plan object jump ≡ None → WritesText (pieces_with jump absolute) old new → PrintsHex files name plan jump old new
@@ -36,27 +40,27 @@ pub begins_places : (files : Option Directory) (name : List ℕ) (plan : Plan) (
 begins_places files name plan object absolute lines old new of_file are printed =
     inr (record { object = object; absolute = absolute; of_file = of_file; printed = subst (λ (l : List ℕ). AppendsBeginning old new l) are printed })
 
-module _ (files : Option Directory) (name : List ℕ) (plan : Plan) where
-  pub no_listing : (known : Option (List ℕ)) → StopsListing files name plan known known
+module _ (bytes : List ℕ) (plan : Plan) where
+  pub no_listing : (known : Option (List ℕ)) → StopsListing bytes plan known known
   no_listing known = inl (Keeps-refl known)
 
-  pub prints_listing : (object : ObjectModule) (absolute : Absolute) (text lines : List ℕ) (old new : Option (List ℕ)) → PlacesFile files name plan object absolute
-      → ListsModule plan object absolute text → lines ≡ text → Appends old new lines → PrintsListing files name plan old new
-  prints_listing object absolute text lines old new of_file listed are printed = record {
+  pub prints_listing : (object : ObjectModule) (absolute : Absolute) (text lines : List ℕ) (old new : Option (List ℕ)) → PlacesBytes bytes plan object absolute
+      → ListsModule plan object absolute text → lines ≡ text → Appends old new lines → PrintsListing bytes plan old new
+  prints_listing object absolute text lines old new of_bytes listed are printed = record {
     object = object;
     absolute = absolute;
-    of_file = of_file;
+    of_bytes = of_bytes;
     text = text;
     listed = listed;
     printed = subst (λ (l : List ℕ). Appends old new l) are printed;
   }
 
-  pub begins_listing : (object : ObjectModule) (absolute : Absolute) (text lines : List ℕ) (old new : Option (List ℕ)) → PlacesFile files name plan object absolute
-      → ListsModule plan object absolute text → lines ≡ text → AppendsBeginning old new lines → StopsListing files name plan old new
-  begins_listing object absolute text lines old new of_file listed are printed = inr (record {
+  pub begins_listing : (object : ObjectModule) (absolute : Absolute) (text lines : List ℕ) (old new : Option (List ℕ)) → PlacesBytes bytes plan object absolute
+      → ListsModule plan object absolute text → lines ≡ text → AppendsBeginning old new lines → StopsListing bytes plan old new
+  begins_listing object absolute text lines old new of_bytes listed are printed = inr (record {
     object = object;
     absolute = absolute;
-    of_file = of_file;
+    of_bytes = of_bytes;
     text = text;
     listed = listed;
     printed = subst (λ (l : List ℕ). AppendsBeginning old new l) are printed;

@@ -75,7 +75,7 @@ module _ (files : Option Directory) (names : List (List ℕ)) (plan : Plan) wher
     not_merged (Err ending) texts read told = for_merge texts read told
 
 pub told_later :
-    (result : Result Absolute Ending) (files : Option Directory) (names : List (List ℕ)) (before after : ℕ) (old new : Option (List ℕ)) → after ≡ before → OnErr result (TellsOther old new)
+    {X : Type 0} (result : Result X Ending) (files : Option Directory) (names : List (List ℕ)) (before after : ℕ) (old new : Option (List ℕ)) → after ≡ before → OnErr result (TellsOther old new)
     → OnErr result (TellsRefusal files names before after old new)
-told_later (Ok absolute) files names before after old new same told = tt
+told_later (Ok found) files names before after old new same told = tt
 told_later (Err ending) files names before after old new same told = tells_no_file files names before after old new same told

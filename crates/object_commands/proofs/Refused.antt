@@ -43,3 +43,7 @@ pub tells_later : (files : Option Directory) (names : List (List ℕ)) (before a
     → TellsRefusal files names before after old new
 tells_later files names before after old now new silent same other =
     tells_no_file files names before after old new same (subst (λ (b : Option (List ℕ)). TellsOther b new) silent other)
+
+-- another fault, after a call that printed nothing
+pub other_later : (old now new : Option (List ℕ)) → now ≡ old → TellsOther now new → TellsOther old new
+other_later old now new silent other = subst (λ (b : Option (List ℕ)). TellsOther b new) silent other

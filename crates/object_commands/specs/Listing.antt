@@ -5,7 +5,6 @@ use Rattle.std.specs.Prelude.{List, [], ◌∷◌, ◌++◌, codes, drop, length
 use Rattle.std.specs.Io.KnownBytes.{Appends, Keeps}
 use Rattle.std.specs.List.{flat_map, list_any}
 use Rattle.failure.specs.Writing.{AppendsBeginning}
-use Rattle.host.specs.Files.{Directory}
 use Rattle.isa8080.specs.Code.{first_instruction}
 use Rattle.isa8080.specs.Text.{byte_digits, text_of, word_digits}
 use Rattle.isa8080.specs.declared.instr.Instr.{Instr}
@@ -15,7 +14,7 @@ use Rattle.mem80.specs.declared.range.Piece.{Piece}
 use Rattle.mem80.specs.declared.range.Range.{Range}
 use Rattle.object_modules.specs.Image.{Symbol, code_range}
 use Rattle.object_modules.specs.Module.{ObjectModule}
-use Rattle.object_commands.specs.Placing.{PlacesFile}
+use Rattle.object_commands.specs.Placing.{PlacesBytes}
 
 -- a public name that lies at this address, on a line of its own with a colon (58), and nothing of another
 abbrev pub label_line : (address : ℕ) → Symbol → List ℕ
@@ -93,27 +92,24 @@ abbrev pub ListsModule : Plan → ObjectModule → Absolute → (text : List ℕ
 ListsModule plan object absolute text =
     AreListed absolute.symbols (code_range (plan_view plan) object) absolute.pieces text
 
--- the listing of the placed module was written
-pub record PrintsListing (files : Option Directory) (name : List ℕ) (plan : Plan)
-    (old new : Option (List ℕ)) : Type 0 where
+-- the listing of the placed module that bytes spell was written
+pub record PrintsListing (bytes : List ℕ) (plan : Plan) (old new : Option (List ℕ)) : Type 0 where
   pub object : ObjectModule
   pub absolute : Absolute
-  pub of_file : PlacesFile files name plan object absolute
+  pub of_bytes : PlacesBytes bytes plan object absolute
   pub text : List ℕ
   pub listed : ListsModule plan object absolute text
   pub printed : Appends old new text
 
 -- a beginning of that was written
-pub record BeginsListing (files : Option Directory) (name : List ℕ) (plan : Plan)
-    (old new : Option (List ℕ)) : Type 0 where
+pub record BeginsListing (bytes : List ℕ) (plan : Plan) (old new : Option (List ℕ)) : Type 0 where
   pub object : ObjectModule
   pub absolute : Absolute
-  pub of_file : PlacesFile files name plan object absolute
+  pub of_bytes : PlacesBytes bytes plan object absolute
   pub text : List ℕ
   pub listed : ListsModule plan object absolute text
   pub printed : AppendsBeginning old new text
 
 -- what was not printed whole: nothing was written, or a beginning
-abbrev pub StopsListing :
-    (files : Option Directory) → (name : List ℕ) → Plan → (old new : Option (List ℕ)) → Type 0
-StopsListing files name plan old new = Keeps old new ⊎ BeginsListing files name plan old new
+abbrev pub StopsListing : (bytes : List ℕ) → Plan → (old new : Option (List ℕ)) → Type 0
+StopsListing bytes plan old new = Keeps old new ⊎ BeginsListing bytes plan old new

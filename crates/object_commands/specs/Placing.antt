@@ -46,6 +46,11 @@ places_text plan object absolute =
     ++ start_line absolute.start
     ++ flat_map symbol_line absolute.symbols
 
+-- bytes spell a module, which is placed by the plan
+pub record PlacesBytes (bytes : List ℕ) (plan : Plan) (object : ObjectModule) (absolute : Absolute) : Type 0 where
+  pub spelled : Spells bytes object
+  pub placed : IsPlaced (plan_view plan) object absolute
+
 -- the file of this name spells a module, which is placed by the plan
 pub record PlacesFile (files : Option Directory) (name : List ℕ) (plan : Plan)
     (object : ObjectModule) (absolute : Absolute) : Type 0 where

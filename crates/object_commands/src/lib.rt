@@ -11,6 +11,7 @@ mod refusals;
 mod writing_files;
 
 pub use linking::link_files;
+pub use listing::{put_lone, put_start};
 pub use merges::place_merge;
 pub use placing::{print_hex, print_list, print_places};
 pub use writing_files::write_file;

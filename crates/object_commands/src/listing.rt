@@ -154,8 +154,8 @@ fn shown_at(symbols: &[Symbol], code: Range, address: u16, bytes: &[u8]) -> Opti
     if_whole(symbols, code, address, bytes.len(), first)
 }
 
-// Adds an address and the bytes there.
-fn put_start(lines: &mut Vec<u8>, address: u16, bytes: &[u8]) -> io::Result<()>
+/// Adds an address and the bytes there.
+pub fn put_start(lines: &mut Vec<u8>, address: u16, bytes: &[u8]) -> io::Result<()>
     requires { length bytes.now ≤ 3 }
     ensures { OnOk result (lines.new.items ≡ lines.old.items ++ start_of address bytes.now) }
 {
@@ -176,8 +176,8 @@ fn put_instruction(lines: &mut Vec<u8>, address: u16, bytes: &[u8], instr: &Inst
     writeln!(lines, "{instr}")
 }
 
-// Adds the line of a byte.
-fn put_lone(lines: &mut Vec<u8>, address: u16, byte: u8) -> io::Result<()>
+/// Adds the line of a byte that is shown alone.
+pub fn put_lone(lines: &mut Vec<u8>, address: u16, byte: u8) -> io::Result<()>
     ensures { OnOk result (lines.new.items
         ≡ lines.old.items ++ part_line address (byte ∷ []) (codes "DB " ++ byte_digits byte)) }
 {

@@ -7,11 +7,10 @@ ghost use Rattle.object_commands.specs.Placing.{places_text, range_line, start_l
 
 use locate::{Absolute, Symbol};
 use mem80::Plan;
-use object_modules::{ObjectModule, Segment};
+use object_modules::{Name, ObjectModule, Segment};
 use std::alloc::Global;
 use std::io;
 use std::io::Write;
-use symbols::Name;
 
 // Adds the line of a range.
 fn put_range(lines: &mut Vec<u8>, word: &str, address: u16, size: u16) -> io::Result<()>

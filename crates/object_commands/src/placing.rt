@@ -3,9 +3,9 @@
 ghost use Rattle.std.specs.Prelude.{◌≡◌, ◌⊎◌, ◌∷◌, [], IfErr, IfOk, OnErr, OnOk};
 ghost use Rattle.std.specs.Io.KnownBytes.{Keeps};
 ghost use Rattle.host.specs.Files.{KeepsFiles};
-ghost use Rattle.host.specs.Refusals.{TellsRefusal};
+ghost use Rattle.host.specs.Refusals.{TellsOther, TellsRefusal};
 ghost use Rattle.hex80.specs.Texts.{BeginsText, WritesText};
-ghost use Rattle.object_commands.specs.Placing.{PlacesFile, PrintsHex, PrintsPlaces, StopsHex, StopsPlaces, pieces_with};
+ghost use Rattle.object_commands.specs.Placing.{PlacesBytes, PlacesFile, PrintsHex, PrintsPlaces, StopsHex, StopsPlaces, pieces_with};
 ghost use Rattle.object_commands.specs.Listing.{PrintsListing, StopsListing};
 ghost use Rattle.object_commands.specs.internal.Rooms.{LeavesRoom};
 
@@ -30,6 +30,37 @@ struct Placed {
     absolute: Absolute,
 }
 
+// Places what the bytes of an object file spell, or prints why it can't.
+fn place_bytes<E: Write>(
+    alloc: Global,
+    file: &str,
+    bytes: &[u8],
+    plan: &Plan,
+    err: &mut E,
+) -> Result<Placed, Ending>
+    ensures placed { IfOk result (λ placed. PlacesBytes bytes.now plan.now placed.object placed.absolute) }
+    ensures refused { IfErr result (λ ending. ending ≡ Ending.Refused) }
+    ensures told { OnErr result (TellsOther (E.contents err.old) (E.contents err.new)) }
+    ensures silent { OnOk result (E.contents err.new ≡ E.contents err.old) }
+{
+    let object = match read(alloc, bytes) {
+        Ok(object) => object,
+        Err(Failure::Fault(fault)) => return Err(refuse_object(&fault, file, err)),
+        Err(Failure::Memory) => return Err(refuse_memory(err)),
+    };
+    match locate(alloc, &object, plan) {
+        Ok(absolute) => Ok(Placed { object, absolute }),
+        Err(Failure::Fault(fault)) => {
+            drop(object);
+            Err(refuse_place(&fault, err))
+        }
+        Err(Failure::Memory) => {
+            drop(object);
+            Err(refuse_memory(err))
+        }
+    }
+}
+
 // Reads an object file and places it, or prints why it can't.
 fn place_file<F: Files, E: Write>(
     alloc: Global,
@@ -47,28 +78,10 @@ fn place_file<F: Files, E: Write>(
     ensures silent { OnOk result (E.contents err.new ≡ E.contents err.old) }
     ensures count { OnOk result (F.failures files.new ≡ F.failures files.old) }
 {
-    let bytes = match files.read_file(file) {
-        Ok(bytes) => bytes,
-        Err(Failure::Fault(fault)) => return Err(refuse_file(fault, file, err)),
-        Err(Failure::Memory) => return Err(refuse_memory(err)),
-    };
-    let reading = read(alloc, bytes.as_slice());
-    drop(bytes);
-    let object = match reading {
-        Ok(object) => object,
-        Err(Failure::Fault(fault)) => return Err(refuse_object(&fault, file, err)),
-        Err(Failure::Memory) => return Err(refuse_memory(err)),
-    };
-    match locate(alloc, &object, plan) {
-        Ok(absolute) => Ok(Placed { object, absolute }),
-        Err(Failure::Fault(fault)) => {
-            drop(object);
-            Err(refuse_place(&fault, err))
-        }
-        Err(Failure::Memory) => {
-            drop(object);
-            Err(refuse_memory(err))
-        }
+    match files.read_file(file) {
+        Ok(bytes) => place_bytes(alloc, file, bytes.as_slice(), plan, err),
+        Err(Failure::Fault(fault)) => Err(refuse_file(fault, file, err)),
+        Err(Failure::Memory) => Err(refuse_memory(err)),
     }
 }
 
@@ -172,29 +185,26 @@ pub fn print_hex<F: Files, O: Write, E: Write>(
     }
 }
 
-/// Places an object file by a plan, and prints its bytes by rising addresses, with the instructions that they encode and
-/// the public names that lie there. After a write that failed a beginning of that was printed, and after any other
-/// refusal nothing.
-pub fn print_list<F: Files, O: Write, E: Write>(
+/// Places what the bytes of an object file spell by a plan, and prints its bytes by rising addresses, with the instructions
+/// that they encode and the public names that lie there. After a write that failed a beginning of that was printed, and after
+/// any other refusal nothing.
+pub fn print_list<O: Write, E: Write>(
     alloc: Global,
     file: &str,
+    bytes: &[u8],
     plan: &Plan,
-    files: &mut F,
     out: &mut O,
     err: &mut E,
 ) -> Ending
-    ensures kept { KeepsFiles (F.files files.old) (F.files files.new) }
-    ensures printed { result ≡ Ending.Done → PrintsListing (F.files files.old) file.now plan.now
+    ensures printed { result ≡ Ending.Done → PrintsListing bytes.now plan.now
         (O.contents out.old) (O.contents out.new) }
-    ensures refused { (result ≡ Ending.Done → ⊥) → StopsListing (F.files files.old) file.now plan.now
+    ensures refused { (result ≡ Ending.Done → ⊥) → StopsListing bytes.now plan.now
         (O.contents out.old) (O.contents out.new) }
     ensures ending { (result ≡ Ending.Done) ⊎ (result ≡ Ending.Refused) }
-    ensures told { result ≡ Ending.Refused → TellsRefusal (F.files files.old) (file.now ∷ [])
-        (F.failures files.old) (F.failures files.new) (E.contents err.old) (E.contents err.new) }
-    ensures count { (result ≡ Ending.Refused → ⊥) → F.failures files.new ≡ F.failures files.old }
+    ensures told { result ≡ Ending.Refused → TellsOther (E.contents err.old) (E.contents err.new) }
     ensures quiet { (result ≡ Ending.Refused → ⊥) → E.contents err.new ≡ E.contents err.old }
 {
-    let placed = match place_file(alloc, file, plan, files, err) {
+    let placed = match place_bytes(alloc, file, bytes, plan, err) {
         Ok(placed) => placed,
         Err(ending) => return ending,
     };

@@ -3,7 +3,7 @@ pub mod PartsAgain
 pub mod Judged
 pub mod FilesAgain
 pub mod Unique
-pub mod Walks
+pub mod FileWalks
 pub mod AnyCount
 pub mod Bytes
 pub mod Accepted

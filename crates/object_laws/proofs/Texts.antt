@@ -11,5 +11,5 @@ pub mod ContentsTold
 pub mod Headed
 pub mod SegmentWritten
 pub mod NamesWritten
-pub mod Written
+pub mod WrittenRecords
 pub mod WrittenAgain

@@ -2,7 +2,7 @@ mod Prelude
 pub mod Sequences
 pub mod Bodies
 pub mod Grouping
-pub mod Items
+pub mod EntriesOfItems
 pub mod Entries
 pub mod FixTexts
 pub mod Fixes

@@ -8,7 +8,7 @@ pub mod Ways
 pub mod Callees
 pub mod CallInstructions
 pub mod Ends
-pub mod Parts
+pub mod CallsInParts
 pub mod Soundness
 pub mod ProcedureCalls
 pub mod Returns

@@ -20,7 +20,7 @@ pub use Rattle.asm8080.proofs.{Calls.{IsPushed, one_below, pushed, pushed_is_mem
 pub use Rattle.asm8080.specs.{Items.{instruction_with, word_of}, Standing.{AgreesIn, Keeps, size_of_instruction}, declared.item.Item.{Item}, declared.item.Reference.{Reference, TheVariants.{AtLabel, AtTarget}}, declared.item.WordForm.{WordForm, TheVariants.{CallTo, JumpWhere, LoadPair, StoreA, StoreHl}}}
 pub use Rattle.treecode.specs.{Homes.{external_number, frame_number, frame_variable, is_global_procedure, kind_of, location_of, parameter_at, parameter_number, parameters_of, place_of_slot}, Known.{known_number, known_value}, Lowered.{HasBody, IsList, IsProcedure, ends_by, labels_numbered, labels_numbered_in_else, labels_numbered_in_list, labels_numbered_in_statements, numbers_from, reaches_end, reaches_end_of_else, reaches_end_of_list, reaches_end_of_statements}, Nodes.{Nodes, home_at, nodes_of}, Resolved.{HaveOperands, Resolves}, declared.lists.Range.{Range}, declared.module.TreeModule.{TreeModule}, declared.place.Home.{Home as TreeHome}, declared.place.Location.{Location, TheVariants.{Frame, Static}}, declared.place.Place.{Place, TheVariants.{Number}}, declared.procedure.FrameVariable.{FrameVariable}, declared.procedure.Parameter.{Parameter}, declared.procedure.ProcedureKind.{ProcedureKind}, declared.procedure.TreeProcedure.{TreeProcedure}}
 pub use Rattle.treecode_laws.proofs.Labels.{same_number}
-pub use Rattle.frames.proofs.{Bytes.{bytes_are, listed, object_fits, scalar_size}, Entries.{entries}, Frames.{parameter_count}, Homes.{home_in_data, home_in_frame}, Objects.{entry_is, lowered_framed}, Parameters.{frame_fits, framed, has_parameters, none_found, numbered_at}, Places.{ends_within}}
+pub use Rattle.frames.proofs.{FrameBytes.{bytes_are, listed, object_fits, scalar_size}, Entries.{entries}, Frames.{parameter_count}, Homes.{home_in_data, home_in_frame}, Objects.{entry_is, lowered_framed}, Parameters.{frame_fits, framed, has_parameters, none_found, numbered_at}, Places.{ends_within}}
 pub use Rattle.frames.specs.{Frames.{IsPlanOf, bytes_by_parameter, distance_by_parameter, distance_in, distance_of, parameter_distance, return_distance, return_of, variable_bytes, word_distance}, declared.frame_plan.FramePlan.{FramePlan}, internal.Objects.{HasByte, ObjectsLie}}
 pub use Rattle.steps8080.specs.{Facts.{after, after_word, no_facts, with_facts}, Instructions.{clear_a}, Step.{label_of}, Writer.{word_item}, declared.facts.Facts.{Facts}, declared.step.LabelNumber.{LabelNumber}}
 pub use Rattle.exprgen8080.specs.Emission.{AreWritten, HoldsWritten, JumpWritten, MarkWritten, NoneWritten, PlainWritten, WordWritten, items_of_call, module_call_items}
@@ -31,7 +31,7 @@ pub use Rattle.code_meaning.proofs.{Facts.After.{facts_after, facts_after_word},
 pub use Rattle.code_meaning.specs.{Activations.{Activation, Arrives, FrameLies, IsReady, IsThere, IsVariable, LiesWell, Owns, PlacementLies, Shares}, Asking.{Asks, WordAsks}, Holding.{AddressHolds, ByteHolds, Distances, FactsHold, IsByteAt, IsSteady, IsWordAt, WordHolds, ZeroHolds, location_at, place_at}, Landing.{Does, IsLeft, Lands, at_place}}
 pub use Rattle.statement_laws.proofs.{CarriedOut.{carry_out}, Machine.Rules.{bytes_at_place, popped_bytes, ready_with_registers, word_acts}, Machine.SiteNodes.{have_operands, place_of_number}, Machine.Stages.{does_same, gives_then, then_does_where}, Ranges.NumbersOfTrees.{IsTypedCode, has_types}, Ranges.RangesOfCalls.{calls_fit}, Ranges.RangesOfStatements.{dropped_types}, Stores.Writing.{past, sized_in_frame}}
 pub use Rattle.statement_laws.specs.{CodeContexts.{ArgumentsLie, CallsDo, CallsFit, Context, FrameIsPlanned, InRegister, InWord, IsSound, ResultLies, RoutineIsAt, bytes_pushed, distances_in, nodes_in}, ProgramTypes.{HasTypes}, Tasks.{Know}}
-pub use Rattle.statement_laws.proofs.{Together.{statements_do}, Written.{list_stands}}
+pub use Rattle.statement_laws.proofs.{Together.{statements_do}, StatementItems.{list_stands}}
 pub use Rattle.statement_laws.specs.{Bodies.{BodyContext, ComesToReturn, GoesOn, IsSoundBody, IsWithin, Leaves, ReturnStands}, Statements.{ListDoes}}
 pub use Rattle.procedure_laws.specs.Calls.{CallsAreKnown, ComesBack, Entries, EntryDoes, IsEntered, IsOfCall, ReturnLies}
 pub use Rattle.procedure_laws.specs.Contexts.{Shape, activation_in, body_in, context_in, frame_shape, main_shape, size_in_frame, static_shape}

@@ -5,7 +5,7 @@ use Rattle.treecode.specs.declared.procedure.ProcedureKind.TheVariants as kinds
 use Rattle.procedure_laws.proofs.Trees.{lies_anywhere}
 use Rattle.procedure_laws.proofs.Callees.{tree_of}
 use Rattle.treecode_laws.proofs.Labels.{procedure_labels_differ}
-use Rattle.procedure_laws.proofs.Parts.{entered_does}
+use Rattle.procedure_laws.proofs.CallsInParts.{entered_does}
 use Rattle.procedure_laws.proofs.Soundness.{body_sound, context_sound, frame_lies, frame_planned, static_lies, static_planned, there_in}
 use Rattle.procedure_laws.proofs.Ways.{IsLeftBy, body_left}
 

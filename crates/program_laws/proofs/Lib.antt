@@ -21,7 +21,7 @@ pub mod MadePrograms
 pub mod Cells
 pub mod Placed
 pub mod Contents
-pub mod Words
+pub mod ContentWords
 pub mod Listed
 pub mod Segments
 pub mod Names

@@ -17,7 +17,7 @@ pub use Rattle.image_laws.proofs.{Images.NoHighs.{NoHighs, assembled_highs, no_h
 pub use Rattle.image_laws.specs.{Names.{HasNames, external_names_in, public_names_in}, Objects.{IsObjectOf}, Segments.{BeginWith, HasPublic, HasSegments, IsPublicAt, IsTarget}, internal.AtPlans.{AreObjectsOf, bases_of, code_lengths_of, plan_of}, internal.InMemory.{StartsAt, address_of_public, piece_base}, internal.Linked.{placed_by}, internal.Names.{HaveImage, HaveNames}, internal.ProgramInMemory.{HaveSegments, IsInMemory, placement_of}}
 pub use Rattle.isa8080.specs.{Code.{bytes_of}, State.{HoldBytes, Registers, State, high_byte, low_byte, wrap}, Step.{running}, declared.instr.Instr.TheVariants.{Hlt}, declared.instr.Pair.TheVariants.{Sp}, declared.registers.Status.{Status, TheVariants.{Halted, Illegal, Running}}}
 unfoldable pub use Rattle.isa8080.specs.Step.{state_after}
-pub use Rattle.asm8080.proofs.{Assemblies.{flags_length}, Fixing.{cells_of_items, fixed_items, row_of, set_of_items}, Kept.{stands_size}, Parts.{bound_in_parts}, Segments.{places_length, set_length}, Words.{item_length}}
+pub use Rattle.asm8080.proofs.{Assemblies.{flags_length}, Fixing.{cells_of_items, fixed_items, row_of, set_of_items}, Kept.{stands_size}, CodeInParts.{bound_in_parts}, Segments.{places_length, set_length}, ItemWords.{item_length}}
 pub use Rattle.asm8080.specs.{Assembled.{Assembled, Assembles, fixed_bytes, fixes_of_items, layout_at, place_of, places_of, resolved, set_bytes}, Items.{Assembly, KnowsLabels, Layout, Stands, bytes_of_item, flags_of_items, instruction_with, is_bound, marks, offset_of, size_of, size_of_items, word_of}, Standing.{BytesStand, SetBytesStand}, declared.item.Item.{Item, TheVariants.{Address, Byte, Gap, Mark, Plain, WithWord}}, declared.item.Reference.{Reference, TheVariants.{AtLabel, AtNumber, AtTarget}}, declared.item.WordForm.TheVariants.{LoadPair}}
 pub use Rattle.treecode.specs.{Contents.{constant_object, constants_from, content_of, place_from, public_item, public_object, public_procedure, size_of_value, static_object, static_place, variables_from, with_constant, with_gap, with_gap_if_any, with_object}, Homes.{external_name, external_number, external_object, external_procedure, externals_of, home_of_object, homes_from, is_global_procedure, kind_of, number_of_place, place_after}, Known.{known_value, offset_of_list}, Lowered.{AreMoreStatements, AreNoStatements, AreStatements, HasBody, IsList, IsListOf, IsLowered, labels_numbered_in_list}, Nodes.{Nodes, home_at, nodes_of}, Resolved.{HaveOperands, Resolves}, declared.lists.Range.{Range}, declared.module.Content.{Content, TheVariants.{Word}}, declared.module.ExternalName.{ExternalName}, declared.module.PublicName.{PublicName}, declared.module.PublicPlace.{PublicPlace, TheVariants.{Procedure}}, declared.module.TreeModule.{TreeModule}, declared.place.Home.{Home, TheVariants.{Static}}, declared.place.Place.{Place, TheVariants.{Number}}, declared.procedure.ProcedureKind.{ProcedureKind}, declared.procedure.TreeProcedure.{TreeProcedure}}
 unfoldable pub use Rattle.treecode.specs.{Contents.{constants_of, publics_of, variables_of}, Homes.{homes_of}}

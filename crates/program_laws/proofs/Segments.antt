@@ -9,7 +9,7 @@ use Rattle.program_laws.proofs.Cells.{HasByte, at_zero}
 use Rattle.program_laws.proofs.Contents.{IsWordContent, contents_begin, contents_keep}
 use Rattle.program_laws.proofs.Listed.{InList, kept_in, object_listed}
 use Rattle.program_laws.proofs.Placed.{place_to, segment_bytes, segment_is}
-use Rattle.program_laws.proofs.Words.{constants_are_words, variables_are_words}
+use Rattle.program_laws.proofs.ContentWords.{constants_are_words, variables_are_words}
 
 -- Each segment: its places are those of what was written, whose items begin with those of its contents.
 module _

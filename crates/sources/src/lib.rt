@@ -2,11 +2,13 @@
 #![tactic(auto)]
 
 mod fault;
+mod lines;
 mod placed;
 mod read;
 mod sources;
 
 pub use fault::ProgramFault;
+pub use lines::{SourceLines, source_lines};
 pub use mem80::Plan;
 pub use placed::{Placed, place_program};
 pub use read::{ReadFault, SourceModule, read_source};

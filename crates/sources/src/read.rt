@@ -154,9 +154,9 @@ fn type_text(alloc: Global, text: &[u8]) -> Result<Typed, Failure<ReadFault>>
     Ok(typed)
 }
 
-// The module of a text that is not too long.
+/// The module of a text that is not too long.
 #[tactic(auto, using(crate::proofs::ReadLemmas::is_text))]
-fn parse_text(alloc: Global, text: &[u8]) -> Result<Module, Failure<ReadFault>>
+pub(crate) fn parse_text(alloc: Global, text: &[u8]) -> Result<Module, Failure<ReadFault>>
     requires { length text.now ≤ LONGEST_SOURCE }
     ensures read { IfOk result (λ parsed. IsText text.now (module_tree parsed)) }
     ensures refused { IfFault result (λ fault. HasReadCause fault text.now) }

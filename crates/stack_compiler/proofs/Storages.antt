@@ -1,7 +1,7 @@
 -- The code of scalars and of parts of objects by what the objects are found by.
 use Rattle.stack_compiler.proofs.Prelude.{◌≡◌, ℕ, ◌%◌, ◌<◌, true, false, List, ◌++◌, ◌∷◌, [], Option, refl, ap, sym, ◌∙◌, true≢false, arith, ScalarType, TypedReference, PartOf, Home, InData, InConstants, Placed, BasedOn, Elsewhere, Nowhere, InFrame, Subscript, NoSubscript, At, address_of, home_of, Instruction, FrameParameter, Parameter, Site, Purpose, surroundings_at, instruction_at, instruction_after, instruction_of_frame, whole_in_frame, scalar_code, variable_code, parameter_code, part_at, part_code, index_code, reference_code, Storage, Frame, Base, Memory, storage_by}
 use Rattle.mem80.specs.declared.memory.TheConstants.{MEMORY_SIZE}
-use Rattle.stack_compiler.specs.internal.Parts.{bytes_code, framed_code, based_code, placed_code, lacks_subscripts}
+use Rattle.stack_compiler.specs.internal.ObjectParts.{bytes_code, framed_code, based_code, placed_code, lacks_subscripts}
 
 -- a scalar by what it is found by
 abbrev scalar_by : Site → Purpose → Storage → (object : ℕ) → Instruction

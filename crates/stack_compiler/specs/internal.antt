@@ -1,6 +1,6 @@
 pub mod Sites
 pub mod Purposes
-pub mod Parts
+pub mod ObjectParts
 pub mod Loops
 pub mod Openings
 pub mod Sequences

@@ -3,6 +3,6 @@ pub mod Arguments
 pub mod Views
 pub mod Next
 pub mod Performs
-pub mod Parts
+pub mod FrameParts
 pub mod Moves
 pub mod Opened

@@ -17,8 +17,12 @@ pub enum SourceEnd {
 /// Why a run was given up before the program stopped.
 #[derive(Clone, Copy, Debug, Error)]
 pub enum RunFault {
-    #[error("a port failed")]
-    Port,
+    /// A read of this port failed.
+    #[error("a read of a port failed")]
+    Input(u8),
+    /// A write of this port failed.
+    #[error("a write of a port failed")]
+    Output(u8),
     #[error("there is no memory for the run")]
     Memory,
 }

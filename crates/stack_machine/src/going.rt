@@ -5,7 +5,7 @@ ghost use Rattle.declared.specs.Access.{AreKindsOf, modules_in};
 ghost use Rattle.declared.specs.Frames.{module_frames};
 ghost use Rattle.stack_code.specs.Machine.{steps};
 ghost use Rattle.stack_code.specs.Program.{AreTablesOf};
-ghost use Rattle.stack_machine.specs.Runs.{FaultCounts, Reaches, Stops, stop_of};
+ghost use Rattle.stack_machine.specs.Runs.{FaultCounts, Reaches, ReachesFault, Stops, stop_of};
 ghost use Rattle.stack_machine.specs.internal.Views.{machine_view, program_in};
 
 use crate::end::{RunFault, SourceEnd};
@@ -15,7 +15,7 @@ use ports::Ports;
 
 impl<'a> StackMachine<'a> {
     /// Carries out instructions until the program stops.
-    #[tactic(auto, using(crate::proofs::Leading::starts, crate::proofs::Leading::given_up, crate::proofs::Leading::port_sank))]
+    #[tactic(auto, using(crate::proofs::Leading::starts, crate::proofs::Leading::given_up, crate::proofs::Leading::port_sank, crate::proofs::Leading::out_of_memory))]
     pub fn go_on<P: Ports>(
         &mut self,
         loaded: Loaded<'a>,
@@ -26,11 +26,14 @@ impl<'a> StackMachine<'a> {
         requires tables { AreTablesOf (modules_in loaded.joined.now) loaded.code.now loaded.tables.now }
         ensures ended { IfOk result (λ end. Stops (λ count. steps loaded.entry.code.now count
             (machine_view (program_in loaded.entry (P.script ports.old)) (P.events ports.old) self.old))
-            (stop_of end) (P.events ports.new)) }
+            (stop_of end) (P.events ports.new) self.new.budget) }
         ensures count { OnOk result (P.failures ports.new ≡ P.failures ports.old) }
         ensures reached { OnErr result (Reaches (λ count. steps loaded.entry.code.now count
             (machine_view (program_in loaded.entry (P.script ports.old)) (P.events ports.old) self.old))
             (P.events ports.new)) }
+        ensures called { IfErr result (λ fault. ReachesFault (λ count. steps loaded.entry.code.now count
+            (machine_view (program_in loaded.entry (P.script ports.old)) (P.events ports.old) self.old))
+            fault (P.events ports.new) self.new.budget) }
         ensures failed { IfErr result (λ fault.
             FaultCounts fault (P.failures ports.old) (P.failures ports.new)) }
         ensures script { P.script ports.new ≡ P.script ports.old }

@@ -2,7 +2,7 @@
 
 ghost use Rattle.std.specs.Prelude.{◌≡◌};
 ghost use Rattle.stack_code.specs.Machine.{top, without_index, without_indices};
-ghost use Rattle.stack_machine.specs.internal.Parts.{IsDisplacement, IsPart};
+ghost use Rattle.stack_machine.specs.internal.FrameParts.{IsDisplacement, IsPart};
 
 use crate::values::Values;
 use stack_code::{FramePart, FrameSubscript};

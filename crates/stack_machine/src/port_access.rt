@@ -5,6 +5,7 @@ ghost use Rattle.ports.specs.Events.{AddsEvent, read_event, write_event};
 ghost use Rattle.ports.specs.Input.{input_value};
 ghost use Rattle.stack_code.specs.Machine.{top};
 ghost use Rattle.stack_machine.specs.Runs.{FaultCounts};
+ghost use Rattle.stack_machine.specs.internal.Performs.{IsFaultOfInput, IsFaultOfOutput};
 
 use crate::end::RunFault;
 use crate::machine::StackMachine;
@@ -22,6 +23,8 @@ impl<'a> StackMachine<'a> {
             (read_event port (input_value (P.script ports.old) (P.events ports.old) port))) }
         ensures count { OnOk result (P.failures ports.new ≡ P.failures ports.old) }
         ensures none { OnErr result (P.events ports.new ≡ P.events ports.old) }
+        ensures called { IfErr result (IsFaultOfInput port) }
+        ensures left { self.new.budget ≡ self.old.budget }
         ensures failed { IfErr result (λ fault.
             FaultCounts fault (P.failures ports.old) (P.failures ports.new)) }
         ensures script { P.script ports.new ≡ P.script ports.old }
@@ -35,7 +38,7 @@ impl<'a> StackMachine<'a> {
                 self.at += 1;
                 Ok(())
             }
-            Err(_) => Err(RunFault::Port),
+            Err(_) => Err(RunFault::Input(port)),
         }
     }
 
@@ -47,6 +50,8 @@ impl<'a> StackMachine<'a> {
             (write_event port (top self.old.values % 256))) }
         ensures count { OnOk result (P.failures ports.new ≡ P.failures ports.old) }
         ensures none { OnErr result (P.events ports.new ≡ P.events ports.old) }
+        ensures called { IfErr result (IsFaultOfOutput port) }
+        ensures left { self.new.budget ≡ self.old.budget }
         ensures failed { IfErr result (λ fault.
             FaultCounts fault (P.failures ports.old) (P.failures ports.new)) }
         ensures script { P.script ports.new ≡ P.script ports.old }
@@ -57,7 +62,7 @@ impl<'a> StackMachine<'a> {
                 self.at += 1;
                 Ok(())
             }
-            Err(_) => Err(RunFault::Port),
+            Err(_) => Err(RunFault::Output(port)),
         }
     }
 }

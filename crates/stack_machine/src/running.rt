@@ -6,7 +6,7 @@ ghost use Rattle.placing.specs.Views.{placement_view};
 ghost use Rattle.declared.specs.Access.{AreKindsOf, modules_in};
 ghost use Rattle.stack_code.specs.Program.{AreTablesOf};
 ghost use Rattle.stack_code.specs.Run.{stack_run, start_surroundings};
-ghost use Rattle.stack_machine.specs.Runs.{FaultCounts, Reaches, Stops, state_at_start, stop_of};
+ghost use Rattle.stack_machine.specs.Runs.{FaultCounts, Reaches, ReachesFault, Stops, state_at_start, stop_of};
 
 use crate::calls::Calls;
 use crate::end::{RunFault, SourceEnd};
@@ -27,7 +27,7 @@ use typed_trees::{Typed, charge_of};
 /// Runs a program from its main module on, which has this number: from a memory, with room on the stack and a budget
 /// of turns of loops, jumps and calls. The charge of the main module is taken first. `kinds` tells each byte of memory apart at
 /// the placement.
-#[tactic(auto, using(crate::proofs::Starts::refused, crate::proofs::Starts::given_up, crate::proofs::Starts::runs_on, crate::proofs::Starts::stays))]
+#[tactic(auto, using(crate::proofs::Starts::refused, crate::proofs::Starts::given_up, crate::proofs::Starts::runs_on, crate::proofs::Starts::stays, crate::proofs::Starts::fails_on, crate::proofs::Leading::out_of_memory))]
 pub fn run<'a, P: Ports>(
     alloc: Global,
     program: &'a StackProgram,
@@ -38,7 +38,7 @@ pub fn run<'a, P: Ports>(
     number_of_main: usize,
     room: u16,
     memory: Memory,
-    budget: u64,
+    budget: &mut u64,
     ports: &mut P,
 ) -> Result<SourceEnd, RunFault>
     requires kinds { AreKindsOf joined.now placement.now kinds.now }
@@ -50,14 +50,20 @@ pub fn run<'a, P: Ports>(
         Stops (stack_run (program.now).instructions.items (module_view main.now)
         (start_surroundings (modules_in joined.now) (placement_view placement.now) (P.script ports.old)
         number_of_main room)
-        (state_at_start memory (P.events ports.old) budget))
-        (stop_of end) (P.events ports.new)) }
+        (state_at_start memory (P.events ports.old) budget.old))
+        (stop_of end) (P.events ports.new) budget.new) }
     ensures count { OnOk result (P.failures ports.new ≡ P.failures ports.old) }
     ensures reached { OnErr result (Reaches (stack_run (program.now).instructions.items (module_view main.now)
         (start_surroundings (modules_in joined.now) (placement_view placement.now) (P.script ports.old)
         number_of_main room)
-        (state_at_start memory (P.events ports.old) budget))
+        (state_at_start memory (P.events ports.old) budget.old))
         (P.events ports.new)) }
+    ensures called { IfErr result (λ fault.
+        ReachesFault (stack_run (program.now).instructions.items (module_view main.now)
+        (start_surroundings (modules_in joined.now) (placement_view placement.now) (P.script ports.old)
+        number_of_main room)
+        (state_at_start memory (P.events ports.old) budget.old))
+        fault (P.events ports.new) budget.new) }
     ensures failed { IfErr result (λ fault. FaultCounts fault (P.failures ports.old) (P.failures ports.new)) }
     ensures script { P.script ports.new ≡ P.script ports.old }
 {
@@ -72,7 +78,7 @@ pub fn run<'a, P: Ports>(
         at: 0,
         number_of_module: number_of_main,
         room: room - charge as u16,
-        budget,
+        budget: *budget,
         values: Values::new(alloc),
         calls: Calls::new(alloc),
         memory,
@@ -86,5 +92,7 @@ pub fn run<'a, P: Ports>(
         code: program.instructions.as_slice(),
         tables: program.modules.as_slice(),
     };
-    machine.go_on(loaded, ports)
+    let result = machine.go_on(loaded, ports);
+    *budget = machine.budget;
+    result
 }

@@ -7,7 +7,7 @@ pub mod Numbers
 pub mod FirstSteps
 pub mod Outcomes
 pub mod Lists
-pub mod Written
+pub mod StatementItems
 pub mod Simple
 pub mod Meetings
 pub mod Ifs

@@ -1,13 +1,13 @@
 //! Code with numbered labels and EXTERNAL names.
 
-ghost use Rattle.std.specs.Prelude.{◌≡◌, [], ◌∷◌, ◌++◌, None, Some, map, replicate, IfOk, IsTrue, OnErr, OnOk, Err};
+ghost use Rattle.std.specs.Prelude.{◌≡◌, [], ◌∷◌, ◌++◌, None, Some, drop, length, map, replicate, IfOk, IsTrue, OnErr, OnOk, Err};
 ghost use Rattle.failure.specs.Failure.{IfFault};
 ghost use Rattle.asm8080.specs.declared.item.Item.TheVariants.{Plain, WithWord, Byte, Address, Gap, Mark};
 ghost use Rattle.asm8080.specs.declared.item.Reference.TheVariants.{AtTarget, AtNumber};
 ghost use Rattle.object_modules.specs.declared.segment.Target.TheVariants.{External, InSegment};
 ghost use Rattle.object_modules.specs.Module.{is_movable};
 ghost use Rattle.asm8080.specs.Assembled.{IsFinished};
-ghost use Rattle.asm8080.specs.Items.{IsAssembly};
+ghost use Rattle.asm8080.specs.Items.{IsAssembly, size_of_items};
 ghost use Rattle.runtime8080.specs.Routines.{AddsRoutine};
 ghost use Rattle.steps8080.specs.Externals.{Extends, entry};
 ghost use Rattle.steps8080.specs.Instructions.{high, low};
@@ -199,6 +199,20 @@ impl Writer {
     {
         self.code.leave(count)?;
         Ok(())
+    }
+
+    /// How many items the code has.
+    pub fn item_count(&self) -> usize
+        ensures { result ≡ length self.now.code.items }
+    {
+        self.code.item_count()
+    }
+
+    /// How many bytes the items from one on take.
+    pub fn size_from(&self, first: usize) -> u128
+        ensures { result ≡ size_of_items (drop first self.now.code.items) }
+    {
+        self.code.size_from(first)
     }
 
     // Makes a new label of the code.

@@ -194,9 +194,14 @@ impl Answer {
         self.status == 1 || self.status == 2
     }
 
-    /// Whether this is the answer where a file fails: it is refused for that, prints nothing, and of what is said to be written
-    /// has written at most beginnings.
+    /// Whether this is the answer where a call of files fails: that of a command that stops there, or of one to whose
+    /// explanation a table of lines is missing.
     pub fn is_stopped(&self, block: &Block) -> bool {
+        self.is_refused_for_file(block) || self.lacks_table(block)
+    }
+
+    // Whether it is refused for a file, prints nothing, and of what is said to be written has written at most beginnings.
+    fn is_refused_for_file(&self, block: &Block) -> bool {
         self.status == 1
             && self.failed == 1
             && self.out.is_empty()
@@ -209,6 +214,18 @@ impl Answer {
                 .all(|(file, said)| file.begins(said))
     }
 
+    // Whether it is what is said, with the same first line told, but for an explanation that tells of a table of
+    // `--explain=TABLE` that it can't be read.
+    fn lacks_table(&self, block: &Block) -> bool {
+        block.words.contains("--explain=")
+            && block.status.parse::<u8>() == Ok(self.status)
+            && self.failed == 1
+            && block.are_written(self.written.as_slice())
+            && block.out.is_of(self.out.as_slice())
+            && first_line(self.err.as_slice()) == first_line(block.err.text.as_slice())
+            && text(self.err.as_slice()).contains(" can't be read.\n")
+    }
+
     /// Prints it.
     pub fn print(&self, page: &mut Page) {
         page.number("status ", u64::from(self.status));
@@ -217,6 +234,14 @@ impl Answer {
         page.text(" files written\n");
         page.text(text(self.out.as_slice()));
         page.text(text(self.err.as_slice()));
+    }
+}
+
+// The first line of a text.
+fn first_line(bytes: &[u8]) -> &str {
+    match text(bytes).split_once('\n') {
+        Some((line, _)) => line,
+        None => "",
     }
 }
 

@@ -24,6 +24,7 @@ fn interpreted<P: Ports>(
     let Ok(memory) = Memory::new(alloc) else {
         return Err(Failure::Memory);
     };
+    let mut budget = 100;
     Ok(interpret(
         alloc,
         built.program(),
@@ -31,7 +32,7 @@ fn interpreted<P: Ports>(
         1024,
         memory,
         ports,
-        100,
+        &mut budget,
     ))
 }
 
@@ -41,7 +42,7 @@ pub fn word_of_end<P: Ports>(alloc: Global, text: &[u8], ports: &mut P) -> &'sta
         Ok(Ok(SourceEnd::Ended)) => "ended",
         Ok(Ok(SourceEnd::Outside(_))) => "outside",
         Ok(Ok(_)) => "not ended",
-        Ok(Err(RunFault::Port)) => "a port failed",
+        Ok(Err(RunFault::Input(_))) | Ok(Err(RunFault::Output(_))) => "a port failed",
         Ok(Err(RunFault::Memory)) | Err(Failure::Memory) => "out of memory",
         Err(Failure::Fault(_)) => "refused",
     }

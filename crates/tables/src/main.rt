@@ -9,7 +9,8 @@
 //! no part of it.
 //! A file `closed.obj` can't be begun, and `broken.obj` takes three bytes.
 //! Each command line is carried out again for each of its calls of files, with that call failing: it is to be refused with U3, to
-//! print nothing, and of a file that it is said to write to have written a beginning at most.
+//! print nothing, and of a file that it is said to write to have written a beginning at most. But where that call reads the table of
+//! `--explain=TABLE`, only the explanation is to be another, which says that the table can't be read.
 //! A line `damage` between blocks has the bytes of an object file in hexadecimal digits. Each of them is changed to each other
 //! value, and a line is printed at once: how many changes there were, how many were answered otherwise than by the first fault of
 //! a record's length or sum, as a plain walk over the records finds it, and how many have which of these faults.
@@ -19,7 +20,7 @@
 //! lie, and what the code of expressions computes; what merges of object files are,
 //! made of modules and of files; objects that are read, walked over, placed, loaded and run, texts of Intel HEX that are read, and how
 //! commands end whose output fails part way; whether help has each number with the words of its fault; what long code and code
-//! with many labels is; what calls answer that are made twice; and at last whether the document of the routines, the file `runtime.md` where the program runs, is as
+//! with many labels is; what calls answer that are made twice; what words, names and trees sources have; and at last whether the document of the routines, the file `runtime.md` where the program runs, is as
 //! it is made here, or else that document.
 //! With the word `code` or `twice` it reads no standard input, and prints what code is alone, or the answers to calls that are made twice,
 //! for a test that refuses its allocations.
@@ -44,16 +45,20 @@ mod interpreting;
 mod linked;
 mod memory_files;
 mod merging;
+mod names_of_sources;
 mod objects;
 mod operations;
 mod page;
 mod readers;
 mod routines;
 mod runs;
+mod scanned;
 mod scripts;
 mod sentences;
+mod shape;
 mod shorter;
 mod texts;
+mod trees_of_sources;
 mod twice;
 
 use adjusting::print_adjusting;
@@ -68,6 +73,7 @@ use host::HostFiles;
 use interpreting::print_programs;
 use linked::{Linked, linked_image};
 use merging::print_merges;
+use names_of_sources::print_names;
 use objects::print_objects;
 use operations::print_operations;
 use page::Page;
@@ -78,6 +84,7 @@ use sentences::print_sentences;
 use shorter::print_shorter;
 use std::env;
 use std::io::read_to_string;
+use trees_of_sources::print_trees;
 use twice::print_twice;
 
 // The line after a block.
@@ -232,6 +239,8 @@ fn print_parts(page: &mut Page) {
     print_sentences(page);
     print_assemblies(page);
     print_twice(page);
+    print_names(page);
+    print_trees(page);
 }
 
 // Prints the answers to the command lines of standard input, what the parts do, what code is, and the routines.

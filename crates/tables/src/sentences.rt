@@ -347,9 +347,11 @@ fn print_hex(page: &mut Page) {
     help.print(page, "hex");
 }
 
-// The help of the command that lists an object.
-fn print_list(page: &mut Page) {
+// The help of the command that lists sources or an object.
+fn print_list(page: &mut Page, name: Name) {
     let mut help = Help::of(page.alloc(), &["plm", "list", "--help"]);
+    help.seek_source();
+    help.seek_modules(name);
     help.seek_places();
     help.seek_files();
     help.seek_value();
@@ -395,7 +397,8 @@ pub fn print_sentences(page: &mut Page) {
     print_link(page, name);
     print_locate(page, name);
     print_hex(page);
-    print_list(page);
+    print_list(page, name);
+    print_program(page, "symbols", name);
     print_execute(page, name);
     print_explain(page);
     print_convert(page);

@@ -10,7 +10,7 @@ use Rattle.task_laws.proofs.Calls.Calls.{call_does}
 use Rattle.task_laws.proofs.Machine.EffectForms.{effects_done}
 use Rattle.task_laws.proofs.Stores.StoreLaws.{store_does}
 use Rattle.task_laws.proofs.Words.WordLaws.{words_do}
-use Rattle.task_laws.proofs.Machine.Written.{CarryOut, part_stands}
+use Rattle.task_laws.proofs.Machine.StepItems.{CarryOut, part_stands}
 
 -- The law of jumps where a condition holds.
 pub branch_does :

@@ -6,7 +6,7 @@ pub mod Addresses
 pub mod RoutineCalls
 pub mod KnownOperands
 pub mod Values
-pub mod Written
+pub mod StepItems
 pub mod Stages
 pub mod SiteNodes
 pub mod Effects

@@ -2,9 +2,9 @@
 
 use link_laws::LinkFault;
 use locate::LocateFault;
+use object_modules::Name;
 use sources::{MOST_SOURCES, ProgramFault, ReadFault};
 use thiserror::Error;
-use trees::Name;
 
 /// Why sources are refused. A file is given by its place among the sources, from 0.
 #[derive(Clone, Copy, Debug, Error)]

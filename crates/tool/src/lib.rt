@@ -7,6 +7,7 @@ mod compiled;
 mod execution;
 mod fault;
 mod image;
+mod marking;
 
 pub use building::build;
 pub use built::Built;
@@ -14,4 +15,5 @@ pub use compiled::compile;
 pub use execution::{execute, execute_with, print_run};
 pub use fault::ToolFault;
 pub use generation::emit_expression;
+pub use marking::{SourceMark, SourceMarks, marks_of};
 pub use sources::{MOST_SOURCES, Plan, ReadFault, Source};

@@ -24,7 +24,7 @@ pub mod ContentLoops
 pub mod PlacedTables
 pub mod PlacedLaws
 pub mod FrameVariables
-pub mod Words
+pub mod TableNumbers
 pub mod Below
 pub mod HomeWords
 pub mod HomeTables

@@ -38,7 +38,7 @@ pub(crate) struct Lowering {
 }
 
 // A module before anything is lowered.
-#[tactic(auto, using(crate::proofs::HomeWords::no_homes, crate::proofs::Words::no_expressions))]
+#[tactic(auto, using(crate::proofs::HomeWords::no_homes, crate::proofs::TableNumbers::no_expressions))]
 fn empty_module(alloc: Global, typed: &Typed) -> TreeModule
     ensures expressions { result.expressions.items ≡ [] }
     ensures name { result.name ≡ typed.now.name }

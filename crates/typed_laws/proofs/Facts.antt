@@ -1,7 +1,7 @@
 -- Every module that a text of the grammar is typed as is soundly typed.
 use Rattle.typed_laws.proofs.Prelude.{◌≡◌, ℕ, zero, suc, Bool, true, List, [], ◌∷◌, Some, Ok, refl, sym, ap, subst, ◌∙◌, All, slice_get, All-cons, All-nil, none-some, ModuleTree, AtNumber, AtObject, Home, InData, InConstants, Placed, BasedOn, Elsewhere, Nowhere, InFrame, TypedModule, TypedObject, TypedProcedure, values_in, TheModule, at_the_beginning, module_block, statements, typing_of, Gives, gives_ok, in_turn, jumps_are_sound, is_storable, is_well_typed, globals_are_listed, frames_are_summed, parameters_fit, AddsWord, AtAddsWord, BasesStandBefore, FramesAreReentrant, IsSoundlyTyped, ModuleIsFormed}
-use Rattle.typed_laws.proofs.Items.{HomeStands}
-use Rattle.typed_laws.proofs.Walks.{ObjectsStand, StandsAt, declarations_go, flags_of, list_goes, stands_after, statements_go}
+use Rattle.typed_laws.proofs.DeclaredObjects.{HomeStands}
+use Rattle.typed_laws.proofs.TextParts.{ObjectsStand, StandsAt, declarations_go, flags_of, list_goes, stands_after, statements_go}
 
 -- the objects of a module stand
 abbrev ModuleStands : TypedModule → Type 0

@@ -1,6 +1,6 @@
 mod Prelude
-pub mod Items
-pub mod Walks
+pub mod DeclaredObjects
+pub mod TextParts
 pub mod Facts
 pub mod Formed
 pub mod Heights

@@ -1,3 +1,3 @@
-pub mod Items
+pub mod DeclaredItems
 pub mod Entries
-pub mod Walks
+pub mod DeclaredTables

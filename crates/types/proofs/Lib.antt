@@ -1,7 +1,7 @@
 mod Prelude
 pub mod Arguments
 pub mod Listings
-pub mod Walks
+pub mod StatementLists
 pub mod Places
 pub mod Modules
 pub mod Headings

@@ -1,4 +1,4 @@
 pub mod Views
-pub mod Items
+pub mod DeclareItems
 pub mod Walking
 pub mod Lists

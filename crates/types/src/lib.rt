@@ -12,4 +12,5 @@ mod statement_nodes;
 mod statements;
 mod walk;
 
+pub use procedures::place_of_kind;
 pub use walk::check;

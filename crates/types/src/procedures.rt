@@ -71,9 +71,9 @@ fn place_of_reference(reference: &Reference) -> Place
     reference.name.place
 }
 
-// The place at which a statement begins, its labels aside.
-#[tactic(auto, using(names::proofs::Parts::do_is))]
-fn place_of_kind(kind: &StatementKind) -> Place
+/// The place at which a statement begins, its labels aside.
+#[tactic(auto, using(names::proofs::TreesOfParts::do_is))]
+pub fn place_of_kind(kind: &StatementKind) -> Place
     ensures { result ≡ place_of_kind (kind_tree kind.now) }
 {
     match kind {
@@ -165,7 +165,7 @@ fn scalar_in_elements(elements: &[Element], name: Name) -> Option<ScalarType>
 }
 
 // The type that a declaration declares a name with.
-#[tactic(auto, using(names::proofs::Parts::procedure_is))]
+#[tactic(auto, using(names::proofs::TreesOfParts::procedure_is))]
 fn scalar_in_declaration(declaration: &Declaration, name: Name) -> Option<ScalarType>
     ensures { result ≡ scalar_in_declaration (declaration_tree declaration.now) name }
 {

@@ -3,7 +3,7 @@
 ghost use Rattle.std.specs.Prelude.{◌≡◌, Ok, Err, IfOk, OnOk};
 ghost use Rattle.failure.specs.Failure.{IfFault};
 ghost use Rattle.trees.specs.Views.{block_declarations, block_statements, declaration_tree, declaration_trees, else_tree, kind_tree, module_tree, statement_tree, statement_trees};
-ghost use Rattle.names.specs.internal.Parts.{case_tree, do_tree, if_tree, iterate_tree, procedure_parts, while_tree};
+ghost use Rattle.names.specs.internal.TreesOfParts.{case_tree, do_tree, if_tree, iterate_tree, procedure_parts, while_tree};
 ghost use Rattle.typed_trees.specs.Views.{else_view, list_view, module_view, procedure_view, statement_view, statements_view};
 ghost use Rattle.typing.specs.Statements.{list_of, places_from};
 ghost use Rattle.typed_trees.specs.Frames.{FramesFit, ParametersFit};

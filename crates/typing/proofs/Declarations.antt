@@ -1,7 +1,7 @@
 -- Declarations leave the labels that are known as they were, and procedures sound.
 use Rattle.typing.proofs.Prelude.{◌≡◌, ℕ, List, [], ◌∷◌, ◌++◌, take, drop, refl, ap, subst, sym, IfOk, nat_le, not, ◌||◌, All-append, All-cons, All-nil, All-set, Identifier, ItemTree, ElementTree, LiterallyElement, ItemElement, HeadingTree, DeclarationTrees, Here, Body, Names, into_body, after_body, with_object, with_procedure, with_parameter, with_label, is_declared_again, is_parameter_again, is_label_again, declared_by, OBJECT_LIMIT, FRAME_LIMIT, PARAMETER_LIMIT, TypedList, TypedProcedure, BodyIsSound, DeclaredTwice, NestedProcedure, ExternalContents, TooLarge, require, place_of, Block, Progress, is_external, is_reentrant, declares_parameter, TypedItem, declare_names, place_of_item, object_named, with_typed_object, with_objects, typed_item, size_of_item, declare_item, declare_definition, declare_element, declare_elements, declare_labels, declare_parameters, no_more_parameters, check_visibility, check_reentrant, parameter_types, procedure_with, empty_list, open_procedure, close_procedure}
 use Rattle.typing.proofs.Steps.{then, then_any}
-use Rattle.typing.proofs.Parts.{IsIn, AreSound, IsAt}
+use Rattle.typing.proofs.PartsWithoutStatements.{IsIn, AreSound, IsAt}
 
 -- one procedure more; one whose body is still to come does nothing
 sound_with : (procedures : List TypedProcedure) (procedure : TypedProcedure)

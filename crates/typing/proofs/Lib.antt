@@ -3,7 +3,7 @@ pub mod Options
 pub mod ConstantTables
 pub mod Steps
 pub mod Jumps
-pub mod Parts
+pub mod PartsWithoutStatements
 pub mod Declarations
 pub mod Kept
 pub mod Tables

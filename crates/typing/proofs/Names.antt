@@ -1,8 +1,8 @@
 pub mod Meeting
-pub mod Others
+pub mod ChecksWithoutNames
 pub mod Bound
 pub mod Expressions
-pub mod Items
+pub mod KnownItems
 pub mod Structures
 pub mod Statements
 pub mod Modules

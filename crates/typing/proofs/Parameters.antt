@@ -1,8 +1,8 @@
 pub mod Grown
 pub mod OwnBlock
 pub mod Parameters
-pub mod Items
+pub mod ParameterItems
 pub mod Elements
 pub mod Opening
 pub mod Closing
-pub mod Walks
+pub mod ParametersOfTexts

@@ -1,5 +1,5 @@
 -- Texts of options that are values, and some that are none.
-use Rattle.std.specs.Prelude.{◌≡◌, ℕ, [], ◌∷◌, Some, None, Ok, Err, codes, refl}
+use Rattle.std.specs.Prelude.{◌≡◌, ℕ, [], ◌∷◌, Some, None, Ok, Err, codes, false, refl}
 use Rattle.command_line.specs.declared.orders.Action.TheVariants.{Run}
 use Rattle.command_line.specs.declared.start_memory.MemoryByte.{MemoryByte}
 use Rattle.command_line.specs.declared.values.InputByte.{InputByte}
@@ -16,6 +16,7 @@ usual_values : values_read (usual Run []) ≡ Ok (record {
   memory = [];
   input_files = [];
   output_files = [];
+  watch = record { count = false; until_dry = false };
 })
 usual_values = refl
 

@@ -6,7 +6,7 @@ ghost use Rattle.mem80.specs.declared.memory.TheConstants.{MEMORY_SIZE};
 ghost use Rattle.command_line.specs.Settings.{values_in};
 ghost use Rattle.sources.specs.Programs.{texts_of};
 ghost use Rattle.commands.specs.NeedFaults as of_needs;
-ghost use Rattle.commands.specs.Running.{GivesInput};
+ghost use Rattle.commands.specs.Ends.{GivesInput};
 ghost use Rattle.commands.specs.Starting.{IsStart, byte_named};
 
 use command_line::{InputByte, MemoryByte, Settings};

@@ -9,11 +9,11 @@ ghost use Rattle.placing.specs.Views.{module_placement_view};
 ghost use Rattle.commands.specs.Map.{map_line, map_of, map_text, module_text, object_line};
 
 use failure::{Failure, WriteFault, write_bytes};
+use object_modules::Name;
 use placing::ModulePlacement;
 use std::alloc::Global;
 use std::io;
 use std::io::Write;
-use symbols::Name;
 use tool::Built;
 use typed_trees::{Home, Typed, TypedObject};
 

@@ -14,5 +14,5 @@ pub use carrying::carry_out_sources;
 pub use compiling::compile_file;
 pub use delivering::carry_out_to_files;
 pub use loading::sources_of;
-pub(crate) use loading::{script_of, start_memory};
-pub(crate) use running::ending_of;
+pub(crate) use loading::{name_at, script_of, start_memory};
+pub(crate) use refusals::refuse_sources;

@@ -1,6 +1,6 @@
 //! Runs of programs on the 8080.
 
-ghost use Rattle.std.specs.Prelude.{◌≡◌, [], IfOk, OnErr, map};
+ghost use Rattle.std.specs.Prelude.{◌≡◌, [], IfOk, OnErr, false, map};
 ghost use Rattle.host.specs.Endings.{status_of};
 ghost use Rattle.host.specs.Refusals.{TellsOther};
 ghost use Rattle.command_line.specs.Command.{program_in};
@@ -9,8 +9,10 @@ ghost use Rattle.command_line.specs.declared.orders.Action.TheVariants.{Run};
 ghost use Rattle.sources.specs.Programs.{texts_of};
 ghost use Rattle.commands.specs.Map.{map_if};
 ghost use Rattle.commands.specs.Refusing.{RefusesTexts, TellsUnwritten};
-ghost use Rattle.commands.specs.Running.{PrintsMachine, PrintsTexts, StopsBuilt, end_status};
+ghost use Rattle.commands.specs.Ends.{machine_status};
+ghost use Rattle.commands.specs.Running.{PrintsBuilt, PrintsTexts, StopsBuilt};
 
+use crate::image_runs::{ending_of, print_image};
 use crate::port_inputs::quiet_of;
 use crate::port_outputs::put_outputs;
 use crate::programs::loading::{script_of, start_memory};
@@ -54,7 +56,7 @@ pub(crate) fn run_sources<O: Write, E: Write>(
 }
 
 // Runs an image on a memory as values start it, and prints what it does.
-#[tactic(auto, using(crate::proofs::Printed::machine_status, crate::proofs::Untold::memory_unwritten, crate::proofs::Untold::output_unwritten))]
+#[tactic(auto, using(crate::proofs::Printed::built_status, crate::proofs::Untold::memory_unwritten, crate::proofs::Untold::output_unwritten))]
 fn run_built<O: Write, E: Write>(
     alloc: Global,
     order: &ProgramOrder,
@@ -70,7 +72,7 @@ fn run_built<O: Write, E: Write>(
     ensures stopped { result ≡ Ending.Refused → StopsBuilt Run (map_if order.now.map built.now)
         (values_in settings.now) built.now (O.contents out.old) (O.contents out.new) }
     ensures quiet { (result ≡ Ending.Refused → ⊥) → E.contents err.new ≡ E.contents err.old }
-    ensures ran { (result ≡ Ending.Refused → ⊥) → PrintsMachine (map_if order.now.map built.now)
+    ensures ran { (result ≡ Ending.Refused → ⊥) → PrintsBuilt Run (map_if order.now.map built.now)
         (values_in settings.now) built.now (status_of result)
         (map (λ output. output.items) outputs.new.items) (O.contents out.old) (O.contents out.new) }
 {
@@ -83,7 +85,7 @@ fn run_built<O: Write, E: Write>(
 
 // Prints the map of a program, where one is wanted, and then what its image does. After a failure a beginning of that was
 // printed.
-#[tactic(auto, using(crate::proofs::Printed::machine_with_map, crate::proofs::Printed::machine_alone, crate::proofs::Printed::map_stops, crate::proofs::Printed::stops_with_map, crate::proofs::Printed::stops_alone))]
+#[tactic(auto, using(crate::proofs::Printed::with_map, crate::proofs::Printed::alone, crate::proofs::Printed::map_stops, crate::proofs::Printed::stops_with_map, crate::proofs::Printed::stops_alone))]
 fn print_built<O: Write>(
     alloc: Global,
     with_map: bool,
@@ -91,10 +93,10 @@ fn print_built<O: Write>(
     built: &Built,
     outputs: &mut Vec<Vec<u8>>,
     out: &mut O,
-) -> Result<End, Failure<WriteFault>>
-    ensures ok { IfOk result (λ end. PrintsMachine
+) -> Result<Option<End>, Failure<WriteFault>>
+    ensures ok { IfOk result (λ end. PrintsBuilt Run
         (map_if with_map built.now) (values_in settings.now) built.now
-        (end_status end) (map (λ output. output.items) outputs.new.items)
+        (machine_status end) (map (λ output. output.items) outputs.new.items)
         (O.contents out.old) (O.contents out.new)) }
     ensures err { OnErr result (StopsBuilt Run (map_if with_map built.now) (values_in settings.now) built.now
         (O.contents out.old) (O.contents out.new)) }
@@ -102,22 +104,47 @@ fn print_built<O: Write>(
     if with_map {
         print_map(alloc, built, out)?;
     }
-    let end = print_image(alloc, settings, built, outputs, out)?;
+    let end = print_program(alloc, settings, built, outputs, out)?;
     Ok(end)
 }
 
-// Prints what an image does on a memory as values start it, and gathers the bytes for the files of ports. After a failure a
-// beginning of that was printed.
-#[tactic(auto, using(crate::proofs::Printed::prints_machine, crate::proofs::Printed::nothing_stops, crate::proofs::Printed::stops_whole))]
-fn print_image<O: Write>(
+// Prints what the image of a program does on a memory as values start it, and gathers the bytes for the files of ports. The
+// answer is how it ended, or None where it came to a read of a port past its input. After a failure a beginning of that was
+// printed.
+#[tactic(auto, using(crate::proofs::Printed::runs_image, crate::proofs::Printed::image_stopped))]
+fn print_program<O: Write>(
     alloc: Global,
     settings: &Settings,
     built: &Built,
     outputs: &mut Vec<Vec<u8>>,
     out: &mut O,
-) -> Result<End, Failure<WriteFault>>
-    ensures ok { IfOk result (λ end. PrintsMachine [] (values_in settings.now) built.now
-        (end_status end) (map (λ output. output.items) outputs.new.items)
+) -> Result<Option<End>, Failure<WriteFault>>
+    ensures ok { IfOk result (λ end. PrintsBuilt Run [] (values_in settings.now) built.now
+        (machine_status end) (map (λ output. output.items) outputs.new.items)
+        (O.contents out.old) (O.contents out.new)) }
+    ensures err { OnErr result (StopsBuilt Run [] (values_in settings.now) built.now
+        (O.contents out.old) (O.contents out.new)) }
+{
+    if settings.watch.count || settings.watch.until_dry {
+        let end = print_image(alloc, built.image(), settings, outputs, out)?;
+        return Ok(end);
+    }
+    print_plain(alloc, settings, built, outputs, out)
+}
+
+// The same while it does that, of a run that is not counted and ends where the image does.
+#[tactic(auto, using(crate::proofs::Printed::nothing_stops))]
+fn print_plain<O: Write>(
+    alloc: Global,
+    settings: &Settings,
+    built: &Built,
+    outputs: &mut Vec<Vec<u8>>,
+    out: &mut O,
+) -> Result<Option<End>, Failure<WriteFault>>
+    requires plain { settings.now.watch.count ≡ false }
+    requires to_end { settings.now.watch.until_dry ≡ false }
+    ensures ok { IfOk result (λ end. PrintsBuilt Run [] (values_in settings.now) built.now
+        (machine_status end) (map (λ output. output.items) outputs.new.items)
         (O.contents out.old) (O.contents out.new)) }
     ensures err { OnErr result (StopsBuilt Run [] (values_in settings.now) built.now
         (O.contents out.old) (O.contents out.new)) }
@@ -146,18 +173,5 @@ fn print_image<O: Write>(
     let Ok(()) = put_outputs(alloc, settings, machine.ports().events(), outputs) else {
         return Err(Failure::Memory);
     };
-    Ok(end)
-}
-
-/// How a command ends whose run ended so.
-pub(crate) fn ending_of(end: End) -> Ending
-    ensures refused { result ≡ Ending.Refused → ⊥ }
-    ensures not_wrong { result ≡ Ending.WrongLine → ⊥ }
-    ensures status { status_of result ≡ end_status end }
-{
-    match end {
-        End::Halted => Ending::Done,
-        End::Illegal | End::PortFault => Ending::Stopped,
-        End::Limit => Ending::Limit,
-    }
+    Ok(Some(end))
 }

@@ -1,7 +1,7 @@
 -- DO CASE.
 use Rattle.measure_laws.proofs.Prelude.{◌≡◌, ℕ, zero, suc, ◌+◌, ◌-◌, ◌*◌, ◌%◌, ◌<◌, ◌≤◌, Bool, true, false, if◌then◌else◌, nat_eq, nat_lt, List, [], ◌∷◌, ◌++◌, slice_get, Option, Some, None, refl, sym, ap, subst, ◌∙◌, arith, option_and_then, eqb-false, eqb-true, ltb-true, same_Some, NoCarry, AccumulateImmediate, Dad, Pchl, Xchg, Compare, De, Hl, A, D, E, Jump, JumpWhere, LoadPair, ScalarType, Byte, Address, ListsStandInCases, TypedExpression, TypedStatements, weight_of_expression, weight_of_statement, weight_of_statements, Storage, ExpressionNumber, Range, StatementNumber, IsExpressionIn, nodes_of, item, LabelNumber, copy, set, label_of, Site, scalar, number, Body, Planned, JumpOn, Reaches, Statement, case_steps, cases_end_steps, choice_at_steps, choice_steps, computed_case_steps, entry_of, into_table_steps, known_case_steps, number_in_de_steps, statement_at, statements_steps, table_at, table_steps, all, jump, label_at, mark, nth_label, part, plain, steps_from, less_steps, site_of, PartsFit, bytes_for, StepsFit}
 use Rattle.steps8080.specs.declared.step.Task.TheVariants as tasks
-use Rattle.measure_laws.proofs.{Bounds.Fitting.{both_fit, less_fits, none_fit, then_fit}, Bounds.Iterations.{less_steps_fit}, Bounds.Lists.{AllFit, MoreFit, NoneFit, case_step_fits, no_label_weighs, statement_step_fits}, Bounds.Parts.{byte_fits, effects_fit, word_fits}, Bounds.Pieces.{plain_fits, plains_fit}, Bounds.Ranges.{item_there}}
+use Rattle.measure_laws.proofs.{Bounds.Fitting.{both_fit, less_fits, none_fit, then_fit}, Bounds.Iterations.{less_steps_fit}, Bounds.Lists.{AllFit, MoreFit, NoneFit, case_step_fits, no_label_weighs, statement_step_fits}, Bounds.ExpressionParts.{byte_fits, effects_fit, word_fits}, Bounds.Pieces.{plain_fits, plains_fit}, Bounds.Ranges.{item_there}}
 
 -- the jumps of a table, three bytes each
 table_from_fits :

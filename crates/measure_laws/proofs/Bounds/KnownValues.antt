@@ -2,7 +2,7 @@
 use Rattle.measure_laws.proofs.Prelude.{◌≡◌, ℕ, ◌≤◌, ◌==◌, Bool, true, false, List, [], ◌∷◌, Option, Some, None, if◌then◌else◌, refl, ◌∙◌, arith, Item, LoadPair, size_of_items, Hl, A, clear_a, low, set, Dcx, Inx, ExpressionNumber, Static, Place, location_after, place_number, Facts, before, is_at, Site, known, number, expression, note_address_steps, byte_steps, known_byte_steps, AreWritten, IsWritten, PartPlanned, knowing, steps_of, task_steps, byte_number_steps, word_steps, Body, part, site_of, StepsFit}
 use Rattle.steps8080.specs.declared.step.Step.TheVariants as steps
 use Rattle.steps8080.specs.declared.step.Task.TheVariants as tasks
-use Rattle.measure_laws.proofs.{Bounds.Parts.{task_fits}, Bounds.Pieces.{steps_within}}
+use Rattle.measure_laws.proofs.{Bounds.ExpressionParts.{task_fits}, Bounds.Pieces.{steps_within}}
 
 -- if an expression is known as a number, its value is that number
 pub record IsKnown (site : Site) (value : ExpressionNumber) (number : ℕ) : Type 0 where

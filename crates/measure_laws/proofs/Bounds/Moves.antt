@@ -2,7 +2,7 @@
 use Rattle.measure_laws.proofs.Prelude.{ℕ, ◌+◌, Bool, true, false, min, if◌then◌else◌, List, [], ◌∷◌, ◌++◌, Option, Some, None, refl, arith, Pop, Push, Xchg, Bc, De, StackBc, StackDe, StackHl, LoadPair, Move, TypedExpression, weight_of_expression, Storage, ExpressionNumber, Place, IsExpressionIn, nodes_of, CallRoutine, Site, keeps, known, Body, Planned, computed_ends_steps, ends_steps, known_move_steps, move_steps, part, plain, word, site_of, PartsFit, bytes_for, StepsFit}
 use Rattle.steps8080.specs.declared.step.Task.TheVariants as tasks
 use Rattle.statements8080.specs.declared.plan.Planned.TheVariants.{Code}
-use Rattle.measure_laws.proofs.{Bounds.Fitting.{both_fit, less_fits, then_fit}, Bounds.Parts.{word_fits}, Bounds.Pieces.{plain_fits, plains_fit}}
+use Rattle.measure_laws.proofs.{Bounds.Fitting.{both_fit, less_fits, then_fit}, Bounds.ExpressionParts.{word_fits}, Bounds.Pieces.{plain_fits, plains_fit}}
 
 module _
     (body : Body) (called : List Bool) (storage : Storage) (parts : PartsFit (site_of body) storage called)

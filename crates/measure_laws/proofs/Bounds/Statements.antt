@@ -1,7 +1,7 @@
 -- Statements of each form are not too long for their trees.
 use Rattle.measure_laws.proofs.Prelude.{◌≡◌, ℕ, ◌+◌, ◌≤◌, Bool, true, false, List, [], ◌∷◌, slice_get, sum_by, Option, Some, None, refl, sym, subst, ◌∙◌, arith, same_Some, ScalarType, Byte, Address, type_of, ListStands, ListsStand, ListsStandInElse, ListsStandInStatements, TypedElse, TypedExpression, TypedList, TypedModule, TypedStatement, TypedStatements, TypesHoldIn, TypesHoldInElse, TypesHoldInList, TypesHoldInStatements, Within, weight_of_arguments, weight_of_else, weight_of_expression, weight_of_iteration, weight_of_list, weight_of_optional, weight_of_statement, weight_of_statements, weight_of_target, Storage, Item, size_of_items, Jump, Hlt, ExpressionNumber, Range, StatementNumber, AreMoreStatements, AreNoStatements, AreStatements, IsAssignment, IsCall, IsCase, IsDo, IsElse, IsGoto, IsHalt, IsIf, IsIterate, IsLabel, IsList, IsListOf, IsMove, IsNoElse, IsNoValue, IsNull, IsOptional, IsReturn, IsSomeElse, IsSomeValue, IsStatement, IsStatementForm, IsStatementNode, IsWhile, nodes_of, Facts, knowing, Body, Planned, Reaches, body_label, jump, mark, plain, Here, AreCarriedOut, IsCarriedOut, StatementPlanned, site_of, return_of_steps, returned_value_steps, statement_steps, PartsFit, bytes_for, ListFits, StatementFits, StepsFit, spared_by}
 use Rattle.treecode.specs.declared.statement.Statement.{Statement}
-use Rattle.measure_laws.proofs.{Bounds.Assignments.{assignment_fits}, Bounds.Branches.{AnyFits, if_fits, while_fits}, Bounds.Cases.{case_fits}, Bounds.Fitting.{both_fit, less_fits, none_fit}, Bounds.Iterations.{iteration_fits, type_there}, Bounds.Lists.{AllFit, MoreFit, NoneFit, list_fits, list_step_fits, statement_step_fits}, Bounds.Moves.{move_fits}, Bounds.Parts.{branch_fits, byte_fits, call_fits, word_fits}, Bounds.Pieces.{plains_fit}, Bounds.Returns.{return_fits}, Labels.Statements.{cases_stand}}
+use Rattle.measure_laws.proofs.{Bounds.Assignments.{assignment_fits}, Bounds.Branches.{AnyFits, if_fits, while_fits}, Bounds.Cases.{case_fits}, Bounds.Fitting.{both_fit, less_fits, none_fit}, Bounds.Iterations.{iteration_fits, type_there}, Bounds.Lists.{AllFit, MoreFit, NoneFit, list_fits, list_step_fits, statement_step_fits}, Bounds.Moves.{move_fits}, Bounds.ExpressionParts.{branch_fits, byte_fits, call_fits, word_fits}, Bounds.Pieces.{plains_fit}, Bounds.Returns.{return_fits}, Labels.Statements.{cases_stand}}
 
 -- the steps of a statement leave as many bytes free as the statement must leave
 record FormFits (body : Body) (called : List Bool) (steps : List Planned) (tree : TypedStatement) : Type 0 where

@@ -2,7 +2,7 @@
 use Rattle.measure_laws.proofs.Prelude.{◌≡◌, ℕ, zero, suc, ◌+◌, ◌-◌, ◌%◌, ◌<◌, ◌≤◌, Bool, true, false, if◌then◌else◌, nat_eq, nat_lt, List, [], ◌∷◌, ◌++◌, slice_get, Option, Some, None, refl, sym, ap, subst, ◌∙◌, arith, option_and_then, eqb-false, eqb-true, ltb-true, same_Some, NoCarry, AccumulateImmediate, Dad, Pchl, Xchg, Compare, De, Hl, A, D, E, Jump, JumpWhere, LoadPair, ScalarType, Byte, Address, ExpressionNumber, Range, StatementNumber, item, LabelNumber, copy, set, label_of, Site, scalar, number, Body, Planned, JumpOn, Reaches, Statement, case_steps, cases_end_steps, choice_at_steps, choice_steps, computed_case_steps, entry_of, into_table_steps, known_case_steps, number_in_de_steps, statement_at, statements_steps, table_at, table_steps, all, jump, label_at, mark, nth_label, part, plain, steps_from, less_steps, StepsRun, IsOperand, Source}
 use Rattle.steps8080.specs.declared.step.Step.TheVariants as steps
 use Rattle.steps8080.specs.declared.step.Task.TheVariants as tasks
-use Rattle.measure_laws.proofs.{Bounds.Ranges.{item_there}, Heights.Iterations.{less_steps_run}, Heights.Lists.{AllRun, MoreRun, NoneRun, statement_step_run}, Heights.Parts.{byte_runs, effects_run, word_runs}, Heights.Planning.{both_run, code_run, none_run, plain_runs, plains_run, then_run}}
+use Rattle.measure_laws.proofs.{Bounds.Ranges.{item_there}, Heights.Iterations.{less_steps_run}, Heights.Lists.{AllRun, MoreRun, NoneRun, statement_step_run}, Heights.ExpressionParts.{byte_runs, effects_run, word_runs}, Heights.Planning.{both_run, code_run, none_run, plain_runs, plains_run, then_run}}
 
 -- the jumps of a table
 table_from_runs :

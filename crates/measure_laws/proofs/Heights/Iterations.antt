@@ -2,7 +2,7 @@
 use Rattle.measure_laws.proofs.Prelude.{ℕ, ◌+◌, ◌%◌, ◌≤◌, IfSome, Bool, true, false, not, ◌&&◌, if◌then◌else◌, nat_eq, nat_le, List, [], ◌∷◌, ◌++◌, Option, Some, None, refl, arith, Carry, NoCarry, NotZero, Zero, AccumulateImmediate, Dad, Inr, Inx, MovToMemory, Xchg, M, Add, AddWithCarry, Compare, Or, Subtract, SubtractWithBorrow, De, Hl, A, D, E, H, L, Jump, JumpWhere, LoadA, LoadPair, StoreHl, ScalarType, Byte, Address, NoSubscript, PartOf, StoredIn, ExpressionNumber, Range, Location, Place, Stored, Iteration, place_after, IsAbsent, IsPart, IsStored, LabelNumber, label_of, copy, high, load, low, set, with_memory, with_register, Site, scalar, known, location_of, number, knowing, Facts, Body, Test, Counter, Planned, Again, Jumped, ListOf, Meet, Reaches, whole, counter_of, counter_place, counts_by_one, has_a_turn, add_byte_steps, add_de_steps, add_steps, add_word_steps, add_word_to_byte_steps, asked_jump, asked_mark, asked_test_steps, below_steps, count_at_hl_steps, count_steps, counts_in_place, facts_of_turn, first_steps, first_test_steps, general_begin_steps, general_end_steps, general_steps, is_byte, is_byte_type, iteration_steps, loop_labels, next_byte_steps, next_steps, next_turn_steps, next_word_steps, step_in_de_steps, step_steps, sum_of_byte_steps, sum_of_word_steps, test_label_steps, to_known_steps, turns_if_any, turns_steps, all, jump, mark, nth_label, part, plain, word, computed_test, facts_of_test, known_test, less_steps, test_of, test_steps, word_at, word_test_by, site_of, StepsRun, IsOperand, Source}
 use Rattle.steps8080.specs.declared.step.Task.TheVariants as tasks
 use Rattle.statements8080.specs.declared.bound.Test.TheVariants as tests
-use Rattle.measure_laws.proofs.{Heights.Parts.{byte_runs, load_byte_runs, load_word_runs, whole_address_runs, word_runs}, Heights.Planning.{both_run, none_run, plain_runs, plains_run, then_run}, Heights.Singles.{single_runs}}
+use Rattle.measure_laws.proofs.{Heights.ExpressionParts.{byte_runs, load_byte_runs, load_word_runs, whole_address_runs, word_runs}, Heights.Planning.{both_run, none_run, plain_runs, plains_run, then_run}, Heights.Singles.{single_runs}}
 
 -- sets the carry if HL is less than a number, and clears it otherwise
 pub less_by_run :

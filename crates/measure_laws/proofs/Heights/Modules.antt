@@ -5,7 +5,7 @@ use Rattle.treecode.specs.declared.procedure.ProcedureKind.TheVariants as kinds
 use Rattle.frames.specs.Calls.{call_bytes}
 use Rattle.steps8080.specs.declared.step.Task.TheVariants as tasks
 use Rattle.measure_laws.specs.internal.Charges.{ListPushes, PushesWithinCharges, Setting, StatementPushes, TaskPushes}
-use Rattle.measure_laws.proofs.{Heights.Returns.{end_run}, Heights.Rooms.{room_joined}, Heights.Statements.{statement_run, whole_list_run}, Heights.Trees.{aim_holds, given}, Heights.Written.{part_room}}
+use Rattle.measure_laws.proofs.{Heights.Returns.{end_run}, Heights.Rooms.{room_joined}, Heights.Statements.{statement_run, whole_list_run}, Heights.Trees.{aim_holds, given}, Heights.HeightsOfItems.{part_room}}
 
 -- there are as many parameter types as parameters
 types_many :

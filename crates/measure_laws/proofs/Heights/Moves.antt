@@ -3,7 +3,7 @@ use Rattle.measure_laws.proofs.Prelude.{ℕ, ◌+◌, ◌-◌, ◌≤◌, Bool, 
 use Rattle.steps8080.specs.declared.step.Step.TheVariants as steps
 use Rattle.steps8080.specs.declared.step.Task.TheVariants as tasks
 use Rattle.statements8080.specs.declared.plan.Planned.TheVariants.{Code}
-use Rattle.measure_laws.proofs.{Heights.Parts.{word_runs}, Heights.Planning.{both_run, code_run, then_run}}
+use Rattle.measure_laws.proofs.{Heights.ExpressionParts.{word_runs}, Heights.Planning.{both_run, code_run, then_run}}
 
 -- the operands leave four bytes free beside those that they need
 module _

@@ -3,7 +3,7 @@ use Rattle.measure_laws.proofs.Prelude.{◌≡◌, ℕ, Bool, true, false, List,
 use Rattle.asm8080.specs.declared.item.WordForm.TheVariants as word_forms
 use Rattle.steps8080.specs.declared.step.Step.TheVariants as steps
 use Rattle.statements8080.specs.declared.plan.Planned.TheVariants as planned
-use Rattle.measure_laws.proofs.{Heights.Joining.{kept_plain}, Heights.Rooms.{room_joined}, Heights.Written.{steps_room}}
+use Rattle.measure_laws.proofs.{Heights.Joining.{kept_plain}, Heights.Rooms.{room_joined}, Heights.HeightsOfItems.{steps_room}}
 
 -- the code of steps with others after them
 record Parted

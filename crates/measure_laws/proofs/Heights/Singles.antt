@@ -3,7 +3,7 @@ use Rattle.measure_laws.proofs.Prelude.{◌≡◌, ℕ, ◌+◌, ◌*◌, ◌≤
 use Rattle.trees.specs.declared.expression.BinaryOperator.TheVariants.{Add, Subtract}
 use Rattle.steps8080.specs.declared.step.Task.TheVariants as tasks
 use Rattle.statements8080.specs.Assignments.{byte_steps, word_steps}
-use Rattle.measure_laws.proofs.{Heights.Parts.{address_runs, byte_runs, store_runs, word_runs}, Heights.Planning.{plain_runs, plains_run, then_run}, Heights.Stores.{placed_target}}
+use Rattle.measure_laws.proofs.{Heights.ExpressionParts.{address_runs, byte_runs, store_runs, word_runs}, Heights.Planning.{plain_runs, plains_run, then_run}, Heights.Stores.{placed_target}}
 
 -- INR M and DCR M keep the stack pointer
 counted_keeps :

@@ -2,7 +2,7 @@
 use Rattle.measure_laws.proofs.Prelude.{◌≡◌, ℕ, ◌+◌, ◌*◌, ◌≤◌, Bool, true, false, IfSome, List, [], ◌∷◌, length, slice_get, Option, Some, None, refl, sym, subst, ◌∙◌, arith, same_Some, Hlt, Item, Jump, ScalarType, Byte, Address, height_of, height_of_else, height_of_list, height_of_optional, height_of_statement, height_of_statements, type_of, FRAME_LIMIT, TypedElse, TypedExpression, TypedList, TypedModule, TypedStatement, TypedStatements, IsReturned, TypesHold, TypesHoldIn, TypesHoldInElse, TypesHoldInList, TypesHoldInStatements, Within, WithinMain, WithinProcedure, ExpressionNumber, Range, StatementNumber, AreMoreStatements, AreNoStatements, AreStatements, IsAssignment, IsCall, IsCase, IsDo, IsElse, IsExpressionIn, IsGoto, IsHalt, IsIf, IsIterate, IsLabel, IsList, IsListOf, IsMove, IsNoElse, IsNoValue, IsNull, IsOptional, IsReturn, IsSomeElse, IsSomeValue, IsStatement, IsStatementForm, IsStatementNode, IsWhile, nodes_of, Facts, knowing, Body, Reaches, body_label, jump, mark, Here, AreCarriedOut, IsCarriedOut, StatementPlanned, site_of, return_of_steps, returned_value_steps, statement_steps, PushesAtMost, ListRuns, StatementRuns, StepsRun, IsOperand, Source}
 use Rattle.treecode.specs.declared.statement.Statement.{Statement}
 use Rattle.steps8080.specs.declared.step.Step.TheVariants as steps
-use Rattle.measure_laws.proofs.{Heights.Assignments.{assignment_runs}, Heights.Branches.{AnyRuns, if_runs, while_runs}, Heights.Cases.{case_runs}, Heights.Iterations.{iteration_runs}, Heights.Lists.{AllRun, MoreRun, NoneRun, list_run, list_step_run, statement_step_run}, Heights.Moves.{move_runs}, Heights.Parts.{branch_runs, byte_runs, call_runs, word_runs}, Heights.Planning.{both_run, code_run, none_run, plains_run, then_run}, Heights.Returns.{return_run}, Heights.Trees.{given}}
+use Rattle.measure_laws.proofs.{Heights.Assignments.{assignment_runs}, Heights.Branches.{AnyRuns, if_runs, while_runs}, Heights.Cases.{case_runs}, Heights.Iterations.{iteration_runs}, Heights.Lists.{AllRun, MoreRun, NoneRun, list_run, list_step_run, statement_step_run}, Heights.Moves.{move_runs}, Heights.ExpressionParts.{branch_runs, byte_runs, call_runs, word_runs}, Heights.Planning.{both_run, code_run, none_run, plains_run, then_run}, Heights.Returns.{return_run}, Heights.Trees.{given}}
 
 -- a statement finds room if its steps do
 form_is_statement :

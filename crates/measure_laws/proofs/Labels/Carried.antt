@@ -3,7 +3,7 @@ use Rattle.measure_laws.proofs.Prelude.{◌≡◌, inl, inr, ℕ, Bool, true, fa
 use Rattle.steps8080.specs.declared.step.Step.TheVariants as steps
 use Rattle.steps8080.specs.declared.step.Task.TheVariants as tasks
 use Rattle.statements8080.specs.declared.plan.Planned.TheVariants as planned
-use Rattle.measure_laws.proofs.{Labels.Joining.{AreFree, by_finding, by_test, free, joined}, Labels.Going.{free_go}, Labels.Written.{Knows, bound_after, bound_first, items_both, steps_bound, steps_written}}
+use Rattle.measure_laws.proofs.{Labels.Joining.{AreFree, by_finding, by_test, free, joined}, Labels.Going.{free_go}, Labels.LabelsOfItems.{Knows, bound_after, bound_first, items_both, steps_bound, steps_written}}
 
 -- a value that is put into its register
 byte_at_free :

@@ -4,7 +4,7 @@ use Rattle.asm8080.specs.declared.item.Item.TheVariants as items
 use Rattle.treecode.specs.declared.module.Content.TheVariants as contents
 use Rattle.treecode.specs.declared.place.Place.TheVariants as places
 use Rattle.treecode.specs.declared.procedure.ProcedureKind.TheVariants as kinds
-use Rattle.measure_laws.proofs.{Labels.Assigning.{end_go}, Labels.Carried.{plan_bound, plan_carried}, Labels.Entering.{entry_go}, Labels.Statements.{AroundGo, LabelsDiffer, list_goes}, Labels.Written.{Knows, bound_after, bound_first, items_both}}
+use Rattle.measure_laws.proofs.{Labels.Assigning.{end_go}, Labels.Carried.{plan_bound, plan_carried}, Labels.Entering.{entry_go}, Labels.Statements.{AroundGo, LabelsDiffer, list_goes}, Labels.LabelsOfItems.{Knows, bound_after, bound_first, items_both}}
 
 -- a constant refers to no label
 address_goes : (ok : ℕ → Type 0) (place : Place) → ItemsGo ok (address_items place)

@@ -6,7 +6,7 @@ use Rattle.treecode.specs.declared.expression.ExpressionForm.TheVariants as form
 use Rattle.treecode.specs.declared.place.Location.TheVariants as locations
 use Rattle.steps8080.specs.declared.step.Step.TheVariants as steps
 use Rattle.steps8080.specs.declared.sites.queries.Base.TheVariants as bases
-use Rattle.measure_laws.specs.internal.Parts.{HasParts, IsOperand, IsPlaced}
+use Rattle.measure_laws.specs.internal.TaskWeights.{HasParts, IsOperand, IsPlaced}
 use Rattle.measure_laws.proofs.{Sizes.Chains.{product_fits}, Sizes.Found.{of_found}, Sizes.Joining.{after_part, after_plain, by_asking, by_finding, by_test, fits, joined, repeated, within}, Sizes.Trees.{has_parts, operand}}
 
 pub instruction_small : (i : Instr) → size_of_instruction i ≤ 3

@@ -6,7 +6,7 @@ use Rattle.trees.specs.declared.expression.BinaryOperator.TheVariants as operato
 use Rattle.steps8080.specs.declared.step.Step.TheVariants as steps
 use Rattle.steps8080.specs.declared.step.Task.TheVariants as tasks
 use Rattle.steps8080.specs.{Step.{part}, Widths.{is_byte}}
-use Rattle.measure_laws.specs.internal.Parts.{IsOperand}
+use Rattle.measure_laws.specs.internal.TaskWeights.{IsOperand}
 use Rattle.measure_laws.proofs.{Sizes.Addresses.{byte_in_memory_fits}, Sizes.Chains.{byte_product_fits}, Sizes.Found.{IsInMemory, high_is_in_memory, of_found, operand_is_in_memory}, Sizes.Joining.{after_part, after_plain, by_asking, by_finding, by_test, fits, joined, repeated, within}, Sizes.Pairs.{pair_fits}, Sizes.Relations.{relation_value_fits}, Sizes.Trees.{type_is}}
 
 pub byte_number_fits : {site : Site} {storage : Storage} (number : ℕ) → Fit site storage (byte_number_steps number) 2

@@ -4,7 +4,7 @@ use Rattle.treecode.specs.declared.expression.ExpressionForm.TheVariants as form
 use Rattle.steps8080.specs.declared.step.Step.TheVariants as steps
 use Rattle.steps8080.specs.declared.step.Task.TheVariants as tasks
 use Rattle.steps8080.specs.Step.{part}
-use Rattle.measure_laws.specs.internal.Parts.{AreGiven, HasParts, IsAimed, IsOfTree, IsOperand, IsPlaced}
+use Rattle.measure_laws.specs.internal.TaskWeights.{AreGiven, HasParts, IsAimed, IsOfTree, IsOperand, IsPlaced}
 use Rattle.measure_laws.proofs.{Sizes.Addresses.{placed_indices}, Sizes.Joining.{after_part, after_plain, by_finding, by_test, fits, joined, within}, Sizes.Trees.{has_parts, operand}}
 
 -- a value of a type

@@ -1,6 +1,6 @@
 -- Products with numbers.
 use Rattle.measure_laws.proofs.Prelude.{◌≡◌, ℕ, zero, suc, ◌+◌, ◌*◌, ◌%◌, ◌/◌, ◌^◌, ◌==◌, ◌||◌, ◌≤◌, ◌<◌, Bool, true, false, IfSome, List, [], ◌∷◌, ◌++◌, Option, Some, None, if◌then◌else◌, refl, arith, Instr, Dad, Add, Bc, Hl, A, B, Storage, size_of_instruction, ExpressionNumber, with_register, Site, power_from, power_of_two, bit_steps, byte_multiple_steps, byte_product_steps, chain_from, has_bit, multiple_steps, product_steps, small_multiple_steps, Fit, beside}
-use Rattle.measure_laws.specs.internal.Parts.{IsOperand}
+use Rattle.measure_laws.specs.internal.TaskWeights.{IsOperand}
 use Rattle.measure_laws.proofs.{Sizes.Found.{of_found}, Sizes.Joining.{after_part, after_plain, by_finding, by_test, fits, joined, repeated, within}}
 
 power_below : (count power number : ℕ) → IfSome (power_from count power number) (λ p. p < power + count)

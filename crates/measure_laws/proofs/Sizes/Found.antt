@@ -2,7 +2,7 @@
 use Rattle.measure_laws.proofs.Prelude.{◌≡◌, ℕ, ◌+◌, ◌%◌, ◌≤◌, Bool, true, false, IfSome, Option, Some, None, option_and_then, option_map, if◌then◌else◌, refl, subst, arith, ScalarType, Low, High, Double, Storage, Expression, ExpressionForm, ExpressionNumber, Reference, IsPart, IsReference, nodes_of, inside, PartOf, TypedReference, Site, expression, form_in_memory, high_in_memory, high_of, keeps_of_address, memory, plain_in_memory, reference_after, same_low_byte, high_byte_in_memory, operand_in_memory, word_in_memory, word_of, beside, indices}
 use Rattle.trees.specs.declared.declaration.ScalarType.TheVariants as scalars
 use Rattle.treecode.specs.declared.expression.ExpressionForm.TheVariants as forms
-use Rattle.measure_laws.specs.internal.Parts.{HasParts, IsOperand, IsPlaced}
+use Rattle.measure_laws.specs.internal.TaskWeights.{HasParts, IsOperand, IsPlaced}
 use Rattle.measure_laws.proofs.Sizes.Trees.{has_parts}
 
 -- a property of every value that is found holds for this one

@@ -2,7 +2,7 @@
 use Rattle.measure_laws.proofs.Prelude.{◌≡◌, ℕ, zero, suc, ◌+◌, ◌≤◌, Bool, true, false, if◌then◌else◌, List, [], ◌∷◌, ◌++◌, Option, Some, None, refl, arith, Storage, Instr, size_of_instruction, Part, Step, Task, repeat_steps, Site, size_of_steps, AreOfTrees, Fit, size_of_task}
 use Rattle.steps8080.specs.declared.step.Step.TheVariants as steps
 use Rattle.steps8080.specs.Step.{part}
-use Rattle.measure_laws.specs.internal.Parts.{IsOfTree}
+use Rattle.measure_laws.specs.internal.TaskWeights.{IsOfTree}
 
 pub fits :
     {site : Site} {storage : Storage} {planned : List Step} {size : ℕ}

@@ -1,7 +1,7 @@
 -- Two words in HL and DE.
 use Rattle.measure_laws.proofs.Prelude.{◌≡◌, ℕ, ◌+◌, ◌*◌, ◌≤◌, Bool, List, [], ◌∷◌, ◌++◌, Option, Some, None, arith, Storage, ExpressionNumber, Site, PairForm, RightKnown, LeftKnown, RightKeeps, LeftKeeps, PairOrder, LeftInHl, RightInHl, form_steps, order_of, pair_form, pair_in_order_steps, pair_steps, wish_for_left, wished_steps, Fit, beside}
 use Rattle.operands8080.specs.declared.pairs.PairForm.TheVariants.{RightFree, LeftFree, Pushed}
-use Rattle.measure_laws.specs.internal.Parts.{IsOperand}
+use Rattle.measure_laws.specs.internal.TaskWeights.{IsOperand}
 use Rattle.measure_laws.proofs.Sizes.Joining.{fits, joined}
 
 pair_form_fits :

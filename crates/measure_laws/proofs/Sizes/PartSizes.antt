@@ -2,8 +2,8 @@
 use Rattle.measure_laws.proofs.Prelude.{◌≡◌, ℕ, ◌+◌, ◌*◌, ◌≤◌, Bool, List, [], ◌∷◌, refl, sym, arith, Storage, Item, size_of_items, TypedArguments, TypedExpression, TypedReference, TypedTarget, weight_of_arguments, weight_of_expression, weight_of_reference, weight_of_target, ExpressionNumber, Range, Reference, Target, AreArguments, IsExpression, IsReference, IsTarget, nodes_of, Facts, Part, Step, Task, Site, AreWritten, IsWritten, knowing, steps_of, task_steps, PartsFit, TaskFits, size_of_step, size_of_steps, beside_at, weight_in_target, weight_of_given, weight_of_indices, AreOfTrees, Fit, beside, given, indices, size_of_task}
 use Rattle.steps8080.specs.declared.step.Step.TheVariants as steps
 use Rattle.steps8080.specs.declared.step.Task.TheVariants as tasks
-use Rattle.measure_laws.specs.internal.Parts.{AreGiven, IsAimed, IsOfTree, IsOperand, IsPlaced}
-use Rattle.measure_laws.proofs.{Sizes.Addresses.{address_fits}, Sizes.Calls.{call_fits, effects_fit}, Sizes.NoEnd.{ends_if_written}, Sizes.Relations.{branch_fits}, Sizes.Stores.{store_fits}, Sizes.Trees.{arguments_weigh, operand, reference_weighs, target_weighs, weighs_at}, Sizes.Values.{byte_fits, word_fits}, Sizes.Written.{TasksFit, part_written}}
+use Rattle.measure_laws.specs.internal.TaskWeights.{AreGiven, IsAimed, IsOfTree, IsOperand, IsPlaced}
+use Rattle.measure_laws.proofs.{Sizes.Addresses.{address_fits}, Sizes.Calls.{call_fits, effects_fit}, Sizes.NoEnd.{ends_if_written}, Sizes.Relations.{branch_fits}, Sizes.Stores.{store_fits}, Sizes.Trees.{arguments_weigh, operand, reference_weighs, target_weighs, weighs_at}, Sizes.Values.{byte_fits, word_fits}, Sizes.SizesOfItems.{TasksFit, part_written}}
 
 -- The facts about the registers do not matter for trees.
 tree_known : (site : Site) (storage : Storage) (facts : Facts) (task : Task)

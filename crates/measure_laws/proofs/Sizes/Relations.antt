@@ -9,7 +9,7 @@ use Rattle.steps8080.specs.declared.step.Step.TheVariants as steps
 use Rattle.steps8080.specs.Queries as queries
 use Rattle.operands8080.specs.declared.branches.Branch.{Branch}
 use Rattle.operands8080.specs.declared.relations.Outcome.TheVariants as outcomes
-use Rattle.measure_laws.specs.internal.Parts.{HasParts, IsOperand}
+use Rattle.measure_laws.specs.internal.TaskWeights.{HasParts, IsOperand}
 use Rattle.measure_laws.proofs.{Sizes.ByteRelations.{byte_number_fits, byte_relation_fits}, Sizes.Found.{of_found}, Sizes.Joining.{after_part, after_plain, by_finding, by_test, fits, joined, within}, Sizes.Trees.{has_parts}, Sizes.WordRelations.{word_number_fits, word_relation_fits, words_fit}}
 
 -- a question about operands with at most this weight

@@ -3,7 +3,7 @@ use Rattle.measure_laws.proofs.Prelude.{◌≡◌, ℕ, ◌+◌, ◌*◌, ◌%�
 use Rattle.steps8080.specs.declared.step.Step.TheVariants as steps
 use Rattle.steps8080.specs.Step.{plain}
 use Rattle.operands8080.specs.Stores.{high_byte_steps}
-use Rattle.measure_laws.specs.internal.Parts.{IsAimed, IsPlaced}
+use Rattle.measure_laws.specs.internal.TaskWeights.{IsAimed, IsPlaced}
 use Rattle.measure_laws.proofs.Sizes.Joining.{after_plain, by_finding, by_test, fits, joined, within}
 
 near_fits :

@@ -2,7 +2,7 @@
 use Rattle.measure_laws.proofs.Prelude.{◌≡◌, ℕ, zero, suc, ◌+◌, ◌≤◌, Option, Some, None, slice_get, refl, sym, ap, subst, ◌∙◌, arith, option_map_or, ScalarType, TypedArguments, TypedExpression, TypedReference, TypedTarget, weight_of_arguments, weight_of_expression, weight_of_reference, weight_of_subscript, weight_of_target, Storage, Expression, ExpressionForm, ExpressionNumber, Reference, IndexNode, Target, AreArguments, AreMore, AreNone, IsAbsent, IsBinary, IsCallOf, IsConstantList, IsConversion, IsEmbedded, IsExpression, IsForm, IsFunction, IsIndex, IsInput, IsLocation, IsNode, IsNumber, IsPart, IsReference, IsSent, IsShift, IsStored, IsSubscript, IsTarget, IsUnary, IsValue, Nodes, nodes_of, no_traits, Site, expression, scalar, beside_at, beside_within, weight_in_form, weight_in_target, weight_of_given, weight_of_index, weight_of_indices, beside, more_for_byte, more_for_word, type_at}
 use Rattle.trees.specs.declared.declaration.ScalarType.TheVariants as scalars
 use Rattle.typed_trees.specs.TypedTrees.{Subscript}
-use Rattle.measure_laws.specs.internal.Parts.{HasParts, IsOperand}
+use Rattle.measure_laws.specs.internal.TaskWeights.{HasParts, IsOperand}
 
 -- this is the weight beside 1 of the expressions with numbers below a limit
 abbrev pub Weighs : Nodes → Storage → (limit : ℕ) → (beside : ℕ → ℕ) → Type 0

@@ -3,7 +3,7 @@ use Rattle.measure_laws.proofs.Prelude.{◌≡◌, ℕ, ◌+◌, ◌*◌, ◌%�
 use Rattle.trees.specs.declared.declaration.ScalarType.TheVariants as scalars
 use Rattle.trees.specs.declared.expression.BinaryOperator.TheVariants as operators
 use Rattle.treecode.specs.declared.expression.ExpressionForm.TheVariants as forms
-use Rattle.measure_laws.specs.internal.Parts.{AreGiven, HasParts, IsOperand}
+use Rattle.measure_laws.specs.internal.TaskWeights.{AreGiven, HasParts, IsOperand}
 use Rattle.measure_laws.proofs.{Sizes.Addresses.{byte_in_memory_fits, extended_byte_in_memory_fits, location_address_fits, word_in_memory_fits}, Sizes.Bytes.{NeverTurns, byte_binary_fits, byte_number_fits, byte_shift_fits, high_byte_fits, low_of_word_fits}, Sizes.Calls.{call_fits, embedded_fits}, Sizes.Found.{IsInMemory, is_in_memory, of_found}, Sizes.Joining.{after_part, by_finding, fits, joined, within}, Sizes.Trees.{has_parts, type_found}, Sizes.Words.{word_binary_fits, word_shift_fits, word_unary_fits}}
 
 -- forms of a BYTE with a low byte that would be computed through HL, and so through itself again

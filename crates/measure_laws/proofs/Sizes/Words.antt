@@ -5,7 +5,7 @@ use Rattle.exprgen8080.specs.declared.word_operators.Simple.TheVariants as simpl
 use Rattle.exprgen8080.specs.WordShifts.{shifted_left_steps, zero_steps}
 use Rattle.steps8080.specs.declared.step.Step.TheVariants as steps
 use Rattle.steps8080.specs.Step.{plain}
-use Rattle.measure_laws.specs.internal.Parts.{IsOperand}
+use Rattle.measure_laws.specs.internal.TaskWeights.{IsOperand}
 use Rattle.measure_laws.proofs.{Sizes.Addresses.{addition_fits}, Sizes.Bytes.{byte_operation_fits, byte_shifted_right_fits, high_byte_fits, right_shift_fits, with_number_fits}, Sizes.Chains.{product_fits}, Sizes.Found.{of_found}, Sizes.Joining.{after_part, after_plain, by_asking, by_finding, by_test, fits, joined, repeated, within}, Sizes.Pairs.{pair_fits, pair_in_order_fits}}
 
 zero_fits :

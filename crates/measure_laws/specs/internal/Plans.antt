@@ -14,7 +14,7 @@ use Rattle.statements8080.specs.declared.plan.Planned.TheVariants as planned
 use Rattle.statements8080.specs.Branches.{goto_label}
 use Rattle.codegen8080.specs.declared.meeting.Here.{Here}
 use Rattle.codegen8080.specs.Generated.{IsCarriedOut, IsListCarriedOut}
-use Rattle.measure_laws.specs.internal.Items.{ItemsBind, ItemsGo}
+use Rattle.measure_laws.specs.internal.ItemLabels.{ItemsBind, ItemsGo}
 
 -- a task refers to one of these labels, if it is a jump on a condition, and `others` holds
 abbrev pub TaskThen : (ok : ℕ → Type 0) → Task → Type 0 → Type 0

@@ -7,7 +7,7 @@ use Rattle.object_laws.proofs.Texts.NamesWritten.{IsNamesPart, no_publics_there,
 use Rattle.object_laws.proofs.Texts.ContentsTold.{fixed_skip, fixed_for, no_fix_first, fixed_cuts, set_in_cuts, set_past_cuts, places_again}
 use Rattle.object_laws.proofs.Texts.Headed.{entries_for, code_length_is, data_length_is, stack_length_is, code_alignment_is, data_alignment_is}
 use Rattle.object_laws.proofs.Texts.SegmentWritten.{cuts_of, IsSegmentPart, segment_parts_are}
-use Rattle.object_laws.proofs.Texts.Written.{IsValid, valid_segment, names_parts, contents_parts, end_parts, written_is, nothing, IsMiddle, names_are, middle, parts_accepted, externals_told}
+use Rattle.object_laws.proofs.Texts.WrittenRecords.{IsValid, valid_segment, names_parts, contents_parts, end_parts, written_is, nothing, IsMiddle, names_are, middle, parts_accepted, externals_told}
 
 -- all records
 abbrev all_parts : ObjectModule → List Part

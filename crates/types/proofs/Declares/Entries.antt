@@ -6,7 +6,7 @@ use Rattle.names.specs.Environment.{out_of_body}
 use Rattle.typing.proofs.Parameters.Opening.{Opened}
 use Rattle.typing.proofs.Tables.{Fits, out_of_body-fits}
 use Rattle.typing.proofs.Types.TypesOfDeclarations.{heading_procedure}
-use Rattle.types.proofs.Declares.Items.{IsTypedAs, item_is}
+use Rattle.types.proofs.Declares.DeclaredItems.{IsTypedAs, item_is}
 
 zip_append : {A B : Type 0} (R : A → B → Type 0) (one : List A) (first : List B) (other : List A) (last : List B)
     → AllZip R one first → AllZip R other last → AllZip R (one ++ other) (first ++ last)

@@ -4,7 +4,7 @@ use Rattle.typing.proofs.Prelude.{◌≡◌, ℕ, ◌+◌, List, [], ◌∷◌, 
 use Rattle.typing.proofs.Steps.{then, then_any}
 use Rattle.typing.proofs.Jumps.KnownLabels.{AreAround, none_around, around_entered}
 use Rattle.typing.proofs.Jumps.LabelPlaces.{labels_stand, list_count, jumps_after_labels, lists_after_labels, labels_differ}
-use Rattle.typing.proofs.Parts.{AreSound, IsAt, IsDone, value_is, assignment_is, call_is, return_is, goto_is, iteration_is}
+use Rattle.typing.proofs.PartsWithoutStatements.{AreSound, IsAt, IsDone, value_is, assignment_is, call_is, return_is, goto_is, iteration_is}
 use Rattle.typing.proofs.Declarations.{declare_labels_is, declare_elements_is, open_procedure_is, close_procedure_is}
 
 -- the statements of a list from one on, whose next label has this number

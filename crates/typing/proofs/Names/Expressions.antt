@@ -5,7 +5,7 @@ use Rattle.typed_trees.specs.declared.parts.Measure.TheVariants as measures
 use Rattle.typed_trees.specs.declared.parts.ShiftFunction.TheVariants as shifts
 use Rattle.typed_trees.specs.declared.parts.UnaryFunction.TheVariants as functions
 use Rattle.typing.proofs.Names.Meeting.{Joins, IsOther, meets_ok, meets_fault, meets_then, meets_as, after_other, before_other, other_required, other_found}
-use Rattle.typing.proofs.Names.Others.{not_of_names, number-other, object-other, procedure-other, writable-other, measure-other, function-other, shift-other}
+use Rattle.typing.proofs.Names.ChecksWithoutNames.{not_of_names, number-other, object-other, procedure-other, writable-other, measure-other, function-other, shift-other}
 use Rattle.typing.proofs.Names.Bound.{AreKnown, IsUnknown, Finds, names_join, bound-finds}
 
 -- arguments as they are typed

@@ -5,9 +5,9 @@ use Rattle.trees.specs.Trees as trees
 use Rattle.names.specs.Events.{declares_parameter}
 use Rattle.names.specs.declared.fault.Fault as name_fault
 use Rattle.typing.proofs.Names.Meeting.{Meets, Never, meets_ok, meets_fault, meets_then, after_other, before_other, other_required}
-use Rattle.typing.proofs.Names.Others.{not_of_names, objects-other, visibility-other, reentrant-other, parameters-other, body-other}
+use Rattle.typing.proofs.Names.ChecksWithoutNames.{not_of_names, objects-other, visibility-other, reentrant-other, parameters-other, body-other}
 use Rattle.typing.proofs.Names.Bound.{Alike, IsWrong, NoFault, Walks, events_join, first_blamed, no_first, see_all_append, after_walks, declared-alone, declared-once, declared-walks, walks_as, walks_assoc, walks_in, walks_nothing, walks_ok, walks_on, walks_out, walks_then}
-use Rattle.typing.proofs.Names.Items.{item-finds}
+use Rattle.typing.proofs.Names.KnownItems.{item-finds}
 use Rattle.typing.proofs.Names.Statements.{uses_walk, value-uses, assignment-uses, call-uses, return_from-uses, goto-walks, iteration-uses}
 
 -- how far a text is

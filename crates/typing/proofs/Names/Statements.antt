@@ -1,7 +1,7 @@
 -- What statements need beside the statements in them: their names are known, or one is to blame.
 use Rattle.typing.proofs.Prelude.{◌≡◌, ◌==◌, List, [], ◌∷◌, ◌++◌, Option, None, Some, refl, sym, subst, append_assoc, is_none, flat_map, option_map_or, ScalarType, Identifier, Place, ExpressionTree, ReferenceTree, ArgumentTrees, IterationTree, Binding, Declared, BuiltInName, Move, Procedure, Here, jump_of, uses_of, jumps_to, names_in_expression, names_in_reference, names_in_arguments, names_in_optional, names_in_iteration, TypedStatement, Constants, Known, place_of, count_of_given, Owner, TheModule, OfProcedure, Progress, value, with_constants, destinations, assignment, call_bound, call, return_with, return_from, goto, step, iteration, ArgumentCount, CallOfTyped, CallOfNoProcedure, ReturnMismatch, ReturnOutside, Fault, Checked, members_in_expression, members_in_reference, members_in_arguments, members_in_iteration}
 use Rattle.typing.proofs.Names.Meeting.{Meets, meets_ok, meets_fault, meets_then, after_other, before_other, other_required}
-use Rattle.typing.proofs.Names.Others.{not_of_names, procedure-other, moved-other, goto-other, counter-other}
+use Rattle.typing.proofs.Names.ChecksWithoutNames.{not_of_names, procedure-other, moved-other, goto-other, counter-other}
 use Rattle.typing.proofs.Names.Bound.{AreKnown, IsUnknown, Walks, names_join, bound-finds}
 use Rattle.typing.proofs.Names.Expressions.{expression-finds, arguments-find, target-finds, arguments_given, call-finds}
 

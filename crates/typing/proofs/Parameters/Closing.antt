@@ -4,7 +4,7 @@ use Rattle.typing.proofs.Types.TypesOfDeclarations.{heading_procedure}
 use Rattle.typing.proofs.Types.TypesWalked.{closed_table}
 use Rattle.typing.proofs.Parameters.Elements.{GoesOn, may_below}
 use Rattle.typing.proofs.Parameters.Grown.{Grown, IsApart, IsBelow, IsNew, IsParameterOf, NoMore, Numbered, OwnerStands, Standing, all_append, all_more, grown_more, grown_then}
-use Rattle.typing.proofs.Parameters.Items.{May, Owned, not_again, owned_other, owned_rest, owns}
+use Rattle.typing.proofs.Parameters.ParameterItems.{May, Owned, not_again, owned_other, owned_rest, owns}
 use Rattle.typing.proofs.Parameters.Opening.{Opened}
 use Rattle.typing.proofs.Parameters.OwnBlock.{OwnBlock, Scan}
 use Rattle.typing.proofs.Parameters.Parameters.{AreNamed, has_parameters}

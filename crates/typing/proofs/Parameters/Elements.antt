@@ -4,7 +4,7 @@ use Rattle.typing.proofs.Types.FramesSummed.{HomeFits, typed_item_home}
 use Rattle.typing.proofs.Kept.{Gives, anything, gives_after, gives_ok, in_turn, required, then_more}
 use Rattle.typing.proofs.Types.TypesOfDeclarations.{made, with_objects-make}
 use Rattle.typing.proofs.Parameters.Grown.{Grown, IsNew, OwnerStands, Standing, all_more, grown_same, grown_then, standing_after}
-use Rattle.typing.proofs.Parameters.Items.{May, Owned, declare_names-own, fitting_by, not_again, owned_other, owned_scan, owns, plain_scalar, scan_names, scanned}
+use Rattle.typing.proofs.Parameters.ParameterItems.{May, Owned, declare_names-own, fitting_by, not_again, owned_other, owned_scan, owns, plain_scalar, scan_names, scanned}
 use Rattle.typing.proofs.Parameters.OwnBlock.{Scan, is_parameter}
 use Rattle.typing.proofs.Options.{nothing_more}
 

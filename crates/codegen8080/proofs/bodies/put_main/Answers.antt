@@ -4,9 +4,10 @@ use Rattle.codegen8080.proofs.bodies.put_main.Goals as goal
 
 pub returns : goal.returns
 returns c =
-    let labelled : Generator = record (c.body_of-body.new.generator) { emission = c.add.new.self } in
+    let marked : Generator = record (c.body_of-body.new.generator) { marks = c.put.new.self } in
+    let labelled : Generator = record marked { emission = c.add.new.self } in
     let written : Emission = record (c.add.new.self) { writer = c.stack_end.new.self } in
-    let ready : Generator = record (c.body_of-body.new.generator) { emission = written } in
+    let ready : Generator = record marked { emission = written } in
     let after : Generator = record (c.list.new.self) { emission = c.add-2.new.self } in
     main_added c.args.tree.now c.args.entry c.body_of-body.result c.site_of.result c.site_of-2.result
     c.args.generator.now c.body_of-body.new.generator labelled ready c.list.new.self after

@@ -4,7 +4,11 @@ use Rattle.codegen8080.proofs.bodies.put_own.Goals as goal
 
 pub returns : goal.returns
 returns c =
-    let labelled : Generator = record (c.body_of-body.new.generator) { emission = c.add.new.self; goes_on = true } in
+    let labelled : Generator = record (c.body_of-body.new.generator) {
+      emission = c.add.new.self;
+      goes_on = true;
+      marks = c.put.new.self;
+    } in
     own_added c.args.tree.now c.args.procedure.now c.args.entry c.body_of-body.result c.site_of.result
     c.args.generator.now c.body_of-body.new.generator labelled c.put_entry.new.generator c.list.new.self
     c.put_end.new.generator c.body_of-body.ensures.tree c.body_of-body.ensures.procedure

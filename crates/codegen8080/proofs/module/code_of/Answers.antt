@@ -8,6 +8,6 @@ returns c =
     c.as_slice.result.now _ c.in_ok-writer.writer c.in_ok-generator.ensures.emission c.in_ok-start.ensures
     (c.as_slice.ensures.value
     ∙ ap (λ table. table.items)
-    (c.into_code-writer.ensures.called ∙ ap (λ (emission : Emission). emission.is_called) c.into_emission.ensures))
-    (c.into_code-writer.ensures.writer ∙ ap (λ (emission : Emission). emission.writer) c.into_emission.ensures)
+    (c.into_code-writer.ensures.called ∙ ap (λ (emission : Emission). emission.is_called) c.into_parts-emission.ensures))
+    (c.into_code-writer.ensures.writer ∙ ap (λ (emission : Emission). emission.writer) c.into_parts-emission.ensures)
     c.in_ok-writer.ensures

@@ -1,6 +1,6 @@
 use Rattle.command_line.proofs.Prelude.{◌≡◌, ◌∙◌, [], ap, sym, subst, ◌<◌, length, option_and_then, option_map, texts, is_simple_and_free, HasKind, App, fault_of, is_simple, subcommand_of, subcommand_rows_of, IsFaultOf, Orders, named_in, plm_app, wanted_by, wanted_in, wanted_of_match, Order}
 use Rattle.command_line.proofs.CommandLemmas.{fault_among, gives_none, out_of_memory, tells_none, wants_any}
-use Rattle.command_line.proofs.Given.{compile_failed, compile_ordered, convert_failed, convert_ordered, execute_failed, execute_ordered, execute_text_failed, execute_text_ordered, explain_failed, explain_ordered, files_failed, files_ordered, link_failed, link_ordered, map_failed, map_ordered, jump_failed, jump_ordered, need_failed, need_ordered, place_failed, place_ordered, place_text_failed, place_text_ordered, text_failed, text_ordered}
+use Rattle.command_line.proofs.Given.{compile_failed, compile_ordered, convert_failed, convert_ordered, execute_failed, execute_ordered, execute_text_failed, execute_text_ordered, explain_failed, explain_ordered, files_failed, files_ordered, link_failed, link_ordered, map_failed, map_ordered, jump_failed, jump_ordered, need_failed, need_ordered, place_failed, place_ordered, place_text_failed, place_text_ordered, text_failed, text_ordered, watch_failed, watch_ordered, execute_watch_failed, execute_watch_ordered}
 use Rattle.command_line.proofs.PlmWords.{order_is_there, some_files, plm_is_free, plm_is_simple}
 use Rattle.command_line.proofs.reading.command.Goals as goal
 use Rattle.command_line.proofs.reading.command.Goals.{In-Ok}
@@ -28,6 +28,7 @@ returns c =
       files = files_ordered (texts c.args.words.now) c.in-Some.order order;
       option = text_ordered (texts c.args.words.now) c.in-Some.order order;
       map = map_ordered (texts c.args.words.now) c.in-Some.order order;
+      watch = watch_ordered (texts c.args.words.now) c.in-Some.order order;
       compile = compile_ordered (texts c.args.words.now) c.in-Some.order order;
       link = link_ordered (texts c.args.words.now) c.in-Some.order order;
       place = place_ordered (texts c.args.words.now) c.in-Some.order order;
@@ -36,6 +37,7 @@ returns c =
       need = need_ordered (texts c.args.words.now) c.in-Some.order order;
       execute = execute_ordered (texts c.args.words.now) c.in-Some.order order;
       execute_option = execute_text_ordered (texts c.args.words.now) c.in-Some.order order;
+      execute_watch = execute_watch_ordered (texts c.args.words.now) c.in-Some.order order;
       explain = explain_ordered (texts c.args.words.now) c.in-Some.order order;
       convert = convert_ordered (texts c.args.words.now) c.in-Some.order order;
       order = order;
@@ -54,6 +56,7 @@ returns-in-Err c = record {
   files = files_failed (texts c.args.words.now) c.in-Err.error c.failure_of.result (has_kind c) c.failure_of.ensures;
   option = text_failed (texts c.args.words.now) c.in-Err.error c.failure_of.result (has_kind c) c.failure_of.ensures;
   map = map_failed (texts c.args.words.now) c.in-Err.error c.failure_of.result (has_kind c) c.failure_of.ensures;
+  watch = watch_failed (texts c.args.words.now) c.in-Err.error c.failure_of.result (has_kind c) c.failure_of.ensures;
   compile = compile_failed (texts c.args.words.now) c.in-Err.error c.failure_of.result (has_kind c) c.failure_of.ensures;
   link = link_failed (texts c.args.words.now) c.in-Err.error c.failure_of.result (has_kind c) c.failure_of.ensures;
   place = place_failed (texts c.args.words.now) c.in-Err.error c.failure_of.result (has_kind c) c.failure_of.ensures;
@@ -62,6 +65,7 @@ returns-in-Err c = record {
   need = need_failed (texts c.args.words.now) c.in-Err.error c.failure_of.result (has_kind c) c.failure_of.ensures;
   execute = execute_failed (texts c.args.words.now) c.in-Err.error c.failure_of.result (has_kind c) c.failure_of.ensures;
   execute_option = execute_text_failed (texts c.args.words.now) c.in-Err.error c.failure_of.result (has_kind c) c.failure_of.ensures;
+  execute_watch = execute_watch_failed (texts c.args.words.now) c.in-Err.error c.failure_of.result (has_kind c) c.failure_of.ensures;
   explain = explain_failed (texts c.args.words.now) c.in-Err.error c.failure_of.result (has_kind c) c.failure_of.ensures;
   convert = convert_failed (texts c.args.words.now) c.in-Err.error c.failure_of.result (has_kind c) c.failure_of.ensures;
   order = tt;
@@ -79,6 +83,7 @@ returns-in_err-plm c =
       files = λ name action files given. wants_any _ answer is;
       option = λ name action files option text bare given. wants_any _ answer is;
       map = λ name action files given. wants_any _ answer is;
+      watch = λ name action files option given. wants_any _ answer is;
       compile = λ name source object bare given. wants_any _ answer is;
       link = λ name out files bare given. wants_any _ answer is;
       place = λ name action files given. wants_any _ answer is;
@@ -87,6 +92,7 @@ returns-in_err-plm c =
       need = λ name files given. wants_any _ answer is;
       execute = λ name files given. wants_any _ answer is;
       execute_option = λ name files option text bare given. wants_any _ answer is;
+      execute_watch = λ name files option given. wants_any _ answer is;
       explain = λ name number given. wants_any _ answer is;
       convert = λ name file listing cards given. wants_any _ answer is;
       order = gives_none (Orders words) answer is;
@@ -104,6 +110,7 @@ returns-in_err-order c =
       files = λ name action files given. wants_any _ answer is;
       option = λ name action files option text bare given. wants_any _ answer is;
       map = λ name action files given. wants_any _ answer is;
+      watch = λ name action files option given. wants_any _ answer is;
       compile = λ name source object bare given. wants_any _ answer is;
       link = λ name out files bare given. wants_any _ answer is;
       place = λ name action files given. wants_any _ answer is;
@@ -112,6 +119,7 @@ returns-in_err-order c =
       need = λ name files given. wants_any _ answer is;
       execute = λ name files given. wants_any _ answer is;
       execute_option = λ name files option text bare given. wants_any _ answer is;
+      execute_watch = λ name files option given. wants_any _ answer is;
       explain = λ name number given. wants_any _ answer is;
       convert = λ name file listing cards given. wants_any _ answer is;
       order = gives_none (Orders words) answer is;

@@ -46,10 +46,10 @@ pub returns-in-Ok-clause-told : goal.returns-in-Ok-clause-told
 returns-in-Ok-clause-told g c = λ refused. tells_by_words _ _ _ _ _ _ _ c.in-Ok.ensures.order (c.carry_out.ensures.told refused)
 
 pub returns-in-Ok-clause-converted : goal.returns-in-Ok-clause-converted
-returns-in-Ok-clause-converted g c = λ clean. converts_by_words _ _ _ _ _ _ _ _ _ _ c.in-Ok.ensures.order c.carry_out.ensures.converted
+returns-in-Ok-clause-converted g c = λ clean. converts_by_words _ _ _ _ _ _ _ _ _ _ _ c.in-Ok.ensures.order c.carry_out.ensures.converted
 
 pub returns-in-Err-Memory-clause-converted : goal.returns-in-Err-Memory-clause-converted
-returns-in-Err-Memory-clause-converted g c = λ clean. memory_converts _ _ _ _ _ _ _ _ _ (ap status_of c.refuse_memory.ensures.ending) (runs_out _ _ _ _ _ refl c.refuse_memory.ensures.line)
+returns-in-Err-Memory-clause-converted g c = λ clean. memory_converts _ _ _ _ _ _ _ _ _ _ (ap status_of c.refuse_memory.ensures.ending) (stays (g.F.Files.files c.args.files.now)) (runs_out _ _ _ _ _ refl c.refuse_memory.ensures.line)
 
 pub returns-in-Err-Fault-clause-untouched : goal.returns-in-Err-Fault-clause-untouched
 returns-in-Err-Fault-clause-untouched g c = λ wrong. stays (g.F.Files.files c.args.files.now)

@@ -17,7 +17,7 @@ pub returns-clause-faulty : goal.returns-clause-faulty
 returns-clause-faulty g c = λ fault. subst (λ (s : ℕ). s ≤ 2) (sym c.status.ensures) (c.end_words-ending.ensures.faulty fault)
 
 pub returns-clause-converted : goal.returns-clause-converted
-returns-clause-converted g c = λ clean. converts_with_status _ _ _ _ _ _ _ _ _ _ c.status.ensures (c.end_words-ending.ensures.converted clean)
+returns-clause-converted g c = λ clean. converts_with_status _ _ _ _ _ _ _ _ _ _ _ c.status.ensures (c.end_words-ending.ensures.converted clean)
 
 pub returns-clause-told : goal.returns-clause-told
 returns-clause-told g c = λ one. c.end_words-ending.ensures.told (refused_is _ (sym c.status.ensures ∙ one))

@@ -1,5 +1,5 @@
 use Rattle.names.proofs.Prelude.{◌≡◌, ◌∙◌, rules, subst, Ok, block_declarations, block_statements, at_the_start, see_block, Walk, FailsBy, fault_in, gives}
-use Rattle.names.proofs.Walks.{whole_given, refuses_whole}
+use Rattle.names.proofs.BindingWalks.{whole_given, refuses_whole}
 use Rattle.names.proofs.bound.bindings_of.Goals as goal
 
 pub returns-clause-ok : goal.returns-clause-ok

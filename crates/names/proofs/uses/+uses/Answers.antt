@@ -1,6 +1,6 @@
 use Rattle.names.proofs.Prelude.{rules, None, ◌∙◌, arith, Expression, expression_tree, argument_trees, names_in_expression, names_in_arguments, bound_at, fault_in}
 use Rattle.names.proofs.Loops.{goes_on, fails_within, ended, hands_on}
-use Rattle.names.proofs.Walks.{bind_more_append, bound_none, bound_append_ok, fails_append, fails_cons}
+use Rattle.names.proofs.BindingWalks.{bind_more_append, bound_none, bound_append_ok, fails_append, fails_cons}
 use Rattle.names.proofs.References.{reference_fails, reference_names, member_bound}
 use Rattle.names.proofs.uses.+uses.Goals as goal
 

@@ -1,5 +1,5 @@
 use Rattle.names.proofs.Prelude.{arith}
-use Rattle.names.proofs.Walks.{bound_append_ok, fails_append}
+use Rattle.names.proofs.BindingWalks.{bound_append_ok, fails_append}
 use Rattle.names.proofs.uses.bind_assignment.Goals as goal
 
 pub returns-in_err-bind_reference : goal.returns-in_err-bind_reference

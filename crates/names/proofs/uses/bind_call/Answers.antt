@@ -1,5 +1,5 @@
 use Rattle.names.proofs.Prelude.{arith}
-use Rattle.names.proofs.Walks.{bound_cons_ok, fails_cons}
+use Rattle.names.proofs.BindingWalks.{bound_cons_ok, fails_cons}
 use Rattle.names.proofs.uses.bind_call.Goals as goal
 
 pub returns-in_err-bind_name : goal.returns-in_err-bind_name

@@ -1,5 +1,5 @@
 use Rattle.names.proofs.Prelude.{arith}
-use Rattle.names.proofs.Walks.{bound_append_ok, bound_none, fails_append}
+use Rattle.names.proofs.BindingWalks.{bound_append_ok, bound_none, fails_append}
 use Rattle.names.proofs.uses.bind_item.Goals as goal
 
 pub returns-in_err-bind_base : goal.returns-in_err-bind_base

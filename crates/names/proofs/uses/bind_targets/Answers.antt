@@ -1,6 +1,6 @@
 use Rattle.names.proofs.Prelude.{map, rules, flat_map, Reference, reference_tree, names_in_reference, bound_at}
 use Rattle.names.proofs.Loops.{goes_on, fails_within, ended, hands_on}
-use Rattle.names.proofs.Walks.{bind_more_append, bound_none}
+use Rattle.names.proofs.BindingWalks.{bind_more_append, bound_none}
 use Rattle.names.proofs.uses.bind_targets.Goals as goal
 
 pub loop-target-preserved : goal.loop-target-preserved

@@ -1,6 +1,6 @@
 use Rattle.names.proofs.Prelude.{map, rules, flat_map, Restricted, restricted_tree, names_in_restricted, bound_at}
 use Rattle.names.proofs.Loops.{goes_on, fails_within, ended, hands_on}
-use Rattle.names.proofs.Walks.{bind_more_append, bound_none}
+use Rattle.names.proofs.BindingWalks.{bind_more_append, bound_none}
 use Rattle.names.proofs.uses.bind_values.Goals as goal
 
 pub loop-value-preserved : goal.loop-value-preserved

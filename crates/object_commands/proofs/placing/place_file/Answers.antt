@@ -1,6 +1,7 @@
 use Rattle.object_commands.proofs.Prelude.{refl, stops_alone, tells_file, tells_no_file}
+use Rattle.object_commands.proofs.Merged.{told_later}
 use Rattle.object_commands.proofs.placing.place_file.Goals as goal
-use Rattle.object_commands.proofs.FilesPlaced.{placed}
+use Rattle.object_commands.proofs.FilesPlaced.{file_placed}
 
 pub returns-in-Err-Fault-clause-told : goal.returns-in-Err-Fault-clause-told
 returns-in-Err-Fault-clause-told g c = tells_file _ _ _ _ _ _ _ _ refl (rw c.in-Err-Fault.field-0-is at c.in-Err-Fault.ensures.failed)
@@ -9,18 +10,9 @@ returns-in-Err-Fault-clause-told g c = tells_file _ _ _ _ _ _ _ _ refl (rw c.in-
 pub returns-in-Err-Memory-clause-told : goal.returns-in-Err-Memory-clause-told
 returns-in-Err-Memory-clause-told g c = tells_no_file _ _ _ _ _ _ (rw c.in-Err-Memory.field-0-is at c.in-Err-Memory.ensures.failed) c.refuse_memory.ensures.told
 
-pub returns-in-Err-Fault-reading-clause-told : goal.returns-in-Err-Fault-reading-clause-told
-returns-in-Err-Fault-reading-clause-told g c = tells_no_file _ _ _ _ _ _ c.in-Ok.ensures.count c.refuse_object.ensures.told
+pub returns-in-Ok-clause-told : goal.returns-in-Ok-clause-told
+returns-in-Ok-clause-told g c = told_later c.place_bytes.result _ _ _ _ _ _ c.in-Ok.ensures.count c.place_bytes.ensures.told
 
-pub returns-in-Err-Memory-reading-clause-told : goal.returns-in-Err-Memory-reading-clause-told
-returns-in-Err-Memory-reading-clause-told g c = tells_no_file _ _ _ _ _ _ c.in-Ok.ensures.count c.refuse_memory-in-Err-Memory-reading.ensures.told
-
-pub returns-in-Err-Fault-locate-clause-told : goal.returns-in-Err-Fault-locate-clause-told
-returns-in-Err-Fault-locate-clause-told g c = tells_no_file _ _ _ _ _ _ c.in-Ok.ensures.count c.refuse_place.ensures.told
-
-pub returns-in-Err-Memory-locate-clause-told : goal.returns-in-Err-Memory-locate-clause-told
-returns-in-Err-Memory-locate-clause-told g c = tells_no_file _ _ _ _ _ _ c.in-Ok.ensures.count c.refuse_memory-in-Err-Memory-locate.ensures.told
-
-pub returns-in-Ok-locate-clause-placed : goal.returns-in-Ok-locate-clause-placed
-returns-in-Ok-locate-clause-placed g c =
-    placed _ _ _ _ _ _ c.in-Ok.ensures.bytes (rw c.as_slice.ensures.value at c.in-Ok-reading.ensures.spelled) c.in-Ok-locate.ensures.placed
+pub returns-in-Ok-clause-placed : goal.returns-in-Ok-clause-placed
+returns-in-Ok-clause-placed g c =
+    file_placed (λ p. p.object) (λ p. p.absolute) _ _ _ _ _ c.place_bytes.result c.in-Ok.ensures.bytes c.as_slice.ensures.value c.place_bytes.ensures.placed

@@ -1,5 +1,5 @@
 use Rattle.types.proofs.Prelude.{module_tree, Declares, FramesFit, ParametersFit, ListsGlobals, JumpsAreSound, IsStorable, IsWellTyped, module_view, typing_of, GivesBack, jumps_are_sound, gives_back, is_storable, where_typed, is_well_typed, globals_are_listed, frames_are_summed, parameters_fit}
-use Rattle.types.proofs.Declares.Walks.{declares}
+use Rattle.types.proofs.Declares.DeclaredTables.{declares}
 use Rattle.types.proofs.walk.check.Goals as goal
 
 pub returns-clause-given_back : goal.returns-clause-given_back

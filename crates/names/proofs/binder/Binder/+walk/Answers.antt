@@ -1,8 +1,8 @@
 use Rattle.names.proofs.Prelude.{List, arith, rules, Statement, declaration_tree, declaration_trees, kind_tree, statement_tree, statement_trees, see_cases, see_declaration, see_declarations, see_kind, see_statement, see_statements, gives}
 use Rattle.trees.specs.declared.statement.Declaration.{Declaration}
-use Rattle.names.proofs.Parts.{if_is, do_is, while_is, iterate_is, case_is, procedure_is}
+use Rattle.names.proofs.TreesOfParts.{if_is, do_is, while_is, iterate_is, case_is, procedure_is}
 use Rattle.names.proofs.Loops.{goes_on, fails_within, ended, hands_on}
-use Rattle.names.proofs.Walks.{gives_turn, gives_nothing, gives_then, gives_three, fails_then, fails_middle}
+use Rattle.names.proofs.BindingWalks.{gives_turn, gives_nothing, gives_then, gives_three, fails_then, fails_middle}
 use Rattle.names.proofs.binder.Binder.+walk.Goals as goal
 
 pub statements-loop-statement-preserved : goal.statements-loop-statement-preserved

@@ -1,4 +1,4 @@
-use Rattle.names.proofs.Walks.{uses_done, walk_at}
+use Rattle.names.proofs.BindingWalks.{uses_done, walk_at}
 use Rattle.names.proofs.binder.Binder.call.Goals as goal
 
 pub returns : goal.returns

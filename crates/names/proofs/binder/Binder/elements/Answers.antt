@@ -1,6 +1,6 @@
 use Rattle.names.proofs.Prelude.{List, map, rules, Element, element_tree, see_all, see_element, gives}
 use Rattle.names.proofs.Loops.{goes_on, fails_within, ended, hands_on}
-use Rattle.names.proofs.Walks.{gives_turn, gives_nothing}
+use Rattle.names.proofs.BindingWalks.{gives_turn, gives_nothing}
 use Rattle.names.proofs.binder.Binder.elements.Goals as goal
 
 pub loop-element-preserved : goal.loop-element-preserved

@@ -1,6 +1,6 @@
 use Rattle.names.proofs.Prelude.{refl, rules, Walk}
 use Rattle.names.proofs.Loops.{hands_on}
-use Rattle.names.proofs.Walks.{item_refused, item_done, walk_at}
+use Rattle.names.proofs.BindingWalks.{item_refused, item_done, walk_at}
 use Rattle.names.proofs.binder.Binder.item.Goals as goal
 
 pub returns : goal.returns

@@ -1,6 +1,6 @@
 use Rattle.names.proofs.Prelude.{List, rules, Identifier, see_all, declares_label, gives}
 use Rattle.names.proofs.Loops.{goes_on, fails_within, ended, hands_on}
-use Rattle.names.proofs.Walks.{gives_turn, gives_nothing}
+use Rattle.names.proofs.BindingWalks.{gives_turn, gives_nothing}
 use Rattle.names.proofs.binder.Binder.labels.Goals as goal
 
 pub loop-name-preserved : goal.loop-name-preserved

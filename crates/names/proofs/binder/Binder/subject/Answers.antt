@@ -1,5 +1,5 @@
 use Rattle.names.proofs.Prelude.{◌∙◌, arith, declares_object, nothing}
-use Rattle.names.proofs.Walks.{gives_then, gives_nothing, fails_then}
+use Rattle.names.proofs.BindingWalks.{gives_then, gives_nothing, fails_then}
 use Rattle.names.proofs.binder.Binder.subject.Goals as goal
 
 pub returns-in_ok-object-in-Single : goal.returns-in_ok-object-in-Single

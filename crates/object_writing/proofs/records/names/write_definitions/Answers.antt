@@ -1,6 +1,6 @@
 use Rattle.object_writing.proofs.Prelude.{arith, owned_entry, on_err, on_err_then, on_ok_then}
 use Rattle.object_writing.proofs.Sequences.{none_yet, last, last_begun}
-use Rattle.object_writing.proofs.Items.{item_written, item_begun, items_ended}
+use Rattle.object_writing.proofs.EntriesOfItems.{item_written, item_begun, items_ended}
 use Rattle.object_writing.proofs.records.names.write_definitions.Goals as goal
 
 pub loop-public-init : goal.loop-public-init

@@ -1,6 +1,6 @@
 -- Each turn carries out one instruction.
 use Rattle.stack_machine.proofs.Prelude.{◌∙◌}
-use Rattle.stack_machine.proofs.Leading.{performed, performed_stop, performed_input, performed_output, code_ends}
+use Rattle.stack_machine.proofs.Leading.{code_ends, handed_on, input_fails, output_fails, performed, performed_input, performed_output, performed_stop}
 use Rattle.stack_machine.proofs.machine.StackMachine.go_on.Goals as goal
 
 pub loop-self-preserved-in-Ok-Nothing : goal.loop-self-preserved-in-Ok-Nothing
@@ -55,3 +55,21 @@ pub returns-clause-ended : goal.returns-clause-ended
 returns-clause-ended g c =
     code_ends c.args.loaded (g.P.Ports.script c.args.ports.now) c.args.self.now (g.P.Ports.events c.args.ports.now)
     c.loop-self.self (g.P.Ports.events c.loop-self.ports) c.loop-self.invariant.leads c.loop-self-test.false
+
+pub returns-in_err-input-in-Ok-Input-clause-called : goal.returns-in_err-input-in-Ok-Input-clause-called
+returns-in_err-input-in-Ok-Input-clause-called g c =
+    let h = c.in_err-input-in-Ok-Input.ensures in
+    handed_on c.from_residual.result c.in_err-input-in-Ok-Input.field-0.0 _ c.from_residual.ensures.1
+    (input_fails c.args.loaded (g.P.Ports.script c.args.ports.now) c.args.self.now (g.P.Ports.events c.args.ports.now)
+    c.loop-self.self (g.P.Ports.events c.loop-self.ports) c.loop-self.invariant.leads c.loop-self-test.true
+    c.carry_out.new.self c.in-Ok-Input.field-0 c.in-Ok-Input.port _ (g.P.Ports.events c.input.new.ports) _
+    c.in-Ok-Input.field-0-is c.in-Ok-Input.ensures.performs h.none c.input.ensures.left h.called)
+
+pub returns-in_err-output-in-Ok-Output-clause-called : goal.returns-in_err-output-in-Ok-Output-clause-called
+returns-in_err-output-in-Ok-Output-clause-called g c =
+    let h = c.in_err-output-in-Ok-Output.ensures in
+    handed_on c.from_residual-in_err-output-in-Ok-Output.result c.in_err-output-in-Ok-Output.field-0.0 _ c.from_residual-in_err-output-in-Ok-Output.ensures.1
+    (output_fails c.args.loaded (g.P.Ports.script c.args.ports.now) c.args.self.now (g.P.Ports.events c.args.ports.now)
+    c.loop-self.self (g.P.Ports.events c.loop-self.ports) c.loop-self.invariant.leads c.loop-self-test.true
+    c.carry_out.new.self c.in-Ok-Output.field-0 c.in-Ok-Output.port _ (g.P.Ports.events c.output.new.ports) _
+    c.in-Ok-Output.field-0-is c.in-Ok-Output.ensures.performs h.none c.output.ensures.left h.called)

@@ -1,6 +1,6 @@
 use Rattle.std.proofs.Common.{is_ok}
 use Rattle.treecode.proofs.Prelude.{rules, FormIsWord}
-use Rattle.treecode.proofs.Words.{expression_pushed}
+use Rattle.treecode.proofs.TableNumbers.{expression_pushed}
 use Rattle.treecode.proofs.module.TreeModule.add_expression.Goals as goal
 
 pub invariant_of-self-clause-numbers_are_words : goal.invariant_of-self-clause-numbers_are_words

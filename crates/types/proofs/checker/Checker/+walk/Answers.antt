@@ -1,5 +1,5 @@
 use Rattle.types.proofs.Prelude.{arith, rules, if_is, do_is, while_is, iterate_is, case_is, procedure_is, fault_in, leaves_fault, Leaves, subst, sym, ◌∙◌, length-map, ap, declaration_trees, procedure_view, listed_view, block_view, progress_view}
-use Rattle.types.proofs.Walks.{cases_go_on, cases_fail, cases_ended, statements_go_on, places_go_on, statements_ended}
+use Rattle.types.proofs.StatementLists.{cases_go_on, cases_fail, cases_ended, statements_go_on, places_go_on, statements_ended}
 use Rattle.types.proofs.Bodies.{procedure_fails, procedure_whole}
 use Rattle.types.specs.internal.Walking.{inside_view}
 use Rattle.types.proofs.checker.Checker.+walk.Goals as goal

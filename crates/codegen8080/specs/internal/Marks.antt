@@ -1,0 +1,32 @@
+-- Marks as they are made.
+use Rattle.std.specs.Prelude.{◌≡◌, ℕ, suc, ◌+◌, min, List, [], ◌∷◌, ◌++◌, Option, drop, length}
+use Rattle.asm8080.specs.Assembled.{Assembled}
+use Rattle.asm8080.specs.Items.{size_of_items}
+use Rattle.asm8080.specs.declared.item.Item.{Item}
+use Rattle.runtime8080.specs.declared.routine.Routine.{Routine}
+use Rattle.treecode.specs.declared.module.TreeModule.{TreeModule}
+use Rattle.steps8080.specs.Externals.{entry}
+use Rattle.steps8080.specs.Writer.{place_of_known}
+use Rattle.exprgen8080.specs.Emission.{module_routine_label}
+use Rattle.codegen8080.specs.declared.marking.CodePart.{CodePart}
+use Rattle.codegen8080.specs.declared.marking.Mark.{Mark}
+use Rattle.codegen8080.specs.declared.marking.Marks.{Marks}
+use Rattle.codegen8080.specs.Marking.{routine_mark}
+
+-- the place after the items that come after the last mark
+abbrev pub place_in : List Item → Marks → ℕ
+place_in items marks = min (marks.bytes + size_of_items (drop marks.items items)) 65535
+
+-- a mark is put at the end of items
+pub record PutsMark (items : List Item) (part : CodePart) (before after : Marks) : Type 0 where
+  pub list : after.list.items ≡ before.list.items ++ record { part = part; place = place_in items before } ∷ []
+  pub counted : after.items ≡ length items
+  pub bytes : after.bytes ≡ place_in items before
+
+-- the marks of routines, whose labels are those of the routines from an index on, in code with these labels
+abbrev pub marks_from :
+    TreeModule → Assembled → (labels : List (Option ℕ)) → (index : ℕ) → List Routine → List Mark
+marks_from tree bytes labels index [] = []
+marks_from tree bytes labels index (routine ∷ routines) =
+    routine_mark routine (place_of_known bytes (entry labels (module_routine_label tree index).index))
+    ++ marks_from tree bytes labels (suc index) routines

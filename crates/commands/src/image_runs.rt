@@ -1,0 +1,281 @@
+//! Runs of images, of which what they do is printed.
+
+ghost use Rattle.std.specs.Prelude.{◌≡◌, [], None, Some, IfOk, IfSome, OnErr, false, map, true};
+ghost use Rattle.host.specs.Endings.{status_of};
+ghost use Rattle.isa8080.specs.declared.registers.Status.TheVariants.{Running};
+ghost use Rattle.cpu8080.specs.Runs.{IsRun};
+ghost use Rattle.tool.specs.Execution.{started};
+ghost use Rattle.command_line.specs.Settings.{values_in};
+ghost use Rattle.commands.specs.Ends.{GivesInput, machine_status, machine_word};
+ghost use Rattle.commands.specs.Executing.{StopsImage};
+ghost use Rattle.commands.specs.Running.{PrintsImage};
+ghost use Rattle.commands.specs.Starting.{IsStart};
+ghost use Rattle.commands.specs.Steps.{CarriesOut, DoesOnMachine, IsWithinInput};
+ghost use Rattle.commands.specs.internal.InputPorts.{IsAtDry, ReadsNext, ReadsNothing, StaysWithin};
+
+use crate::input_ports::InputPorts;
+use crate::port_inputs::quiet_of;
+use crate::port_outputs::put_outputs;
+use crate::programs::{script_of, start_memory};
+use crate::reports::print_report;
+use command_line::Settings;
+use cpu8080::{DecodeTable, End, Machine};
+use failure::{Failure, WriteFault};
+use host::Ending;
+use locate::Absolute;
+use mem80::Memory;
+use ports::{Ports, Script};
+use printing::print_machine;
+use std::alloc::Global;
+use std::io::Write;
+
+// The code of IN, whose next byte is its port.
+const IN: u8 = 0xDB;
+
+// The port that the next instruction reads, if it reads one.
+#[tactic(auto, using(crate::proofs::Steps::reads_next, crate::proofs::StepReads::reads_nothing))]
+fn next_read<P: Ports>(machine: &Machine<P>) -> Option<u8>
+    ensures reads { IfSome result (ReadsNext machine.now) }
+    ensures nothing { result ≡ None → ReadsNothing machine.now }
+{
+    let place = machine.registers().pc;
+    if machine.memory().get(place) == IN {
+        Some(machine.memory().get(place.wrapping_add(1)))
+    } else {
+        None
+    }
+}
+
+// Runs a machine for at most so many steps. The answer is how it ended, and how many instructions were carried out.
+fn run_counted<P: Ports>(machine: &mut Machine<P>, limit: u64) -> (End, u64)
+    requires { machine.old.state.status ≡ Running }
+    ensures run { IsRun limit machine.old result.0 machine.new }
+    ensures counted { CarriesOut limit machine.old (Some result.0) machine.new.state.events result.1 }
+    ensures script { machine.new.script ≡ machine.old.script }
+{
+    let mut done = 0;
+    while done < limit {
+        match machine.run(1) {
+            End::Limit => done += 1,
+            End::Halted => return (End::Halted, done + 1),
+            End::Illegal => return (End::Illegal, done),
+            End::PortFault => return (End::PortFault, done),
+        }
+    }
+    (End::Limit, done)
+}
+
+// The same, where 0 stands for the number of instructions unless they are counted.
+fn run_watched<P: Ports>(machine: &mut Machine<P>, values: &Settings) -> (End, u64)
+    requires { machine.old.state.status ≡ Running }
+    ensures run { IsRun values.now.limit machine.old result.0 machine.new }
+    ensures counted { values.now.watch.count ≡ true →
+        CarriesOut values.now.limit machine.old (Some result.0) machine.new.state.events result.1 }
+    ensures script { machine.new.script ≡ machine.old.script }
+{
+    if values.watch.count {
+        run_counted(machine, values.limit)
+    } else {
+        (machine.run(values.limit), 0)
+    }
+}
+
+// How a run ended, or None where it came to a read of a port past its input.
+#[tactic(auto, using(crate::proofs::StepReads::stays_within))]
+fn dry_end(machine: &Machine<InputPorts>, end: End) -> Option<End>
+    ensures within { IsWithinInput machine.now.script machine.now.state.events }
+    ensures same { IfSome result (λ other. other ≡ end) }
+    ensures dry { result ≡ None → (end ≡ End.PortFault) × IsAtDry machine.now }
+    ensures failed { result ≡ Some End.PortFault → StaysWithin machine.now }
+{
+    let is_dry = machine.ports().is_past(next_read(machine));
+    match end {
+        End::PortFault => { if is_dry { None } else { Some(End::PortFault) } }
+        End::Halted => Some(End::Halted),
+        End::Illegal => Some(End::Illegal),
+        End::Limit => Some(End::Limit),
+    }
+}
+
+// Runs a machine that is to end before it reads a port past its input.
+fn run_until_dry(machine: &mut Machine<InputPorts>, values: &Settings) -> (Option<End>, u64)
+    requires { machine.old.state.status ≡ Running }
+    ensures does { DoesOnMachine true values.now.limit machine.old result.0 machine.new.state.events }
+    ensures counted { values.now.watch.count ≡ true →
+        CarriesOut values.now.limit machine.old result.0 machine.new.state.events result.1 }
+{
+    let (end, steps) = run_watched(machine, values);
+    (dry_end(machine, end), steps)
+}
+
+// The last word of a run.
+fn word_of(end: Option<End>) -> &'static str
+    ensures { result.now ≡ machine_word end }
+{
+    match end {
+        Some(End::Halted) => "HALT",
+        Some(End::Illegal) => "ILLEGAL",
+        Some(End::PortFault) => "PORT",
+        Some(End::Limit) => "LIMIT",
+        None => "DRY",
+    }
+}
+
+// A machine at its start: with an image loaded into a memory, these ports, and a table for what it decodes.
+fn machine_of<P: Ports>(
+    image: &Absolute,
+    memory: Memory,
+    ports: P,
+    table: DecodeTable,
+) -> Machine<P>
+    ensures { result ≡ started image.now memory (P.script ports) (P.events ports) (P.failures ports) }
+{
+    let mut memory = memory;
+    image.load(&mut memory);
+    Machine::with_table(memory, ports, image.start(), table)
+}
+
+// Prints what an image does while it does that.
+#[tactic(auto, using(crate::proofs::ImageRuns::nothing))]
+fn print_plain<O: Write>(
+    alloc: Global,
+    image: &Absolute,
+    values: &Settings,
+    memory: Memory,
+    script: Script,
+    table: DecodeTable,
+    outputs: &mut Vec<Vec<u8>>,
+    out: &mut O,
+) -> Result<Option<End>, Failure<WriteFault>>
+    requires start { IsStart (values_in values.now) memory }
+    requires gives { GivesInput (values_in values.now).input script.script }
+    requires none { script.events ≡ [] }
+    requires unfailed { script.failures ≡ 0 }
+    requires plain { values.now.watch.count ≡ false }
+    requires to_end { values.now.watch.until_dry ≡ false }
+    ensures ok { IfOk result (λ end. PrintsImage [] (values_in values.now) image.now (machine_status end)
+        (map (λ output. output.items) outputs.new.items) (O.contents out.old) (O.contents out.new)) }
+    ensures err { OnErr result
+        (StopsImage (values_in values.now) image.now (O.contents out.old) (O.contents out.new)) }
+{
+    let Ok(quiet) = quiet_of(alloc, values) else {
+        return Err(Failure::Memory);
+    };
+    let mut machine = machine_of(image, memory, script, table);
+    let end = print_machine(&mut machine, values.limit, quiet.as_slice(), out)?;
+    let Ok(()) = put_outputs(alloc, values, machine.ports().events(), outputs) else {
+        return Err(Failure::Memory);
+    };
+    Ok(Some(end))
+}
+
+// Prints what an image did, and the number of its steps.
+fn print_counted<O: Write>(
+    alloc: Global,
+    image: &Absolute,
+    values: &Settings,
+    memory: Memory,
+    script: Script,
+    table: DecodeTable,
+    outputs: &mut Vec<Vec<u8>>,
+    out: &mut O,
+) -> Result<Option<End>, Failure<WriteFault>>
+    requires start { IsStart (values_in values.now) memory }
+    requires gives { GivesInput (values_in values.now).input script.script }
+    requires none { script.events ≡ [] }
+    requires unfailed { script.failures ≡ 0 }
+    requires to_end { values.now.watch.until_dry ≡ false }
+    ensures ok { IfOk result (λ end. PrintsImage [] (values_in values.now) image.now (machine_status end)
+        (map (λ output. output.items) outputs.new.items) (O.contents out.old) (O.contents out.new)) }
+    ensures err { OnErr result
+        (StopsImage (values_in values.now) image.now (O.contents out.old) (O.contents out.new)) }
+{
+    let mut machine = machine_of(image, memory, script, table);
+    let (end, steps) = run_counted(&mut machine, values.limit);
+    let events = machine.ports().events();
+    print_report(
+        alloc,
+        values,
+        events,
+        steps,
+        word_of(Some(end)),
+        outputs,
+        out,
+    )?;
+    Ok(Some(end))
+}
+
+// Prints what an image did until its end, or a read of a port past its input.
+fn print_until_dry<O: Write>(
+    alloc: Global,
+    image: &Absolute,
+    values: &Settings,
+    memory: Memory,
+    script: Script,
+    table: DecodeTable,
+    outputs: &mut Vec<Vec<u8>>,
+    out: &mut O,
+) -> Result<Option<End>, Failure<WriteFault>>
+    requires start { IsStart (values_in values.now) memory }
+    requires gives { GivesInput (values_in values.now).input script.script }
+    requires none { script.events ≡ [] }
+    requires until_dry { values.now.watch.until_dry ≡ true }
+    ensures ok { IfOk result (λ end. PrintsImage [] (values_in values.now) image.now (machine_status end)
+        (map (λ output. output.items) outputs.new.items) (O.contents out.old) (O.contents out.new)) }
+    ensures err { OnErr result
+        (StopsImage (values_in values.now) image.now (O.contents out.old) (O.contents out.new)) }
+{
+    let ports = InputPorts::new(script, values.input.as_slice());
+    let mut machine = machine_of(image, memory, ports, table);
+    let (end, steps) = run_until_dry(&mut machine, values);
+    let events = machine.ports().events();
+    print_report(alloc, values, events, steps, word_of(end), outputs, out)?;
+    Ok(end)
+}
+
+/// Prints what an image does on a memory as values start it, while it does that, unless its steps are counted or it is to end
+/// before it reads a port past its input; and gathers the bytes for the files of ports. The answer is how it ended, or None
+/// where it came to such a read. After a failure nothing was printed, or a beginning of that.
+#[tactic(auto, using(crate::proofs::ImageRuns::nothing))]
+pub(crate) fn print_image<O: Write>(
+    alloc: Global,
+    image: &Absolute,
+    values: &Settings,
+    outputs: &mut Vec<Vec<u8>>,
+    out: &mut O,
+) -> Result<Option<End>, Failure<WriteFault>>
+    ensures ok { IfOk result (λ end. PrintsImage [] (values_in values.now) image.now (machine_status end)
+        (map (λ output. output.items) outputs.new.items) (O.contents out.old) (O.contents out.new)) }
+    ensures err { OnErr result
+        (StopsImage (values_in values.now) image.now (O.contents out.old) (O.contents out.new)) }
+{
+    let Ok(memory) = start_memory(alloc, values) else {
+        return Err(Failure::Memory);
+    };
+    let Ok(script) = script_of(alloc, values.input.as_slice()) else {
+        return Err(Failure::Memory);
+    };
+    let Ok(table) = DecodeTable::new(alloc) else {
+        return Err(Failure::Memory);
+    };
+    if values.watch.until_dry {
+        print_until_dry(alloc, image, values, memory, script, table, outputs, out)
+    } else if values.watch.count {
+        print_counted(alloc, image, values, memory, script, table, outputs, out)
+    } else {
+        print_plain(alloc, image, values, memory, script, table, outputs, out)
+    }
+}
+
+/// How a command ends whose run ended so.
+pub(crate) fn ending_of(end: Option<End>) -> Ending
+    ensures refused { result ≡ Ending.Refused → ⊥ }
+    ensures not_wrong { result ≡ Ending.WrongLine → ⊥ }
+    ensures status { status_of result ≡ machine_status end }
+{
+    match end {
+        Some(End::Halted) => Ending::Done,
+        Some(End::Illegal) | Some(End::PortFault) => Ending::Stopped,
+        Some(End::Limit) | None => Ending::Limit,
+    }
+}

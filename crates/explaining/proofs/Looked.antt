@@ -1,0 +1,58 @@
+-- Files that are looked for one after another.
+use Rattle.std.proofs.Common.{◌≡◌, ◌≤◌, ◌<◌, ◌+◌, ◌-◌, ℕ, zero, suc, min, List, Option, length, take, drop, refl, arith, length-take, length-drop}
+use Rattle.clap.specs.Words.{Text}
+use Rattle.failure.specs.declared.Failure.{Failure}
+use Rattle.failure.specs.declared.Failure.TheVariants.{Fault, Memory}
+use Rattle.host.specs.Files.{Counts, Directory, KeepsFiles}
+use Rattle.host.proofs.FilesRead.{stays, stays_on}
+use Rattle.explaining.specs.Ending.{Ends, EndsExplained}
+use Rattle.explaining.specs.Growing.{Grows}
+use Rattle.explaining.specs.Looking.{Looks}
+
+-- so many of all are left, and the others were looked for
+pub record LookedSoFar (all rest : ℕ) (first now : Option Directory) (before after : ℕ) : Type 0 where
+  kept : KeepsFiles first now
+  same : all ≡ 0 → (now ≡ first) × (after ≡ before)
+  left : rest ≤ all
+  most : after + rest ≤ before + all
+  least : min before 18446744073709551615 ≤ after
+
+pub begun : (all : ℕ) (files : Option Directory) (before : ℕ) → LookedSoFar all all files files before before
+begun all files before = record { kept = stays files; same = λ none. (refl, refl); left = omega arith; most = omega arith; least = omega arith }
+
+pub one_more : {X : Type 0} (all : ℕ) (rest : List X) (first now next : Option Directory) (before after later : ℕ) → 1 ≤ length rest
+    → LookedSoFar all (length rest) first now before after → KeepsFiles now next → later ≤ after + 1 → min after 18446744073709551615 ≤ later
+    → LookedSoFar all (length (take (length rest - 1) (drop 1 rest))) first next before later
+one_more all rest first now next before after later some so_far kept most least =
+    let less : length (take (length rest - 1) (drop 1 rest)) ≡ length rest - 1 = omega (arith, length-take (length rest - 1) (drop 1 rest), length-drop 1 rest) in
+    record {
+      kept = stays_on first now next so_far.kept kept;
+      same = λ none. absurd (omega (arith, none, some, so_far.left));
+      left = omega (arith, some, less, so_far.left);
+      most = omega (arith, some, less, most, so_far.most);
+      least = omega (arith, least, so_far.least);
+    }
+
+pub ended : (all rest : ℕ) (first now : Option Directory) (before after : ℕ) → rest < 1 → LookedSoFar all rest first now before after → Looks all first now before after
+ended zero rest first now before after none so_far = so_far.same refl
+ended (suc more) rest first now before after none so_far = (so_far.kept, omega (arith, none, so_far.most), so_far.least)
+
+-- where none was looked for
+pub looks_none : (all : ℕ) (files : Option Directory) (before : ℕ) → Looks all files files before before
+looks_none zero files before = (refl, refl)
+looks_none (suc more) files before = (stays files, omega arith, omega arith)
+
+-- a failure counts up by one at most
+pub counted_up : {F : Type 0} (failure : Failure F) (before after : ℕ) → Counts failure before after → after ≤ before + 1
+counted_up (Fault fault) before after counted = omega (arith, counted)
+counted_up Memory before after counted = omega (arith, counted)
+
+pub not_down : {F : Type 0} (failure : Failure F) (before after : ℕ) → Counts failure before after → min before 18446744073709551615 ≤ after
+not_down (Fault fault) before after counted = omega (arith, counted)
+not_down Memory before after counted = omega (arith, counted)
+
+pub explained : (words : List Text) (tables status : ℕ) (files ended new : Option Directory) (before counted after : ℕ) (err_old left err_new out_old out_new : Option (List ℕ))
+    → Ends words status files ended before counted err_old left out_old out_new → Looks tables ended new counted after → Grows left err_new
+    → EndsExplained words tables status files new before after err_old err_new out_old out_new
+explained words tables status files ended new before counted after err_old left err_new out_old out_new ends looks grows =
+    record { left = left; ended = ended; counted = counted; ends = ends; looks = looks; grows = grows }

@@ -1,0 +1,13 @@
+use Rattle.std.proofs.Common.{◌≡◌, ◌+◌, length}
+use Rattle.clap.specs.Walk.{texts}
+use Rattle.explaining.specs.Asking.{tables_after}
+use Rattle.explaining.proofs.asking.add_tables.Given as goal
+
+-- what was added, with what the words that are left name, is what all name
+abbrev pub invariant-loop-rest : goal.invariant-loop-rest
+invariant-loop-rest l =
+    length l.tables.items + tables_after (texts l.rest)
+    ≡ length l.initial.tables.items + tables_after (texts l.initial.rest)
+
+abbrev pub decreases-loop-rest : goal.decreases-loop-rest
+decreases-loop-rest l = length l.rest

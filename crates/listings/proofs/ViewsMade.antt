@@ -1,0 +1,76 @@
+-- The modules of a program, one after another.
+use Rattle.std.proofs.Common.{◌≡◌, ℕ, zero, suc, ◌+◌, ◌≤◌, List, [], ◌∷◌, ◌++◌, length, map, slice_get, take, Some, refl, ap, sym, ◌∙◌, arith}
+use Rattle.std.proofs.lemmas.List.{length-map, take_all}
+use Rattle.std.proofs.lemmas.Option.{none-some, same_Some}
+use Rattle.sources.specs.Programs.{program_modules, texts_of}
+use Rattle.sources.specs.declared.sources.Source.{Source}
+use Rattle.tool.specs.Construction.{Construction, IsConstruction}
+use Rattle.listings.specs.declared.views.ModuleView.{ModuleView}
+use Rattle.listings.specs.internal.Programs.{AreFirstViews, AreViews, Follow, IsViewAt, code_size, data_size, object_of, placed_of, text_of, typed_of}
+
+-- the first elements of a list, and the one after them
+taken : {A : Type 0} (xs : List A) (n : ℕ) (x : A) → slice_get xs n ≡ Some x → take n xs ++ x ∷ [] ≡ take (suc n) xs
+taken [] n x e = absurd (none-some x e)
+taken (y ∷ xs) zero x e = ap (λ first. first ∷ []) (sym (same_Some y x e))
+taken (y ∷ xs) (suc n) x e = ap (λ others. y ∷ others) (taken xs n x e)
+
+map_push : {A B : Type 0} (f : A → B) (xs : List A) (x : A) → map f (xs ++ x ∷ []) ≡ map f xs ++ f x ∷ []
+map_push f [] x = refl
+map_push f (y ∷ xs) x = ap (λ others. f y ∷ others) (map_push f xs x)
+
+mapped : {A B : Type 0} (f : A → B) (seen : List A) (x : A) (all : List B) (n : ℕ) → map f seen ≡ take n all → slice_get all n ≡ Some (f x) → map f (seen ++ x ∷ []) ≡ take (suc n) all
+mapped f seen x all n are at = map_push f seen x ∙ ap (λ others. others ++ f x ∷ []) are ∙ taken all n (f x) at
+
+-- one module more
+follow_more : (code_base data_base : ℕ) (views : List ModuleView) (view : ModuleView) (code next_data code_end data_end : ℕ) → Follow code_base data_base views code next_data
+    → view.code_base ≡ code → view.data_base ≡ next_data → code_end ≡ code + code_size view → data_end ≡ next_data + data_size view → Follow code_base data_base (views ++ view ∷ []) code_end data_end
+follow_more code_base data_base [] view code next_data code_end data_end are code_at data_at code_is data_is = (
+  code_at ∙ sym are.0,
+  data_at ∙ sym are.1,
+  (ap (λ (n : ℕ). n + code_size view) are.0 ∙ sym code_is, ap (λ (n : ℕ). n + data_size view) are.1 ∙ sym data_is),
+)
+follow_more code_base data_base (first ∷ views) view code next_data code_end data_end are code_at data_at code_is data_is = (
+  are.0,
+  are.1,
+  follow_more (code_base + code_size first) (data_base + data_size first) views view code next_data code_end data_end are.2 code_at data_at code_is data_is,
+)
+
+pub no_views : (texts : List (List ℕ)) (built : Construction) (code next_data : ℕ) → code ≡ built.plan.code → next_data ≡ built.plan.data_base → AreFirstViews texts built 0 code next_data []
+no_views texts built code next_data code_is data_is = record {
+  text_of_each = refl;
+  typed_of_each = refl;
+  object_of_each = refl;
+  placed_of_each = refl;
+  follow = (sym code_is, sym data_is);
+}
+
+pub view_added : (texts : List (List ℕ)) (built : Construction) (count next code next_data code_end data_end : ℕ) (now new : List ModuleView) (view : ModuleView) → AreFirstViews texts built count code next_data now
+    → IsViewAt texts built count code next_data view → code_end ≡ code + code_size view → data_end ≡ next_data + data_size view → new ≡ now ++ view ∷ [] → next ≡ count + 1
+    → AreFirstViews texts built next code_end data_end new
+view_added texts built count next code next_data code_end data_end now new view so_far here code_is data_is is counted =
+    let after : next ≡ suc count = omega (arith, counted) in
+    rw (is, after) (record {
+      text_of_each = mapped text_of now view texts count so_far.text_of_each here.text;
+      typed_of_each = mapped typed_of now view (program_modules built.program) count so_far.typed_of_each here.typed;
+      object_of_each = mapped object_of now view built.objects count so_far.object_of_each here.object;
+      placed_of_each = mapped placed_of now view built.placement.modules count so_far.placed_of_each here.placed;
+      follow = follow_more built.plan.code built.plan.data_base now view code next_data code_end data_end so_far.follow here.code here.data_at code_is data_is;
+    })
+
+-- all modules
+pub all_views : (sources : List Source) (built : Construction) (count code next_data : ℕ) (views : List ModuleView) → AreFirstViews (texts_of sources) built count code next_data views → IsConstruction built
+    → length sources ≡ count → count ≡ length built.objects → AreViews (texts_of sources) built views
+all_views sources built count code next_data views are construction given counted =
+    let texts : length (texts_of sources) ≤ count = omega (arith, length-map sources (λ (source : Source). source.text.now), given) in
+    let modules : length (program_modules built.program) ≤ count = omega (arith, construction.objects, counted) in
+    let objects : length built.objects ≤ count = omega (arith, counted) in
+    let placed : length built.placement.modules ≤ count = omega (arith, construction.lawful.for_each_module, construction.objects, counted) in
+    record {
+      code_end = code;
+      data_end = next_data;
+      text_of_each = are.text_of_each ∙ take_all count (texts_of sources) texts;
+      typed_of_each = are.typed_of_each ∙ take_all count (program_modules built.program) modules;
+      object_of_each = are.object_of_each ∙ take_all count built.objects objects;
+      placed_of_each = are.placed_of_each ∙ take_all count built.placement.modules placed;
+      follow = are.follow;
+    }

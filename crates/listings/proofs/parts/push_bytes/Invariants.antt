@@ -1,0 +1,10 @@
+use Rattle.std.proofs.Common.{◌+◌, ◌-◌}
+use Rattle.listings.specs.Listing.{cells_in}
+use Rattle.listings.specs.internal.Parts.{IsAdding, IsLone}
+use Rattle.listings.proofs.parts.push_bytes.Given as goal
+
+-- what was added shows the places up to an index
+abbrev pub invariant-loop-index : goal.invariant-loop-index
+invariant-loop-index l =
+    IsAdding IsLone (cells_in l.pieces l.start l.count) (cells_in l.pieces (l.start + l.index) (l.count - l.index))
+    l.fn.parts.items l.parts.items

@@ -1,0 +1,5 @@
+use Rattle.listings.proofs.SymbolTexts.{lines_ended}
+use Rattle.listings.proofs.symbol_lines.put_lines.Goals as goal
+
+pub returns : goal.returns
+returns c = lines_ended c.args.of_module.now c.loop-number.number c.args.lines.now.items c.loop-number.lines.items c.loop-number.invariant

@@ -1,0 +1,14 @@
+use Rattle.std.proofs.Common.{length, map}
+use Rattle.typed_trees.specs.Views.{object_view}
+use Rattle.listings.specs.internal.Adding.{IsBegun}
+use Rattle.listings.specs.internal.Programs.{typed_of}
+use Rattle.listings.specs.internal.Symbols.{HasObjectLines}
+use Rattle.listings.proofs.symbol_lines.put_objects.Given as goal
+
+abbrev pub invariant-loop-objects : goal.invariant-loop-objects
+invariant-loop-objects l =
+    IsBegun (HasObjectLines (typed_of l.view)) ((typed_of l.view).objects, l.view.placed.now.objects.items)
+    (map object_view l.objects, l.addresses) l.fn.lines.items l.lines.items
+
+abbrev pub decreases-loop-objects : goal.decreases-loop-objects
+decreases-loop-objects l = length l.objects

@@ -1,0 +1,8 @@
+use Rattle.listings.specs.internal.Programs.{typed_of}
+use Rattle.listings.proofs.SymbolTexts.{procedures_ended}
+use Rattle.listings.proofs.symbol_lines.put_procedures.Goals as goal
+
+pub returns : goal.returns
+returns c =
+    procedures_ended (typed_of c.args.view.now).name (typed_of c.args.view.now).procedures c.loop-rest.rest.now c.args.lines.now.items c.loop-rest.lines.items c.loop-rest.invariant
+    c.in_default.len_below

@@ -1,0 +1,32 @@
+-- The listing of a program: the listings of its modules, one after another.
+use Rattle.std.specs.Prelude.{ℕ, ◌+◌, List, [], ◌∷◌, ◌++◌}
+use Rattle.mem80.specs.declared.range.Piece.{Piece}
+use Rattle.object_modules.specs.Image.{Symbol, range_at}
+use Rattle.object_modules.specs.Module.{ObjectModule, length_of}
+use Rattle.object_modules.specs.declared.segment.Segment.TheVariants.{Code, Data}
+use Rattle.sources.specs.Programs.{program_modules}
+use Rattle.tool.specs.Construction.{Construction}
+use Rattle.typed_trees.specs.TypedTrees.{TypedModule}
+use Rattle.typed_trees.specs.Weight.{constant_bytes}
+use Rattle.listings.specs.Listing.{ListsModule}
+use Rattle.listings.specs.Names.{IsNameOf}
+
+-- modules of these sources, whose segments follow one another from these addresses on, are listed as this text
+pub data AreListed (IsName : Symbol → Type 0) (pieces : List Piece) :
+    (code_base data_base : ℕ) → (sources : List (List ℕ)) → List TypedModule → List ObjectModule → (text : List ℕ)
+    → Type 0 where
+  no_module : {code_base data_base : ℕ} → AreListed IsName pieces code_base data_base [] [] [] []
+  next_module : {code_base data_base : ℕ} {source first more : List ℕ} {sources : List (List ℕ)}
+      {typed : TypedModule} {modules : List TypedModule} {object : ObjectModule} {objects : List ObjectModule}
+      → ListsModule IsName pieces (range_at code_base (length_of object Code)) (constant_bytes typed)
+      (range_at data_base (length_of object Data)) typed.name source first
+      → AreListed IsName pieces (code_base + length_of object Code) (data_base + length_of object Data)
+      sources modules objects more
+      → AreListed IsName pieces code_base data_base (source ∷ sources) (typed ∷ modules) (object ∷ objects)
+      (first ++ more)
+
+-- the program of these sources is listed as this text
+abbrev pub ListsProgram : (sources : List (List ℕ)) → Construction → (text : List ℕ) → Type 0
+ListsProgram sources built text =
+    AreListed (IsNameOf built) built.image.pieces built.plan.code built.plan.data_base sources
+    (program_modules built.program) built.objects text

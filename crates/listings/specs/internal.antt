@@ -1,0 +1,8 @@
+-- What only private functions and proofs cite.
+pub mod Reading
+pub mod Parts
+pub mod Views
+pub mod Adding
+pub mod Modules
+pub mod Programs
+pub mod Symbols

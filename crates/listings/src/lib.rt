@@ -1,0 +1,17 @@
+//! What is printed of a program that was built: its sources with their code, and its symbols.
+#![tactic(auto)]
+
+mod constants;
+mod image;
+mod lines;
+mod marked;
+mod modules;
+mod named;
+mod parts;
+mod places;
+mod programs;
+mod symbol_lines;
+mod views;
+
+pub use programs::listing_of;
+pub use symbol_lines::symbols_of;
