@@ -9,12 +9,12 @@ use Rattle.isa8080.specs.Code.{bytes_of}
 use Rattle.isa8080.specs.declared.instr.Instr.{Instr}
 use Rattle.mem80.specs.declared.memory.TheConstants.{MEMORY_SIZE}
 use Rattle.mem80.specs.declared.range.Piece.{Piece}
-use Rattle.listings.specs.Listing.{AllThere, IsNoCodeAt, byte_among, cell_of, cells_from, cells_in}
+use Rattle.listings.specs.Listing.{AllThere, IsNoCodeAt, byte_among, cell_of, cells_from, cells_in, is_address_at}
 unfoldable use Rattle.listings.specs.Listing.{byte_in}
 use Rattle.listings.specs.declared.image.Coded.{Coded}
 use Rattle.listings.specs.declared.parts.CodeSegment.{CodeSegment}
 use Rattle.listings.specs.declared.parts.Part.{Part}
-use Rattle.listings.specs.internal.Parts.{AddsParts, IsAdding, IsByteAt, IsCodeIn, IsGoodBy, IsKindBy, IsLone, IsNoCode, IsPartOf, StepsOver, bytes_shown, cells_if, kept_cells, room_of}
+use Rattle.listings.specs.internal.Parts.{AddsParts, IsAdding, IsByteAt, IsCodeIn, IsGoodBy, IsKindBy, IsLone, IsNamedBy, IsNoCode, IsPartOf, StepsOver, bytes_shown, cells_if, kept_cells, room_of}
 use Rattle.listings.specs.internal.Reading.{IsCoded, IsCodedAt}
 
 -- a byte has an address of the memory
@@ -133,8 +133,9 @@ good_code code part is sized bytes =
 
 -- an instruction of a code segment
 pub code_part : (pieces : List Piece) (segment : CodeSegment) (offset address word : ℕ) (code : Coded) (part : Part) → IsCodeIn pieces segment offset code → address ≡ segment.start + offset
-    → word ≡ address % 65536 → part.address ≡ word → part.size ≡ code.size → part.bytes ≡ code.bytes → part.instr ≡ Some code.instr → IsPartOf pieces segment part
-code_part pieces segment offset address word code part is at_is word_of at sized bytes instr =
+    → word ≡ address % 65536 → part.address ≡ word → part.size ≡ code.size → part.bytes ≡ code.bytes → part.instr ≡ Some code.instr
+    → part.is_address ≡ is_address_at segment.fixes.now (offset + 1) → IsPartOf pieces segment part
+code_part pieces segment offset address word code part is at_is word_of at sized bytes instr named =
     let three : length code.bytes ≡ 3 = ((is.coded).coded).three in
     let few : code.size ≤ 3 = ((is.coded).coded).few in
     let some : 1 ≤ code.size = ((is.coded).coded).some in
@@ -144,10 +145,13 @@ code_part pieces segment offset address word code part is at_is word_of at sized
     let small = in_memory pieces (segment.start + offset) found.0 found.1 in
     let place : part.address ≡ segment.start + offset = omega (arith, at, word_of, at_is, small) in
     let past : segment.start + segment.constants ≤ part.address = omega (arith, place, is.past) in
+    let from_start : offset ≡ part.address - segment.start = omega (arith, place) in
     record {
       good = subst (λ (i : Option Instr). IsGoodBy i part) (sym instr) (good_code code part (is.coded).coded sized bytes);
       word = omega (arith, place, small);
       kind = subst (λ (i : Option Instr). IsKindBy i pieces (segment.start + segment.constants) (segment.start + segment.length) part.address) (sym instr) past;
+      named = subst (λ (i : Option Instr). IsNamedBy i part.is_address segment.fixes.now (part.address - segment.start)) (sym instr)
+          (named ∙ ap (λ (n : ℕ). is_address_at segment.fixes.now (n + 1)) from_start);
     }
 
 -- a byte of a code segment
@@ -160,6 +164,7 @@ byte_part pieces segment offset line address part none at_is is =
       word = is.word;
       kind = subst (λ (i : Option Instr). IsKindBy i pieces (segment.start + segment.constants) (segment.start + segment.length) part.address) (sym is.instr)
           (subst (λ (a : ℕ). IsNoCodeAt pieces (segment.start + segment.constants) (segment.start + segment.length) a) place none);
+      named = subst (λ (i : Option Instr). IsNamedBy i part.is_address segment.fixes.now (part.address - segment.start)) (sym is.instr) tt;
     }
 
 pub byte_parts : (pieces : List Piece) (segment : CodeSegment) (offset line address : ℕ) (part : Option Part) → IsNoCode pieces segment offset → address ≡ segment.start + offset

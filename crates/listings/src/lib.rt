@@ -1,6 +1,7 @@
 //! What is printed of a program that was built: its sources with their code, and its symbols.
 #![tactic(auto)]
 
+mod code_places;
 mod constants;
 mod image;
 mod lines;
@@ -9,6 +10,7 @@ mod modules;
 mod named;
 mod parts;
 mod places;
+mod procedures;
 mod programs;
 mod symbol_lines;
 mod views;

@@ -1,7 +1,7 @@
 use Rattle.typed_trees.specs.Views.{procedure_view}
 use Rattle.listings.specs.internal.Programs.{typed_of}
 use Rattle.listings.proofs.SymbolTexts.{owner_found}
-use Rattle.listings.proofs.symbol_lines.owner_of.Goals as goal
+use Rattle.listings.proofs.symbol_lines.owner_in_source.Goals as goal
 
 pub returns : goal.returns
 returns c = owner_found (typed_of c.args.view.now) (procedure_view c.in_ok-procedure.procedure.now) _ c.in_ok-procedure.ensures
