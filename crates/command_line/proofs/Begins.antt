@@ -1,7 +1,5 @@
 -- What may come before the files: nothing, an option with its text, or a flag.
-use Rattle.command_line.proofs.Prelude.{◌≡◌, ◌∙◌, List, [], ◌∷◌, ◌++◌, Some, None, false, refl, ap, codes, fold, AllByRecursion, clap_on_literals, Kinds, Row, Shape, Text, Held, Walk, idle, option, has_row, nothing_held, reading_by, settled, walk, walk_from, walked, filled, settle_fault, turn_fault, walk_fault, or_else, CommandLine, PlaceAction, Locate, Hex, Code, DataBase, Input, InputFile, OutputFile, IsBare, Limit, OfPlan, PlanOption, Stack, StackSize, ValueOption, flag_rule, option_name, option_words, plan_option_name, Fill, StartMemory, Listing, Symbols, Count, UntilDry, WatchOption, watch_option_name}
-use Rattle.command_line.proofs.Files.{all_done, bare_fault, bare_word, done_of, files_fault, files_filled, files_row, files_rows, files_walk, last_of, rows_more, state}
-use Rattle.command_line.proofs.Verbs.{Executed, Form, Listed, Located, Objects, Placed, Sources, form_of, leaf, rules}
+use Rattle.command_line.proofs.{Prelude.{◌≡◌, ◌∙◌, List, [], ◌∷◌, ◌++◌, Some, None, false, refl, ap, codes, fold, AllByRecursion, clap_on_literals, Kinds, Row, Shape, Text, Held, Walk, idle, option, has_row, nothing_held, reading_by, settled, walk, walk_from, walked, filled, settle_fault, turn_fault, walk_fault, or_else, CommandLine, PlaceAction, Locate, Hex, Code, DataBase, Input, InputFile, OutputFile, IsBare, Limit, OfPlan, PlanOption, Stack, StackSize, ValueOption, flag_rule, option_name, option_words, plan_option_name, Fill, StartMemory, Listing, Symbols, Count, UntilDry, WatchOption, Where, watch_option_name}, Files.{all_done, bare_fault, bare_word, done_of, files_fault, files_filled, files_row, files_rows, files_walk, last_of, rows_more, state}, Verbs.{Executed, Form, Listed, Located, Objects, Placed, Sources, form_of, leaf, rules}}
 
 then_walk : (form : Form) (w v : Walk) (word : Text) (rest : List Text) → walked (rules form) [] w word ≡ v
     → fold (walked (rules form) []) w (word ∷ rest) ≡ fold (walked (rules form) []) v rest
@@ -100,8 +98,10 @@ flag_step map_flag = refl
 flag_step need_flag = refl
 flag_step (watch_flag Count) = refl
 flag_step (watch_flag UntilDry) = refl
+flag_step (watch_flag Where) = refl
 flag_step (execute_watch_flag Count) = refl
 flag_step (execute_watch_flag UntilDry) = refl
+flag_step (execute_watch_flag Where) = refl
 
 flag_turn : (name : Text) (f : Flag) → turn_fault (leaf (flag_form f) name) [] (found_walk []) (flag_word f) ≡ []
 unfolding clap_on_literals
@@ -109,16 +109,20 @@ flag_turn name map_flag = refl
 flag_turn name need_flag = refl
 flag_turn name (watch_flag Count) = refl
 flag_turn name (watch_flag UntilDry) = refl
+flag_turn name (watch_flag Where) = refl
 flag_turn name (execute_watch_flag Count) = refl
 flag_turn name (execute_watch_flag UntilDry) = refl
+flag_turn name (execute_watch_flag Where) = refl
 
 no_file_of : (f : Flag) → has_row (codes "FILES") (rows_of_flag f) ≡ false
 no_file_of map_flag = refl
 no_file_of need_flag = refl
 no_file_of (watch_flag Count) = refl
 no_file_of (watch_flag UntilDry) = refl
+no_file_of (watch_flag Where) = refl
 no_file_of (execute_watch_flag Count) = refl
 no_file_of (execute_watch_flag UntilDry) = refl
+no_file_of (execute_watch_flag Where) = refl
 
 pub flag_begins : (name : Text) (f : Flag) → Begins (flag_form f) name (flag_word f ∷ []) (rows_of_flag f)
 flag_begins name f = record {

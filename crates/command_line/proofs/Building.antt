@@ -1,6 +1,5 @@
 -- What an argument or a command more makes of a command that is being built.
-use Rattle.command_line.proofs.Prelude.{◌≡◌, ◌∙◌, ap₂, subst, false, Ok, Err, refl, IfOk, Result, AddsArg, AddsSubcommand, App, Rule, rule_of, with_rule, with_subcommand, Arg, Command}
-use Rattle.command_line.specs.internal.Building.{Builds, IsBuilt}
+use Rattle.command_line.proofs.Prelude.{◌≡◌, ◌∙◌, ap₂, subst, false, Ok, Err, refl, IfOk, Result, AddsArg, AddsSubcommand, App, Rule, rule_of, with_rule, with_subcommand, Arg, Command, Builds, IsBuilt}
 
 arg_of : {E : Type 0} (command : Command) (arg : Arg) (result : Result Command E) → IfOk result (AddsArg command arg) → arg.global ≡ false
     → (app : App) (rule : Rule) → Builds {E = E} app (Ok command) → rule_of arg ≡ rule → Builds (with_rule app rule) result

@@ -1,7 +1,6 @@
 -- From the matches of the subcommand to the order, and from an error to a failure.
-use Rattle.command_line.proofs.Prelude.{◌≡◌, List, [], ◌∷◌, Option, Some, None, inl, inr, refl, sym, ap, subst, ◌∙◌, Ok, Err, IfOk, IsErrAnd, Result, option_map, IsAmong, Kinds, Row, Text, kind_of, subcommand_name_of, subcommand_rows_of, ArgMatches, HasKind, Error, ErrorKind, DisplayHelp, DisplayVersion, OutOfMemory, Failure, Fault, Memory, LineFault, IfFault, IsFaultOf, IsOrderOf, Wanted, Order, IsFailureFor}
-use Rattle.command_line.specs.declared.reading.LineFault.TheVariants.{Help, Version, Wrong}
-use Rattle.command_line.proofs.Levels.{never}
+use Rattle.command_line.proofs.{Prelude.{◌≡◌, List, [], ◌∷◌, Option, Some, None, inl, inr, refl, sym, ap, subst, ◌∙◌, Ok, Err, IfOk, IsErrAnd, Result, option_map, IsAmong, Kinds, Row, Text, kind_of, subcommand_name_of, subcommand_rows_of, ArgMatches, HasKind, Error, ErrorKind, DisplayHelp, DisplayVersion, OutOfMemory, Failure, Fault, Memory, LineFault, IfFault, IsFaultOf, IsOrderOf, Wanted, Order, IsFailureFor, Version, Wrong}, Levels.{never}}
+use Rattle.command_line.specs.declared.reading.LineFault.TheVariants.{Help}
 
 mapped_twice : {A B C : Type 0} (f : B → C) (g : A → B) (o : Option A) → option_map f (option_map g o) ≡ option_map (λ x. f (g x)) o
 mapped_twice f g None = refl

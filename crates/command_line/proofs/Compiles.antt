@@ -1,9 +1,5 @@
 -- The words of the command that compiles, a source and an object: they have no fault, and give what is wanted.
-use Rattle.command_line.proofs.Prelude.{◌≡◌, ◌∙◌, List, [], ◌∷◌, Some, None, false, refl, ap, codes, Kinds, Row, Text, Walk, idle, reading_by, walked, defaults_fault, turn_fault, walk_fault, or_else, CommandLine, IsBare, wants_compile}
-use Rattle.command_line.proofs.Files.{bare_fault, bare_word, files_filled}
-use Rattle.command_line.proofs.Begins.{Ends, found_walk}
-use Rattle.command_line.proofs.Lines.{Line, line_of}
-use Rattle.command_line.proofs.Verbs.{compile, compile_rules, leaf_of}
+use Rattle.command_line.proofs.{Prelude.{◌≡◌, ◌∙◌, List, [], ◌∷◌, Some, None, false, refl, ap, codes, Kinds, Row, Text, Walk, idle, reading_by, walked, defaults_fault, turn_fault, walk_fault, or_else, CommandLine, IsBare, wants_compile}, Files.{bare_fault, bare_word, files_filled}, Begins.{Ends, found_walk}, Lines.{Line, line_of}, Verbs.{compile, compile_rules, leaf_of}}
 
 abbrev file_row : Text → Text → Row
 file_row name file = record { id = name; values = file ∷ []; count = None; source = Some CommandLine; reading = reading_by files_filled }

@@ -1,9 +1,5 @@
 -- The words of the command that converts a source: they have no fault, and give what is wanted.
-use Rattle.command_line.proofs.Prelude.{◌≡◌, ◌∙◌, List, [], ◌∷◌, ◌++◌, Some, None, Bool, true, false, if◌then◌else◌, refl, ap, codes, fold, clap_on_literals, Kinds, Row, Text, Walk, idle, reading_by, settle_fault, settled, walked, defaults_fault, turn_fault, walk_fault, or_else, CommandLine, IsBare, medium_words, usual_convert, wants_convert}
-use Rattle.command_line.proofs.Files.{bare_fault, bare_word, files_filled}
-use Rattle.command_line.proofs.Begins.{Ends, flag_row, found_walk}
-use Rattle.command_line.proofs.Lines.{Line, line_of}
-use Rattle.command_line.proofs.Verbs.{convert, convert_rules, leaf_of}
+use Rattle.command_line.proofs.{Prelude.{◌≡◌, ◌∙◌, List, [], ◌∷◌, ◌++◌, Some, None, Bool, true, false, if◌then◌else◌, refl, ap, codes, fold, clap_on_literals, Kinds, Row, Text, Walk, idle, reading_by, settle_fault, settled, walked, defaults_fault, turn_fault, walk_fault, or_else, CommandLine, IsBare, medium_words, usual_convert, wants_convert}, Files.{bare_fault, bare_word, files_filled}, Begins.{Ends, flag_row, found_walk}, Lines.{Line, line_of}, Verbs.{convert, convert_rules, leaf_of}}
 
 abbrev file_row : Text → Row
 file_row file = record { id = codes "FILE"; values = file ∷ []; count = None; source = Some CommandLine; reading = reading_by files_filled }

@@ -1,9 +1,5 @@
 -- The word of the command that explains a number: it has no fault, and gives what is wanted.
-use Rattle.command_line.proofs.Prelude.{◌≡◌, [], ◌∷◌, Some, None, false, refl, ap, codes, Kinds, Row, Text, Walk, idle, reading_by, walked, defaults_fault, turn_fault, walk_fault, or_else, CommandLine, IsBare, wants_explain}
-use Rattle.command_line.proofs.Files.{bare_fault, bare_word, files_filled}
-use Rattle.command_line.proofs.Begins.{Ends, found_walk}
-use Rattle.command_line.proofs.Lines.{Line, line_of}
-use Rattle.command_line.proofs.Verbs.{explain, explain_rules, leaf_of}
+use Rattle.command_line.proofs.{Prelude.{◌≡◌, [], ◌∷◌, Some, None, false, refl, ap, codes, Kinds, Row, Text, Walk, idle, reading_by, walked, defaults_fault, turn_fault, walk_fault, or_else, CommandLine, IsBare, wants_explain}, Files.{bare_fault, bare_word, files_filled}, Begins.{Ends, found_walk}, Lines.{Line, line_of}, Verbs.{explain, explain_rules, leaf_of}}
 
 abbrev number_row : Text → Row
 number_row number = record { id = codes "NUMBER"; values = number ∷ []; count = None; source = Some CommandLine; reading = reading_by files_filled }

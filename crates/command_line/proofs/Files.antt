@@ -1,6 +1,5 @@
 -- The words after a command: bare files, after an option or none. They have no fault, and give the files.
-use Rattle.command_line.proofs.Prelude.{◌≡◌, ◌∙◌, ℕ, List, [], ◌∷◌, ◌++◌, Some, None, Bool, true, false, refl, ap, codes, append_assoc, fold, ◌==◌, ◌||◌, AllByRecursion, bytes_eq, long_of, short_of, strip_byte, Kinds, Row, Rule, Shape, Text, Held, Waiting, Walk, idle, option, positional, has_row, nothing_held, plain_word, reading_by, rows_after, settled, walk, walk_from, walked, with_default, with_values, word_met, filled, with_index, check_fault, defaults_fault, level_fault, settle_fault, turn_fault, walk_fault, word_fault, or_else, CommandLine, IsBare, files_rule}
-use Rattle.command_line.proofs.Verbs.{Executed, Form, Listed, Located, Objects, Placed, Sources, leaf, rules}
+use Rattle.command_line.proofs.{Prelude.{◌≡◌, ◌∙◌, ℕ, List, [], ◌∷◌, ◌++◌, Some, None, Bool, true, false, refl, ap, codes, append_assoc, fold, ◌==◌, ◌||◌, AllByRecursion, bytes_eq, long_of, short_of, strip_byte, Kinds, Row, Rule, Shape, Text, Held, Waiting, Walk, idle, option, positional, has_row, nothing_held, plain_word, reading_by, rows_after, settled, walk, walk_from, walked, with_default, with_values, word_met, filled, with_index, check_fault, defaults_fault, level_fault, settle_fault, turn_fault, walk_fault, word_fault, or_else, CommandLine, IsBare, files_rule}, Verbs.{Executed, Form, Listed, Located, Objects, Placed, Sources, leaf, rules}}
 
 abbrev pub files_filled : Rule
 files_filled = with_index 1 (filled files_rule)

@@ -1,7 +1,5 @@
 -- Each row that a walk makes has a value.
-use Rattle.command_line.proofs.Prelude.{◌≡◌, ℕ, zero, suc, ◌<◌, List, [], ◌∷◌, ◌++◌, Option, Some, None, Bool, true, false, refl, length, drop, codes, arith, is_some, find, fold, if◌then◌else◌, encode_utf8, slice_get, unwrap_or, option_map, ◌&&◌, AllByRecursion, option_map_or, bytes_eq, chars, long_of, short_of, explicit_source, unwrap_or_range, Kinds, Row, Rule, Shape, Text, Held, Names, Outcome, Step, Waiting, Walk, action_of, after_flag, after_step, arg_by_id, arg_by_index, arg_by_long, arg_by_short, at_row, attached_value, bundle_met, bundle_step, default_rows, done, has_row, idle, is_pending, long_met, long_or_other, more_values, next, nothing_held, option, option_met, option_word, plain, plain_word, positional, reacted, reading_by, refused, rows_after, settled, settled_rows, short_met, short_or_plain, subcommand, subcommand_met, subcommand_or_other, takes_several, takes_values, to_positional, trailing, used, used_by_id, value, waits, walk, walk_from, walked, walked_from, with_default, with_values, without, word_met, is_given, bundle_fault, bundle_step_fault, check_fault, flag_word_fault, flags_fault, level_fault, long_fault, option_fault, other_fault, positional_fault, react_fault, settle_fault, short_fault, step_fault, stray_fault, turn_fault, use_fault, walk_fault, word_fault, or_else, Set, Append, SetTrue, Help, Reading, ValueSource, files_of}
-use Rattle.command_line.proofs.Verbs.{Executed, Form, Listed, Located, Objects, Placed, Sources, leaf, rules}
-use Rattle.command_line.proofs.Levels.{level_passes_by, never, none_of_both}
+use Rattle.command_line.proofs.{Prelude.{◌≡◌, ℕ, zero, suc, ◌<◌, List, [], ◌∷◌, ◌++◌, Option, Some, None, Bool, true, false, refl, length, drop, codes, arith, is_some, find, fold, if◌then◌else◌, encode_utf8, slice_get, unwrap_or, option_map, ◌&&◌, AllByRecursion, option_map_or, bytes_eq, chars, long_of, short_of, explicit_source, unwrap_or_range, Kinds, Row, Rule, Shape, Text, Held, Names, Outcome, Step, Waiting, Walk, action_of, after_flag, after_step, arg_by_id, arg_by_index, arg_by_long, arg_by_short, at_row, attached_value, bundle_met, bundle_step, default_rows, done, has_row, idle, is_pending, long_met, long_or_other, more_values, next, nothing_held, option, option_met, option_word, plain, plain_word, positional, reacted, reading_by, refused, rows_after, settled, settled_rows, short_met, short_or_plain, subcommand, subcommand_met, subcommand_or_other, takes_several, takes_values, to_positional, trailing, used, used_by_id, value, waits, walk, walk_from, walked, walked_from, with_default, with_values, without, word_met, is_given, bundle_fault, bundle_step_fault, check_fault, flag_word_fault, flags_fault, level_fault, long_fault, option_fault, other_fault, positional_fault, react_fault, settle_fault, short_fault, step_fault, stray_fault, turn_fault, use_fault, walk_fault, word_fault, or_else, Set, Append, SetTrue, Help, Reading, ValueSource, files_of}, Verbs.{Executed, Form, Listed, Located, Objects, Placed, Sources, leaf, rules}, Levels.{level_passes_by, never, none_of_both}}
 
 abbrev IsFull : Row → Type 0
 IsFull r = 0 < length r.values
@@ -254,12 +252,12 @@ level_full s all words fine =
     (settle_full s.args_override_self s.rules all end passes.settle_passes (walk_full s all [] words (walk_from nothing_held) passes.words_pass tt))
 
 rules_take : (form : Form) → AllTake (rules form)
-rules_take Sources = (set_takes _ refl refl, (set_takes _ refl refl, (set_takes _ refl refl, (set_takes _ refl refl, (set_takes _ refl refl, (set_takes _ refl refl, (append_takes _ refl refl, (append_takes _ refl refl, (flag_takes _ refl refl, (flag_takes _ refl refl, (flag_takes _ refl refl, (set_takes _ refl refl, (set_takes _ refl refl, (append_takes _ refl refl, (help_takes _ refl, tt)))))))))))))))
+rules_take Sources = (set_takes _ refl refl, (set_takes _ refl refl, (set_takes _ refl refl, (set_takes _ refl refl, (set_takes _ refl refl, (set_takes _ refl refl, (append_takes _ refl refl, (append_takes _ refl refl, (flag_takes _ refl refl, (flag_takes _ refl refl, (flag_takes _ refl refl, (flag_takes _ refl refl, (set_takes _ refl refl, (set_takes _ refl refl, (append_takes _ refl refl, (help_takes _ refl, tt))))))))))))))))
 rules_take Objects = (set_takes _ refl refl, (append_takes _ refl refl, (help_takes _ refl, tt)))
 rules_take Placed = (set_takes _ refl refl, (set_takes _ refl refl, (set_takes _ refl refl, (set_takes _ refl refl, (set_takes _ refl refl, (append_takes _ refl refl, (help_takes _ refl, tt)))))))
 rules_take Listed = (set_takes _ refl refl, (set_takes _ refl refl, (set_takes _ refl refl, (set_takes _ refl refl, (append_takes _ refl refl, (help_takes _ refl, tt))))))
 rules_take Located = (set_takes _ refl refl, (set_takes _ refl refl, (set_takes _ refl refl, (set_takes _ refl refl, (flag_takes _ refl refl, (append_takes _ refl refl, (help_takes _ refl, tt)))))))
-rules_take Executed = (set_takes _ refl refl, (set_takes _ refl refl, (set_takes _ refl refl, (set_takes _ refl refl, (set_takes _ refl refl, (set_takes _ refl refl, (append_takes _ refl refl, (append_takes _ refl refl, (flag_takes _ refl refl, (flag_takes _ refl refl, (set_takes _ refl refl, (set_takes _ refl refl, (append_takes _ refl refl, (help_takes _ refl, tt))))))))))))))
+rules_take Executed = (set_takes _ refl refl, (set_takes _ refl refl, (set_takes _ refl refl, (set_takes _ refl refl, (set_takes _ refl refl, (set_takes _ refl refl, (append_takes _ refl refl, (append_takes _ refl refl, (flag_takes _ refl refl, (flag_takes _ refl refl, (flag_takes _ refl refl, (set_takes _ refl refl, (set_takes _ refl refl, (append_takes _ refl refl, (help_takes _ refl, tt)))))))))))))))
 
 abbrev IfFull : Option Row → Type 0
 IfFull None = Unit {0}

@@ -1,13 +1,5 @@
 -- Command lines of one option at most: they have no fault, and give what is wanted.
-use Rattle.command_line.proofs.Prelude.{◌≡◌, ◌∙◌, List, [], ◌∷◌, ◌++◌, Some, Ok, Err, codes, sym, arith, Bool, true, HasKind, Text, fault_of, Error, Failure, Action, Order, PlaceAction, Hex, Locate, LineFault, IsFailureFor, Gives, IsBare, Orders, OrdersCompile, OrdersConvert, OrdersExecute, OrdersExecuteText, OrdersExplain, OrdersFiles, OrdersJump, OrdersLink, OrdersMap, OrdersNeed, OrdersPlace, OrdersPlaceText, OrdersText, PlanOption, ValueOption, usual_execute, wants_execute, with_execute_text, Wanted, name_of_action, name_of_place_action, option_name, option_words, plan_option_name, plm_app, usual, usual_convert, usual_place, usual_plan, medium_words, wanted_by, wanted_in, wants_compile, wants_convert, wants_explain, wants_link, wants_need, wants_place, wants_program, with_plan_text, with_text, OrdersExecuteWatch, OrdersWatch, WatchOption, watching}
-use Rattle.command_line.proofs.Begins.{ends_by, flag_begins, jump, map_flag, need_flag, of_execute, of_place, of_program, option_begins, option_row, out, plain_begins, rows_of_flag, execute_watch_flag, flag_word, watch_flag}
-use Rattle.command_line.proofs.Lines.{Line, execute_line, execute_option_line, jump_line, link_line, map_line, need_line, option_line, place_line, place_option_line, plain_line, execute_watch_line, watch_line}
-use Rattle.command_line.proofs.Verbs.{Executed, Located, Objects, Placed, Sources, Verb, compile, convert, execute, explain, form_of, link, name_of, place, program}
-use Rattle.command_line.proofs.Compiles.{compile_line}
-use Rattle.command_line.proofs.Explains.{explain_line}
-use Rattle.command_line.proofs.Converts.{convert_line}
-use Rattle.command_line.proofs.CommandLemmas.{only_memory}
-use Rattle.command_line.proofs.PlmWords.{line_fine, line_wanted}
+use Rattle.command_line.proofs.{Prelude.{◌≡◌, ◌∙◌, List, [], ◌∷◌, ◌++◌, Some, Ok, Err, codes, sym, arith, Bool, true, HasKind, Text, fault_of, Error, Failure, Action, Order, PlaceAction, Hex, Locate, LineFault, IsFailureFor, Gives, IsBare, Orders, OrdersCompile, OrdersConvert, OrdersExecute, OrdersExecuteText, OrdersExplain, OrdersFiles, OrdersJump, OrdersLink, OrdersMap, OrdersNeed, OrdersPlace, OrdersPlaceText, OrdersText, PlanOption, ValueOption, usual_execute, wants_execute, with_execute_text, Wanted, name_of_action, name_of_place_action, option_name, option_words, plan_option_name, plm_app, usual, usual_convert, usual_place, usual_plan, medium_words, wanted_by, wanted_in, wants_compile, wants_convert, wants_explain, wants_link, wants_need, wants_place, wants_program, with_plan_text, with_text, OrdersExecuteWatch, OrdersWatch, WatchOption, watching}, Begins.{ends_by, flag_begins, jump, map_flag, need_flag, of_execute, of_place, of_program, option_begins, option_row, out, plain_begins, rows_of_flag, execute_watch_flag, flag_word, watch_flag}, Lines.{Line, execute_line, execute_option_line, jump_line, link_line, map_line, need_line, option_line, place_line, place_option_line, plain_line, execute_watch_line, watch_line}, Verbs.{Executed, Located, Objects, Placed, Sources, Verb, compile, convert, execute, explain, form_of, link, name_of, place, program}, Compiles.{compile_line}, Explains.{explain_line}, Converts.{convert_line}, CommandLemmas.{only_memory}, PlmWords.{line_fine, line_wanted}}
 
 -- the words have no fault, and give this
 record Wants (words : List Text) (wanted : Wanted) : Type 0 where

@@ -1,6 +1,5 @@
 -- The bytes of an input, one after another, and groups.
-use Rattle.command_line.proofs.Prelude.{◌≡◌, ℕ, ◌<◌, List, [], ◌∷◌, ◌++◌, Option, Some, None, Bool, true, false, length, refl, ◌∙◌, ap, append_assoc, arith, ◌-◌, ◌≤◌, take, drop, get_or, map, Bor, ◌==◌, option_and_then, option_map, append-nil, take-length, Text, byte_of, bytes_for, all_groups, if_read, in_front}
-use Rattle.command_line.specs.declared.values.InputByte.{InputByte}
+use Rattle.command_line.proofs.Prelude.{◌≡◌, ℕ, ◌<◌, List, [], ◌∷◌, ◌++◌, Option, Some, None, Bool, true, false, length, refl, ◌∙◌, ap, append_assoc, arith, ◌-◌, ◌≤◌, take, drop, get_or, map, Bor, ◌==◌, option_and_then, option_map, append-nil, take-length, Text, byte_of, bytes_for, all_groups, if_read, in_front, InputByte}
 
 pub in_front_twice : {A : Type 0} (before bytes : List A) (found : Option (List A)) → in_front (before ++ bytes) found ≡ in_front before (in_front bytes found)
 in_front_twice before bytes None = refl

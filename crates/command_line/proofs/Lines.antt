@@ -1,8 +1,5 @@
 -- Words of one option at most, after a command: they have no fault, and give what is wanted.
-use Rattle.command_line.proofs.Prelude.{◌≡◌, ◌∙◌, List, [], ◌∷◌, ◌++◌, Some, true, false, refl, ap, codes, fold, Row, Text, nothing_held, rows_after, with_default, check_fault, defaults_fault, level_fault, Action, PlaceAction, Locate, Hex, Code, DataBase, Input, InputFile, OutputFile, Limit, OfPlan, PlanOption, Stack, StackSize, ValueOption, usual_execute, wants_execute, with_execute_text, Wanted, option_words, plan_option_name, option_name, usual, usual_place, usual_plan, wants_link, wants_need, wants_place, wants_program, with_plan_text, with_text, Fill, StartMemory, Listing, Symbols, Count, UntilDry, WatchOption, watching}
-use Rattle.command_line.proofs.Files.{files_row, level_of, rows_of_level}
-use Rattle.command_line.proofs.Begins.{Ends, execute_watch_flag, flag_word, jump, map_flag, need_flag, of_execute, of_place, of_program, option_row, out, rows_of_flag, watch_flag}
-use Rattle.command_line.proofs.Verbs.{Executed, Located, Objects, Placed, Sources, Verb, execute, form_of, leaf, leaf_of, link, name_of, place, program, rules_of, wanted_of}
+use Rattle.command_line.proofs.{Prelude.{◌≡◌, ◌∙◌, List, [], ◌∷◌, ◌++◌, Some, true, false, refl, ap, codes, fold, Row, Text, nothing_held, rows_after, with_default, check_fault, defaults_fault, level_fault, Action, PlaceAction, Locate, Hex, Code, DataBase, Input, InputFile, OutputFile, Limit, OfPlan, PlanOption, Stack, StackSize, ValueOption, usual_execute, wants_execute, with_execute_text, Wanted, option_words, plan_option_name, option_name, usual, usual_place, usual_plan, wants_link, wants_need, wants_place, wants_program, with_plan_text, with_text, Fill, StartMemory, Listing, Symbols, Count, UntilDry, WatchOption, Where, watching}, Files.{files_row, level_of, rows_of_level}, Begins.{Ends, execute_watch_flag, flag_word, jump, map_flag, need_flag, of_execute, of_place, of_program, option_row, out, rows_of_flag, watch_flag}, Verbs.{Executed, Located, Objects, Placed, Sources, Verb, execute, form_of, leaf, leaf_of, link, name_of, place, program, rules_of, wanted_of}}
 
 -- such words have no fault, and give what is wanted
 pub record Line (verb : Verb) (words : List Text) (wanted : Wanted) : Type 0 where
@@ -35,6 +32,8 @@ watch_line action Count file files e =
     line_of (program action) (flag_word (watch_flag Count) ∷ file ∷ files) (rows_of_flag (watch_flag Count) ++ files_row (file ∷ files) ∷ []) (wants_program (record (usual action (file ∷ files)) { watch = watching Count })) e refl refl refl
 watch_line action UntilDry file files e =
     line_of (program action) (flag_word (watch_flag UntilDry) ∷ file ∷ files) (rows_of_flag (watch_flag UntilDry) ++ files_row (file ∷ files) ∷ []) (wants_program (record (usual action (file ∷ files)) { watch = watching UntilDry })) e refl refl refl
+watch_line action Where file files e =
+    line_of (program action) (flag_word (watch_flag Where) ∷ file ∷ files) (rows_of_flag (watch_flag Where) ++ files_row (file ∷ files) ∷ []) (wants_program (record (usual action (file ∷ files)) { watch = watching Where })) e refl refl refl
 
 pub option_line : (action : Action) (o : ValueOption) (text file : Text) (files : List Text)
     → Ends (leaf Sources (name_of (program action))) (option_words (option_name o) text ++ file ∷ files) (option_row (of_program o) text ∷ files_row (file ∷ files) ∷ [])
@@ -165,6 +164,8 @@ execute_watch_line Count file files e =
     line_of execute (flag_word (execute_watch_flag Count) ∷ file ∷ files) (rows_of_flag (execute_watch_flag Count) ++ files_row (file ∷ files) ∷ []) (wants_execute (record (usual_execute (file ∷ files)) { watch = watching Count })) e refl refl refl
 execute_watch_line UntilDry file files e =
     line_of execute (flag_word (execute_watch_flag UntilDry) ∷ file ∷ files) (rows_of_flag (execute_watch_flag UntilDry) ++ files_row (file ∷ files) ∷ []) (wants_execute (record (usual_execute (file ∷ files)) { watch = watching UntilDry })) e refl refl refl
+execute_watch_line Where file files e =
+    line_of execute (flag_word (execute_watch_flag Where) ∷ file ∷ files) (rows_of_flag (execute_watch_flag Where) ++ files_row (file ∷ files) ∷ []) (wants_execute (record (usual_execute (file ∷ files)) { watch = watching Where })) e refl refl refl
 
 pub execute_option_line : (o : ValueOption) (text file : Text) (files : List Text)
     → Ends (leaf Executed (codes "execute")) (option_words (option_name o) text ++ file ∷ files) (option_row (of_execute o) text ∷ files_row (file ∷ files) ∷ [])

@@ -1,7 +1,5 @@
 -- The bytes of the memory at the start, one after another.
-use Rattle.command_line.proofs.Prelude.{◌≡◌, ◌∙◌, ℕ, ◌+◌, ◌-◌, ◌<◌, ◌≤◌, List, [], ◌∷◌, ◌++◌, Option, Some, None, Bool, true, false, get_or, length, refl, ap, take, drop, arith, ◌==◌, if◌then◌else◌, option_and_then, option_map, append-nil, take-length, le-ltb, lt-ltb, nat_lt, Text, byte_of, bytes_from, if_read, in_front}
-use Rattle.command_line.proofs.Inputs.{in_front_twice, one_in_front}
-use Rattle.command_line.specs.declared.start_memory.MemoryByte.{MemoryByte}
+use Rattle.command_line.proofs.{Prelude.{◌≡◌, ◌∙◌, ℕ, ◌+◌, ◌-◌, ◌<◌, ◌≤◌, List, [], ◌∷◌, ◌++◌, Option, Some, None, Bool, true, false, get_or, length, refl, ap, take, drop, arith, ◌==◌, if◌then◌else◌, option_and_then, option_map, append-nil, take-length, le-ltb, lt-ltb, nat_lt, Text, byte_of, bytes_from, if_read, in_front, MemoryByte}, Inputs.{in_front_twice, one_in_front}}
 
 -- a byte that was added stands in front of what is left
 one_more : (before : List MemoryByte) (address byte high low : ℕ) (more : Text) → address < 65536 → Some byte ≡ byte_of high low

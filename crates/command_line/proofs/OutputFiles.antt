@@ -1,9 +1,5 @@
 -- The files to which the bytes of ports go, as texts write them.
-use Rattle.command_line.proofs.Prelude.{◌≡◌, ◌∙◌, ◌<◌, List, [], ◌∷◌, ◌++◌, Option, Some, None, Bool, true, false, Bor, Err, Ok, length, refl, sym, ap, arith, if◌then◌else◌, append-nil, append_assoc, lt-ltb, nat_lt, Text, texts}
-use Rattle.std.proofs.lemmas.Bool.Decides.{nat_tests}
-use Rattle.std.specs.Prelude.{◌||◌}
-use Rattle.std.specs.List.{after_first, before_first, position_or_len}
-use Rattle.command_line.specs.Settings.{NamedPort, file_names, found_in, has_file, has_name, is_colon, names_if, output_file, output_files_after, output_files_read, output_of_digits, outputs_in, ◌>>=◌}
+use Rattle.command_line.proofs.Prelude.{◌≡◌, ◌∙◌, ◌<◌, List, [], ◌∷◌, ◌++◌, Option, Some, None, Bool, true, false, Bor, Err, Ok, length, refl, sym, ap, arith, if◌then◌else◌, append-nil, append_assoc, lt-ltb, nat_lt, Text, texts, nat_tests, ◌||◌, after_first, before_first, position_or_len, NamedPort, file_names, found_in, has_file, has_name, is_colon, names_if, output_file, output_files_after, output_files_read, output_of_digits, outputs_in, ◌>>=◌}
 
 -- what stands before and after the first colon of a text
 pub colon_there : (text digits name : Text) → digits ≡ before_first is_colon text → name ≡ after_first is_colon text → position_or_len is_colon text < length text

@@ -78,7 +78,11 @@ with_memory app =
 
 -- a command with the options of what is watched while a program runs
 abbrev pub with_watch : App → App
-with_watch app = with_rule (with_rule app (flag_rule (codes "until-dry"))) (flag_rule (codes "count"))
+with_watch app =
+    with_rule (with_rule (with_rule app
+    (flag_rule (codes "until-dry")))
+    (flag_rule (codes "count")))
+    (flag_rule (codes "where"))
 
 -- a command with the options of a limit, of an input, and of what is watched
 abbrev pub with_limit_and_input : App → App
@@ -94,8 +98,7 @@ abbrev pub with_run : App → App
 with_run app = with_memory (with_rule (with_limit_and_input app) (flag_rule (codes "map")))
 
 -- the command `name [plan] [--limit N] [--input T] [--input-file T]... [--output-file T]... [--until-dry] [--count]
--- [--map] [--fill T]
--- [--memory T] SOURCE...`
+-- [--where] [--map] [--fill T] [--memory T] SOURCE...`
 abbrev pub program_app : Text → App
 program_app name = with_rule (with_run (with_plan (new_app name))) files_rule
 
@@ -121,8 +124,7 @@ abbrev pub locate_app : Text → App
 locate_app name = with_rule (with_rule (with_plan (new_app name)) (flag_rule (codes "need"))) files_rule
 
 -- the command `name [plan] [--limit N] [--input T] [--input-file T]... [--output-file T]... [--until-dry] [--count]
--- [--fill T] [--memory T]
--- OBJECT...`
+-- [--where] [--fill T] [--memory T] OBJECT...`
 abbrev pub execute_app : Text → App
 execute_app name =
     with_rule (with_memory (with_limit_and_input (with_plan (new_app name)))) files_rule
@@ -291,6 +293,7 @@ abbrev pub watch_of : List Row → Watch
 watch_of rows = record {
   count = is_set (codes "count") rows;
   until_dry = is_set (codes "until-dry") rows;
+  place = is_set (codes "where") rows;
 }
 
 -- what a command with these matches wants
@@ -483,7 +486,7 @@ usual_plan = record {
 
 -- what is watched where no option is given
 abbrev pub nothing_watched : Watch
-nothing_watched = record { count = false; until_dry = false }
+nothing_watched = record { count = false; until_dry = false; place = false }
 
 -- what a command wants with these files, where no option is given
 abbrev pub usual : Action → List Text → ProgramWanted
@@ -538,6 +541,7 @@ pub data ValueOption : Type 0 where
 pub data WatchOption : Type 0 where
   Count : WatchOption
   UntilDry : WatchOption
+  Where : WatchOption
 
 -- the name of an option
 abbrev pub plan_option_name : PlanOption → Text
@@ -558,11 +562,13 @@ option_name StartMemory = codes "memory"
 abbrev pub watch_option_name : WatchOption → Text
 watch_option_name Count = codes "count"
 watch_option_name UntilDry = codes "until-dry"
+watch_option_name Where = codes "where"
 
 -- what is watched where one option is given
 abbrev pub watching : WatchOption → Watch
-watching Count = record { count = true; until_dry = false }
-watching UntilDry = record { count = false; until_dry = true }
+watching Count = record { count = true; until_dry = false; place = false }
+watching UntilDry = record { count = false; until_dry = true; place = false }
+watching Where = record { count = false; until_dry = false; place = true }
 
 -- what is wanted, with the text of an option
 abbrev pub with_plan_text : PlanOption → Text → PlanWanted → PlanWanted

@@ -188,7 +188,13 @@ fn add_watch<'a>(alloc: Global, command: Built<'a>) -> Built<'a>
         "count",
         "Print how many steps the run took, before its end",
     );
-    add(with_until_dry, count)
+    let with_count = add(with_until_dry, count);
+    let place = flag(
+        alloc,
+        "where",
+        "Print where the run stood at its end, after it",
+    );
+    add(with_count, place)
 }
 
 // The command with the options of a run.

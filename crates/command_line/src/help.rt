@@ -253,7 +253,11 @@ Prints a line for each byte at a port, and then how the run ended:
   DRY        with --until-dry: a port was to be read past its input
 With --count a line before that last one says how many instructions were carried out:
   STEPS n    in decimal, HLT among them
-With --count or --until-dry all is printed once the run has ended.
+With --where a line after that last one says where the run stood, at what it was to do next or at the
+HLT; in a routine, as that of a division, at the statement that called it:
+  AT module n  line n of the source of that module
+  AT aaaa      an address in hexadecimal digits, outside the code of all modules
+With --count, --until-dry or --where all is printed once the run has ended.
 
 With --map it first prints where each object lies, by its address and its number of bytes:
   MAP module name aaaa n
@@ -310,6 +314,9 @@ Prints a line for each byte at a port, and then how the program ended:
 After OUTSIDE the language promises nothing more of the program.
 With --count a line before that last one says how much of the budget was used:
   STEPS n           in decimal
+With --where a line after that last one says where the program stood, at what it was to do next, at what
+went outside, or at its end:
+  AT module n       line n of the source of that module
 
 With --map it first prints where each object lies, by its address and its number of bytes:
   MAP module name aaaa n
@@ -521,7 +528,10 @@ Prints what `plm run` prints, a line for each byte at a port, and then how the r
   DRY        with --until-dry: a port was to be read past its input
 With --count a line before that last one says how many instructions were carried out:
   STEPS n    in decimal, HLT among them
-With --count or --until-dry all is printed once the run has ended.
+With --where a line after that last one says where the machine stood, at the instruction that it was
+to carry out next, at the illegal code, or at the HLT; plm list with the same options shows which:
+  AT aaaa    its address, in hexadecimal digits
+With --count, --until-dry or --where all is printed once the run has ended.
 
 Input is groups joined by `/`, each a port, a colon and the bytes that the port gives, all in
 hexadecimal digits: 01:0904/02:FF gives 09 and then 04 at port 01, and FF at port 02.

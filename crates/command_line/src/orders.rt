@@ -29,6 +29,8 @@ pub struct Watch {
     pub count: bool,
     /// Whether the run ends before the first read of a port past its input.
     pub until_dry: bool,
+    /// Whether it is printed where the run stood at its end.
+    pub place: bool,
 }
 
 /// The texts of the options that say where the parts of a program are to lie.

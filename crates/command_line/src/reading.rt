@@ -104,6 +104,7 @@ fn watch(matches: &ArgMatches) -> Watch
     Watch {
         count: flag(matches, "count"),
         until_dry: flag(matches, "until-dry"),
+        place: flag(matches, "where"),
     }
 }
 

@@ -1,26 +1,8 @@
 -- Sources that were converted, or not.
-use Rattle.commands.proofs.Prelude.{◌≡◌, ◌<◌, ◌≤◌, ℕ, List, [], length, map, Option, None, Some, inl, inr, refl, sym, ap, subst, ◌∙◌, ◌⊎◌, arith, Ending, Done, Refused, status_of, AppendsBeginning, Appends, Keeps, ChangesFiles, Directory, HasFile, KeepsFiles, stays_on, Tells, memory_line, refusal_line, file_line, CountsFailure, TellsUnwritten, ConvertWanted}
-use Rattle.words.specs.declared.limits.TheConstants.{LONGEST_SOURCE}
+use Rattle.commands.proofs.{Prelude.{◌≡◌, ◌<◌, ◌≤◌, ℕ, List, [], length, map, Option, None, Some, inl, inr, refl, sym, ap, subst, ◌∙◌, ◌⊎◌, arith, Ending, Done, Refused, status_of, AppendsBeginning, Appends, Keeps, ChangesFiles, Directory, HasFile, KeepsFiles, stays_on, Tells, memory_line, refusal_line, file_line, CountsFailure, TellsUnwritten, ConvertWanted, LONGEST_SOURCE, Lexeme, lexemes_of, one_reading, Expands, not_both, TypedModule, HasReadCause, IsSourceOf, ReadFault, Expansion, Storage, Syntax, TooLong, Typing, Words, advice_view, usual_advice, Parts, as_it_is, assembled, IsRefused, no_expansion, no_words, Change, plain, line_table, prepared, prepared_notes, rule_view, table_of_rules, IsConverted, note_lines, place_at, Advice, PlacedNote, Entry, Rule, IsIncluded, StopsLookingForNext, Converts, ConvertsByTables, HasNoConversion, IsMistyped, IsModule, IsNoModule, IsPutTogether, StopsIncluding, StopsSource, changed, fault_line_at, medium_of, rewritten, BeginsTable, WritesTable, IsOfForm, PrintsModule, form_of_fault, table_if, ConvertsFile, ConvertsText, RefusesText, ConvertsHeld, ConvertsParts, PrintsNoted, PrintsTabled, unchanged, with_file, StopsWriting}, Printed.{stays_written}, Included.{was_included, was_stopped_for_next}, Tables.{kept_begins, table_begun, table_stopped, table_written, was_begun, was_stopped_writing, was_written}}
+use Rattle.sources.specs.Faults.{line_of, number_of}
+use Rattle.commands.specs.Converting.{stays}
 use Rattle.literally.specs.declared.fault.Fault as expansion_fault
-use Rattle.words.specs.Spelling.{Lexeme, lexemes_of}
-use Rattle.words.proofs.LawsReadings.{one_reading}
-use Rattle.literally.specs.Expansion.{Expands}
-use Rattle.literally.proofs.LawsOneExpansion.{not_both}
-use Rattle.typed_trees.specs.TypedTrees.{TypedModule}
-use Rattle.sources.specs.{Causes.{HasReadCause}, Faults.{line_of, number_of}, Reading.{IsSourceOf}, declared.read.ReadFault.{ReadFault, TheVariants.{Expansion, Storage, Syntax, TooLong, Typing, Words}}}
-use Rattle.convert.specs.{Advice.{advice_view, usual_advice}, Assembly.{Parts, as_it_is, assembled}, Conversion.{IsRefused, no_expansion, no_words}, Edits.{Change}, Lines.{plain}, Origins.{line_table}, Preparing.{prepared, prepared_notes}, Table.{rule_view, table_of_rules}, Sources.{IsConverted, note_lines, place_at}, declared.advice.Advice.{Advice}, declared.assembly.PlacedNote.{PlacedNote}, declared.includes.Entry.{Entry}, declared.rule.Rule.{Rule}}
-use Rattle.commands.specs.Including.{IsIncluded, StopsLookingForNext}
-use Rattle.commands.specs.Converting.{Converts, ConvertsByTables, HasNoConversion, IsMistyped, IsModule, IsNoModule, IsPutTogether, StopsIncluding, StopsSource, changed, fault_line_at, medium_of, rewritten, stays}
-use Rattle.commands.specs.Tables.{BeginsTable, WritesTable}
-use Rattle.commands.specs.internal.Converting.{IsOfForm, PrintsModule, form_of_fault, table_if}
-unfoldable use Rattle.commands.specs.Converting.{ConvertsFile, ConvertsText, RefusesText}
-unfoldable use Rattle.commands.specs.internal.Converting.{ConvertsHeld, ConvertsParts, PrintsNoted, PrintsTabled}
-use Rattle.commands.proofs.Printed.{stays_written}
-use Rattle.commands.proofs.Included.{was_included, was_stopped_for_next}
-use Rattle.commands.proofs.Tables.{kept_begins, table_begun, table_stopped, table_written, was_begun, was_stopped_writing, was_written}
-use Rattle.host.proofs.FilesRead.{stays as unchanged}
-use Rattle.host.specs.Files.{with_file}
-use Rattle.object_commands.specs.Linking.{StopsWriting}
 
 module _ (text : List ℕ) where
   pub source_is_module : (typed : TypedModule) → IsSourceOf text typed → IsModule text

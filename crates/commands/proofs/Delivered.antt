@@ -1,13 +1,5 @@
 -- Runs with files of ports, or without.
-use Rattle.commands.proofs.Prelude.{◌≡◌, ◌⊎◌, ℕ, ◌==◌, true, false, List, [], ◌∷◌, ◌++◌, length, arith, Bor, Option, None, Some, Ok, inl, inr, refl, sym, ap, subst, ◌∙◌, Directory, KeepsFiles, status_of, TellsRefusal, TellsOther, Ending, Refused, WrongLine, texts, ProgramWanted, Values, values_read, PrintsFiles, PrintsProgram, stays, tells_no_file, Action, ToRun, Interpret, Construction, map_if}
-use Rattle.std.proofs.lemmas.Bool.Decides.{nat_tests}
-use Rattle.command_line.specs.Command.{ExecuteWanted}
-use Rattle.command_line.specs.Settings.{NamedPort, execute_read, file_names, outputs_in}
-use Rattle.commands.specs.Converting.{TellsOutput}
-use Rattle.commands.specs.OutputFiles.{ByOutputs, ChangesOutputs, Delivers, DeliversRun, KeepsAllBut, Shows, dash_bytes, outputs_for}
-use Rattle.commands.specs.Executing.{PrintsExecution, PrintsMerge}
-use Rattle.commands.specs.Running.{PrintsBuilt}
-use Rattle.commands.proofs.OutputFiles.{but_then, kept_then_outputs}
+use Rattle.commands.proofs.{Prelude.{◌≡◌, ◌⊎◌, ℕ, ◌==◌, true, false, List, [], ◌∷◌, ◌++◌, length, arith, Bor, Option, None, Some, Ok, inl, inr, refl, sym, ap, subst, ◌∙◌, Directory, KeepsFiles, status_of, TellsRefusal, TellsOther, Ending, Refused, WrongLine, texts, ProgramWanted, Values, values_read, PrintsFiles, PrintsProgram, stays, tells_no_file, Action, ToRun, Interpret, Construction, map_if, nat_tests, ExecuteWanted, NamedPort, execute_read, file_names, outputs_in, TellsOutput, ByOutputs, ChangesOutputs, Delivers, DeliversRun, KeepsAllBut, Shows, dash_bytes, outputs_for, PrintsExecution, PrintsMerge, PrintsBuilt}, OutputFiles.{but_then, kept_then_outputs}}
 pub use Rattle.commands.proofs.OutputFiles.{kept_but}
 
 -- what holds without files of ports and with them

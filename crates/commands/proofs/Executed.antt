@@ -1,27 +1,18 @@
 -- Merges of objects that were run, or not.
-use Rattle.commands.proofs.Prelude.{◌≡◌, ℕ, List, [], Ok, Option, inl, inr, sym, subst, ◌++◌, Directory, KeepsFiles, Tells, TellsRefusal, memory_line, RefusesFor, RunsOut, PrintsImage, Values}
-use Rattle.locate.specs.Locating.{Absolute}
-use Rattle.command_line.specs.{Command.{ExecuteWanted}, Settings.{execute_read}}
-use Rattle.object_commands.specs.Merging.{PlacesMerge}
-unfoldable use Rattle.object_commands.specs.Merging.{RefusesPlacing}
-use Rattle.commands.specs.Executing.{PrintsExecution, PrintsMerge, PrintsRead, StopsImage, StopsRead}
-use Rattle.commands.specs.InputFiles.{HasInput, input_names}
-unfoldable use Rattle.commands.specs.Executing.{RefusesExecution, RefusesObjects}
-use Rattle.commands.specs.Refusing.{TellsUnwritten}
-use Rattle.commands.proofs.InputFiles.{input_there, refused_after, told_after}
-use Rattle.commands.proofs.Printed.{stays_written}
+use Rattle.commands.proofs.{Prelude.{◌≡◌, ℕ, List, [], Ok, Option, inl, inr, sym, subst, ◌++◌, Directory, KeepsFiles, Tells, TellsRefusal, memory_line, RefusesFor, RunsOut, PrintsImage, Values, Absolute, ExecuteWanted, execute_read, PlacesMerge, RefusesPlacing, PrintsExecution, PrintsMerge, StopsImage, StopsRead, HasInput, input_names, RefusesExecution, RefusesObjects, TellsUnwritten, no_names}, InputFiles.{input_there, refused_after, told_after}, Printed.{stays_written}}
+use Rattle.commands.specs.Executing.{PrintsRead}
 
 -- the status of the ending is that of the end
-pub image_status : (values : Values) (image : Absolute) (outputs : List (List ℕ)) (old new : Option (List ℕ)) (status of_end : ℕ) → status ≡ of_end → PrintsImage [] values image of_end outputs old new
-    → PrintsImage [] values image status outputs old new
-image_status values image outputs old new status of_end same printed = subst (λ (s : ℕ). PrintsImage [] values image s outputs old new) (sym same) printed
+pub image_status : (values : Values) (image : Absolute) (outputs : List (List ℕ)) (old new : Option (List ℕ)) (status of_end : ℕ) → status ≡ of_end → PrintsImage no_names [] values image of_end outputs old new
+    → PrintsImage no_names [] values image status outputs old new
+image_status values image outputs old new status of_end same printed = subst (λ (s : ℕ). PrintsImage no_names [] values image s outputs old new) (sym same) printed
 
 -- the files of the input were read, and the image was run, or not whole
 module _ (values full : Values) (files : Option Directory) (image : Absolute) (old new : Option (List ℕ)) (input : HasInput files values full) where
-  pub prints_read : (status : ℕ) (outputs : List (List ℕ)) → PrintsImage [] full image status outputs old new → PrintsRead values files image status outputs old new
+  pub prints_read : (status : ℕ) (outputs : List (List ℕ)) → PrintsImage no_names [] full image status outputs old new → PrintsRead values files image status outputs old new
   prints_read status outputs printed = record { full = full; input = input; printed = printed }
 
-  pub stops_read : (told was : Option (List ℕ)) → TellsUnwritten was told → StopsImage full image old new → StopsRead values files image was told old new
+  pub stops_read : (told was : Option (List ℕ)) → TellsUnwritten was told → StopsImage no_names full image old new → StopsRead values files image was told old new
   stops_read told was unwritten stops = record { full = full; input = input; told = unwritten; printed = stops }
 
 -- the objects were placed before

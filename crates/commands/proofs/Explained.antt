@@ -1,10 +1,5 @@
 -- Numbers that were explained, or not.
-use Rattle.commands.proofs.Prelude.{◌≡◌, ℕ, List, Err, Ok, Option, codes, inl, inr, refl, Appends, AppendsBeginning, Directory, Tells, memory_line, refusal_line, wants_explain, RefusesAsWanted, TellsText}
-use Rattle.command_line.specs.{Command.{ExplainWanted}, Settings.{page_read}}
-use Rattle.commands.specs.Explaining.{PrintsPage}
-unfoldable use Rattle.commands.specs.Explaining.{RefusesPage}
-use Rattle.commands.specs.Refusing.{TellsUnwritten}
-use Rattle.commands.proofs.Printed.{stays_written}
+use Rattle.commands.proofs.{Prelude.{◌≡◌, ℕ, List, Err, Ok, Option, codes, inl, inr, refl, Appends, AppendsBeginning, Directory, Tells, memory_line, refusal_line, wants_explain, RefusesAsWanted, TellsText, ExplainWanted, page_read, PrintsPage, RefusesPage, TellsUnwritten}, Printed.{stays_written}}
 
 module _ (wanted : ExplainWanted) (old new : Option (List ℕ)) where
   pub prints_page : (page : List ℕ) → page_read wanted ≡ Ok page → Appends old new page → PrintsPage wanted old new

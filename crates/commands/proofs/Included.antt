@@ -1,14 +1,5 @@
 -- The files that a source includes: what is known of files stays known where they stayed.
-use Rattle.commands.proofs.Prelude.{◌≡◌, ℕ, ◌≤◌, ◌<◌, ◌-◌, List, [], ◌∷◌, ◌++◌, length, drop, map, get_or, Option, None, Some, inl, inr, refl, sym, ap, subst, ◌∙◌, arith, Directory, KeepsFiles, ConvertWanted}
-use Rattle.std.proofs.Common.{option_map, take, take_all}
-use Rattle.host.specs.Files.{FindsFile}
-use Rattle.host.proofs.FilesRead.{was_there}
-use Rattle.convert.specs.declared.advice.Advice.{Advice}
-use Rattle.convert.specs.declared.assembly.PlacedNote.{PlacedNote}
-use Rattle.convert.specs.declared.includes.Entry.{Entry}
-use Rattle.convert.specs.Includes.{candidates}
-use Rattle.convert.specs.Lines.{plain}
-use Rattle.commands.specs.Including.{FindsText, IsIncluded, IsLookedUp, IsMissing, Looks, LooksUp, StopsLooking, StopsLookingForNext, after_name, at_name, begun, elsewhere, first_of, further, here, most_names, nowhere, put_together}
+use Rattle.commands.proofs.Prelude.{◌≡◌, ℕ, ◌≤◌, ◌<◌, ◌-◌, List, [], ◌∷◌, ◌++◌, length, drop, map, get_or, Option, None, Some, inl, inr, refl, sym, ap, subst, ◌∙◌, arith, Directory, KeepsFiles, ConvertWanted, option_map, take, take_all, FindsFile, was_there, Advice, PlacedNote, Entry, candidates, plain, FindsText, IsIncluded, IsLookedUp, IsMissing, Looks, LooksUp, StopsLooking, StopsLookingForNext, after_name, at_name, begun, elsewhere, first_of, further, here, most_names, nowhere, put_together}
 
 module _ (was files : Option Directory) (kept : KeepsFiles was files) where
   was_found : (name : List ℕ) (found : Option (List ℕ)) → FindsFile files name found → FindsFile was name found

@@ -1,8 +1,5 @@
 -- Files of an input that were read after others.
-use Rattle.commands.proofs.Prelude.{◌≡◌, ℕ, ◌<◌, ◌≤◌, length, get_or, drop, append-nil, arith, List, [], ◌∷◌, ◌++◌, Bor, Option, inl, inr, map, refl, sym, ap, subst, ◌∙◌, append_assoc, texts, CountsFailure, Err, Failure, Fault, IfFault, Memory, Directory, HasFiles, KeepsFiles, StopsAt, TellsRefusal, Values, RefusesFor}
-use Rattle.host.proofs.FilesRead.{stops_before, was_there}
-use Rattle.commands.specs.InputFiles.{HasInput, input_names, with_texts}
-use Rattle.host.specs.declared.files.FileFault.{FileFault}
+use Rattle.commands.proofs.Prelude.{◌≡◌, ℕ, ◌<◌, ◌≤◌, length, get_or, drop, append-nil, arith, List, [], ◌∷◌, ◌++◌, Bor, Option, inl, inr, map, refl, sym, ap, subst, ◌∙◌, append_assoc, texts, CountsFailure, Err, Failure, Fault, IfFault, Memory, Directory, HasFiles, KeepsFiles, StopsAt, TellsRefusal, Values, RefusesFor, stops_before, was_there, HasInput, input_names, with_texts, FileFault}
 
 -- files that are there after files stayed were there before
 all_there : (old new : Option Directory) (names read : List (List ℕ)) → KeepsFiles old new → HasFiles new names read → HasFiles old names read

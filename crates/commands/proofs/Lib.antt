@@ -15,6 +15,7 @@ pub mod RefusedRuns
 pub mod Delivered
 pub mod Names
 pub mod Refused
+pub mod PlacesTold
 pub mod Printed
 pub mod PrintedReports
 pub mod PortReads

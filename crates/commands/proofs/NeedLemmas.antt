@@ -1,10 +1,8 @@
 -- Sources that are read one by one, and the need of their program.
-use Rattle.commands.proofs.Prelude.{◌≡◌, Err, ℕ, ◌+◌, ◌<◌, ◌≤◌, List, [], ◌∷◌, ◌++◌, Option, length, drop, map, arith, sym, ap, ◌∙◌, subst, add-one, append-nil, append_assoc, refl, ⊎_elim, Result, drop_of_length-le, drop-cons, cases_lt, length-map, IfFault, Failure, Fault, Memory, TypedModule, Typed, module_view, IsJoined, IsSourceOf, MOST_SOURCES, AreSourcesOf, texts_of, NeedFault, HasCause, IsNeedOf, IsNeedText, IsReadable, need_line}
-use Rattle.sources.specs.declared.sources.Source as declared_source
+use Rattle.commands.proofs.Prelude.{◌≡◌, Err, ℕ, ◌+◌, ◌<◌, ◌≤◌, List, [], ◌∷◌, ◌++◌, Option, length, drop, map, arith, sym, ap, ◌∙◌, subst, add-one, append-nil, append_assoc, refl, ⊎_elim, Result, drop_of_length-le, drop-cons, cases_lt, length-map, IfFault, Failure, Fault, Memory, TypedModule, Typed, module_view, IsJoined, IsSourceOf, MOST_SOURCES, AreSourcesOf, texts_of, NeedFault, HasCause, IsNeedOf, IsNeedText, IsReadable, need_line, TellsNeed, Join, IsFirstFault, IsOfJoining, IsOfSource, IsUnread}
 use Rattle.sources.specs.Programs.{text_of}
-use Rattle.stack_need.specs.StackNeed.{TellsNeed}
-use Rattle.commands.specs.declared.needs.fault.NeedFault.TheVariants.{TooManySources, Source, Join}
-use Rattle.commands.specs.internal.Reading.{IsFirstFault, IsOfJoining, IsOfSource, IsUnread}
+use Rattle.commands.specs.declared.needs.fault.NeedFault.TheVariants.{TooManySources, Source}
+use Rattle.sources.specs.declared.sources.Source as declared_source
 
 -- the texts before this place are sources of modules
 abbrev pub AreRead : List (List ℕ) → (file : ℕ) → Type 0

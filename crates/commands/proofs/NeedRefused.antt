@@ -1,5 +1,5 @@
 -- What is printed where sources are refused: the line of no file that can't be read.
-use Rattle.commands.proofs.Prelude.{◌≡◌, ℕ, true, List, Option, refl, ap, ◌∙◌, Tells, TellsOther, refusal_line, is_other, tells_other, ReadFault}
+use Rattle.commands.proofs.Prelude.{◌≡◌, ℕ, true, List, Option, refl, ap, ◌∙◌, Tells, TellsOther, refusal_line, is_other, tells_other, ReadFault, Cause}
 use Rattle.words.specs.Fault as of_words
 use Rattle.words.specs.declared.fault.Fault as word_fault
 use Rattle.words.specs.declared.fault.Fault.TheVariants as word_faults
@@ -10,7 +10,6 @@ use Rattle.syntax.specs.Faults as of_syntax
 use Rattle.syntax.specs.declared.fault.Fault as syntax_fault
 use Rattle.syntax.specs.declared.fault.Fault.TheVariants as syntax_faults
 use Rattle.typing.specs.Faults as of_typing
-use Rattle.typing.specs.declared.fault.Cause.{Cause}
 use Rattle.typing.specs.declared.fault.Cause.TheVariants as causes
 use Rattle.sources.specs.Faults as of_source
 use Rattle.sources.specs.declared.read.ReadFault.TheVariants as read_faults

@@ -1,6 +1,5 @@
 -- The need of sources, printed or not.
-use Rattle.commands.proofs.Prelude.{◌≡◌, ◌⊎◌, ℕ, List, Bor, Err, Ok, Option, codes, inl, inr, map, subst, texts, Directory, HasFiles, Tells, refusal_line, Ending, Done, Refused, WrongLine, NeedWanted, wants_need, plan_read, Plan, PrintsNeed, StopsNeed, TellsNoNeed, RefusesFor, PrintsNeedWanted, RefusesNeed, TellsText}
-use Rattle.commands.specs.Needing.{PrintsNeedOf, RefusesNeedOf}
+use Rattle.commands.proofs.Prelude.{◌≡◌, ◌⊎◌, ℕ, List, Bor, Err, Ok, Option, codes, inl, inr, map, subst, texts, Directory, HasFiles, Tells, refusal_line, Ending, Done, Refused, WrongLine, NeedWanted, wants_need, plan_read, Plan, PrintsNeed, StopsNeed, TellsNoNeed, RefusesFor, PrintsNeedWanted, RefusesNeed, TellsText, PrintsNeedOf, RefusesNeedOf}
 
 pub done_or_refused : (ending : Ending) → (ending ≡ Done) ⊎ (ending ≡ Refused) → ending ≡ WrongLine → ⊥
 done_or_refused ending (inl done) wrong = cc

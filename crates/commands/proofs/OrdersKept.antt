@@ -1,10 +1,5 @@
 -- Files after a command line was carried out.
-use Rattle.commands.proofs.Prelude.{◌≡◌, ◌≤◌, ◌⊎◌, ℕ, List, [], ◌∷◌, Ok, Option, None, Some, inl, inr, refl, subst, arith, Directory, KeepsFiles, status_of, TellsRefusal, Ending, Done, Refused, WrongLine, Limit, Stopped, Outside, Wanted, wants_compile, wants_convert, wants_execute, wants_explain, wants_link, wants_need, wants_place, wants_program, only_file, kept_others, ChangesAsWanted, ChangesByWords, WritesAsWanted, WritesByWords, PrintsAsWanted, PrintsByWords, StopsAsWanted, StopsByWords, names_by_words, names_of}
-use Rattle.commands.specs.Refusing.{RunsOut}
-use Rattle.command_line.specs.Settings.{outputs_in}
-use Rattle.commands.specs.Converting.{ConvertsAsWanted, ConvertsByWords, TellsAsWanted, TellsByWords, TellsOutput}
-use Rattle.commands.proofs.Delivered.{by_any, kept_changes}
-use Rattle.commands.proofs.Tables.{kept_all_but}
+use Rattle.commands.proofs.{Prelude.{◌≡◌, ◌≤◌, ◌⊎◌, ℕ, List, [], ◌∷◌, Ok, Option, None, Some, inl, inr, refl, subst, arith, Directory, KeepsFiles, status_of, TellsRefusal, Ending, Done, Refused, WrongLine, Limit, Stopped, Outside, Wanted, wants_compile, wants_convert, wants_execute, wants_explain, wants_link, wants_need, wants_place, wants_program, only_file, kept_others, ChangesAsWanted, ChangesByWords, WritesAsWanted, WritesByWords, PrintsAsWanted, PrintsByWords, StopsAsWanted, StopsByWords, names_by_words, names_of, RunsOut, outputs_in, ConvertsAsWanted, ConvertsByWords, TellsAsWanted, TellsByWords, TellsOutput}, Delivered.{by_any, kept_changes}, Tables.{kept_all_but}}
 
 -- where no file changed, none changed but what was wanted
 pub kept_as_wanted : (wanted : Wanted) (old new : Option Directory) → KeepsFiles old new → ChangesAsWanted wanted old new

@@ -1,17 +1,5 @@
 -- The files to which the bytes of ports go.
-use Rattle.commands.proofs.Prelude.{◌≡◌, ℕ, ◌<◌, ◌≤◌, Bool, true, false, List, [], ◌∷◌, ◌++◌, length, get_or, drop, map, append-nil, append_assoc, arith, Option, None, Some, OnOk, Result, Ok, Err, refl, sym, ap, subst, ◌∙◌, Appends, AppendsBeginning, Event, ChangesFiles, Directory, KeepsFiles, with_file, stays, kept_others, kept_then_stopped, written_others, StopsWriting, CountsFailure, Tells, file_line, inl, inr, ◌⊎◌, Bor}
-use Rattle.std.specs.Prelude.{OnErr, ◌||◌, if◌then◌else◌}
-use Rattle.std.specs.Str.{bytes_eq}
-use Rattle.std.proofs.Common.{length-append, take, ◌-◌}
-use Rattle.std.proofs.Math.Seq.{take-length}
-use Rattle.std.proofs.lemmas.Slice.Eq.{bytes_eq-Decides}
-use Rattle.object_commands.specs.Linking.{KeepsOthers}
-use Rattle.command_line.specs.Settings.{NamedPort, file_names}
-use Rattle.commands.specs.Converting.{TellsOutput}
-use Rattle.commands.specs.OutputFiles.{KeepsAllBut, byte_written, bytes_written, dash_bytes, is_dash, is_output, with_output, with_outputs}
-use Rattle.commands.specs.RefusedRuns.{LeavesOutputs, StopsOutput, StopsOutputs}
-use Rattle.commands.proofs.InputFiles.{seen_put}
-use Rattle.commands.proofs.Printed.{whole_begins}
+use Rattle.commands.proofs.{Prelude.{◌≡◌, ℕ, ◌<◌, ◌≤◌, Bool, true, false, List, [], ◌∷◌, ◌++◌, length, get_or, drop, map, append-nil, append_assoc, arith, Option, None, Some, OnOk, Result, Ok, Err, refl, sym, ap, subst, ◌∙◌, Appends, AppendsBeginning, Event, ChangesFiles, Directory, KeepsFiles, with_file, stays, kept_others, kept_then_stopped, written_others, StopsWriting, CountsFailure, Tells, file_line, inl, inr, ◌⊎◌, Bor, OnErr, ◌||◌, if◌then◌else◌, bytes_eq, length-append, take, ◌-◌, take-length, bytes_eq-Decides, KeepsOthers, NamedPort, file_names, TellsOutput, KeepsAllBut, byte_written, bytes_written, dash_bytes, is_dash, is_output, with_output, with_outputs, LeavesOutputs, StopsOutput, StopsOutputs, looked_more}, InputFiles.{seen_put}, Printed.{whole_begins}}
 pub use Rattle.commands.proofs.InputFiles.{all_put}
 
 -- one event more, and none left
@@ -26,10 +14,6 @@ all_written port total made [] none rest = sym (append-nil made) ∙ rest
 all_written port total made (one ∷ events) none rest = absurd (omega arith)
 
 -- the bytes of one file more
-looked_more : {V : Type 0} (look : V → List ℕ) (made : List V) (one : V) → map look (made ++ one ∷ []) ≡ map look made ++ look one ∷ []
-looked_more look [] one = refl
-looked_more look (v ∷ made) one = ap (λ (l : List (List ℕ)). look v ∷ l) (looked_more look made one)
-
 pub output_put : {A B V : Type 0} (see : A → B) (h : B → List ℕ) (look : V → List ℕ) (total : List (List ℕ)) (made new : List V) (one : V) (xs : List A) (x : A) → 1 ≤ length xs
     → x ≡ get_or xs 0 x → look one ≡ h (see x) → map look made ++ map h (map see xs) ≡ total → new ≡ made ++ one ∷ [] → map look new ++ map h (map see (drop 1 xs)) ≡ total
 output_put {A} {B} {V} see h look total made new one xs x some is same rest added =

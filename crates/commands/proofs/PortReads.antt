@@ -1,15 +1,7 @@
 -- Reads of ports: how many there are, and where they pass the input.
-use Rattle.std.proofs.Common.{◌≡◌, ℕ, zero, ◌+◌, ◌-◌, ◌<◌, ◌≤◌, Bool, true, false, cond, List, [], ◌∷◌, ◌++◌, length, get_or, set, replicate, drop, refl, sym, ap, subst, ◌∙◌, arith, suc}
-use Rattle.std.proofs.lemmas.Bool.{eq-eqb, eqb-true, eqb-false}
-use Rattle.std.proofs.lemmas.Grind.{common_steps, get_or-set_at}
-use Rattle.std.proofs.lemmas.List.{get_or-set_other, length-map, length-set}
-use Rattle.std.proofs.lemmas.List.Sums.{sum_by-append, sum_by-cons, length-filter, count_by-le-length}
-use Rattle.std.specs.Prelude.{◌==◌, count_by, filter}
-use Rattle.ports.specs.{declared.event.Event.{Event}, Events.{read_event, write_event}, Input.{is_read_of, queue_of, reads_of}}
-use Rattle.command_line.specs.declared.values.InputByte.{InputByte}
-use Rattle.commands.specs.Ends.{GivesInput, bytes_to}
-use Rattle.commands.specs.Steps.{IsWithinInput, PassesInput}
-use Rattle.commands.specs.internal.InputPorts.{IsLeft, left_at}
+use Rattle.commands.proofs.Prelude.{◌≡◌, ℕ, zero, ◌+◌, ◌-◌, ◌<◌, ◌≤◌, Bool, true, false, cond, List, [], ◌∷◌, ◌++◌, length, get_or, set, drop, refl, sym, ap, subst, ◌∙◌, arith, suc, eq-eqb, eqb-true, eqb-false, common_steps, get_or-set_at, get_or-set_other, length-map, length-set, sum_by-append, sum_by-cons, length-filter, count_by-le-length, count_by, filter, Event, read_event, write_event, is_read_of, queue_of, reads_of, InputByte, GivesInput, bytes_to, IsWithinInput, PassesInput, IsLeft, left_at}
+use Rattle.std.proofs.Common.{replicate}
+use Rattle.std.specs.Prelude.{◌==◌}
 
 -- reads of events, and of others after them
 pub reads_append : (one other : List Event) (port : ℕ) → reads_of (one ++ other) port ≡ reads_of one port + reads_of other port

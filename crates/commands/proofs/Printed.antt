@@ -1,11 +1,5 @@
 -- What was printed of programs, step by step.
-use Rattle.commands.proofs.Prelude.{◌≡◌, ℕ, ◌≤◌, Bool, true, false, List, [], ◌++◌, length, map, Bor, Option, None, Some, inl, inr, refl, sym, ap, subst, ◌∙◌, append-nil, Appends, Keeps, Appends-trans, AppendsBeginning, beginning_after, texts, Event, Directory, HasFiles, Plan, Joined, CodePlacement, placement_view, ProgramWanted, Values, Action, ToRun, Interpret, MOST_SOURCES, IsProgramOf, program_modules, Construction, IsConstruction, source_of, map_if, map_of, BeginsImage, PrintsBuilt, PrintsFiles, PrintsImage, PrintsTexts, StopsBuilt, machine_word, run_report, source_word, KeepsFiles}
-use Rattle.commands.proofs.InputFiles.{input_there, named}
-use Rattle.commands.specs.Executing.{StopsImage}
-use Rattle.commands.specs.InputFiles.{HasInput}
-use Rattle.commands.specs.Running.{PrintsRead}
-use Rattle.locate.specs.Locating.{Absolute}
-use Rattle.meaning.specs.Run.{source_run}
+use Rattle.commands.proofs.{Prelude.{◌≡◌, ℕ, ◌≤◌, Bool, true, false, List, [], ◌++◌, length, map, Bor, Option, None, Some, inl, inr, refl, sym, ap, subst, ◌∙◌, append-nil, Appends, Keeps, Appends-trans, AppendsBeginning, beginning_after, texts, Event, Directory, HasFiles, Plan, Joined, CodePlacement, placement_view, ProgramWanted, Values, Action, ToRun, Interpret, MOST_SOURCES, IsProgramOf, program_modules, Construction, IsConstruction, source_of, map_if, map_of, BeginsImage, PrintsBuilt, PrintsFiles, PrintsImage, PrintsTexts, StopsBuilt, machine_word, run_report, source_word, KeepsFiles, StopsImage, HasInput, PrintsRead, module_names, no_names, Absolute, source_run}, InputFiles.{input_there, named}, PlacesTold.{any_names, any_stops}}
 
 -- a writer that nothing was sent to
 pub stays_written : (known : Option (List ℕ)) → Keeps known known
@@ -31,13 +25,32 @@ kept_begun (Some one) (Some other) kept = ([], ([], refl), kept ∙ sym (append-
 
 -- the image of a program is the one that was run
 module _ (values : Values) (built : Construction) (image : Absolute) (old new : Option (List ℕ)) (same : image ≡ built.image) where
-  pub runs_image : (status : ℕ) (outputs : List (List ℕ)) → PrintsImage [] values image status outputs old new → PrintsBuilt ToRun [] values built status outputs old new
-  runs_image status outputs printed = subst (λ (one : Absolute). PrintsImage [] values one status outputs old new) same printed
+  with_lines : (names : List (List ℕ)) → names ≡ module_names built.program → (status : ℕ) (outputs : List (List ℕ)) → PrintsImage names [] values image status outputs old new → PrintsBuilt ToRun [] values built status outputs old new
+  with_lines names are status outputs printed =
+      subst (λ (one : Absolute). PrintsImage (module_names built.program) [] values one status outputs old new) same
+      (subst (λ (l : List (List ℕ)). PrintsImage l [] values image status outputs old new) are printed)
 
-  pub image_stopped : StopsImage values image old new → StopsBuilt ToRun [] values built old new
+  stopped_with_lines : (names : List (List ℕ)) → names ≡ module_names built.program → StopsImage names values image old new → StopsBuilt ToRun [] values built old new
   unfolding StopsBuilt
-  image_stopped (inl kept) = inl (kept_begun old new kept)
-  image_stopped (inr begun) = inr (subst (λ (one : Absolute). BeginsImage [] values one old new) same begun)
+  stopped_with_lines names are (inl kept) = inl (kept_begun old new kept)
+  stopped_with_lines names are (inr begun) = inr
+      (subst (λ (one : Absolute). BeginsImage (module_names built.program) [] values one old new) same
+      (subst (λ (l : List (List ℕ)). BeginsImage l [] values image old new) are begun))
+
+  -- with the lines of its modules
+  module _ (program : Joined) (is : program ≡ built.program) where
+    pub runs_with_lines : (status : ℕ) (outputs : List (List ℕ)) → PrintsImage (module_names program) [] values image status outputs old new → PrintsBuilt ToRun [] values built status outputs old new
+    runs_with_lines status outputs printed = with_lines (module_names program) (ap (λ (p : Joined). module_names p) is) status outputs printed
+
+    pub lines_stopped : StopsImage (module_names program) values image old new → StopsBuilt ToRun [] values built old new
+    lines_stopped stops = stopped_with_lines (module_names program) (ap (λ (p : Joined). module_names p) is) stops
+
+  -- with addresses alone
+  pub runs_image : (status : ℕ) (outputs : List (List ℕ)) → PrintsImage no_names [] values image status outputs old new → PrintsBuilt ToRun [] values built status outputs old new
+  runs_image status outputs printed = with_lines (module_names built.program) refl status outputs (any_names (module_names built.program) [] values image old new status outputs printed)
+
+  pub image_stopped : StopsImage no_names values image old new → StopsBuilt ToRun [] values built old new
+  image_stopped stops = stopped_with_lines (module_names built.program) refl (any_stops (module_names built.program) values image old new stops)
 
 -- after a text that was printed before
 module _ (before : List ℕ) (values : Values) (built : Construction) (outputs : List (List ℕ)) (a b c : Option (List ℕ)) (status : ℕ) (first : Appends a b before) where
@@ -46,7 +59,10 @@ module _ (before : List ℕ) (values : Values) (built : Construction) (outputs :
     end = printed.end;
     events = printed.events;
     steps = printed.steps;
+    place = printed.place;
+    text = printed.text;
     does = printed.does;
+    named = printed.named;
     ended = printed.ended;
     gathered = printed.gathered;
     printed = Appends-trans a b c before _ first printed.printed;
@@ -55,7 +71,9 @@ module _ (before : List ℕ) (values : Values) (built : Construction) (outputs :
     end = printed.end;
     events = printed.events;
     steps = printed.steps;
+    text = printed.text;
     does = printed.does;
+    named = printed.named;
     ended = printed.ended;
     gathered = printed.gathered;
     printed = Appends-trans a b c before _ first printed.printed;
@@ -73,15 +91,20 @@ module _ (before : List ℕ) (values : Values) (built : Construction) (a b c : O
     end = begun.end;
     events = begun.events;
     steps = begun.steps;
+    place = begun.place;
+    text = begun.text;
     does = begun.does;
-    printed = begun_after (run_report values begun.events begun.steps (machine_word begun.end)) first begun.printed;
+    named = begun.named;
+    printed = begun_after (run_report values begun.events begun.steps (machine_word begun.end) begun.text) first begun.printed;
   })
   stops_after Interpret first (inr begun) = inr (record {
     end = begun.end;
     events = begun.events;
     steps = begun.steps;
+    text = begun.text;
     does = begun.does;
-    printed = begun_after (run_report values begun.events begun.steps (source_word begun.end)) first begun.printed;
+    named = begun.named;
+    printed = begun_after (run_report values begun.events begun.steps (source_word begun.end) begun.text) first begun.printed;
   })
 
 -- after the map, where it is wanted

@@ -1,9 +1,5 @@
 -- What was printed of programs, and why not.
-use Rattle.commands.proofs.Prelude.{◌≡◌, ℕ, List, [], ◌∷◌, Ok, None, Option, Some, inl, inr, sym, subst, ◌∙◌, Directory, KeepsFiles, status_of, TellsRefusal, Ending, Refused, WrongLine, CompileWanted, PlaceWanted, ProgramWanted, Wanted, wants_compile, wants_convert, wants_execute, wants_explain, wants_link, wants_need, wants_place, wants_program, Values, jump_read, only_file, plan_read, values_read, Plan, RefusesCompiling, RunsOut, PrintsFiles, PrintsProgram, RefusesAsWanted, RefusesByWords, RunsAsWanted, RunsByWords, StopsPlaced}
-use Rattle.commands.proofs.Printed.{stays_written}
-use Rattle.commands.proofs.OrdersKept.{not_refused, not_wrong}
-use Rattle.commands.proofs.Delivered.{by_any}
-use Rattle.commands.specs.Orders.{QuietAsWanted, QuietByWords, RefusesObject}
+use Rattle.commands.proofs.{Prelude.{◌≡◌, ℕ, List, [], ◌∷◌, Ok, None, Option, Some, inl, inr, sym, subst, ◌∙◌, Directory, KeepsFiles, status_of, TellsRefusal, Ending, Refused, WrongLine, CompileWanted, PlaceWanted, ProgramWanted, Wanted, wants_compile, wants_convert, wants_execute, wants_explain, wants_link, wants_need, wants_place, wants_program, Values, jump_read, only_file, plan_read, values_read, Plan, RefusesCompiling, RunsOut, PrintsFiles, PrintsProgram, RefusesAsWanted, RefusesByWords, RunsAsWanted, RunsByWords, StopsPlaced, QuietAsWanted, QuietByWords, RefusesObject}, Printed.{stays_written}, OrdersKept.{not_refused, not_wrong}, Delivered.{by_any}}
 
 -- the values are those that are written
 pub prints_program : (files : Option Directory) (wanted : ProgramWanted) (values : Values) (status : ℕ) (outputs : List (List ℕ)) (old new : Option (List ℕ)) → values_read wanted ≡ Ok values

@@ -1,5 +1,5 @@
 -- What is printed where sources are refused: the line of no file that can't be read.
-use Rattle.commands.proofs.Prelude.{◌≡◌, ℕ, true, List, None, Option, Some, refl, ap, subst, ◌∙◌, Tells, TellsOther, refusal_line, is_other, tells_other, placement_number, link_number, file_of, line_of, name_of, number_of, ToolFault, TooManySources, Code, Program, Link, Locate, fault_line, fault_place, file_place}
+use Rattle.commands.proofs.{Prelude.{◌≡◌, ℕ, true, List, None, Option, Some, refl, ap, subst, ◌∙◌, Tells, TellsOther, refusal_line, is_other, tells_other, placement_number, link_number, file_of, line_of, name_of, number_of, ToolFault, TooManySources, Code, Program, Link, Locate, fault_line, fault_place, file_place, LinkFault, LocateFault, Source}, NeedRefused.{joining_other, source_other}}
 use Rattle.placing.specs.Views as of_placement
 use Rattle.placing.specs.declared.fault.Fault as placing_fault
 use Rattle.placing.specs.declared.fault.Fault.TheVariants as placing_faults
@@ -7,14 +7,10 @@ use Rattle.codegen8080.specs.Faults as of_code
 use Rattle.codegen8080.specs.declared.fault.Fault as code_fault
 use Rattle.codegen8080.specs.declared.fault.Fault.TheVariants as code_faults
 use Rattle.link_laws.specs.Faults as of_linking
-use Rattle.link_laws.specs.declared.fault.LinkFault.{LinkFault}
 use Rattle.link_laws.specs.declared.fault.LinkFault.TheVariants as link_faults
 use Rattle.locate.specs.Locating as of_locating
-use Rattle.locate.specs.declared.fault.LocateFault.{LocateFault}
 use Rattle.locate.specs.declared.fault.LocateFault.TheVariants as locate_faults
 use Rattle.sources.specs.declared.fault.ProgramFault.TheVariants as program_faults
-use Rattle.commands.proofs.NeedRefused.{joining_other, source_other}
-use Rattle.tool.specs.declared.fault.ToolFault.TheVariants.{Source}
 
 placement_other : (fault : placing_fault.Fault) → is_other (of_placement.number_of fault) ≡ true
 placement_other placing_faults.SegmentTooLarge = refl

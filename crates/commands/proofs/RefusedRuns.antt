@@ -1,10 +1,5 @@
 -- Runs with files of ports that were refused.
-use Rattle.commands.proofs.Prelude.{◌≡◌, ◌⊎◌, ℕ, List, [], Bor, Option, Some, inl, inr, sym, subst, ◌∙◌, CountsFailure, ChangesFiles, Directory, KeepsFiles, status_of, Tells, file_line, memory_line, Ending, Refused}
-use Rattle.commands.specs.OutputFiles.{dash_bytes, with_outputs}
-use Rattle.commands.specs.RefusedRuns.{LeavesOutputs, StopsOutputs, StopsShowing}
-unfoldable use Rattle.commands.specs.RefusedRuns.{RefusesRun, Undelivered}
-use Rattle.commands.proofs.OutputFiles.{kept_then_outputs}
-use Rattle.commands.proofs.Printed.{stays_written}
+use Rattle.commands.proofs.{Prelude.{◌≡◌, ◌⊎◌, ℕ, List, [], Bor, Option, Some, inl, inr, sym, subst, ◌∙◌, CountsFailure, ChangesFiles, Directory, KeepsFiles, status_of, Tells, file_line, memory_line, Ending, Refused, dash_bytes, with_outputs, LeavesOutputs, StopsOutputs, StopsShowing, RefusesRun, Undelivered}, OutputFiles.{kept_then_outputs}, Printed.{stays_written}}
 
 -- why a run that had ended was not delivered, after files that stayed
 module _ (old mid new : Option Directory) (kept : KeepsFiles old mid) (names outputs : List (List ℕ)) where

@@ -1,13 +1,8 @@
 -- What is shown of files that are listed, and of the symbols of sources.
-use Rattle.commands.proofs.Prelude.{◌≡◌, ℕ, ◌≤◌, Bool, true, false, List, Bor, Option, inl, inr, length, map, sym, subst, ◌∙◌, texts, Appends, AppendsBeginning, Directory, HasFiles, Tells, TellsOther, memory_line, Ending, Done, Refused, Plan, MOST_SOURCES, IsProgramOf, program_modules, Construction, IsConstruction, IsInOrder, ToolFault, TooManySources, fault_line}
-use Rattle.command_line.specs.declared.orders.PlaceAction.{PlaceAction}
-use Rattle.object_commands.specs.Listing.{PrintsListing, StopsListing}
+use Rattle.commands.proofs.{Prelude.{◌≡◌, ℕ, ◌≤◌, Bool, true, false, List, Bor, Option, inl, inr, length, map, sym, subst, ◌∙◌, texts, Appends, AppendsBeginning, Directory, HasFiles, Tells, TellsOther, memory_line, Ending, Done, Refused, Plan, MOST_SOURCES, IsProgramOf, program_modules, Construction, IsConstruction, IsInOrder, ToolFault, TooManySources, fault_line, PlaceAction, PrintsListing, StopsListing, TellsUnwritten, HasShown, PrintsShown, PrintsTextsBy, RefusesShown, RefusesTextsBy, ShowsProgram, takes_object}, InputFiles.{named}, Printed.{stays_written}}
 use Rattle.sources.specs.Programs.{text_of}
 use Rattle.tool.specs.Sources.{HasCause}
-use Rattle.commands.specs.Refusing.{TellsUnwritten}
-use Rattle.commands.specs.Showing.{HasShown, PrintsBuilt, PrintsShown, PrintsTextsBy, RefusesShown, RefusesTextsBy, ShowsProgram, StopsShowing, takes_object}
-use Rattle.commands.proofs.InputFiles.{named}
-use Rattle.commands.proofs.Printed.{stays_written}
+use Rattle.commands.specs.Showing.{PrintsBuilt, StopsShowing}
 
 pub refused_not_done : (ending : Ending) → ending ≡ Refused → ending ≡ Done → ⊥
 refused_not_done ending refused done = let bad : Done ≡ Refused = sym done ∙ refused in cc

@@ -1,14 +1,6 @@
 -- Runs of sources that were printed.
-use Rattle.commands.proofs.Prelude.{◌≡◌, ℕ, Bool, true, false, List, [], ◌∷◌, ◌++◌, Option, Some, None, inr, refl, sym, ap, subst, ◌∙◌, Appends, AppendsBeginning, Event, Values, Interpret, Construction, source_of, IsStart, GivesInput, PrintsBuilt, SourceDoes, StopsBuilt, run_report, source_status, source_word}
-use Rattle.std.proofs.Common.{IfSome}
-use Rattle.meaning.specs.{Outcomes.{Stop}, Run.{Run}}
-use Rattle.interpreter.specs.Budgets.{StopsBefore, Uses}
+use Rattle.commands.proofs.{Prelude.{◌≡◌, ℕ, Bool, true, false, List, [], ◌∷◌, ◌++◌, Option, Some, None, inr, refl, sym, ap, subst, ◌∙◌, Appends, AppendsBeginning, Event, Values, Interpret, Construction, source_of, IsStart, GivesInput, PrintsBuilt, SourceDoes, StopsBuilt, run_report, source_status, source_word, IfSome, Stop, Run, StopsBefore, Uses, outputs_of, NamesLine, module_names, DoesAsSource, IsWithinInput, UsesBudget, HasMore, IsPast, RunsSource}, PortReads.{passes, read_within, write_within}}
 use Rattle.interpreter.specs.RunFault.TheVariants as faults
-use Rattle.commands.specs.OutputFiles.{outputs_of}
-use Rattle.commands.specs.Steps.{DoesAsSource, IsWithinInput, UsesBudget}
-use Rattle.commands.specs.internal.InputPorts.{HasMore, IsPast}
-use Rattle.commands.specs.internal.SourceRuns.{RunsSource}
-use Rattle.commands.proofs.PortReads.{passes, read_within, write_within}
 
 -- a run of the source is one of what was built
 module _ (one other : ℕ → Run) (same : one ≡ other) (budget used : ℕ) (events : List Event) where
@@ -52,30 +44,36 @@ module _ (values : Values) (built : Construction) (memory : List ℕ) (script : 
   from_start = subst (λ (es : List Event). RunsSource (source_of built memory script es) values.limit end read events used) none ran
 
   module _ (answer : Option (Option Stop)) (does : DoesAsSource values.watch.until_dry script (source_of built memory script []) values.limit answer events) (counted : UsesBudget (source_of built memory script []) values.limit answer events used)
-      (seen : List Event) (word : List ℕ) (shown : seen ≡ events) (last : word ≡ source_word answer) where
+      (seen : List Event) (word text written : List ℕ) (shown : seen ≡ events) (last : word ≡ source_word answer) (spelled : written ≡ text) (named : values.watch.place ≡ true → NamesLine (module_names built.program) text) where
     source_does : SourceDoes values built answer events used
     source_does = record { memory = memory; start = start; script = script; gives = gives; does = does; counted = λ counts. counted }
 
-    report_is : run_report values seen used word ≡ run_report values events used (source_word answer)
-    report_is = ap (λ (es : List Event). run_report values es used word) shown ∙ ap (λ (w : List ℕ). run_report values events used w) last
+    report_is : run_report values seen used word written ≡ run_report values events used (source_word answer) text
+    report_is =
+        ap (λ (es : List Event). run_report values es used word written) shown
+        ∙ ap (λ (w : List ℕ). run_report values events used w written) last
+        ∙ ap (λ (t : List ℕ). run_report values events used (source_word answer) t) spelled
 
-    printed : (outputs : List (List ℕ)) → outputs ≡ outputs_of values seen → Appends old new (run_report values seen used word) → PrintsBuilt Interpret [] values built (source_status answer) outputs old new
+    printed : (outputs : List (List ℕ)) → outputs ≡ outputs_of values seen → Appends old new (run_report values seen used word written) → PrintsBuilt Interpret [] values built (source_status answer) outputs old new
     printed outputs gathered all = record {
       end = answer;
       events = events;
       steps = used;
+      text = text;
       does = source_does;
+      named = named;
       ended = refl;
       gathered = gathered ∙ ap (λ (es : List Event). outputs_of values es) shown;
       printed = subst (λ (text : List ℕ). Appends old new text) report_is all;
     }
 
-    begun : AppendsBeginning old new (run_report values seen used word) → StopsBuilt Interpret [] values built old new
+    begun : AppendsBeginning old new (run_report values seen used word written) → StopsBuilt Interpret [] values built old new
     unfolding StopsBuilt
-    begun some = inr (record { end = answer; events = events; steps = used; does = source_does; printed = subst (λ (text : List ℕ). AppendsBeginning old new text) report_is some })
+    begun some = inr (record { end = answer; events = events; steps = used; text = text; does = source_does; named = named; printed = subst (λ (text : List ℕ). AppendsBeginning old new text) report_is some })
 
   -- of a run to its end
-  module _ (off : values.watch.until_dry ≡ false) (answer : Option (Option Stop)) (is : answer ≡ Some end) (seen : List Event) (word : List ℕ) (shown : seen ≡ events) (last : word ≡ source_word answer) where
+  module _ (off : values.watch.until_dry ≡ false) (answer : Option (Option Stop)) (is : answer ≡ Some end) (seen : List Event) (word text written : List ℕ) (shown : seen ≡ events) (last : word ≡ source_word answer) (spelled : written ≡ text)
+      (named : values.watch.place ≡ true → NamesLine (module_names built.program) text) where
     unwatched : values.watch.until_dry ≡ true → IsWithinInput script events × HasMore read script events
     unwatched on = let bad : false ≡ true = sym off ∙ on in cc
 
@@ -87,15 +85,15 @@ module _ (values : Values) (built : Construction) (memory : List ℕ) (script : 
     uses_to_end = subst (λ (a : Option (Option Stop)). UsesBudget (source_of built memory script []) values.limit a events used) (sym is)
         (used_to_end values.watch.until_dry script (source_of built memory script []) values.limit read events used end from_start)
 
-    pub end_printed : (outputs : List (List ℕ)) → outputs ≡ outputs_of values seen → Appends old new (run_report values seen used word) → PrintsBuilt Interpret [] values built (source_status answer) outputs old new
-    end_printed outputs gathered all = printed answer does_to_end uses_to_end seen word shown last outputs gathered all
+    pub end_printed : (outputs : List (List ℕ)) → outputs ≡ outputs_of values seen → Appends old new (run_report values seen used word written) → PrintsBuilt Interpret [] values built (source_status answer) outputs old new
+    end_printed outputs gathered all = printed answer does_to_end uses_to_end seen word text written shown last spelled named outputs gathered all
 
-    pub end_begun : AppendsBeginning old new (run_report values seen used word) → StopsBuilt Interpret [] values built old new
-    end_begun some = begun answer does_to_end uses_to_end seen word shown last some
+    pub end_begun : AppendsBeginning old new (run_report values seen used word written) → StopsBuilt Interpret [] values built old new
+    end_begun some = begun answer does_to_end uses_to_end seen word text written shown last spelled named some
 
   -- of a run that ends before a read past the input
   module _ (on : values.watch.until_dry ≡ true) (within : IsWithinInput script events) (answer : Option (Option Stop)) (same : IfSome answer (λ other. other ≡ end)) (dry : answer ≡ None → IsPast read script events) (more : IfSome answer (λ other. HasMore read script events))
-      (seen : List Event) (word : List ℕ) (shown : seen ≡ events) (last : word ≡ source_word answer) where
+      (seen : List Event) (word text written : List ℕ) (shown : seen ≡ events) (last : word ≡ source_word answer) (spelled : written ≡ text) (named : values.watch.place ≡ true → NamesLine (module_names built.program) text) where
     does_so : (answer : Option (Option Stop)) → IfSome answer (λ other. other ≡ end) → (answer ≡ None → IsPast read script events) → IfSome answer (λ other. HasMore read script events) → DoesAsSource values.watch.until_dry script (source_of built memory script []) values.limit answer events
     does_so None same dry more = to_dry values.watch.until_dry script (source_of built memory script []) values.limit read events used end read from_start on within (dry refl)
     does_so (Some other) same dry more =
@@ -108,8 +106,8 @@ module _ (values : Values) (built : Construction) (memory : List ℕ) (script : 
         subst (λ (e : Option Stop). UsesBudget (source_of built memory script []) values.limit (Some e) events used) (sym same)
         (used_to_end values.watch.until_dry script (source_of built memory script []) values.limit read events used end from_start)
 
-    pub dry_printed : (outputs : List (List ℕ)) → outputs ≡ outputs_of values seen → Appends old new (run_report values seen used word) → PrintsBuilt Interpret [] values built (source_status answer) outputs old new
-    dry_printed outputs gathered all = printed answer (does_so answer same dry more) (uses_so answer same dry) seen word shown last outputs gathered all
+    pub dry_printed : (outputs : List (List ℕ)) → outputs ≡ outputs_of values seen → Appends old new (run_report values seen used word written) → PrintsBuilt Interpret [] values built (source_status answer) outputs old new
+    dry_printed outputs gathered all = printed answer (does_so answer same dry more) (uses_so answer same dry) seen word text written shown last spelled named outputs gathered all
 
-    pub dry_begun : AppendsBeginning old new (run_report values seen used word) → StopsBuilt Interpret [] values built old new
-    dry_begun some = begun answer (does_so answer same dry more) (uses_so answer same dry) seen word shown last some
+    pub dry_begun : AppendsBeginning old new (run_report values seen used word written) → StopsBuilt Interpret [] values built old new
+    dry_begun some = begun answer (does_so answer same dry more) (uses_so answer same dry) seen word text written shown last spelled named some

@@ -1,18 +1,6 @@
 -- The memory that a program starts from, byte by byte.
-use Rattle.std.proofs.Common.{◌≡◌, ℕ, ◌+◌, ◌<◌, ◌≤◌, Bool, true, false, List, [], ◌∷◌, Option, Some, None, length, refl, sym, ap, subst, ◌∙◌, arith, drop, get_or}
-use Rattle.std.proofs.lemmas.Bool.{eqb-true, eqb-false}
-use Rattle.std.proofs.lemmas.Grind.{get_or-set_at, same_number_lists}
-use Rattle.std.proofs.lemmas.List.{length-set, get_or-set_other, length-replicate, get_or-replicate}
-use Rattle.std.proofs.Math.Arith.{lt_of_le-ne}
-use Rattle.std.specs.Prelude.{◌==◌, replicate, unwrap_or, if◌then◌else◌, slice_index, slice_set}
-use Rattle.std.specs.Option.{option_or}
-use Rattle.mem80.specs.declared.memory.TheConstants.{MEMORY_SIZE}
-use Rattle.mem80.specs.Pieces.{IsLoaded}
-use Rattle.mem80.specs.Memory.{IsMemory}
-unfoldable use Rattle.mem80.specs.Memory.{zeros}
-use Rattle.command_line.specs.Settings.{Values}
-use Rattle.command_line.specs.declared.start_memory.MemoryByte.{MemoryByte}
-use Rattle.commands.specs.Starting.{IsStart, byte_named}
+use Rattle.commands.proofs.Prelude.{◌≡◌, ℕ, ◌+◌, ◌<◌, ◌≤◌, Bool, true, false, List, [], ◌∷◌, Option, Some, None, length, refl, sym, ap, subst, ◌∙◌, arith, drop, get_or, eqb-true, eqb-false, get_or-set_at, same_number_lists, length-set, get_or-set_other, length-replicate, get_or-replicate, lt_of_le-ne, replicate, unwrap_or, if◌then◌else◌, slice_index, slice_set, option_or, MEMORY_SIZE, IsLoaded, IsMemory, zeros, Values, MemoryByte, IsStart, byte_named}
+use Rattle.std.specs.Prelude.{◌==◌}
 
 -- the bytes below an address are those of the fill; once there is one, the memory has all of its bytes
 pub record FilledBelow (fill next : ℕ) (memory : List ℕ) : Type 0 where

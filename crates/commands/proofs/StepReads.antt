@@ -1,22 +1,6 @@
 -- Steps that read no port, and steps that stay within the input.
-use Rattle.commands.proofs.Prelude.{◌≡◌, ℕ, ◌+◌, ◌<◌, Bool, true, false, List, [], ◌∷◌, ◌++◌, length, Option, Some, None, refl, sym, ap, subst, ◌∙◌, arith, Event}
-use Rattle.std.proofs.Common.{IfSome, length-append}
-use Rattle.std.proofs.lemmas.Bool.{agree_below_at}
-use Rattle.std.specs.Prelude.{◌==◌, if◌then◌else◌}
-use Rattle.mem80.specs.Memory.{byte_at}
-use Rattle.ports.specs.{Events.{AddsEvent, read_event, write_event}, Input.{input_value}}
-use Rattle.isa8080.specs.{Act.{act}, Code.{Form, One, Two, Three, Unknown, form_of}, State.{State, holds}}
-use Rattle.isa8080.specs.declared.instr.Instr.{Instr}
-use Rattle.isa8080.specs.declared.instr.Instr.TheVariants.{CallIf, Dcr, In, Inr, JumpIf, Mvi, Out, ReturnIf}
-use Rattle.isa8080.specs.declared.instr.Operand.TheVariants.{Of, M}
-use Rattle.isa8080.specs.declared.registers.Status.{Status}
-use Rattle.isa8080.specs.Step.{advance, carry_out, next_byte, next_word, step_by}
-unfoldable use Rattle.isa8080.specs.Step.{step_of}
-use Rattle.cpu8080.specs.Machine.{Machine}
-use Rattle.commands.specs.Steps.{IsWithinInput}
-use Rattle.commands.specs.internal.InputPorts.{HasMore, ReadsNext, ReadsNothing, StaysWithin}
-use Rattle.commands.proofs.PortReads.{read_within, write_within}
-use Rattle.commands.proofs.Steps.{same_last}
+use Rattle.commands.proofs.{Prelude.{◌≡◌, ℕ, ◌+◌, ◌<◌, Bool, true, false, List, [], ◌∷◌, ◌++◌, length, Option, Some, None, refl, sym, ap, subst, ◌∙◌, arith, Event, IfSome, length-append, agree_below_at, if◌then◌else◌, byte_at, AddsEvent, read_event, write_event, input_value, act, Form, One, Two, Three, Unknown, form_of, State, holds, Instr, CallIf, Dcr, In, Inr, JumpIf, Mvi, Out, ReturnIf, Of, M, Status, advance, carry_out, next_byte, next_word, step_by, step_of, Machine, IsWithinInput, HasMore, ReadsNext, ReadsNothing, StaysWithin}, PortReads.{read_within, write_within}, Steps.{same_last}}
+use Rattle.std.specs.Prelude.{◌==◌}
 
 -- ---- only IN reads
 

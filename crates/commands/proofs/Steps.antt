@@ -1,19 +1,7 @@
 -- Steps of a machine: how many were made, and one that reads past the input.
-use Rattle.commands.proofs.Prelude.{◌≡◌, ℕ, suc, ◌+◌, ◌-◌, ◌<◌, ◌≤◌, true, List, [], ◌++◌, ◌∷◌, length, Option, Some, None, refl, sym, ap, subst, ◌∙◌, arith, Event}
-use Rattle.std.proofs.Common.{IfSome, drop}
-use Rattle.mem80.specs.Memory.{byte_at}
-use Rattle.ports.specs.{Events.{AddsEvent, CountsFailure, read_event}, Input.{input_value, queue_of, reads_of}}
-use Rattle.isa8080.specs.{Code.{form_of}, State.{State, wrap}, declared.registers.Status.{Status}}
+use Rattle.commands.proofs.{Prelude.{◌≡◌, ℕ, suc, ◌+◌, ◌-◌, ◌<◌, ◌≤◌, true, List, [], ◌++◌, ◌∷◌, length, Option, Some, None, refl, sym, ap, subst, ◌∙◌, arith, Event, IfSome, drop, byte_at, AddsEvent, CountsFailure, read_event, input_value, queue_of, reads_of, form_of, State, wrap, Status, carry_out, next_byte, step_by, state_after, step_of, state_after_sum, stays_state, Machine, FailsAfter, IsRun, End, Made, made_on, none_made, run_on, slice_ends, StandsAt, stand_of, CarriesOut, ComesToDry, DoesOnMachine, IsWithinInput, asked_by, IsAtDry, ReadsNext, StaysWithin}, PortReads.{passes}}
 use Rattle.isa8080.specs.declared.registers.Status.TheVariants as status
-use Rattle.isa8080.specs.Step.{carry_out, next_byte, step_by}
-unfoldable use Rattle.isa8080.specs.Step.{state_after, step_of}
-use Rattle.isa8080.proofs.Endings.{state_after_sum, stays_state}
-use Rattle.cpu8080.specs.{Machine.{Machine}, Runs.{FailsAfter, IsRun}, declared.machine.End.{End}}
 use Rattle.cpu8080.specs.declared.machine.End.TheVariants as ends
-use Rattle.printing.proofs.RunLemmas.{Made, made_on, none_made, run_on, slice_ends}
-use Rattle.commands.specs.Steps.{CarriesOut, ComesToDry, DoesOnMachine, IsWithinInput, asked_by}
-use Rattle.commands.specs.internal.InputPorts.{IsAtDry, ReadsNext, StaysWithin}
-use Rattle.commands.proofs.PortReads.{passes}
 
 -- ---- how many were made
 
@@ -182,6 +170,14 @@ module _ (limit : ℕ) (start new : Machine) (end : End) (run : IsRun limit star
           let adds : AddsEvent new.state.events (step_of new.script new.state).events ended.2.next.0 = subst (λ (script : List (List ℕ)). AddsEvent new.state.events (step_of script new.state).events ended.2.next.0) (sym same) ended.2.next.1 in
           let all : IsWithinInput start.script (new.state.events ++ ended.2.next.0 ∷ []) = subst (λ (script : List (List ℕ)). IsWithinInput script (new.state.events ++ ended.2.next.0 ∷ [])) same (failed refl ended.2.status_is ended.2.next.0 adds) in
           subst (λ (es : List Event). IsWithinInput start.script es) (sym ended.2.next.1) all
+
+  -- where it stands
+  pub dry_stands : (answer : Option End) (place : ℕ) → IfSome answer (λ other. other ≡ end) → (answer ≡ None → (end ≡ ends.PortFault) × IsAtDry new) → place ≡ stand_of end new → StandsAt limit start answer new.state.events place
+  dry_stands None place same_end dry is =
+      let stops : IsRun limit start ends.PortFault new = subst (λ (e : End). IsRun limit start e new) (dry refl).0 run in
+      (stops.0, (new, stops.2, refl, subst (λ (e : End). place ≡ stand_of e new) (dry refl).0 is))
+  dry_stands (Some other) place same_end dry is =
+      (new, subst (λ (e : End). IsRun limit start e new) (sym same_end) run, refl, subst (λ (e : End). place ≡ stand_of e new) (sym same_end) is)
 
   pub dry_counted : (answer : Option End) (steps : ℕ) → IfSome answer (λ other. other ≡ end) → (answer ≡ None → (end ≡ ends.PortFault) × IsAtDry new) → CarriesOut limit start (Some end) new.state.events steps
       → CarriesOut limit start answer new.state.events steps

@@ -1,10 +1,6 @@
 -- Tables of lines that were written, or not.
-use Rattle.commands.proofs.Prelude.{◌≡◌, ℕ, List, Bor, Option, None, Some, inl, inr, refl, sym, ap, subst, ◌∙◌, ChangesFiles, Directory, KeepsFiles, with_file, stays_on, StopsWriting, kept_others, kept_then_others, kept_then_written, written_others, kept_then_stopped}
-use Rattle.host.proofs.FilesRead.{stays}
-use Rattle.command_line.specs.Command.{convert_in}
-use Rattle.command_line.specs.declared.orders.ConvertOrder.{ConvertOrder}
-use Rattle.commands.specs.Tables.{BeginsTable, KeepsAllBut, WritesTable}
-use Rattle.commands.specs.internal.Converting.{table_if}
+use Rattle.commands.proofs.Prelude.{◌≡◌, ℕ, List, Bor, Option, None, Some, inl, inr, refl, sym, ap, subst, ◌∙◌, ChangesFiles, Directory, KeepsFiles, with_file, stays_on, StopsWriting, kept_others, kept_then_others, kept_then_written, written_others, kept_then_stopped, stays, convert_in, ConvertOrder, BeginsTable, WritesTable, table_if}
+use Rattle.commands.specs.Tables.{KeepsAllBut}
 
 pub kept_all_but : (name : Option (List ℕ)) (old new : Option Directory) → KeepsFiles old new → KeepsAllBut name old new
 kept_all_but None old new kept = kept

@@ -1,8 +1,6 @@
 -- Texts of the command line that are refused.
-use Rattle.commands.proofs.Prelude.{◌≡◌, ◌⊎◌, ℕ, List, Err, Ok, Option, Some, codes, inl, inr, refl, subst, arith, Kinds, kind_of, DisplayHelp, DisplayVersion, status_of, Tells, refusal_line, Ending, Done, Refused, WrongLine, Limit, Stopped, Outside, IsFaultOf, PlaceWanted, Wanted, wants_place, Read, ◌>>=◌, jump_read, only_file, plan_read, LineFault, Help, Version, Wrong, Plan, AsksHelpAtMost, RefusesNoText, TellsText, TellsTextByWords, IsWrong}
-use Rattle.command_line.specs.declared.orders.PlaceAction.{PlaceAction}
-use Rattle.command_line.specs.declared.orders.PlaceAction.TheVariants.{Locate, Hex, Listing, Symbols}
-use Rattle.commands.specs.Orders.{RefusesPlaceText, TellsObjectText}
+use Rattle.commands.proofs.Prelude.{◌≡◌, ◌⊎◌, ℕ, List, Err, Ok, Option, Some, codes, inl, inr, refl, subst, arith, Kinds, kind_of, DisplayHelp, DisplayVersion, status_of, Tells, refusal_line, Ending, Done, Refused, WrongLine, Limit, Stopped, Outside, IsFaultOf, PlaceWanted, Wanted, wants_place, Read, ◌>>=◌, jump_read, only_file, plan_read, LineFault, Help, Version, Wrong, Plan, AsksHelpAtMost, RefusesNoText, TellsText, TellsTextByWords, IsWrong, PlaceAction, Hex, Listing, Symbols, RefusesPlaceText, TellsObjectText}
+use Rattle.command_line.specs.declared.orders.PlaceAction.TheVariants.{Locate}
 
 pub text_by_words : (found : Option Wanted) (wanted : Wanted) (old new : Option (List ℕ)) → found ≡ Some wanted → TellsText wanted old new → TellsTextByWords found old new
 text_by_words found wanted old new e told = rw e told

@@ -1,11 +1,7 @@
 -- Why sources were not run or interpreted, or not compiled.
-use Rattle.commands.proofs.Prelude.{◌≡◌, ℕ, ◌<◌, ◌≤◌, Bool, List, [], ◌∷◌, Bor, Err, Ok, Option, Result, inl, inr, length, map, refl, subst, sym, ⊎_elim, cases_lt, length-map, texts, CountsFailure, Failure, Fault, Directory, HasFile, HasFiles, StopsAt, Tells, file_line, memory_line, output_line, CompileWanted, ProgramWanted, Values, values_read, Action, MOST_SOURCES, IsProgramOf, program_modules, texts_of, Construction, IsConstruction, IsInOrder, IsRefusedAlone, ToolFault, TooManySources, CompilesTo, fault_line, map_if, RefusesCompiling, RefusesFiles, RefusesFor, RefusesProgram, RefusesTexts, RunsOut, TellsUnwritten, StopsBuilt, KeepsFiles, ◌++◌}
-use Rattle.commands.proofs.InputFiles.{input_there, named}
-use Rattle.commands.specs.InputFiles.{HasInput, input_names}
-use Rattle.commands.specs.Refusing.{RefusesRead}
+use Rattle.commands.proofs.{Prelude.{◌≡◌, ℕ, ◌<◌, ◌≤◌, Bool, List, [], ◌∷◌, Bor, Err, Ok, Option, Result, inl, inr, length, map, refl, subst, sym, ⊎_elim, cases_lt, length-map, texts, CountsFailure, Failure, Fault, Directory, HasFile, HasFiles, StopsAt, Tells, file_line, memory_line, output_line, CompileWanted, ProgramWanted, Values, values_read, Action, MOST_SOURCES, IsProgramOf, program_modules, texts_of, Construction, IsConstruction, IsInOrder, IsRefusedAlone, ToolFault, TooManySources, CompilesTo, fault_line, map_if, RefusesCompiling, RefusesFiles, RefusesFor, RefusesProgram, RefusesTexts, RunsOut, TellsUnwritten, StopsBuilt, KeepsFiles, ◌++◌, HasInput, input_names, RefusesRead}, InputFiles.{input_there, named}, Printed.{stays_written}}
 use Rattle.sources.specs.declared.sources.Source.{Source}
 use Rattle.tool.specs.Sources.{HasCause}
-use Rattle.commands.proofs.Printed.{stays_written}
 
 pub memory_unwritten : (old new : Option (List ℕ)) → Tells memory_line old new → TellsUnwritten old new
 unfolding TellsUnwritten

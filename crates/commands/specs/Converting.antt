@@ -1,7 +1,7 @@
 -- What is printed and told of a source that is converted.
 use Rattle.std.specs.Prelude.{◌≡◌, ◌⊎◌, ◌<◌, ℕ, true, List, [], length, map, min, Option, None, Some}
 use Rattle.std.specs.Io.KnownBytes.{Appends, Keeps}
-use Rattle.failure.specs.Writing.{AppendsBeginning}
+use Rattle.host.specs.Writing.{AppendsBeginning}
 use Rattle.clap.specs.Words.{Text}
 use Rattle.words.specs.declared.limits.TheConstants.{LONGEST_SOURCE}
 use Rattle.host.specs.Files.{Directory, HasFile, KeepsFiles}

@@ -9,17 +9,18 @@ use Rattle.object_commands.specs.Merging.{PlacesMerge, RefusesPlacing}
 use Rattle.commands.specs.InputFiles.{HasInput, input_names}
 use Rattle.commands.specs.Refusing.{RefusesFor, RunsOut, TellsUnwritten}
 use Rattle.commands.specs.Running.{BeginsImage, PrintsImage}
+use Rattle.commands.specs.Standing.{no_names}
 
 -- of what an image does nothing was printed, or a beginning
-abbrev pub StopsImage : Values → Absolute → (old new : Option (List ℕ)) → Type 0
-StopsImage values image old new = Keeps old new ⊎ BeginsImage [] values image old new
+abbrev pub StopsImage : (names : List (List ℕ)) → Values → Absolute → (old new : Option (List ℕ)) → Type 0
+StopsImage names values image old new = Keeps old new ⊎ BeginsImage names [] values image old new
 
 -- the files of the input were read, and with the values that they give this was printed of an image
 pub record PrintsRead (values : Values) (files : Option Directory) (image : Absolute) (status : ℕ)
     (outputs : List (List ℕ)) (old new : Option (List ℕ)) : Type 0 where
   pub full : Values
   pub input : HasInput files values full
-  pub printed : PrintsImage [] full image status outputs old new
+  pub printed : PrintsImage no_names [] full image status outputs old new
 
 -- the merge of the objects that are wanted, placed by the plan of these values, was run, and this was printed
 pub record PrintsMerge (wanted : ExecuteWanted) (values : Values) (files : Option Directory) (status : ℕ)
@@ -42,7 +43,7 @@ pub record StopsRead (values : Values) (files : Option Directory) (image : Absol
   pub full : Values
   pub input : HasInput files values full
   pub told : TellsUnwritten err_old err_new
-  pub printed : StopsImage full image out_old out_new
+  pub printed : StopsImage no_names full image out_old out_new
 
 -- the merge of the objects was placed, and not run whole: for a file of the input, for memory, or for that reason
 pub record StopsMerge (wanted : ExecuteWanted) (values : Values) (files : Option Directory) (before after : ℕ)

@@ -1,7 +1,7 @@
 -- What is printed of a number that is explained, and why it is not.
 use Rattle.std.specs.Prelude.{◌≡◌, ◌⊎◌, ℕ, List, Ok, Option}
 use Rattle.std.specs.Io.KnownBytes.{Appends, Keeps}
-use Rattle.failure.specs.Writing.{AppendsBeginning}
+use Rattle.host.specs.Writing.{AppendsBeginning}
 use Rattle.host.specs.Refusals.{Tells, memory_line}
 use Rattle.command_line.specs.Command.{ExplainWanted}
 use Rattle.command_line.specs.Settings.{page_read}

@@ -28,6 +28,7 @@ pub mod Map
 pub mod Starting
 pub mod Ends
 pub mod Steps
+pub mod Standing
 pub mod Running
 pub mod ProgramFaults
 pub mod Refusing

@@ -3,7 +3,7 @@ use Rattle.std.specs.Prelude.{◌≡◌, ℕ, ◌==◌, Bool, ◌&&◌, false, L
 use Rattle.std.specs.Io.KnownBytes.{Appends}
 use Rattle.std.specs.List.{list_any}
 use Rattle.std.specs.Str.{bytes_eq}
-use Rattle.failure.specs.Writing.{AppendsBeginning}
+use Rattle.host.specs.Writing.{AppendsBeginning}
 use Rattle.ports.specs.declared.event.Event.{Event}
 use Rattle.host.specs.Files.{ChangesFiles, Directory, KeepsFiles, with_file}
 use Rattle.command_line.specs.Settings.{NamedPort, Values, file_names}

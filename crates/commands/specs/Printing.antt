@@ -1,7 +1,7 @@
 -- What is printed of the need of sources, and where they have none.
 use Rattle.std.specs.Prelude.{◌⊎◌, ℕ, List, Option}
 use Rattle.std.specs.Io.KnownBytes.{Appends, Keeps}
-use Rattle.failure.specs.Writing.{AppendsBeginning}
+use Rattle.host.specs.Writing.{AppendsBeginning}
 use Rattle.host.specs.Refusals.{Tells, memory_line, output_line}
 use Rattle.commands.specs.Needs.{HasCause, IsNeedText}
 use Rattle.commands.specs.declared.needs.fault.NeedFault.{NeedFault}

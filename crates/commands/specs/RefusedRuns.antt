@@ -1,7 +1,7 @@
 -- Runs with files of ports that were refused: why, what the files have then, and what standard output has.
 use Rattle.std.specs.Prelude.{◌≡◌, ◌⊎◌, ℕ, false, List, [], ◌∷◌, ◌++◌, length, unwrap_or, Option, Some}
 use Rattle.std.specs.Io.KnownBytes.{Keeps}
-use Rattle.failure.specs.Writing.{AppendsBeginning}
+use Rattle.host.specs.Writing.{AppendsBeginning}
 use Rattle.host.specs.Files.{ChangesFiles, Directory, KeepsFiles}
 use Rattle.object_commands.specs.Linking.{StopsWriting}
 use Rattle.commands.specs.OutputFiles.{dash_bytes, is_dash, with_outputs}

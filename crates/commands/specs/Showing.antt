@@ -1,7 +1,7 @@
 -- What is printed of files that are listed, and of the symbols of sources, and where they are refused.
 use Rattle.std.specs.Prelude.{◌≡◌, ◌⊎◌, ℕ, ◌≤◌, ◌==◌, Bool, true, false, List, [], ◌∷◌, length, Option}
 use Rattle.std.specs.Io.KnownBytes.{Appends, Keeps}
-use Rattle.failure.specs.Writing.{AppendsBeginning}
+use Rattle.host.specs.Writing.{AppendsBeginning}
 use Rattle.host.specs.Files.{Directory}
 use Rattle.host.specs.Reading.{HasFiles}
 use Rattle.host.specs.Refusals.{Tells, TellsOther, memory_line}

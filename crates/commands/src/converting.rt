@@ -1,8 +1,8 @@
 //! Orders to convert an old source, carried out.
 
 ghost use Rattle.std.specs.Prelude.{◌≡◌, ◌⊎◌, ◌<◌, ◌≤◌, [], length, IfOk};
-ghost use Rattle.failure.specs.Failure.{IfFault};
-ghost use Rattle.failure.specs.Writing.{AppendsBeginning};
+ghost use Rattle.host.specs.Failure.{IfFault};
+ghost use Rattle.host.specs.Writing.{AppendsBeginning};
 ghost use Rattle.words.specs.declared.limits.TheConstants.{LONGEST_SOURCE};
 ghost use Rattle.host.specs.Endings.{status_of};
 ghost use Rattle.host.specs.Refusals.{Tells};
@@ -22,8 +22,10 @@ use convert::{
     Advice, Assembly, Converted, Entry, Medium, PlacedNote, Rule, all_advice, all_rules, assemble,
     assemble_as_is, convert_source, line_table, name_of_file, note_lines, place_at, plain, prepare,
 };
-use failure::{Failure, write_bytes};
-use host::{Ending, Files, refuse, refuse_file, refuse_memory, refuse_name, refuse_output};
+use host::{
+    Ending, Failure, Files, refuse, refuse_file, refuse_memory, refuse_name, refuse_output,
+    write_bytes,
+};
 use object_commands::write_file;
 use sources::{LONGEST_SOURCE, ReadFault, read_source};
 use std::alloc::{AllocError, Global};

@@ -14,14 +14,15 @@ ghost use Rattle.commands.specs.RefusedRuns.{RefusesRun};
 ghost use Rattle.commands.specs.Refusing.{RefusesFor, TellsUnwritten};
 ghost use Rattle.commands.specs.Orders.{QuietAsWanted, RefusesAsWanted, RunsAsWanted, TellsText, names_of};
 ghost use Rattle.commands.specs.Running.{PrintsImage};
+ghost use Rattle.commands.specs.Standing.{no_names};
 
 use crate::image_runs::{ending_of, print_image};
+use crate::places::Places;
 use crate::port_inputs::read_input;
 use crate::port_outputs::deliver;
 use crate::refusals::refuse_value;
 use command_line::{ExecuteOrder, Settings};
-use failure::Failure;
-use host::{Ending, Files, refuse_file, refuse_memory, refuse_output};
+use host::{Ending, Failure, Files, refuse_file, refuse_memory, refuse_output};
 use locate::Absolute;
 use object_commands::place_merge;
 use std::alloc::Global;
@@ -268,14 +269,15 @@ fn run_placed<O: Write, E: Write>(
     ensures not_wrong { result ≡ Ending.WrongLine → ⊥ }
     ensures told { result ≡ Ending.Refused → TellsOther (E.contents err.old) (E.contents err.new) }
     ensures refused { result ≡ Ending.Refused → TellsUnwritten (E.contents err.old) (E.contents err.new) }
-    ensures stopped { result ≡ Ending.Refused → StopsImage (values_in values.now) image.now
+    ensures stopped { result ≡ Ending.Refused → StopsImage no_names (values_in values.now) image.now
         (O.contents out.old) (O.contents out.new) }
     ensures quiet { (result ≡ Ending.Refused → ⊥) → E.contents err.new ≡ E.contents err.old }
-    ensures ran { (result ≡ Ending.Refused → ⊥) → PrintsImage [] (values_in values.now) image.now
+    ensures ran { (result ≡ Ending.Refused → ⊥) →
+        PrintsImage no_names [] (values_in values.now) image.now
         (status_of result) (map (λ output. output.items) outputs.new.items)
         (O.contents out.old) (O.contents out.new) }
 {
-    match print_image(alloc, image, values, outputs, out) {
+    match print_image(alloc, image, values, &Places::Addresses, outputs, out) {
         Ok(end) => ending_of(end),
         Err(Failure::Fault(_)) => refuse_output(err),
         Err(Failure::Memory) => refuse_memory(err),

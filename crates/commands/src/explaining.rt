@@ -2,7 +2,7 @@
 
 ghost use Rattle.std.specs.Prelude.{◌≡◌, ◌⊎◌};
 ghost use Rattle.std.specs.Io.KnownBytes.{Appends};
-ghost use Rattle.failure.specs.Writing.{AppendsBeginning};
+ghost use Rattle.host.specs.Writing.{AppendsBeginning};
 ghost use Rattle.host.specs.Refusals.{TellsOther};
 ghost use Rattle.command_line.specs.Command.{explain_in, wants_explain};
 ghost use Rattle.commands.specs.Explaining.{PrintsPage, RefusesPage};
@@ -11,8 +11,7 @@ ghost use Rattle.commands.specs.Refusing.{TellsUnwritten};
 
 use crate::refusals::refuse_value;
 use command_line::ExplainOrder;
-use failure::{Failure, write_bytes};
-use host::{Ending, refuse_memory, refuse_output};
+use host::{Ending, Failure, refuse_memory, refuse_output, write_bytes};
 use std::alloc::Global;
 use std::io::Write;
 

@@ -1,6 +1,6 @@
 //! Runs of images, of which what they do is printed.
 
-ghost use Rattle.std.specs.Prelude.{◌≡◌, [], None, Some, IfOk, IfSome, OnErr, false, map, true};
+ghost use Rattle.std.specs.Prelude.{◌≡◌, [], None, Some, IfOk, IfSome, OnErr, OnOk, false, map, true};
 ghost use Rattle.host.specs.Endings.{status_of};
 ghost use Rattle.isa8080.specs.declared.registers.Status.TheVariants.{Running};
 ghost use Rattle.cpu8080.specs.Runs.{IsRun};
@@ -8,23 +8,27 @@ ghost use Rattle.tool.specs.Execution.{started};
 ghost use Rattle.command_line.specs.Settings.{values_in};
 ghost use Rattle.commands.specs.Ends.{GivesInput, machine_status, machine_word};
 ghost use Rattle.commands.specs.Executing.{StopsImage};
+ghost use Rattle.commands.specs.OutputFiles.{outputs_of};
 ghost use Rattle.commands.specs.Running.{PrintsImage};
+ghost use Rattle.commands.specs.Standing.{StandsAt, no_names, stand_of};
 ghost use Rattle.commands.specs.Starting.{IsStart};
 ghost use Rattle.commands.specs.Steps.{CarriesOut, DoesOnMachine, IsWithinInput};
 ghost use Rattle.commands.specs.internal.InputPorts.{IsAtDry, ReadsNext, ReadsNothing, StaysWithin};
+ghost use Rattle.commands.specs.internal.Places.{PrintsWords, StopsWords, names_in};
 
 use crate::input_ports::InputPorts;
+use crate::places::{Places, Stand};
 use crate::port_inputs::quiet_of;
 use crate::port_outputs::put_outputs;
 use crate::programs::{script_of, start_memory};
 use crate::reports::print_report;
 use command_line::Settings;
 use cpu8080::{DecodeTable, End, Machine};
-use failure::{Failure, WriteFault};
-use host::Ending;
+use host::{Ending, Failure, WriteFault};
+use listings::SourceLine;
 use locate::Absolute;
 use mem80::Memory;
-use ports::{Ports, Script};
+use ports::{Event, Ports, Script};
 use printing::print_machine;
 use std::alloc::Global;
 use std::io::Write;
@@ -46,38 +50,68 @@ fn next_read<P: Ports>(machine: &Machine<P>) -> Option<u8>
     }
 }
 
-// Runs a machine for at most so many steps. The answer is how it ended, and how many instructions were carried out.
-fn run_counted<P: Ports>(machine: &mut Machine<P>, limit: u64) -> (End, u64)
-    requires { machine.old.state.status ≡ Running }
+// Runs a machine for at most so many steps. The answer is how it ended, how many instructions were carried out, and the last
+// line of a source whose code was met, where lines are told.
+fn run_counted<P: Ports>(
+    machine: &mut Machine<P>,
+    limit: u64,
+    places: &Places,
+) -> (End, u64, Option<SourceLine>)
+    requires run { machine.old.state.status ≡ Running }
     ensures run { IsRun limit machine.old result.0 machine.new }
     ensures counted { CarriesOut limit machine.old (Some result.0) machine.new.state.events result.1 }
     ensures script { machine.new.script ≡ machine.old.script }
 {
     let mut done = 0;
+    let mut line = None;
     while done < limit {
+        line = places.line_after(line, machine.registers().pc);
         match machine.run(1) {
             End::Limit => done += 1,
-            End::Halted => return (End::Halted, done + 1),
-            End::Illegal => return (End::Illegal, done),
-            End::PortFault => return (End::PortFault, done),
+            End::Halted => return (End::Halted, done + 1, line),
+            End::Illegal => return (End::Illegal, done, line),
+            End::PortFault => return (End::PortFault, done, line),
         }
     }
-    (End::Limit, done)
+    (End::Limit, done, line)
 }
 
-// The same, where 0 stands for the number of instructions unless they are counted.
-fn run_watched<P: Ports>(machine: &mut Machine<P>, values: &Settings) -> (End, u64)
-    requires { machine.old.state.status ≡ Running }
+// The same, where 0 stands for the number of instructions unless they are counted or lines are told.
+fn run_watched<P: Ports>(
+    machine: &mut Machine<P>,
+    values: &Settings,
+    places: &Places,
+) -> (End, u64, Option<SourceLine>)
+    requires run { machine.old.state.status ≡ Running }
     ensures run { IsRun values.now.limit machine.old result.0 machine.new }
     ensures counted { values.now.watch.count ≡ true →
         CarriesOut values.now.limit machine.old (Some result.0) machine.new.state.events result.1 }
     ensures script { machine.new.script ≡ machine.old.script }
 {
-    if values.watch.count {
-        run_counted(machine, values.limit)
+    if values.watch.count || places.are_lines() {
+        run_counted(machine, values.limit, places)
     } else {
-        (machine.run(values.limit), 0)
+        (machine.run(values.limit), 0, None)
     }
+}
+
+// The address at which a machine stands whose run ended so.
+fn stand_of<P: Ports>(machine: &Machine<P>, end: End) -> u16
+    ensures { result ≡ stand_of end machine.now }
+{
+    let pc = machine.registers().pc;
+    match end {
+        End::Halted => pc.wrapping_sub(1),
+        End::Illegal | End::PortFault | End::Limit => pc,
+    }
+}
+
+// What is known of a run that has ended: how, how many steps it took, and where it stands.
+#[derive(Clone, Copy)]
+struct Ended {
+    end: Option<End>,
+    steps: u64,
+    stand: Stand,
 }
 
 // How a run ended, or None where it came to a read of a port past its input.
@@ -97,15 +131,44 @@ fn dry_end(machine: &Machine<InputPorts>, end: End) -> Option<End>
     }
 }
 
-// Runs a machine that is to end before it reads a port past its input.
-fn run_until_dry(machine: &mut Machine<InputPorts>, values: &Settings) -> (Option<End>, u64)
-    requires { machine.old.state.status ≡ Running }
-    ensures does { DoesOnMachine true values.now.limit machine.old result.0 machine.new.state.events }
+// Runs a machine that may read a port past its input.
+fn run_to_end<P: Ports>(machine: &mut Machine<P>, values: &Settings, places: &Places) -> Ended
+    requires run { machine.old.state.status ≡ Running }
+    requires to_end { values.now.watch.until_dry ≡ false }
+    ensures does { DoesOnMachine values.now.watch.until_dry values.now.limit machine.old result.end
+        machine.new.state.events }
     ensures counted { values.now.watch.count ≡ true →
-        CarriesOut values.now.limit machine.old result.0 machine.new.state.events result.1 }
+        CarriesOut values.now.limit machine.old result.end machine.new.state.events result.steps }
+    ensures stands { StandsAt values.now.limit machine.old result.end machine.new.state.events
+        result.stand.address }
 {
-    let (end, steps) = run_watched(machine, values);
-    (dry_end(machine, end), steps)
+    let (end, steps, line) = run_watched(machine, values, places);
+    let address = stand_of(machine, end);
+    Ended {
+        end: Some(end),
+        steps,
+        stand: Stand { address, line },
+    }
+}
+
+// Runs a machine that is to end before it reads a port past its input.
+fn run_until_dry(machine: &mut Machine<InputPorts>, values: &Settings, places: &Places) -> Ended
+    requires run { machine.old.state.status ≡ Running }
+    requires until_dry { values.now.watch.until_dry ≡ true }
+    ensures does { DoesOnMachine values.now.watch.until_dry values.now.limit machine.old result.end
+        machine.new.state.events }
+    ensures counted { values.now.watch.count ≡ true →
+        CarriesOut values.now.limit machine.old result.end machine.new.state.events result.steps }
+    ensures stands { StandsAt values.now.limit machine.old result.end machine.new.state.events
+        result.stand.address }
+{
+    let (end, steps, line) = run_watched(machine, values, places);
+    let address = stand_of(machine, end);
+    Ended {
+        end: dry_end(machine, end),
+        steps,
+        stand: Stand { address, line },
+    }
 }
 
 // The last word of a run.
@@ -153,10 +216,12 @@ fn print_plain<O: Write>(
     requires unfailed { script.failures ≡ 0 }
     requires plain { values.now.watch.count ≡ false }
     requires to_end { values.now.watch.until_dry ≡ false }
-    ensures ok { IfOk result (λ end. PrintsImage [] (values_in values.now) image.now (machine_status end)
-        (map (λ output. output.items) outputs.new.items) (O.contents out.old) (O.contents out.new)) }
-    ensures err { OnErr result
-        (StopsImage (values_in values.now) image.now (O.contents out.old) (O.contents out.new)) }
+    requires unplaced { values.now.watch.place ≡ false }
+    ensures ok { IfOk result (λ end. PrintsImage no_names [] (values_in values.now) image.now
+        (machine_status end) (map (λ output. output.items) outputs.new.items)
+        (O.contents out.old) (O.contents out.new)) }
+    ensures err { OnErr result (StopsImage no_names (values_in values.now) image.now
+        (O.contents out.old) (O.contents out.new)) }
 {
     let Ok(quiet) = quiet_of(alloc, values) else {
         return Err(Failure::Memory);
@@ -169,11 +234,46 @@ fn print_plain<O: Write>(
     Ok(Some(end))
 }
 
-// Prints what an image did, and the number of its steps.
-fn print_counted<O: Write>(
+// Prints the events of a run that ended so, and its last words with the text of its place.
+#[tactic(auto, using(crate::proofs::ImageRuns::no_words))]
+fn print_ended<O: Write>(
+    alloc: Global,
+    values: &Settings,
+    places: &Places,
+    events: &[Event],
+    ended: Ended,
+    outputs: &mut Vec<Vec<u8>>,
+    out: &mut O,
+) -> Result<(), Failure<WriteFault>>
+    ensures gathered { OnOk result (map (λ output. output.items) outputs.new.items
+        ≡ outputs_of (values_in values.now) events.now) }
+    ensures ok { OnOk result (PrintsWords (names_in places.now) (values_in values.now) events.now ended.steps
+        (machine_word ended.end) ended.stand.address (O.contents out.old) (O.contents out.new)) }
+    ensures err { OnErr result (StopsWords (names_in places.now) (values_in values.now) events.now ended.steps
+        (machine_word ended.end) ended.stand.address (O.contents out.old) (O.contents out.new)) }
+{
+    let Ok(text) = places.text(alloc, ended.stand) else {
+        return Err(Failure::Memory);
+    };
+    print_report(
+        alloc,
+        values,
+        events,
+        ended.steps,
+        word_of(ended.end),
+        text.as_str(),
+        outputs,
+        out,
+    )?;
+    Ok(())
+}
+
+// Prints what an image did, once it has ended.
+fn print_to_end<O: Write>(
     alloc: Global,
     image: &Absolute,
     values: &Settings,
+    places: &Places,
     memory: Memory,
     script: Script,
     table: DecodeTable,
@@ -185,24 +285,17 @@ fn print_counted<O: Write>(
     requires none { script.events ≡ [] }
     requires unfailed { script.failures ≡ 0 }
     requires to_end { values.now.watch.until_dry ≡ false }
-    ensures ok { IfOk result (λ end. PrintsImage [] (values_in values.now) image.now (machine_status end)
-        (map (λ output. output.items) outputs.new.items) (O.contents out.old) (O.contents out.new)) }
-    ensures err { OnErr result
-        (StopsImage (values_in values.now) image.now (O.contents out.old) (O.contents out.new)) }
+    ensures ok { IfOk result (λ end. PrintsImage (names_in places.now) [] (values_in values.now) image.now
+        (machine_status end) (map (λ output. output.items) outputs.new.items)
+        (O.contents out.old) (O.contents out.new)) }
+    ensures err { OnErr result (StopsImage (names_in places.now) (values_in values.now) image.now
+        (O.contents out.old) (O.contents out.new)) }
 {
     let mut machine = machine_of(image, memory, script, table);
-    let (end, steps) = run_counted(&mut machine, values.limit);
+    let ended = run_to_end(&mut machine, values, places);
     let events = machine.ports().events();
-    print_report(
-        alloc,
-        values,
-        events,
-        steps,
-        word_of(Some(end)),
-        outputs,
-        out,
-    )?;
-    Ok(Some(end))
+    print_ended(alloc, values, places, events, ended, outputs, out)?;
+    Ok(ended.end)
 }
 
 // Prints what an image did until its end, or a read of a port past its input.
@@ -210,6 +303,7 @@ fn print_until_dry<O: Write>(
     alloc: Global,
     image: &Absolute,
     values: &Settings,
+    places: &Places,
     memory: Memory,
     script: Script,
     table: DecodeTable,
@@ -220,34 +314,37 @@ fn print_until_dry<O: Write>(
     requires gives { GivesInput (values_in values.now).input script.script }
     requires none { script.events ≡ [] }
     requires until_dry { values.now.watch.until_dry ≡ true }
-    ensures ok { IfOk result (λ end. PrintsImage [] (values_in values.now) image.now (machine_status end)
-        (map (λ output. output.items) outputs.new.items) (O.contents out.old) (O.contents out.new)) }
-    ensures err { OnErr result
-        (StopsImage (values_in values.now) image.now (O.contents out.old) (O.contents out.new)) }
+    ensures ok { IfOk result (λ end. PrintsImage (names_in places.now) [] (values_in values.now) image.now
+        (machine_status end) (map (λ output. output.items) outputs.new.items)
+        (O.contents out.old) (O.contents out.new)) }
+    ensures err { OnErr result (StopsImage (names_in places.now) (values_in values.now) image.now
+        (O.contents out.old) (O.contents out.new)) }
 {
     let ports = InputPorts::new(script, values.input.as_slice());
     let mut machine = machine_of(image, memory, ports, table);
-    let (end, steps) = run_until_dry(&mut machine, values);
+    let ended = run_until_dry(&mut machine, values, places);
     let events = machine.ports().events();
-    print_report(alloc, values, events, steps, word_of(end), outputs, out)?;
-    Ok(end)
+    print_ended(alloc, values, places, events, ended, outputs, out)?;
+    Ok(ended.end)
 }
 
-/// Prints what an image does on a memory as values start it, while it does that, unless its steps are counted or it is to end
-/// before it reads a port past its input; and gathers the bytes for the files of ports. The answer is how it ended, or None
-/// where it came to such a read. After a failure nothing was printed, or a beginning of that.
-#[tactic(auto, using(crate::proofs::ImageRuns::nothing))]
+/// Prints what an image does on a memory as values start it, while it does that, unless its steps are counted, its place is
+/// told, or it is to end before it reads a port past its input; and gathers the bytes for the files of ports. The answer is
+/// how it ended, or None where it came to such a read. After a failure nothing was printed, or a beginning of that.
+#[tactic(auto, using(crate::proofs::ImageRuns::nothing, crate::proofs::PlacesTold::any_names, crate::proofs::PlacesTold::any_stops))]
 pub(crate) fn print_image<O: Write>(
     alloc: Global,
     image: &Absolute,
     values: &Settings,
+    places: &Places,
     outputs: &mut Vec<Vec<u8>>,
     out: &mut O,
 ) -> Result<Option<End>, Failure<WriteFault>>
-    ensures ok { IfOk result (λ end. PrintsImage [] (values_in values.now) image.now (machine_status end)
-        (map (λ output. output.items) outputs.new.items) (O.contents out.old) (O.contents out.new)) }
-    ensures err { OnErr result
-        (StopsImage (values_in values.now) image.now (O.contents out.old) (O.contents out.new)) }
+    ensures ok { IfOk result (λ end. PrintsImage (names_in places.now) [] (values_in values.now) image.now
+        (machine_status end) (map (λ output. output.items) outputs.new.items)
+        (O.contents out.old) (O.contents out.new)) }
+    ensures err { OnErr result (StopsImage (names_in places.now) (values_in values.now) image.now
+        (O.contents out.old) (O.contents out.new)) }
 {
     let Ok(memory) = start_memory(alloc, values) else {
         return Err(Failure::Memory);
@@ -259,11 +356,16 @@ pub(crate) fn print_image<O: Write>(
         return Err(Failure::Memory);
     };
     if values.watch.until_dry {
-        print_until_dry(alloc, image, values, memory, script, table, outputs, out)
-    } else if values.watch.count {
-        print_counted(alloc, image, values, memory, script, table, outputs, out)
+        print_until_dry(
+            alloc, image, values, places, memory, script, table, outputs, out,
+        )
+    } else if values.watch.count || values.watch.place {
+        print_to_end(
+            alloc, image, values, places, memory, script, table, outputs, out,
+        )
     } else {
-        print_plain(alloc, image, values, memory, script, table, outputs, out)
+        let end = print_plain(alloc, image, values, memory, script, table, outputs, out)?;
+        Ok(end)
     }
 }
 

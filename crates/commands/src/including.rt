@@ -1,7 +1,7 @@
 //! The files that a source includes.
 
 ghost use Rattle.std.specs.Prelude.{◌≡◌, Some, map, option_map, IfErr, IfOk, OnOk};
-ghost use Rattle.failure.specs.Failure.{IfFault};
+ghost use Rattle.host.specs.Failure.{IfFault};
 ghost use Rattle.host.specs.Files.{Counts, KeepsFiles};
 ghost use Rattle.clap.specs.Walk.{texts};
 ghost use Rattle.convert.specs.Assembly.{assembled};
@@ -12,8 +12,7 @@ ghost use Rattle.commands.specs.Including.{FindsText, IsIncluded, LooksUp, Stops
 
 use command_line::ConvertOrder;
 use convert::{Advice, Entry, Found, PlacedNote, assemble, candidates, plain};
-use failure::Failure;
-use host::Files;
+use host::{Failure, Files};
 use std::alloc::{AllocError, Global};
 use std::str;
 

@@ -10,6 +10,7 @@ mod including;
 mod input_ports;
 mod needing;
 mod needs;
+mod places;
 mod port_inputs;
 mod port_outputs;
 mod printed_needs;
@@ -19,3 +20,5 @@ mod reports;
 mod showing;
 
 pub use console::run_command;
+pub use object_commands::{JUMP_SIZE, MEMORY_SIZE, ObjectModule, Segment, link_records, read};
+pub use tool::compile;

@@ -1,7 +1,7 @@
 //! The bytes of ports that come from files.
 
 ghost use Rattle.std.specs.Prelude.{◌≡◌, ◌++◌, IfErr, IfOk, OnOk, flat_map, map, zip};
-ghost use Rattle.failure.specs.Failure.{IfFault};
+ghost use Rattle.host.specs.Failure.{IfFault};
 ghost use Rattle.clap.specs.Walk.{texts};
 ghost use Rattle.host.specs.Files.{Counts, KeepsFiles};
 ghost use Rattle.host.specs.Reading.{StopsAt};
@@ -9,8 +9,7 @@ ghost use Rattle.command_line.specs.Settings.{file_names, port_file_in, values_i
 ghost use Rattle.commands.specs.InputFiles.{HasInput, bytes_of_file, input_names, input_with, ports_of, quiet_ports, with_texts};
 
 use command_line::{InputByte, PortFile, Settings};
-use failure::Failure;
-use host::{FileFault, Files, read_files};
+use host::{Failure, FileFault, Files, read_files};
 use std::alloc::{AllocError, Global};
 
 // The names of files.

@@ -1,8 +1,8 @@
 //! The bytes that go from ports to files.
 
 ghost use Rattle.std.specs.Prelude.{◌≡◌, ◌⊎◌, ◌++◌, true, IfErr, IfOk, OnErr, OnOk, map, option_map, unwrap_or};
-ghost use Rattle.failure.specs.Failure.{IfFault};
-ghost use Rattle.failure.specs.Writing.{AppendsBeginning};
+ghost use Rattle.host.specs.Failure.{IfFault};
+ghost use Rattle.host.specs.Writing.{AppendsBeginning};
 ghost use Rattle.host.specs.Files.{ChangesFiles, Counts};
 ghost use Rattle.host.specs.Refusals.{TellsOther};
 ghost use Rattle.object_commands.specs.Linking.{KeepsOthers};
@@ -12,8 +12,10 @@ ghost use Rattle.commands.specs.OutputFiles.{Delivers, KeepsAllBut, Shows, byte_
 ghost use Rattle.commands.specs.RefusedRuns.{LeavesOutputs, StopsOutput, StopsOutputs, StopsShowing, Undelivered};
 
 use command_line::{PortFile, Settings};
-use failure::{Failure, WriteFault, write_bytes};
-use host::{Ending, FileFault, Files, refuse_file, refuse_memory, refuse_output};
+use host::{
+    Ending, Failure, FileFault, Files, WriteFault, refuse_file, refuse_memory, refuse_output,
+    write_bytes,
+};
 use object_commands::write_file;
 use ports::Event;
 use std::alloc::{AllocError, Global};

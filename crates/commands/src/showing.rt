@@ -10,8 +10,9 @@ ghost use Rattle.commands.specs.Showing.{PrintsBuilt, PrintsShown, PrintsTextsBy
 
 use crate::programs::{name_at, refuse_sources, sources_of};
 use command_line::{PlaceAction, PlaceOrder};
-use failure::{Failure, write_bytes};
-use host::{Ending, Files, read_files, refuse_file, refuse_memory, refuse_output};
+use host::{
+    Ending, Failure, Files, read_files, refuse_file, refuse_memory, refuse_output, write_bytes,
+};
 use listings::{listing_of, symbols_of};
 use mem80::Plan;
 use object_commands::print_list;

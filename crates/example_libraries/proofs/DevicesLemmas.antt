@@ -1,14 +1,5 @@
 -- What the counter gives, and what a read does to its count.
-use Rattle.std.proofs.Common.{◌≡◌, ◌≢◌, ℕ, ◌+◌, ◌<◌, ◌≤◌, ◌⊎◌, min, List, [], ◌∷◌, ◌++◌, get_or, inl, inr, arith}
-use Rattle.std.proofs.lemmas.List.FromFn.{get_or-range_with_len, length-range_with_len}
-use Rattle.std.proofs.lemmas.List.{get_or_past}
-use Rattle.std.proofs.lemmas.Bool.{cases_lt}
-use Rattle.std.proofs.lemmas.Grind.{common_steps}
-use Rattle.std.specs.List.{range_with_len}
-use Rattle.ports.specs.declared.event.Event.{Event}
-use Rattle.ports.specs.Events.{read_event}
-use Rattle.ports.specs.Input.{input_value, reads_of}
-use Rattle.example_libraries.specs.Counter.{counter_script}
+use Rattle.example_libraries.proofs.Prelude.{◌≡◌, ◌≢◌, ℕ, ◌+◌, ◌<◌, ◌≤◌, ◌⊎◌, min, List, [], ◌∷◌, ◌++◌, get_or, inl, inr, arith, get_or-range_with_len, length-range_with_len, get_or_past, cases_lt, common_steps, range_with_len, Event, read_event, input_value, reads_of, counter_script}
 
 -- the numbers from 0 on, and 255 past their end
 at_most_255 : (n : ℕ) → (n < 255) ⊎ (255 ≤ n) → min n 255 ≡ get_or (range_with_len 0 255) n 255

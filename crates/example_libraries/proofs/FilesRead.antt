@@ -1,6 +1,5 @@
 -- Files that are read one after another.
-use Rattle.example_libraries.proofs.Prelude.{ℕ, suc, ◌<◌, List, Bor, length, get_or, take, drop, AllZip, Fault, ObjectModule, HasFirstFault, Spells, bytes_of, parted}
-use Rattle.example_libraries.specs.Images.{FirstIsFaulty}
+use Rattle.example_libraries.proofs.Prelude.{ℕ, suc, ◌<◌, List, Bor, length, get_or, take, drop, AllZip, Fault, ObjectModule, HasFirstFault, Spells, bytes_of, parted, FirstIsFaulty}
 
 -- the first file that spells no module
 pub first_faulty :

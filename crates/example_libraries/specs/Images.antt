@@ -6,7 +6,7 @@ use Rattle.object_modules.specs.Image.{Plan, PlacementRefusal, image_of}
 use Rattle.object_modules.specs.Merge.{LinkRefusal, merge_of}
 use Rattle.object_modules.specs.Module.{ObjectModule}
 use Rattle.object_modules.specs.Spelling.{HasFirstFault, Spells}
-use Rattle.link_laws.specs.Faults as linking
+use Rattle.link.specs.Faults as linking
 use Rattle.locate.specs.Locating.{Absolute, IsPlaced}
 use Rattle.locate.specs.Locating as placing
 use Rattle.example_libraries.specs.declared.images.ImageFault.{ImageFault}

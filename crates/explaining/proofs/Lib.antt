@@ -1,1 +1,2 @@
+mod Prelude
 pub mod Looked

@@ -1,13 +1,5 @@
 -- Files that are looked for one after another.
-use Rattle.std.proofs.Common.{◌≡◌, ◌≤◌, ◌<◌, ◌+◌, ◌-◌, ℕ, zero, suc, min, List, Option, length, take, drop, refl, arith, length-take, length-drop}
-use Rattle.clap.specs.Words.{Text}
-use Rattle.failure.specs.declared.Failure.{Failure}
-use Rattle.failure.specs.declared.Failure.TheVariants.{Fault, Memory}
-use Rattle.host.specs.Files.{Counts, Directory, KeepsFiles}
-use Rattle.host.proofs.FilesRead.{stays, stays_on}
-use Rattle.explaining.specs.Ending.{Ends, EndsExplained}
-use Rattle.explaining.specs.Growing.{Grows}
-use Rattle.explaining.specs.Looking.{Looks}
+use Rattle.explaining.proofs.Prelude.{◌≡◌, ◌≤◌, ◌<◌, ◌+◌, ◌-◌, ℕ, zero, suc, min, List, Option, length, take, drop, refl, arith, length-take, length-drop, Text, Failure, Fault, Memory, Counts, Directory, KeepsFiles, stays, stays_on, Ends, EndsExplained, Grows, Looks}
 
 -- so many of all are left, and the others were looked for
 pub record LookedSoFar (all rest : ℕ) (first now : Option Directory) (before after : ℕ) : Type 0 where

@@ -12,8 +12,7 @@ use crate::explanation::{explanation, is_of_line};
 use crate::kept_files::KeptFiles;
 use crate::kept_lines::KeptLines;
 use commands::run_command;
-use failure::write_bytes;
-use host::Files;
+use host::{Files, write_bytes};
 use std::alloc::{AllocError, Global};
 use std::io::Write;
 

@@ -1,11 +1,12 @@
 //! What is printed of how a command ended.
 
 use crate::globals::{add_missing, show_declarations};
-use crate::kept_files::{Content, KeptFile, find_kept};
+use crate::kept_files::{Content, KeptFile, find_kept, kept_bytes};
 use crate::kinds::{as_object, kind_of};
-use crate::options::{add_plan, add_values, has_flag};
+use crate::options::{add_values, has_flag};
 use crate::origins::add_origins;
 use crate::page::Page;
+use crate::ranges::{Trouble, add_ranges};
 use crate::refused::explain_source;
 use crate::sentences::{meaning_of, meaning_of_end};
 use crate::told::{Told, told_in};
@@ -42,17 +43,6 @@ fn cause_of_file(seen: &Seen, name: &str) -> &'static str {
     }
 }
 
-// The bytes of a file that was read.
-fn bytes_of<'s>(seen: &Seen<'s>, name: &str) -> Option<&'s [u8]> {
-    match find_kept(seen.files, name.as_bytes()) {
-        Some(file) => match &file.content {
-            Content::Bytes(bytes) => Some(bytes.as_slice()),
-            Content::Missing | Content::Closed => None,
-        },
-        None => None,
-    }
-}
-
 // Adds why a text of an option is refused.
 fn explain_value(page: &mut Page, seen: &Seen, told: Told) {
     page.begin();
@@ -63,7 +53,7 @@ fn explain_value(page: &mut Page, seen: &Seen, told: Told) {
 
 // Adds why an object file is refused.
 fn explain_object(page: &mut Page, seen: &Seen, told: Told) {
-    let bytes = bytes_of(seen, told.place).unwrap_or(&[]);
+    let bytes = kept_bytes(seen.files, told.place.as_bytes()).unwrap_or(&[]);
     let cause = as_object(kind_of(bytes)).unwrap_or(meaning_of(told.number));
     page.cause(cause, told.number);
 }
@@ -105,7 +95,8 @@ fn explain_program(page: &mut Page, seen: &Seen, told: Told) {
     page.cause(meaning_of(told.number), told.number);
     match told.number {
         "J1" => add_missing(page, seen.alloc, seen.files),
-        "P1" | "P2" => add_plan(page, seen.alloc, seen.words),
+        "P1" => add_ranges(page, seen.alloc, seen.words, seen.files, Trouble::Meeting),
+        "P2" => add_ranges(page, seen.alloc, seen.words, seen.files, Trouble::Passing),
         _ => {}
     }
 }
@@ -119,7 +110,7 @@ fn explain_fault(page: &mut Page, seen: &Seen, told: Told) {
     } else if is_of_group(told.number, b'O') {
         explain_object(page, seen, told);
     } else if is_of_group(told.number, b'C')
-        && let Some(text) = bytes_of(seen, told.place)
+        && let Some(text) = kept_bytes(seen.files, told.place.as_bytes())
     {
         let mut origins = Page::new(seen.alloc);
         add_origins(&mut origins, seen.files, seen.tables, told, text);

@@ -3,8 +3,7 @@
 ghost use Rattle.std.specs.Prelude.{◌≡◌, ◌≤◌, ◌+◌, min, IfErr, IfOk, OnOk, option_map};
 ghost use Rattle.host.specs.Files.{Counts, FindsFile, HasFile, KeepsFiles};
 
-use failure::Failure;
-use host::{FileFault, Files};
+use host::{Failure, FileFault, Files};
 use std::alloc::Global;
 
 /// What is known of a file that was to be read.
@@ -49,6 +48,17 @@ pub(crate) fn find_kept<'a>(files: &'a [KeptFile], name: &[u8]) -> Option<&'a Ke
         }
     }
     None
+}
+
+/// The bytes of the file of a name, where it was read and kept.
+pub(crate) fn kept_bytes<'a>(files: &'a [KeptFile], name: &[u8]) -> Option<&'a [u8]> {
+    match find_kept(files, name) {
+        Some(file) => match &file.content {
+            Content::Bytes(bytes) => Some(bytes.as_slice()),
+            Content::Missing | Content::Closed => None,
+        },
+        None => None,
+    }
 }
 
 impl<F> KeptFiles<F> {

@@ -1,8 +1,6 @@
 //! The options of a command line, and what they take.
 
 use crate::page::Page;
-use command_line::{Order, PlanTexts, command};
-use std::alloc::Global;
 
 // The option of which a text is the value, if any, in words after the program's name.
 fn option_with<'a>(words: &[&'a str], value: &str) -> Option<&'a str> {
@@ -75,90 +73,5 @@ pub(crate) fn add_values(page: &mut Page, words: &[&str], value: &str) {
     } else {
         page.text(command_in(words));
         page.text(" takes one file");
-    }
-}
-
-// The beginnings of the parts of a program, and how many bytes the stack has.
-#[derive(Clone, Copy)]
-struct Parts {
-    code: u32,
-    data_base: u32,
-    stack: u32,
-    stack_size: u32,
-}
-
-// The number that a text writes, or 0.
-fn number_in(text: &str) -> u32 {
-    text.parse::<u32>().unwrap_or(0)
-}
-
-// The parts of a plan.
-fn parts_of(plan: &PlanTexts) -> Parts {
-    Parts {
-        code: number_in(plan.code),
-        data_base: number_in(plan.data_base),
-        stack: number_in(plan.stack),
-        stack_size: number_in(plan.stack_size),
-    }
-}
-
-// How many bytes there are from an address to the next of two others, or to the end of memory.
-fn room_before(from: u32, first: u32, second: u32) -> u32 {
-    let mut end = 65_536;
-    if first >= from {
-        end = first.min(end);
-    }
-    if second >= from {
-        end = second.min(end);
-    }
-    end.saturating_sub(from)
-}
-
-// Adds where a part begins, and its room.
-fn add_part(page: &mut Page, part: &str, from: u32, first: u32, second: u32) {
-    page.text(part);
-    page.number(from);
-    page.text(", with room for ");
-    page.number(room_before(from, first, second));
-    page.text(" bytes");
-}
-
-// Adds a line with where the parts begin, and how many bytes each may have before it meets the next.
-fn add_parts(page: &mut Page, parts: Parts) {
-    let Parts {
-        code,
-        data_base,
-        stack,
-        stack_size,
-    } = parts;
-    page.begin();
-    add_part(page, "The code begins at ", code, data_base, stack);
-    add_part(page, "; the data at ", data_base, code, stack);
-    add_part(page, "; the stack at ", stack, code, data_base);
-    page.text(": it takes ");
-    page.number(stack_size);
-    page.end();
-}
-
-// The plan of an order, where it has one.
-fn plan_of<'o, 'a>(order: &'o Order<'a>) -> Option<&'o PlanTexts<'a>> {
-    match order {
-        Order::Program(program) => Some(&program.plan),
-        Order::Execute(execute) => Some(&execute.plan),
-        Order::Place(place) => Some(&place.plan),
-        Order::Need(need) => Some(&need.plan),
-        _ => None,
-    }
-}
-
-/// Adds where the plan of the words puts the parts of a program.
-pub(crate) fn add_plan(page: &mut Page, alloc: Global, words: &[&str]) {
-    match command(alloc, words) {
-        Ok(order) => {
-            if let Some(plan) = plan_of(&order) {
-                add_parts(page, parts_of(plan));
-            }
-        }
-        Err(_) => {}
     }
 }

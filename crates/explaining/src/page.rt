@@ -2,6 +2,7 @@
 
 use itoa::Buffer;
 use std::alloc::Global;
+use std::io::Write;
 
 // The digits of a byte that is no printed character.
 const DIGITS: &[u8; 16] = b"0123456789ABCDEF";
@@ -58,6 +59,12 @@ impl Page {
     pub(crate) fn number(&mut self, number: u32) {
         let mut digits = Buffer::new();
         self.text(digits.format(number));
+    }
+
+    /// Adds a number in hexadecimal digits, of which there are at least four.
+    pub(crate) fn address(&mut self, address: u32) {
+        let is_added = write!(self.text, "{address:04X}").is_ok();
+        self.note(is_added);
     }
 
     /// Begins a line of the explanation.

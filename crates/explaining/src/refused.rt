@@ -9,7 +9,7 @@ use crate::openers::{Opener, openers};
 use crate::page::Page;
 use crate::sentences::meaning_of;
 use crate::told::Told;
-use failure::Failure;
+use host::Failure;
 use sources::{LONGEST_SOURCE, Place, ReadFault, read_source};
 use std::alloc::Global;
 use std::fmt;

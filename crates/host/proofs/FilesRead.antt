@@ -26,7 +26,7 @@ pub record ReadSoFar (files : Option Directory) (whole rest made : List (List �
 pub none_read : (files : Option Directory) (whole : List (List ℕ)) → ReadSoFar files whole whole []
 none_read files whole = record { before = []; names_are = refl; read = tt }
 
-map_more : {A : Type 0} (f : A → List ℕ) (made : List A) (v : A) → map f (made ++ v ∷ []) ≡ map f made ++ f v ∷ []
+pub map_more : {A : Type 0} (f : A → List ℕ) (made : List A) (v : A) → map f (made ++ v ∷ []) ≡ map f made ++ f v ∷ []
 map_more f [] v = refl
 map_more f (x ∷ made) v = ap (λ (l : List (List ℕ)). f x ∷ l) (map_more f made v)
 

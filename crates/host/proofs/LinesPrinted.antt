@@ -1,10 +1,5 @@
 -- Lines that are printed piece by piece, and what they do not begin with.
-use Rattle.host.proofs.Prelude.{◌≡◌, ℕ, ◌-◌, ◌≤◌, ◌<◌, Bool, true, false, List, [], ◌∷◌, ◌++◌, Option, Bor, inl, inr, codes, decimal, length, drop, take, get_or, refl, sym, ap, subst, ◌∙◌, true≢false, arith, and_parts, take-length, append-nil, append_assoc, Directory, StopsAt, Appends-nil}
-use Rattle.std.specs.{Prelude.{◌==◌, ◌&&◌, not}, List.{flat_map}, Io.KnownBytes.{Appends}}
-use Rattle.failure.specs.Writing.{AppendsBeginning, IsBeginning}
-use Rattle.failure.proofs.WritingLemmas.{beginning_after}
-use Rattle.ports.specs.Events.{CountsFailure}
-use Rattle.host.specs.Refusals.{IsOfNoFile, Tells, TellsOther, TellsRefusal, file_line, is_fault_number, output_line, refusal_line}
+use Rattle.host.proofs.Prelude.{◌≡◌, ℕ, ◌-◌, ◌≤◌, ◌<◌, Bool, true, false, List, [], ◌∷◌, ◌++◌, Option, Bor, inl, inr, codes, decimal, length, drop, take, get_or, refl, sym, ap, subst, ◌∙◌, true≢false, arith, and_parts, take-length, append-nil, append_assoc, Directory, StopsAt, Appends-nil, ◌==◌, ◌&&◌, not, flat_map, Appends, AppendsBeginning, IsBeginning, beginning_after, CountsFailure, IsOfNoFile, Tells, TellsOther, TellsRefusal, file_line, is_fault_number, output_line, refusal_line}
 
 -- what was written, with a beginning of the pieces that are left, is a beginning of all
 abbrev pub Sent : (old now : Option (List ℕ)) (all rest : List ℕ) → Type 0

@@ -1,3 +1,4 @@
+pub use Rattle.failure.specs.declared.Failure as Outcome
 pub use Rattle.ports.specs.Events
 pub use Rattle.failure.specs.Failure
 pub mod Files

@@ -6,4 +6,5 @@ mod main_module;
 mod program;
 
 pub use program::interpret;
+pub use stack_compiler::{StackMark, StackPart, stack_marks};
 pub use stack_machine::{RunFault, SourceEnd};

@@ -25,7 +25,8 @@ use std::alloc::{AllocError, Global};
 /// first; with so much room on the stack, in bytes; with these ports; and with a budget of turns of loops, jumps and calls,
 /// which becomes what is left of it. Where no port fails it does just what the program means. After a fault, of a port or of
 /// memory, the events are a beginning of those, and the events that there were before stay. A port that failed is the next
-/// one that the program reads or writes.
+/// one that the program reads or writes. `at` becomes the number of the instruction at which the run stands at its end, among
+/// those that `stack_marks` speaks of; it stays as it is if there is no memory to begin, or no main program.
 #[tactic(auto, using(crate::proofs::Runs::meant, crate::proofs::Runs::begun, crate::proofs::Runs::ended, crate::proofs::Runs::ended_with_none))]
 pub fn interpret<P: Ports>(
     alloc: Global,
@@ -35,6 +36,7 @@ pub fn interpret<P: Ports>(
     memory: Memory,
     ports: &mut P,
     budget: &mut u64,
+    at: &mut usize,
 ) -> Result<SourceEnd, RunFault>
     requires jumps { All JumpsAreSound (modules_in joined.now) }
     ensures meaning { IfOk result (λ end.
@@ -80,6 +82,7 @@ pub fn interpret<P: Ports>(
             memory,
             budget,
             ports,
+            at,
         ),
         None => Ok(SourceEnd::Ended),
     }

@@ -1,3 +1,2 @@
 -- What proofs of merging files speak of.
 pub mod Causes
-pub mod Views

@@ -1,34 +1,40 @@
-//! A file that spells a module, over which walks go from its front.
+//! A file that spells a module, as it is linked.
 
-ghost use Rattle.std.specs.Prelude.{◌≡◌, IsTrue, map};
-ghost use Rattle.std.specs.List.{list_all};
-ghost use Rattle.symbols.specs.Names.{is_name};
-ghost use Rattle.object_modules.specs.Module.{IsObjectModule, alignment_of, length_of};
+ghost use Rattle.std.specs.Prelude.{◌≡◌};
+ghost use Rattle.object_modules.specs.Module.{IsObjectModule};
 ghost use Rattle.object_modules.specs.Walking.{module_by};
 ghost use Rattle.objmod.specs.internal.Keeping.{ContentsFit};
-ghost use Rattle.link_laws.specs.internal.Growing.{public_name};
 
-use object_modules::{Alignment, Name, Segment};
+use crate::contents::add_contents;
+use crate::fixes::ContentFixes;
+use link_modules::{GrowingSegment, Linkable, Named, Resolved};
+use object_modules::{Alignment, PublicName, Segment};
 use objmod::Walk;
+use std::alloc::{AllocError, Global};
 use std::marker::Model;
 
-/// A file that spells a module, which contracts see. It borrows the bytes of the file.
+/// A file that spells a module, and hands out its names. It borrows the bytes of the file. Contracts see the walk.
 #[derive(Drop)]
 pub(crate) struct ObjectFile<'a> {
     walk: Walk<'a>,
 }
 
 impl<'a> Model for ObjectFile<'a> {
-    ghost use Rattle.object_modules.specs.Module.{IsObjectModule, ObjectModule as ObjectValue};
-    ghost use Rattle.object_modules.specs.Walking.{module_by};
+    ghost use Rattle.std.specs.Prelude.{IsTrue, map};
+    ghost use Rattle.std.specs.List.{list_all};
+    ghost use Rattle.symbols.specs.Names.{is_name};
+    ghost use Rattle.object_modules.specs.Walking.{Walking};
     ghost use Rattle.objmod.specs.internal.Keeping.{ContentsFit};
+    ghost use Rattle.link_laws.specs.internal.Growing.{public_name};
 
-    ghost Value = { ObjectValue };
+    ghost Value = { Walking };
 
-    ghost view = { λ file. module_by file.walk };
+    ghost view = { λ file. file.walk };
 
     ghost invariant = { λ file. record {
-      valid : IsObjectModule (module_by file.walk);
+      named : IsTrue (is_name file.walk.name);
+      externals : IsTrue (list_all is_name file.walk.externals);
+      publics : IsTrue (list_all is_name (map public_name file.walk.publics));
       fits : ContentsFit file.walk;
     } };
 }
@@ -38,77 +44,62 @@ impl<'a> ObjectFile<'a> {
     pub(crate) fn new(walk: Walk<'a>) -> ObjectFile<'a>
         requires valid { IsObjectModule (module_by walk) }
         requires fits { ContentsFit walk }
-        ensures { result ≡ module_by walk.entry }
+        ensures same { result ≡ walk.entry }
+        ensures valid { IsObjectModule (module_by result) }
     {
         ObjectFile { walk }
     }
+}
 
-    /// The same file. Takes no memory.
-    pub(crate) fn again(&self) -> ObjectFile<'a>
-        ensures same { result ≡ self.now }
-        ensures valid { IsObjectModule self.now }
-    {
+impl<'a> Linkable for ObjectFile<'a> {
+    ghost told = { module_by };
+
+    fn again(&self) -> ObjectFile<'a> {
         ObjectFile {
             walk: self.walk.again(),
         }
     }
 
-    /// A walk from its front.
-    #[tactic(auto, using(link_laws::proofs::ModuleTold::externals_told, link_laws::proofs::ModuleTold::publics_told, objmod::proofs::ReadParts::externals_told, objmod::proofs::ReadParts::publics_told))]
-    pub(crate) fn walk(&self) -> Walk<'a>
-        ensures told { self.now ≡ module_by result }
-        ensures valid { IsObjectModule self.now }
-        ensures fits { ContentsFit result }
-        ensures externals { result.externals ≡ self.now.externals }
-        ensures publics { result.publics ≡ self.now.publics }
-        ensures external_names { IsTrue (list_all is_name result.externals) }
-        ensures public_names { IsTrue (list_all is_name (map public_name result.publics)) }
-    {
-        self.walk.again()
-    }
-
-    /// The name of the module.
-    #[tactic(auto, using(link_laws::proofs::ModuleTold::name_told))]
-    pub(crate) fn name(&self) -> &'a [u8]
-        ensures same { result.now ≡ self.now.name }
-        ensures valid { IsTrue (is_name result.now) }
-    {
-        self.walk.name()
-    }
-
-    /// How many bytes a segment has, 0 to 65535; 0 for the absolute one.
     #[tactic(auto, using(link_laws::proofs::ModuleTold::length_told))]
-    pub(crate) fn length(&self, segment: Segment) -> u16
-        ensures { result ≡ length_of self.now segment }
-    {
+    fn length(&self, segment: Segment) -> u16 {
         self.walk.length(segment)
     }
 
-    /// Where a segment may begin; anywhere for the absolute one and the stack.
     #[tactic(auto, using(link_laws::proofs::ModuleTold::alignment_told))]
-    pub(crate) fn alignment(&self, segment: Segment) -> Alignment
-        ensures { result ≡ alignment_of self.now segment }
-    {
+    fn alignment(&self, segment: Segment) -> Alignment {
         self.walk.alignment(segment)
     }
 
-    /// The offset in its code where it starts, if it is a main module.
     #[tactic(auto, using(link_laws::proofs::ModuleTold::start_told))]
-    pub(crate) fn start(&self) -> Option<u16>
-        ensures { result ≡ self.now.start }
-    {
+    fn start(&self) -> Option<u16> {
         self.walk.start()
+    }
+
+    fn add_contents(
+        &self,
+        alloc: Global,
+        code: &mut GrowingSegment,
+        data_bytes: &mut GrowingSegment,
+        resolved: &Resolved,
+    ) -> Result<(), AllocError> {
+        let mut fixes = ContentFixes::new(alloc);
+        let mut walk = self.walk.again();
+        add_contents(alloc, code, data_bytes, &mut fixes, resolved, &mut walk)?;
+        Ok(())
     }
 }
 
-/// A name, from its characters.
-#[tactic(auto, using(objmod::proofs::ValidNames::still_name, objmod::proofs::ValidNames::valid_name))]
-pub(crate) fn name_of(characters: &[u8]) -> Name
-    requires { IsTrue (is_name characters.now) }
-    ensures { result ≡ characters.now }
-{
-    match Name::from_text(characters) {
-        Some(name) => name,
-        None => unreachable!(),
+impl<'a> Named<'a> for ObjectFile<'a> {
+    #[tactic(auto, using(link_laws::proofs::ModuleTold::name_told))]
+    fn name(&self) -> &'a [u8] {
+        self.walk.name()
+    }
+
+    fn next_public(&mut self) -> Option<PublicName<'a>> {
+        self.walk.next_public()
+    }
+
+    fn next_external(&mut self) -> Option<&'a [u8]> {
+        self.walk.next_external()
     }
 }

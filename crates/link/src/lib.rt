@@ -4,14 +4,6 @@
 mod contents;
 mod files;
 mod fixes;
-mod growing;
-mod mains;
-mod merging;
-mod names;
-mod pieces;
-mod placed;
-mod publics;
-mod resolved;
 
 ghost use Rattle.std.specs.Prelude.{◌≡◌, [], map, IfOk, OnOk, Err};
 ghost use Rattle.std.specs.List.{AllZip};
@@ -22,9 +14,9 @@ ghost use Rattle.link.specs.Streams.{HasStreamFault, Merges, WritesMerge};
 ghost use Rattle.link.specs.internal.Causes.{HasNoMerge, IsFaultyAt};
 
 use crate::files::ObjectFile;
-use crate::merging::merge_files;
 use failure::Failure;
 pub use link_laws::LinkFault;
+use link_modules::{Input, merge};
 pub use link_modules::{Merged, link};
 use object_modules::{Fault, ObjectModule};
 use object_writing::write;
@@ -49,12 +41,12 @@ fn judged_file<'a>(
     alloc: Global,
     number: usize,
     file: &'a [u8],
-) -> Result<ObjectFile<'a>, Failure<StreamFault>>
+) -> Result<Input<ObjectFile<'a>>, Failure<StreamFault>>
     ensures spelled { IfOk result (λ object. Spells file.now object) }
     ensures fault { IfFault result (λ fault. IsFaultyAt number file.now fault) }
 {
     match walk(alloc, file) {
-        Ok(front) => Ok(ObjectFile::new(front)),
+        Ok(front) => Ok(Input::new(ObjectFile::new(front))),
         Err(Failure::Fault(fault)) => Err(Failure::Fault(StreamFault::Object {
             file: number,
             fault,
@@ -68,7 +60,7 @@ fn judged_file<'a>(
 fn judge_files<'a>(
     alloc: Global,
     files: &[&'a [u8]],
-    objects: &mut Vec<ObjectFile<'a>>,
+    objects: &mut Vec<Input<ObjectFile<'a>>>,
 ) -> Result<(), Failure<StreamFault>>
     requires { objects.old.items ≡ [] }
     ensures spelled { OnOk result (AllZip Spells (map (λ file. file.now) files.now) objects.new.items) }
@@ -82,14 +74,14 @@ fn judge_files<'a>(
 }
 
 // The merge of the modules that files spell.
-fn merge(alloc: Global, files: &[&[u8]]) -> Result<ObjectModule, Failure<StreamFault>>
+fn merge_files(alloc: Global, files: &[&[u8]]) -> Result<ObjectModule, Failure<StreamFault>>
     ensures merges { IfOk result (λ merged. Merges (map (λ file. file.now) files.now) merged) }
     ensures fault { IfFault result (λ fault. HasNoMerge (map (λ file. file.now) files.now) fault) }
 {
     let mut objects = Vec::new(alloc);
     judge_files(alloc, files, &mut objects)?;
-    match merge_files(alloc, objects.as_slice()) {
-        Ok(merged) => Ok(merged),
+    match merge(alloc, objects.as_slice()) {
+        Ok(merged) => Ok(merged.into_module()),
         Err(Failure::Fault(fault)) => Err(Failure::Fault(StreamFault::Link(fault))),
         Err(Failure::Memory) => Err(Failure::Memory),
     }
@@ -113,7 +105,7 @@ pub fn link_records<W: Write>(
         HasStreamFault (map (λ file. file.now) files.now) (W.contents out.old) (W.contents out.new) fault) }
     ensures memory { result ≡ Err Failure.Memory → Keeps (W.contents out.old) (W.contents out.new) }
 {
-    let merged = merge(alloc, files)?;
+    let merged = merge_files(alloc, files)?;
     match write(&merged, out) {
         Ok(()) => Ok(()),
         Err(_) => Err(Failure::Fault(StreamFault::Write)),

@@ -1,6 +1,7 @@
 -- The contents of a file end within their segments at their places, and their fixes are within them.
-use Rattle.link_laws.proofs.Prelude.{◌≡◌, ℕ, ◌+◌, ◌≤◌, Bool, true, false, cond, List, [], ◌∷◌, length, filter, subst, arith, Fix, Segment, Code, Data, content_end, same_segment, start_of, FixedContent, Walking, AreWithin, AllFit, ContentsFit, Placed, fix_table, is_in, listed, AllFitAt, FitsAt, Resolved}
+use Rattle.link_laws.proofs.Prelude.{◌≡◌, ℕ, ◌+◌, ◌≤◌, Bool, true, false, cond, List, [], ◌∷◌, length, filter, subst, arith, Fix, Segment, Code, Data, content_end, same_segment, start_of, length_of, FixedContent, Walking, module_by, AreWithin, AllFit, ContentsFit, Placed, fix_table, is_in, listed, AllFitAt, FitsAt, Resolved}
 use Rattle.link_laws.proofs.FixesByPlace.{own_within}
+use Rattle.link_laws.proofs.ModuleTold.{length_told}
 
 module _ (resolved : Resolved) (segment : Segment) where
   fit_at :
@@ -58,12 +59,18 @@ module _ (resolved : Resolved) (segment : Segment) where
 
 pub code_fits :
     (resolved : Resolved) (walking : Walking) → ContentsFit walking
-    → start_of resolved.start Code + walking.code_length ≤ 65535 → AllFitAt resolved Code walking.contents
+    → start_of resolved.start Code + length_of (module_by walking) Code ≤ 65535
+    → AllFitAt resolved Code walking.contents
 code_fits resolved walking fits room =
-    fit_at resolved Code walking.code_length 0 walking.contents room fits.code.placed fits.code.fit
+    let same : walking.code_length ≡ length_of (module_by walking) Code = length_told walking Code in
+    fit_at resolved Code walking.code_length 0 walking.contents (omega (arith, same, room)) fits.code.placed
+    fits.code.fit
 
 pub data_fits :
     (resolved : Resolved) (walking : Walking) → ContentsFit walking
-    → start_of resolved.start Data + walking.data_length ≤ 65535 → AllFitAt resolved Data walking.contents
+    → start_of resolved.start Data + length_of (module_by walking) Data ≤ 65535
+    → AllFitAt resolved Data walking.contents
 data_fits resolved walking fits room =
-    fit_at resolved Data walking.data_length 0 walking.contents room fits.data_bytes.placed fits.data_bytes.fit
+    let same : walking.data_length ≡ length_of (module_by walking) Data = length_told walking Data in
+    fit_at resolved Data walking.data_length 0 walking.contents (omega (arith, same, room)) fits.data_bytes.placed
+    fits.data_bytes.fit

@@ -1,5 +1,5 @@
 -- The runs of a module with their fixes: each fix lies within the run that it begins in.
-use Rattle.link_laws.proofs.Prelude.{◌≡◌, ℕ, suc, ◌+◌, ◌<◌, ◌≤◌, true, false, not, ◌&&◌, ◌||◌, nat_lt, nat_le, List, [], ◌∷◌, length, map, flat_map, Option, None, Some, IsTrue, refl, ap, sym, subst, ◌∙◌, arith, AllByRecursion, and_parts, leb-true, ltb-true, length-map, Fix, FixKind, Low, High, Both, Segment, Absolute, Code, Data, Stack, Target, is_empty, Fixup, SetByte, ObjectModule, IsObjectModule, begins_word, is_plain, words_are_whole, length_of, places_of, width_of, fix_end, bytes_of_run, fixes_of_run, fixes_in, runs_of, are_longest, Run, runs_from, fixes_from, before_fixes, place_fixes, run_end, fixes_step, runs_fixes, places_are, Apart, AllBelow, AllPast, below_first, past_others, runs_apart, AllFrom, fixes_later, row_of, values_of, AreWithin, HaveTheirFixes, past_append, some_width}
+use Rattle.link_laws.proofs.Prelude.{◌≡◌, ℕ, suc, ◌+◌, ◌<◌, ◌≤◌, Bool, true, false, not, ◌&&◌, ◌||◌, nat_lt, nat_le, List, [], ◌∷◌, length, map, flat_map, Option, None, Some, IsTrue, refl, ap, sym, subst, ◌∙◌, arith, AllByRecursion, and_parts, leb-true, ltb-true, length-map, Fix, FixKind, Low, High, Both, Segment, Absolute, Code, Data, Stack, Target, is_empty, Fixup, SetByte, ObjectModule, IsObjectModule, begins_word, is_plain, words_are_whole, places_of, width_of, fix_end, bytes_of_run, fixes_of_run, fixes_in, runs_of, are_longest, Run, runs_from, fixes_from, before_fixes, run_end, fixes_step, places_are, Apart, AllBelow, AllPast, below_first, past_others, runs_apart, AllFrom, fixes_later, row_of, values_of, AreWithin, HaveTheirFixes, past_append, some_width}
 
 -- fixes after the first place are within what begins one place before
 within_earlier :
@@ -68,31 +68,37 @@ past_runs end (run ∷ others) all =
     past_append end (fixes_from run.offset run.items) (flat_map fixes_of_run others)
     (fixes_later end run.offset run.items all.0) (past_runs end others all.1)
 
--- runs that end within a size
+-- runs that have bytes and end within a size
 abbrev AllEnd : (size : ℕ) → List (Run ℕ) → Type 0
-AllEnd size runs = AllByRecursion (λ (run : Run ℕ). run_end run ≤ size) runs
+AllEnd size runs =
+    AllByRecursion (λ (run : Run ℕ). (run_end run ≤ size) × (is_empty run.items ≡ false)) runs
 
 first_ends : (size : ℕ) (run : Run ℕ) (others : List (Run ℕ)) → AllEnd size (run ∷ others) → run_end run ≤ size
-first_ends size run others all = all.0
+first_ends size run others all = (all.0).0
+
+has_bytes : (empty : Bool) → not empty ≡ true → empty ≡ false
+has_bytes true h = absurd (let bad : false ≡ true = h in cc)
+has_bytes false h = refl
 
 longest_end : (size : ℕ) (runs : List (Run ℕ)) → are_longest size runs ≡ true → AllEnd size runs
 longest_end size [] h = tt
 longest_end size (run ∷ []) h =
-    (leb-true (run_end run) size (and_parts (not (is_empty run.items)) (nat_le (run_end run) size) h).1, tt)
+    let cut = and_parts (not (is_empty run.items)) (nat_le (run_end run) size) h in
+    ((leb-true (run_end run) size cut.1, has_bytes (is_empty run.items) cut.0), tt)
 longest_end size (run ∷ next ∷ others) h =
     let cut = and_parts (not (is_empty run.items) && nat_lt (run_end run) next.offset)
     (are_longest size (next ∷ others)) h in
+    let here = and_parts (not (is_empty run.items)) (nat_lt (run_end run) next.offset) cut.0 in
     let later : AllEnd size (next ∷ others) = longest_end size (next ∷ others) cut.1 in
-    let gap : run_end run < next.offset =
-    ltb-true (run_end run) next.offset (and_parts (not (is_empty run.items)) (nat_lt (run_end run) next.offset) cut.0).1 in
+    let gap : run_end run < next.offset = ltb-true (run_end run) next.offset here.1 in
     let end : run_end next ≤ size = first_ends size next others later in
-    (omega (arith, gap, end), later)
+    ((omega (arith, gap, end), has_bytes (is_empty run.items) here.0), later)
 
 have_fixes :
-    (size : ℕ) (runs : List (Run SetByte)) → size ≤ 65535 → Apart runs → AllEnd size (map bytes_of_run runs)
+    (size : ℕ) (runs : List (Run SetByte)) → Apart runs → AllEnd size (map bytes_of_run runs)
     → HaveTheirFixes size (flat_map fixes_of_run runs) (map bytes_of_run runs)
-have_fixes size [] small apart ends = tt
-have_fixes size (run ∷ others) small apart ends =
+have_fixes size [] apart ends = refl
+have_fixes size (run ∷ others) apart ends =
     let own : List Fix = fixes_from run.offset run.items in
     let later : List Fix = flat_map fixes_of_run others in
     let end : ℕ = run_end (bytes_of_run run) in
@@ -103,14 +109,13 @@ have_fixes size (run ∷ others) small apart ends =
     let below : AllBelow end own =
     subst (λ n. AllBelow n own) same (within_below run.offset (length run.items) own within) in
     let past : AllPast end later =
-    past_runs end others (subst (λ n. AllFrom n others) same apart.1) in
-    let ends_here : run_end (bytes_of_run run) ≤ size = ends.0 in (
-      ends_here,
-      omega (arith, ends_here, small),
+    past_runs end others (subst (λ n. AllFrom n others) same apart.1) in (
+      (ends.0).0,
+      (ends.0).1,
       subst (AreWithin run.offset (length (values_of run.items))) (sym (below_first end own later below past))
           (subst (λ n. AreWithin run.offset n own) (sym long) within),
       subst (λ f. HaveTheirFixes size f (map bytes_of_run others)) (sym (past_others end own later below past))
-          (have_fixes size others small apart.2 ends.1),
+          (have_fixes size others apart.2 ends.1),
     )
 
 -- no word of a valid module is cut
@@ -125,45 +130,12 @@ whole_places object Stack valid = refl
 -- the runs of a module that is valid have their fixes
 pub runs_have_fixes :
     (object : ObjectModule) (segment : Segment) (size : ℕ) (runs : List (Run ℕ)) (fixes : List Fix)
-    → IsObjectModule object → size ≤ 65535 → runs ≡ runs_of object segment → fixes ≡ fixes_in object segment
+    → IsObjectModule object → runs ≡ runs_of object segment → fixes ≡ fixes_in object segment
     → IsTrue (are_longest size runs) → HaveTheirFixes size fixes runs
 unfolding runs_of fixes_in
-runs_have_fixes object segment size runs fixes valid small made of_these longest =
+runs_have_fixes object segment size runs fixes valid made of_these longest =
     subst (λ f. HaveTheirFixes size f runs) (sym of_these)
     (subst (HaveTheirFixes size (flat_map fixes_of_run (runs_from 0 (places_of object segment)))) (sym made)
-    (have_fixes size (runs_from 0 (places_of object segment)) small
+    (have_fixes size (runs_from 0 (places_of object segment))
     (runs_apart 0 (places_of object segment) (whole_places object segment valid))
     (subst (AllEnd size) made (longest_end size runs longest))))
-
--- fixes begin within their segment
-later_fixes :
-    (offset end : ℕ) (fixup : Option Fixup) (fixes : List Fix) → offset < end
-    → AllByRecursion (λ (fix : Fix). fix.offset < end) fixes
-    → AllByRecursion (λ (fix : Fix). fix.offset < end) (before_fixes offset fixup fixes)
-later_fixes offset end None fixes h all = all
-later_fixes offset end (Some fixup) fixes h all = (h, all)
-
-places_below :
-    (offset end : ℕ) (places : List (Option SetByte)) → offset + length places ≤ end
-    → AllByRecursion (λ (fix : Fix). fix.offset < end) (place_fixes offset places)
-places_below offset end [] h = tt
-places_below offset end (None ∷ others) h = places_below (offset + 1) end others (omega (arith, h))
-places_below offset end (Some here ∷ others) h =
-    later_fixes offset end here.fixup (place_fixes (offset + 1) others) (omega (arith, h))
-    (places_below (offset + 1) end others (omega (arith, h)))
-
-length_in : (object : ObjectModule) (segment : Segment) → length (places_of object segment) ≤ length_of object segment
-length_in object Absolute = omega arith
-length_in object Code = omega arith
-length_in object Data = omega arith
-length_in object Stack = omega arith
-
-pub fixes_below_end :
-    (object : ObjectModule) (segment : Segment) (fixes : List Fix) → fixes ≡ fixes_in object segment
-    → AllByRecursion (λ (fix : Fix). fix.offset < length_of object segment) fixes
-unfolding fixes_in
-fixes_below_end object segment fixes of_these =
-    let long : length (places_of object segment) ≤ length_of object segment = length_in object segment in
-    subst (AllByRecursion (λ (fix : Fix). fix.offset < length_of object segment))
-    (sym (of_these ∙ runs_fixes 0 (places_of object segment)))
-    (places_below 0 (length_of object segment) (places_of object segment) (omega (arith, long)))

@@ -1,3 +1,4 @@
+pub use Rattle.objmod.proofs.ValidNames
 mod Prelude
 pub mod NameLoops
 pub mod StartLoops
@@ -8,13 +9,12 @@ pub mod SegmentLaws
 pub mod FixesWithin
 pub mod SegmentsMerged
 pub mod Linkings
-pub mod MainNames
-pub mod Pushed
 pub mod BytesInParts
 pub mod FixesByPlace
 pub mod RunsByContents
 pub mod ModuleTold
 pub mod PieceGrown
+pub mod PieceByRuns
 pub mod AllGrown
 pub mod ContentsFitAt
 pub mod NameWalks

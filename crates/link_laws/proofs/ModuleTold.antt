@@ -1,5 +1,5 @@
 -- The module that a walk over a file tells: its lengths, and the runs and fixes of its segments, by the contents.
-use Rattle.link_laws.proofs.Prelude.{◌≡◌, ℕ, ◌+◌, ◌≤◌, true, List, length, map, filter, flat_map, refl, ap, sym, ◌∙◌, arith, range_with_len, length-map-range_with_len, Alignment, Segment, Absolute, Code, Data, Stack, same_segment, ObjectModule, Places, alignment_of, length_of, bytes_of_run, fixes_in, fixes_of_run, runs_of, FixedContent, set_in, runs_from, Walking, alignment_by, length_by, module_by, places_by, ContentsFit, SegmentFits, fixes_by_place, is_in, runs_kept, kept_places, kept_stored}
+use Rattle.link_laws.proofs.Prelude.{◌≡◌, ℕ, true, List, length, map, filter, flat_map, refl, ap, sym, ◌∙◌, range_with_len, length-map-range_with_len, Alignment, Segment, Absolute, Code, Data, Stack, same_segment, ObjectModule, Places, Public, alignment_of, length_of, bytes_of_run, fixes_in, fixes_of_run, runs_of, FixedContent, set_in, runs_from, Walking, alignment_by, length_by, module_by, places_by, ContentsFit, SegmentFits, fixes_by_place, is_in, runs_kept, kept_places, kept_stored}
 use Rattle.object_modules.proofs.StoredRuns.{stored_bytes, stored_fixes}
 
 sized :
@@ -78,19 +78,25 @@ alignment_told walking Code = refl
 alignment_told walking Data = refl
 alignment_told walking Stack = refl
 
--- what ends within 65535 by the module does so by the walk
-pub code_room :
-    (walking : Walking) (object : ObjectModule) (start : ℕ) → object ≡ module_by walking
-    → start + length object.code.places ≤ 65535 → start + walking.code_length ≤ 65535
-code_room walking object start told room =
-    let same : walking.code_length ≡ length object.code.places =
-    length_told walking Code ∙ ap (λ o. length_of o Code) (sym told) in
-    omega (arith, same, room)
+-- A module with other names has the same segments.
+module _ (object : ObjectModule) (publics : List Public) (externals : List (List ℕ)) where
+  abbrev renamed : ObjectModule
+  renamed = record object { publics = publics; externals = externals }
 
-pub data_room :
-    (walking : Walking) (object : ObjectModule) (start : ℕ) → object ≡ module_by walking
-    → start + length object.data_places.places ≤ 65535 → start + walking.data_length ≤ 65535
-data_room walking object start told room =
-    let same : walking.data_length ≡ length object.data_places.places =
-    length_told walking Data ∙ ap (λ o. length_of o Data) (sym told) in
-    omega (arith, same, room)
+  pub length_kept : (segment : Segment) → length_of object segment ≡ length_of renamed segment
+  length_kept Absolute = refl
+  length_kept Code = refl
+  length_kept Data = refl
+  length_kept Stack = refl
+
+  pub alignment_kept : (segment : Segment) → alignment_of object segment ≡ alignment_of renamed segment
+  alignment_kept Absolute = refl
+  alignment_kept Code = refl
+  alignment_kept Data = refl
+  alignment_kept Stack = refl
+
+pub module_renamed :
+    (object : ObjectModule) (publics : List Public) (externals : List (List ℕ))
+    → publics ≡ object.publics → externals ≡ object.externals
+    → ◌≡◌ {A = ObjectModule} (record object { publics = publics; externals = externals }) object
+module_renamed object publics externals p e = λ i. record object { publics = p i; externals = e i }

@@ -1,6 +1,5 @@
 -- Loops over names, and over modules with theirs.
-use Rattle.link_laws.proofs.Prelude.{◌≡◌, ℕ, suc, ◌+◌, ◌<◌, ◌≤◌, Bool, true, false, cond, not, List, [], ◌∷◌, ◌++◌, map, length, drop, get_or, Option, None, Some, Result, Ok, Err, refl, ap, sym, ◌∙◌, add-one, option_or, bytes_eq, drop-cons, OwnedPublic, LinkRefusal, DuplicatePublic, public_names, Public, ObjectModule, is_among, owned_public_view, gathered, name_of, externals_of, missing_in, at_drop_all}
-use Rattle.indexmap.specs.IndexSet.{insert_key}
+use Rattle.link_laws.proofs.Prelude.{◌≡◌, ℕ, suc, ◌+◌, ◌<◌, ◌≤◌, Bool, true, false, cond, not, List, [], ◌∷◌, ◌++◌, map, length, drop, get_or, Option, None, Some, Result, Ok, Err, refl, ap, sym, ◌∙◌, add-one, option_or, drop-cons, OwnedPublic, LinkRefusal, DuplicatePublic, public_names, Public, ObjectModule, is_among, owned_public_view, gathered, name_of, externals_of, missing_in, public_name, at_drop_all}
 
 -- what is left of a list, item by item
 module _ {A Y : Type 0} (of : List A → Y) (items : List A) (i : ℕ) where
@@ -9,39 +8,6 @@ module _ {A Y : Type 0} (of : List A → Y) (items : List A) (i : ℕ) where
       ap of (drop-cons items i item within)
       ∙ ap (λ first. of (first ∷ drop (suc i) items)) (sym is)
       ∙ ap (λ n. of (item ∷ drop n items)) (sym (add-one i))
-
--- names of publics, one after another
-module _ (known : List (List ℕ)) (total : Result (List (List ℕ)) LinkRefusal) (publics : List OwnedPublic) (i : ℕ) (rest : gathered known (map name_of (drop i publics)) ≡ total) where
-  name_step :
-      (public : OwnedPublic) → i < length publics → public ≡ get_or publics i public
-      → cond (is_among public.name known) (Err (DuplicatePublic public.name))
-      (gathered (known ++ public.name ∷ []) (map name_of (drop (i + 1) publics))) ≡ total
-  name_step public within is =
-      sym (at_item (λ left. gathered known (map name_of left)) publics i public within is) ∙ rest
-
-  pub name_repeated :
-      (public : OwnedPublic) → i < length publics → public ≡ get_or publics i public
-      → is_among public.name known ≡ true → total ≡ Err (DuplicatePublic public.name)
-  name_repeated public within is found =
-      sym (name_step public within is)
-      ∙ ap (λ b.
-      cond b (Err (DuplicatePublic public.name))
-      (gathered (known ++ public.name ∷ []) (map name_of (drop (i + 1) publics)))) found
-
-  pub name_added :
-      (public : OwnedPublic) (new : List (List ℕ)) → i < length publics → public ≡ get_or publics i public
-      → is_among public.name known ≡ false → new ≡ insert_key bytes_eq known public.name
-      → gathered new (map name_of (drop (i + 1) publics)) ≡ total
-  name_added public new within is absent now =
-      ap (λ names. gathered names (map name_of (drop (i + 1) publics)))
-      (now ∙ ap (λ b. cond b known (known ++ public.name ∷ [])) absent)
-      ∙ sym (ap (λ b.
-      cond b (Err (DuplicatePublic public.name))
-      (gathered (known ++ public.name ∷ []) (map name_of (drop (i + 1) publics)))) absent)
-      ∙ name_step public within is
-
-  pub names_ended : length publics ≤ i → total ≡ Ok known
-  names_ended past = sym rest ∙ at_drop_all (λ left. gathered known (map name_of left)) publics i past
 
 -- names after others
 abbrev pub onward : (ys : List (List ℕ)) → Result (List (List ℕ)) LinkRefusal → Result (List (List ℕ)) LinkRefusal
@@ -70,54 +36,32 @@ views_named (public ∷ others) = ap (λ names. public.name ∷ names) (views_na
 -- modules, one after another
 module _ (known : List (List ℕ)) (total : Result (List (List ℕ)) LinkRefusal) (modules : List ObjectModule) (i : ℕ) (rest : gathered known (public_names (drop i modules)) ≡ total) where
   module_step :
-      (object : ObjectModule) (publics : List OwnedPublic) (found : Result (List (List ℕ)) LinkRefusal)
-      → i < length modules → object ≡ get_or modules i object → map owned_public_view publics ≡ object.publics
-      → gathered known (map name_of publics) ≡ found
+      (object : ObjectModule) (publics : List Public) (found : Result (List (List ℕ)) LinkRefusal)
+      → i < length modules → object ≡ get_or modules i object → publics ≡ object.publics
+      → gathered known (map public_name publics) ≡ found
       → onward (public_names (drop (i + 1) modules)) found ≡ total
-  module_step object publics found within is views h =
-      sym (gathered_by known (map (λ (public : Public). public.name) object.publics)
-      (public_names (drop (i + 1) modules)) found
-      (ap (λ p. gathered known (map (λ (public : Public). public.name) p)) (sym views)
-      ∙ ap (gathered known) (sym (views_named publics)) ∙ h))
+  module_step object publics found within is told h =
+      sym (gathered_by known (map public_name object.publics) (public_names (drop (i + 1) modules)) found
+      (ap (λ p. gathered known (map public_name p)) (sym told) ∙ h))
       ∙ sym (at_item (λ left. gathered known (public_names left)) modules i object within is) ∙ rest
 
   pub module_added :
-      (object : ObjectModule) (publics : List OwnedPublic) (new : List (List ℕ))
-      → i < length modules → object ≡ get_or modules i object → map owned_public_view publics ≡ object.publics
-      → gathered known (map name_of publics) ≡ Ok new → gathered new (public_names (drop (i + 1) modules)) ≡ total
-  module_added object publics new within is views h = module_step object publics (Ok new) within is views h
+      (object : ObjectModule) (publics : List Public) (new : List (List ℕ))
+      → i < length modules → object ≡ get_or modules i object → publics ≡ object.publics
+      → gathered known (map public_name publics) ≡ Ok new → gathered new (public_names (drop (i + 1) modules)) ≡ total
+  module_added object publics new within is told h = module_step object publics (Ok new) within is told h
 
   pub module_repeats :
-      (object : ObjectModule) (publics : List OwnedPublic) (refusal : LinkRefusal)
-      → i < length modules → object ≡ get_or modules i object → map owned_public_view publics ≡ object.publics
-      → gathered known (map name_of publics) ≡ Err refusal → total ≡ Err refusal
-  module_repeats object publics refusal within is views h =
-      sym (module_step object publics (Err refusal) within is views h)
+      (object : ObjectModule) (publics : List Public) (refusal : LinkRefusal)
+      → i < length modules → object ≡ get_or modules i object → publics ≡ object.publics
+      → gathered known (map public_name publics) ≡ Err refusal → total ≡ Err refusal
+  module_repeats object publics refusal within is told h =
+      sym (module_step object publics (Err refusal) within is told h)
 
   pub modules_ended : length modules ≤ i → total ≡ Ok known
   modules_ended past = sym rest ∙ at_drop_all (λ left. gathered known (public_names left)) modules i past
 
 -- the first name that is not among others
-module _ (known : List (List ℕ)) (total : Option (List ℕ)) (names : List (List ℕ)) (i : ℕ) (rest : missing_in known (drop i names) ≡ total) where
-  missing_step :
-      (name : List ℕ) (found : Bool) → i < length names → name ≡ get_or names i name → is_among name known ≡ found
-      → cond (not found) (Some name) (missing_in known (drop (i + 1) names)) ≡ total
-  missing_step name found within is same =
-      ap (λ b. cond (not b) (Some name) (missing_in known (drop (i + 1) names))) (sym same)
-      ∙ sym (at_item (missing_in known) names i name within is) ∙ rest
-
-  pub missing_found :
-      (name : List ℕ) → i < length names → name ≡ get_or names i name → is_among name known ≡ false → Some name ≡ total
-  missing_found name within is same = missing_step name false within is same
-
-  pub missing_passed :
-      (name : List ℕ) → i < length names → name ≡ get_or names i name → is_among name known ≡ true
-      → missing_in known (drop (i + 1) names) ≡ total
-  missing_passed name within is same = missing_step name true within is same
-
-  pub missing_ended : length names ≤ i → None ≡ total
-  missing_ended past = sym (at_drop_all (missing_in known) names i past) ∙ rest
-
 missing_after :
     (known xs ys : List (List ℕ)) → missing_in known (xs ++ ys) ≡ option_or (missing_in known xs) (missing_in known ys)
 missing_after known [] ys = refl

@@ -1,6 +1,10 @@
--- Names that walks over files hand out one after another.
-use Rattle.link_laws.proofs.Prelude.{◌≡◌, ℕ, ◌+◌, ◌<◌, Bool, true, false, cond, not, nat_lt, Bor, List, [], ◌∷◌, ◌++◌, length, map, drop, get_or, Option, None, Some, Result, Ok, Err, refl, ap, sym, ◌∙◌, position, position_or_len, bytes_eq, length-map, OwnedPublic, LinkRefusal, DuplicatePublic, public_names, Public, ObjectModule, is_among, owned_public_view, gathered, missing_in, name_of, public_name}
-use Rattle.link_laws.proofs.NameLoops.{module_added, module_repeats}
+-- Names that walks hand out one after another.
+use Rattle.link_laws.proofs.Prelude.{◌≡◌, ℕ, ◌+◌, Bool, true, false, cond, not, nat_lt, Bor, List, [], ◌∷◌, ◌++◌, length, map, Option, None, Some, option_map, Result, Err, refl, ap, sym, subst, ◌∙◌, list_all, and_parts, position, position_or_len, bytes_eq, length-map, LinkRefusal, DuplicatePublic, Public, is_among, Walking, module_by, ContentsFit, gathered, missing_in, public_name}
+use Rattle.std.specs.Prelude.{IfSome}
+use Rattle.symbols.specs.Names.{is_name}
+use Rattle.object_modules.specs.Views.{public_view}
+use Rattle.object_modules.specs.Walking.{HandsOut}
+use Rattle.object_modules.specs.declared.public.PublicName.{PublicName}
 
 -- a public more
 module _ (known : List (List ℕ)) (total : Result (List (List ℕ)) LinkRefusal) (publics left : List Public) (public : Public) (is_new : Bool) (rest : gathered known (map public_name publics) ≡ total) (next : publics ≡ public ∷ left) (tells : is_new ≡ not (is_among public.name known)) where
@@ -48,33 +52,65 @@ module _ (known : List (List ℕ)) (total : Option (List ℕ)) (names left : Lis
   pub missing_passed : is_among name known ≡ true → missing_in known left ≡ total
   missing_passed there = one_missing true there
 
--- Files, one after another.
-abbrev owned : Public → OwnedPublic
-owned public = record { segment = public.segment; offset = public.offset; name = public.name }
+-- names of valid modules, one after another
+pub names_left :
+    (old new : List (List ℕ)) (first : Option (List ℕ)) → HandsOut old new first → list_all is_name old ≡ true
+    → list_all is_name new ≡ true
+names_left old new (Some name) out valid =
+    (and_parts (is_name name) (list_all is_name new) (sym (ap (list_all is_name) out) ∙ valid)).1
+names_left old new None out valid = ap (list_all is_name) out.1
 
-owned_views : (publics : List Public) → map owned_public_view (map owned publics) ≡ publics
-owned_views [] = refl
-owned_views (public ∷ others) = ap (λ p. public ∷ p) (owned_views others)
+pub publics_left :
+    (old new : List Public) (first : Option Public) → HandsOut old new first
+    → list_all is_name (map public_name old) ≡ true → list_all is_name (map public_name new) ≡ true
+publics_left old new (Some public) out valid =
+    (and_parts (is_name public.name) (list_all is_name (map public_name new))
+    (sym (ap (λ p. list_all is_name (map public_name p)) out) ∙ valid)).1
+publics_left old new None out valid = ap (λ p. list_all is_name (map public_name p)) out.1
 
-owned_names : (publics : List Public) → map name_of (map owned publics) ≡ map public_name publics
-owned_names [] = refl
-owned_names (public ∷ others) = ap (λ n. public.name ∷ n) (owned_names others)
+pub name_handed :
+    (old new : List (List ℕ)) (first : Option (Bor (List ℕ)))
+    → HandsOut old new (option_map (λ (name : Bor (List ℕ)). name.now) first) → list_all is_name old ≡ true
+    → IfSome first (λ name. is_name name.now ≡ true)
+name_handed old new (Some name) out valid =
+    (and_parts (is_name name.now) (list_all is_name new) (sym (ap (list_all is_name) out) ∙ valid)).0
+name_handed old new None out valid = tt
 
-module _ (known : List (List ℕ)) (total : Result (List (List ℕ)) LinkRefusal) (files : List ObjectModule) (i : ℕ) (rest : gathered known (public_names (drop i files)) ≡ total) (file : ObjectModule) (publics : List Public) (within : i < length files) (is : file ≡ get_or files i file) (told : publics ≡ file.publics) where
-  pub file_added :
-      (new : List (List ℕ)) → gathered known (map public_name publics) ≡ Ok new
-      → gathered new (public_names (drop (i + 1) files)) ≡ total
-  file_added new h =
-      module_added known total files i rest file (map owned publics) new within is (owned_views publics ∙ told)
-      (ap (gathered known) (owned_names publics) ∙ h)
+pub public_handed :
+    (old new : List Public) (first : Option PublicName) → HandsOut old new (option_map public_view first)
+    → list_all is_name (map public_name old) ≡ true → IfSome first (λ public. is_name (public.name).now ≡ true)
+public_handed old new (Some public) out valid =
+    (and_parts (is_name (public.name).now) (list_all is_name (map public_name new))
+    (sym (ap (λ p. list_all is_name (map public_name p)) out) ∙ valid)).0
+public_handed old new None out valid = tt
 
-  pub file_repeats :
-      (refusal : LinkRefusal) → gathered known (map public_name publics) ≡ Err refusal → total ≡ Err refusal
-  file_repeats refusal h =
-      module_repeats known total files i rest file (map owned publics) refusal within is (owned_views publics ∙ told)
-      (ap (gathered known) (owned_names publics) ∙ h)
+-- what a walk hands out, its module does
+pub externals_handed :
+    (old new : Walking) (first : Option (List ℕ)) → HandsOut old.externals new.externals first
+    → HandsOut (module_by old).externals (module_by new).externals first
+unfolding module_by
+externals_handed old new first out = out
 
--- and at the same place
+pub publics_handed :
+    (old new : Walking) (first : Option Public) → HandsOut old.publics new.publics first
+    → HandsOut (module_by old).publics (module_by new).publics first
+unfolding module_by
+publics_handed old new first out = out
+
+-- and its contents stay
+pub fits_without_externals :
+    (old new : Walking) (externals : List (List ℕ)) → new ≡ record old { externals = externals } → ContentsFit old
+    → ContentsFit new
+fits_without_externals old new externals is fits =
+    subst ContentsFit (sym is) (record { code = fits.code; data_bytes = fits.data_bytes })
+
+pub fits_without_publics :
+    (old new : Walking) (publics : List Public) → new ≡ record old { publics = publics } → ContentsFit old
+    → ContentsFit new
+fits_without_publics old new publics is fits =
+    subst ContentsFit (sym is) (record { code = fits.code; data_bytes = fits.data_bytes })
+
+-- the place of a name among those that are borrowed
 place_borrowed :
     (name : List ℕ) (keys : List (Bor (List ℕ)))
     → position_or_len (λ (key : Bor (List ℕ)). bytes_eq name key.now) keys

@@ -1,5 +1,5 @@
 -- A piece of a module, content by content, is the piece that is made of its runs and its fixes.
-use Rattle.link_laws.proofs.Prelude.{◌≡◌, ℕ, ◌%◌, ◌==◌, Bool, true, false, cond, not, ◌||◌, List, [], ◌∷◌, ◌++◌, map, filter, filter_map, flat_map, slice_get, Option, Some, None, option_map, refl, ap, sym, ◌∙◌, list_any, option_map_or, option_and_then, option_flatten, append_assoc, append-nil, list_any-append, filter_map-append, slice_get-map, Fix, FixKind, Low, High, Both, Segment, Code, Data, Target, InSegment, External, Linked, displacement_in, gain_in, public_named, start_of, target_kept, target_of_public, Public, fixes_in, runs_of, FixedContent, Run, Walking, module_by, fix_kept, runs_fixed, with_runs, gains_part, high_byte_moves, target_if_high, piece_fixes, piece_runs, AllFit, ContentsFit, Placed, fixes_by_place, is_in, runs_kept, Grown, Resolved, gain_by, grown_by, grown_in, kept_by, moves_by, part_moves, resolved_in, with_content, or-false, or_assoc}
+use Rattle.link_laws.proofs.Prelude.{◌≡◌, ℕ, ◌%◌, ◌==◌, Bool, true, false, cond, not, ◌||◌, List, [], ◌∷◌, ◌++◌, map, filter, filter_map, flat_map, slice_get, Option, Some, None, option_map, refl, ap, sym, ◌∙◌, list_any, option_map_or, option_and_then, option_flatten, append_assoc, append-nil, list_any-append, filter_map-append, slice_get-map, Fix, FixKind, Low, High, Both, Segment, Code, Data, Target, InSegment, External, Linked, displacement_in, gain_in, public_named, start_of, target_kept, target_of_public, Public, ObjectModule, fixes_in, runs_of, FixedContent, Run, Walking, module_by, fix_kept, runs_fixed, with_runs, gains_part, high_byte_moves, target_if_high, AllFit, ContentsFit, Placed, fixes_by_place, is_in, runs_kept, Grown, Resolved, gain_by, grown_by, grown_from, grown_in, kept_by, moves_by, part_moves, resolved_in, with_content, or-false, or_assoc}
 use Rattle.link_laws.proofs.ModuleTold.{code_fixes, code_runs, data_fixes, data_runs}
 use Rattle.link_laws.proofs.RunsByContents.{runs_by_contents, runs_grown}
 
@@ -102,53 +102,69 @@ module _ (resolved : Resolved) (segment : Segment) where
           ++ filter_map (fix_kept start_here (kept_by resolved)) ys
       kept_both xs ys = filter_map-append (fix_kept start_here (kept_by resolved)) xs ys
 
+-- a segment so far, by its parts
+pub parts_same :
+    (runs new_runs : List (Run ℕ)) (fixes new_fixes : List Fix) (moves new_moves : Bool)
+    → runs ≡ new_runs → fixes ≡ new_fixes → moves ≡ new_moves
+    → ◌≡◌ {A = Grown} (record { runs = runs; fixes = fixes; moves = moves })
+    (record { runs = new_runs; fixes = new_fixes; moves = new_moves })
+parts_same runs new_runs fixes new_fixes moves new_moves p q r =
+    λ i. record { runs = p i; fixes = q i; moves = r i }
+
 -- Together they are the piece that is made of the runs and the fixes of the segment.
 piece_is :
-    (publics : List Public) (segment : Segment) (one : Linked) (grown : Grown) (size : ℕ) (own : List FixedContent)
-    → Placed size 0 own → AllFit own → runs_of one.object segment ≡ runs_kept own
-    → fixes_in one.object segment ≡ flat_map fixes_by_place own
-    → grown_parts (resolved_in publics one) segment grown own ≡ grown_by publics segment grown one
-piece_is publics segment one grown size own placed fit runs fixes =
-    let by : ℕ = displacement_in one segment in
-    let gain : Target → ℕ = gain_by (resolved_in publics one) in
-    let kept : Target → Option Target = kept_by (resolved_in publics one) in
+    (resolved : Resolved) (segment : Segment) (object : ObjectModule) (grown : Grown) (size : ℕ)
+    (own : List FixedContent)
+    → Placed size 0 own → AllFit own → runs_of object segment ≡ runs_kept own
+    → fixes_in object segment ≡ flat_map fixes_by_place own
+    → grown_parts resolved segment grown own ≡ grown_from resolved segment grown object
+piece_is resolved segment object grown size own placed fit runs fixes =
+    let by : ℕ = start_of resolved.start segment in
     let listed : List Fix = flat_map fixes_by_place own in
-    let these_runs : runs_grown by gain grown.runs own ≡ with_runs grown.runs (piece_runs publics segment one) =
-    sym (runs_by_contents by gain grown.runs size 0 own placed fit)
-    ∙ ap (λ g. with_runs grown.runs (runs_fixed by g listed (runs_kept own))) (gain_same publics one)
-    ∙ ap (λ r. with_runs grown.runs (runs_fixed by (gain_in publics one) listed r)) (sym runs)
-    ∙ ap (λ f. with_runs grown.runs (runs_fixed by (gain_in publics one) f (runs_of one.object segment))) (sym fixes) in
-    let these_fixes : filter_map (fix_kept by kept) listed ≡ piece_fixes publics segment one =
-    ap (λ k. filter_map (fix_kept by k) listed) (kept_same publics one)
-    ∙ ap (filter_map (fix_kept by (target_kept publics one))) (sym fixes) in
-    let these_move :
-    list_any (moves_by (resolved_in publics one)) listed
-    ≡ list_any (high_byte_moves publics one) (fixes_in one.object segment) =
-    ap (λ m. list_any m listed) (moves_same publics one)
-    ∙ ap (list_any (high_byte_moves publics one)) (sym fixes) in
-    λ i. record {
-      runs = these_runs i;
-      fixes = grown.fixes ++ these_fixes i;
-      moves = grown.moves || these_move i;
-    }
+    let these_fixes : listed ≡ fixes_in object segment = sym fixes in
+    let these_runs :
+    runs_grown by (gain_by resolved) grown.runs own
+    ≡ with_runs grown.runs (runs_fixed by (gain_by resolved) (fixes_in object segment) (runs_of object segment)) =
+    sym (runs_by_contents by (gain_by resolved) grown.runs size 0 own placed fit)
+    ∙ ap (λ r. with_runs grown.runs (runs_fixed by (gain_by resolved) listed r)) (sym runs)
+    ∙ ap (λ f. with_runs grown.runs (runs_fixed by (gain_by resolved) f (runs_of object segment))) these_fixes in
+    parts_same _ _ _ _ _ _ these_runs
+    (ap (λ f. grown.fixes ++ filter_map (fix_kept by (kept_by resolved)) f) these_fixes)
+    (ap (λ f. grown.moves || list_any (moves_by resolved) f) these_fixes)
 
-module _ (publics : List Public) (one : Linked) (walking : Walking) (resolved : Resolved) (fits : ContentsFit walking) (told : one.object ≡ module_by walking) (is : resolved ≡ resolved_in publics one) where
+module _ (resolved : Resolved) (walking : Walking) (fits : ContentsFit walking) where
   pub code_grown :
-      (grown : Grown) → grown_in resolved Code grown walking.contents ≡ grown_by publics Code grown one
+      (grown : Grown)
+      → grown_in resolved Code grown walking.contents ≡ grown_from resolved Code grown (module_by walking)
   code_grown grown =
       let own : List FixedContent = filter (is_in Code) walking.contents in
-      ap (λ r. grown_in r Code grown walking.contents) is
-      ∙ grown_own (resolved_in publics one) Code grown walking.contents
-      ∙ grown_in_parts (resolved_in publics one) Code grown own
-      ∙ piece_is publics Code one grown walking.code_length own fits.code.placed fits.code.fit
-      (ap (λ o. runs_of o Code) told ∙ code_runs walking fits) (ap (λ o. fixes_in o Code) told ∙ code_fixes walking fits)
+      grown_own resolved Code grown walking.contents
+      ∙ grown_in_parts resolved Code grown own
+      ∙ piece_is resolved Code (module_by walking) grown walking.code_length own fits.code.placed fits.code.fit
+      (code_runs walking fits) (code_fixes walking fits)
 
   pub data_grown :
-      (grown : Grown) → grown_in resolved Data grown walking.contents ≡ grown_by publics Data grown one
+      (grown : Grown)
+      → grown_in resolved Data grown walking.contents ≡ grown_from resolved Data grown (module_by walking)
   data_grown grown =
       let own : List FixedContent = filter (is_in Data) walking.contents in
-      ap (λ r. grown_in r Data grown walking.contents) is
-      ∙ grown_own (resolved_in publics one) Data grown walking.contents
-      ∙ grown_in_parts (resolved_in publics one) Data grown own
-      ∙ piece_is publics Data one grown walking.data_length own fits.data_bytes.placed fits.data_bytes.fit
-      (ap (λ o. runs_of o Data) told ∙ data_runs walking fits) (ap (λ o. fixes_in o Data) told ∙ data_fixes walking fits)
+      grown_own resolved Data grown walking.contents
+      ∙ grown_in_parts resolved Data grown own
+      ∙ piece_is resolved Data (module_by walking) grown walking.data_length own fits.data_bytes.placed
+      fits.data_bytes.fit (data_runs walking fits) (data_fixes walking fits)
+
+-- The same where the targets are resolved by the publics of the merge.
+pub piece_grown :
+    (publics : List Public) (segment : Segment) (one : Linked) (object : ObjectModule) (resolved : Resolved)
+    (grown : Grown)
+    → object ≡ one.object → resolved ≡ resolved_in publics one
+    → grown_from resolved segment grown object ≡ grown_by publics segment grown one
+piece_grown publics segment one object resolved grown same is =
+    let by : ℕ = displacement_in one segment in
+    let fixes : List Fix = fixes_in one.object segment in
+    ap (grown_from resolved segment grown) same
+    ∙ ap (λ r. grown_from r segment grown one.object) is
+    ∙ parts_same _ _ _ _ _ _
+    (ap (λ gain. with_runs grown.runs (runs_fixed by gain fixes (runs_of one.object segment))) (gain_same publics one))
+    (ap (λ kept. grown.fixes ++ filter_map (fix_kept by kept) fixes) (kept_same publics one))
+    (ap (λ moves. grown.moves || list_any moves fixes) (moves_same publics one))

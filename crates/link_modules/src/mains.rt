@@ -7,8 +7,11 @@ ghost use Rattle.object_modules.specs.Merge.{main_modules};
 ghost use Rattle.object_laws.proofs.Merges.MergeValid.{main_of};
 ghost use Rattle.link_modules.specs.Views.{main_view};
 
+use crate::inputs::Input;
+use crate::linkable::{Linkable, Named};
+use crate::names::name_of;
 use crate::placed::Placed;
-use object_modules::{Name, ObjectModule, Segment};
+use object_modules::{Name, Segment};
 
 /// The name of a main module, and its start in a merge.
 #[derive(Clone, Copy)]
@@ -19,12 +22,12 @@ pub(crate) struct MainModule {
 
 /// Whether just one module has a start.
 #[tactic(auto, using(link_laws::proofs::MainPasses::mains_begun, link_laws::proofs::MainPasses::main_passed, link_laws::proofs::MainPasses::main_first, link_laws::proofs::MainPasses::main_again, link_laws::proofs::MainPasses::mains_ended))]
-pub(crate) fn has_one_main(modules: &[ObjectModule]) -> bool
-    ensures { result ≡ (length (main_modules (linked_modules modules.now)) == 1) }
+pub(crate) fn has_one_main<L: Linkable>(inputs: &[Input<L>]) -> bool
+    ensures { result ≡ (length (main_modules (linked_modules inputs.now)) == 1) }
 {
     let mut found = false;
-    for module in modules {
-        if module.start().is_some() {
+    for input in inputs {
+        if input.start().is_some() {
             if found {
                 return false;
             }
@@ -35,19 +38,19 @@ pub(crate) fn has_one_main(modules: &[ObjectModule]) -> bool
 }
 
 // A module as a main module, if it is one.
-fn main_in(placed: &Placed) -> Option<MainModule>
+fn main_in<'a, L: Named<'a>>(placed: &Placed<'_, L>) -> Option<MainModule>
     ensures { option_map main_view result ≡ main_of placed.now }
 {
-    let start = placed.module().start()?;
-    let name = Name::from_text(placed.name())?;
+    let item = placed.item();
+    let start = item.start()?;
     Some(MainModule {
-        name,
+        name: name_of(item.name()),
         start: start.wrapping_add(placed.start(Segment::Code)),
     })
 }
 
 /// The first main module.
-pub(crate) fn first_main(placed: &[Placed]) -> Option<MainModule>
+pub(crate) fn first_main<'a, L: Named<'a>>(placed: &[Placed<'_, L>]) -> Option<MainModule>
     ensures { option_map main_view result ≡ slice_get (main_modules placed.now) 0 }
 {
     for one in placed {

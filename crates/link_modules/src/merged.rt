@@ -43,6 +43,14 @@ impl Merged {
         &self.object
     }
 
+    /// The merged module by itself.
+    pub fn into_module(self) -> ObjectModule
+        ensures { result ≡ self.object }
+    {
+        let Merged { object, starts: _ } = self;
+        object
+    }
+
     /// Where the piece of a segment of a module begins, 0 to 65535. Modules are counted from 0.
     pub fn start_of(&self, number: usize, segment: Segment) -> u16
         requires { number < length self.now.starts }

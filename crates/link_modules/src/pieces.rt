@@ -6,18 +6,21 @@ ghost use Rattle.object_modules.specs.Displacements.{linked_modules, start_after
 ghost use Rattle.object_modules.specs.Merge.{SegmentTooLong, some_segment_is_too_long};
 ghost use Rattle.object_modules.specs.Module.{IsObjectModule};
 ghost use Rattle.link_laws.specs.Faults.{refusal_of};
-ghost use Rattle.link_modules.specs.Views.{start_view};
 ghost use Rattle.link_laws.specs.internal.Building.{starts_in};
+ghost use Rattle.link_modules.specs.Views.{start_view};
 
+use crate::inputs::Input;
+use crate::linkable::Linkable;
 use crate::placed::{ModuleStart, Placed};
 use failure::Failure;
 use link_laws::LinkFault;
-use object_modules::{Alignment, ObjectModule, SEGMENT_LIMIT, Segment};
+use object_modules::{Alignment, SEGMENT_LIMIT, Segment};
 use std::alloc::{AllocError, Global};
 
 /// Modules with the places of their pieces, and the length of the merged stack.
-pub(crate) struct Pieces<'a> {
-    pub(crate) placed: Vec<Placed<'a>>,
+#[derive(Drop)]
+pub(crate) struct Pieces<'s, L: Linkable> {
+    pub(crate) placed: Vec<Placed<'s, L>>,
     pub(crate) stack_length: u16,
 }
 
@@ -33,30 +36,31 @@ fn start_at(end: u32, alignment: Alignment) -> u32
 }
 
 /// Where the pieces of modules begin, module by module; a segment of the merge that is too long is a fault.
-pub(crate) fn pieces_of<'a>(
+pub(crate) fn pieces_of<'s, L: Linkable>(
     alloc: Global,
-    modules: &'a [ObjectModule],
-) -> Result<Pieces<'a>, Failure<LinkFault>>
-    ensures placed { IfOk result (λ pieces. pieces.placed.items ≡ linked_modules modules.now) }
+    inputs: &'s [Input<L>],
+) -> Result<Pieces<'s, L>, Failure<LinkFault>>
+    ensures placed { IfOk result (λ pieces. pieces.placed.items ≡ linked_modules inputs.now) }
     ensures stack { IfOk result (λ pieces. pieces.stack_length
-        ≡ sum_by (λ object. object.stack_length) modules.now) }
-    ensures valid { IfOk result (λ _. All IsObjectModule modules.now) }
+        ≡ sum_by (λ object. object.stack_length) inputs.now) }
+    ensures valid { IfOk result (λ _. All IsObjectModule inputs.now) }
     ensures fits { IfOk result (λ _.
-        some_segment_is_too_long modules.now (linked_modules modules.now) ≡ false) }
+        some_segment_is_too_long inputs.now (linked_modules inputs.now) ≡ false) }
     ensures fault { IfFault result (λ fault. refusal_of fault ≡ SegmentTooLong) }
     ensures too_long { IfFault result (λ _.
-        some_segment_is_too_long modules.now (linked_modules modules.now) ≡ true) }
+        some_segment_is_too_long inputs.now (linked_modules inputs.now) ≡ true) }
 {
     let mut placed = Vec::new(alloc);
     let mut code: u32 = 0;
     let mut data_end: u32 = 0;
     let mut stack: u32 = 0;
-    for module in modules {
-        let code_start = start_at(code, module.alignment(Segment::Code));
-        let data_start = start_at(data_end, module.alignment(Segment::Data));
-        code = code_start + module.length(Segment::Code) as u32;
-        data_end = data_start + module.length(Segment::Data) as u32;
-        stack += module.stack_length() as u32;
+    for input in inputs {
+        let code_start = start_at(code, input.alignment(Segment::Code));
+        let data_start = start_at(data_end, input.alignment(Segment::Data));
+        code = code_start + input.length(Segment::Code) as u32;
+        data_end = data_start + input.length(Segment::Data) as u32;
+        let stack_more = input.length(Segment::Stack);
+        stack += stack_more as u32;
         if code > SEGMENT_LIMIT {
             return Err(Failure::Fault(LinkFault::SegmentTooLong));
         }
@@ -70,7 +74,7 @@ pub(crate) fn pieces_of<'a>(
             code: code_start as u16,
             data_start: data_start as u16,
         };
-        placed.push(Placed::new(module, start))?;
+        placed.push(Placed::new(input, start))?;
     }
     Ok(Pieces {
         placed,
@@ -79,7 +83,10 @@ pub(crate) fn pieces_of<'a>(
 }
 
 /// Where the pieces of each module begin.
-pub(crate) fn starts_of(alloc: Global, placed: &[Placed]) -> Result<Vec<ModuleStart>, AllocError>
+pub(crate) fn starts_of<L: Linkable>(
+    alloc: Global,
+    placed: &[Placed<'_, L>],
+) -> Result<Vec<ModuleStart>, AllocError>
     ensures { IfOk result (λ starts. map start_view starts.items ≡ starts_in placed.now) }
 {
     let mut starts = Vec::new(alloc);
@@ -89,14 +96,4 @@ pub(crate) fn starts_of(alloc: Global, placed: &[Placed]) -> Result<Vec<ModuleSt
         rest = more;
     }
     Ok(starts)
-}
-
-// Written out, so that what these hold is let go here.
-impl<'a> Drop for Pieces<'a> {
-    fn drop(self) {
-        let Pieces {
-            placed: _,
-            stack_length: _,
-        } = self;
-    }
 }

@@ -1,12 +1,13 @@
 //! A module of a merge, and where its pieces begin there.
 
-ghost use Rattle.std.specs.Prelude.{◌≡◌, ◌+◌, ◌≤◌, IsTrue, length};
-ghost use Rattle.symbols.specs.Names.{is_name};
+ghost use Rattle.std.specs.Prelude.{◌≡◌, ◌+◌, ◌≤◌, length};
 ghost use Rattle.object_modules.specs.Displacements.{displacement_in};
 ghost use Rattle.object_modules.specs.Module.{IsObjectModule, length_of};
 ghost use Rattle.link_modules.specs.Views.{start_view};
 
-use object_modules::{ObjectModule, Segment};
+use crate::inputs::Input;
+use crate::linkable::Linkable;
+use object_modules::Segment;
 use std::marker::Model;
 
 /// Where the pieces of a module begin in those of a merge.
@@ -16,59 +17,74 @@ pub(crate) struct ModuleStart {
     pub(crate) data_start: u16,
 }
 
-/// A module, its name, and where its pieces begin in those of a merge.
-pub(crate) struct Placed<'a> {
-    module: &'a ObjectModule,
-    name: &'a [u8],
+impl ModuleStart {
+    ghost use Rattle.std.specs.Prelude.{◌≡◌};
+    ghost use Rattle.object_modules.specs.Displacements.{start_of};
+    ghost use Rattle.link_modules.specs.Views.{start_view};
+
+    /// Where the piece of a segment begins; 0 for the absolute one and the stack.
+    pub(crate) fn of(self, segment: Segment) -> u16
+        ensures { result ≡ start_of (start_view self) segment }
+    {
+        match segment {
+            Segment::Code => self.code,
+            Segment::Data => self.data_start,
+            Segment::Absolute | Segment::Stack => 0,
+        }
+    }
+}
+
+/// A module, and where its pieces begin in those of a merge.
+#[derive(Drop)]
+pub(crate) struct Placed<'s, L: Linkable> {
+    item: &'s L,
     start: ModuleStart,
 }
 
-impl<'a> Model for Placed<'a> {
-    ghost use Rattle.std.specs.Prelude.{◌≡◌};
+impl<'s, L: Linkable> Model for Placed<'s, L> {
     ghost use Rattle.object_modules.specs.Displacements.{Linked};
     ghost use Rattle.link_modules.specs.Views.{start_view};
     ghost use Rattle.link_laws.specs.internal.Building.{Fits};
 
     ghost Value = { Linked };
 
-    ghost view = { λ placed. record { object = placed.module.now; start = start_view placed.start } };
+    ghost view = { λ placed. record { object = L.told placed.item.now; start = start_view placed.start } };
 
-    ghost invariant = { λ placed. record {
-      named : placed.name.now ≡ placed.module.now.name;
-      fits : Fits (record { object = placed.module.now; start = start_view placed.start });
-    } };
+    ghost invariant = { λ placed.
+        Fits (record { object = L.told placed.item.now; start = start_view placed.start }) };
 }
 
-impl<'a> Placed<'a> {
+impl<'s, L: Linkable> Placed<'s, L> {
     /// A module with pieces that begin at a place and end within their segments.
-    pub(crate) fn new(object: &'a ObjectModule, start: ModuleStart) -> Placed<'a>
-        requires code { start.code + length object.now.code.places ≤ 65535 }
-        requires data_bytes { start.data_start + length object.now.data_places.places ≤ 65535 }
-        ensures object { result.object ≡ object.now }
+    pub(crate) fn new(input: &'s Input<L>, start: ModuleStart) -> Placed<'s, L>
+        requires code { start.code + length input.now.code.places ≤ 65535 }
+        requires data_bytes { start.data_start + length input.now.data_places.places ≤ 65535 }
+        ensures object { result.object ≡ input.now }
         ensures start { result.start ≡ start_view start }
-        ensures valid { IsObjectModule object.now }
+        ensures valid { IsObjectModule input.now }
     {
         Placed {
-            module: object,
-            name: object.name(),
+            item: input.item(),
             start,
         }
     }
 
-    /// The module.
-    pub(crate) fn module(&self) -> &'a ObjectModule
-        ensures same { result.now ≡ self.now.object }
-        ensures valid { IsObjectModule self.now.object }
+    /// What it is read from.
+    pub(crate) fn item(&self) -> &'s L
+        ensures same { L.told result.now ≡ self.now.object }
+        ensures code { (self.now.start).code + length (L.told result.now).code.places ≤ 65535 }
+        ensures data_bytes { (self.now.start).data_start
+            + length (L.told result.now).data_places.places ≤ 65535 }
     {
-        self.module
+        self.item
     }
 
-    /// The name of the module.
-    pub(crate) fn name(&self) -> &'a [u8]
-        ensures same { result.now ≡ self.now.object.name }
-        ensures valid { IsTrue (is_name result.now) }
+    /// A walk over its names.
+    pub(crate) fn walk(&self) -> L
+        ensures externals { (L.told result).externals ≡ self.now.object.externals }
+        ensures publics { (L.told result).publics ≡ self.now.object.publics }
     {
-        self.name
+        self.item.again()
     }
 
     /// Where its pieces begin.
@@ -83,28 +99,13 @@ impl<'a> Placed<'a> {
         ensures start { result ≡ displacement_in self.now segment }
         ensures fits { result + length_of self.now.object segment ≤ 65535 }
     {
-        match segment {
-            Segment::Code => self.start.code,
-            Segment::Data => self.start.data_start,
-            Segment::Absolute | Segment::Stack => 0,
-        }
+        self.start.of(segment)
     }
 
     /// Where its piece of a segment ends.
     pub(crate) fn end(&self, segment: Segment) -> u16
         ensures { result ≡ displacement_in self.now segment + length_of self.now.object segment }
     {
-        self.start(segment) + self.module.length(segment)
-    }
-}
-
-// Written out, so that what it holds is let go here.
-impl<'a> Drop for Placed<'a> {
-    fn drop(self) {
-        let Placed {
-            module: _,
-            name: _,
-            start: _,
-        } = self;
+        self.start(segment) + self.item.length(segment)
     }
 }

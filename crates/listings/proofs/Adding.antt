@@ -1,7 +1,6 @@
 -- Texts that are added step by step.
-use Rattle.std.proofs.Common.{◌≡◌, ℕ, suc, ◌-◌, ◌<◌, ◌≤◌, List, [], ◌∷◌, ◌++◌, Result, Ok, Err, OnOk, drop, get_or, length, take, refl, ap, sym, subst, ◌∙◌, arith}
-use Rattle.std.proofs.lemmas.List.{append-nil, append_assoc, take_all}
-use Rattle.listings.specs.internal.Adding.{Adds, IsBegun}
+use Rattle.listings.proofs.Prelude.{◌≡◌, ℕ, suc, ◌-◌, ◌<◌, ◌≤◌, List, [], ◌∷◌, ◌++◌, Result, Ok, Err, OnOk, drop, get_or, length, take, refl, ap, sym, subst, ◌∙◌, arith, append-nil, append_assoc, take_all, Adds, IsBegun}
+pub use Rattle.literally.proofs.ExpansionTexts.{no_element as none_left}
 
 pub begun : {A : Type 0} (IsText : A → List ℕ → Type 0) (all : A) (old : List ℕ) → IsBegun IsText all all old old
 begun IsText all old = record { text = []; added = sym (append-nil old); with_rest = λ more is. is }
@@ -28,10 +27,6 @@ split_first [] x d some is = absurd (omega (arith, some))
 split_first (y ∷ ys) x d some is =
     let count : length ys ≡ suc (length ys) - 1 = omega arith in
     ap (λ first. first ∷ ys) (sym is) ∙ ap (λ others. x ∷ others) (sym (take_all (length ys) ys (omega arith)) ∙ ap (λ (n : ℕ). take n ys) count)
-
-pub none_left : {A : Type 0} (left : List A) → length left < 1 → left ≡ []
-none_left [] none = refl
-none_left (x ∷ left) none = absurd (omega (arith, none))
 
 -- what holds where all went well
 pub on_ok : {T E : Type 0} (result : Result T E) (P Q : Type 0) → (P → Q) → OnOk result P → OnOk result Q

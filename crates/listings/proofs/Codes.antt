@@ -1,18 +1,5 @@
 -- Instructions that are read from an image.
-use Rattle.std.proofs.Common.{◌≡◌, ℕ, zero, suc, ◌+◌, ◌-◌, ◌≤◌, Bool, true, false, ◌&&◌, List, [], ◌∷◌, ◌++◌, length, take, replicate, slice_index, Option, Some, None, refl, ap, sym, ◌∙◌, ◌<◌, inl, inr, subst, unwrap_or, arith}
-use Rattle.std.proofs.lemmas.Bool.{and_parts, eq-eqb, eqb-true, true≢false}
-use Rattle.std.proofs.lemmas.List.{take-append-le, take_all}
-use Rattle.std.proofs.lemmas.Option.{none-some, same_Some}
-use Rattle.isa8080.proofs.EncodingLemmas.{read_back}
-use Rattle.isa8080.specs.Code.{Form, One, Three, Two, Unknown, bytes_of, first_instruction, form_of, instruction_of}
-use Rattle.isa8080.specs.State.{word}
-use Rattle.isa8080.specs.declared.instr.Instr.{Instr}
-use Rattle.mem80.specs.declared.range.Piece.{Piece}
-use Rattle.listings.specs.Listing.{AllThere, byte_in}
-use Rattle.listings.specs.declared.image.Coded.{Coded}
-use Rattle.listings.specs.declared.parts.CodeSegment.{CodeSegment}
-use Rattle.listings.specs.internal.Parts.{IsCodeIn, IsNoCode}
-use Rattle.listings.specs.internal.Reading.{IsCoded, IsCodedAt, are_there, is_byte}
+use Rattle.listings.proofs.Prelude.{◌≡◌, ℕ, zero, suc, ◌+◌, ◌-◌, ◌≤◌, Bool, true, false, ◌&&◌, List, [], ◌∷◌, ◌++◌, length, take, replicate, slice_index, Option, Some, None, refl, ap, sym, ◌∙◌, ◌<◌, inl, inr, subst, unwrap_or, arith, and_parts, eq-eqb, eqb-true, true≢false, take-append-le, take_all, none-some, same_Some, read_back, Form, One, Three, Two, Unknown, bytes_of, first_instruction, form_of, instruction_of, word, Instr, Piece, AllThere, byte_in, Coded, CodeSegment, IsCodeIn, IsNoCode, IsCoded, IsCodedAt, are_there, is_byte}
 
 -- the first bytes of an instruction's code are its bytes
 pub bytes_taken : (i : Instr) (bytes : List ℕ) (size count : ℕ) → bytes ≡ bytes_of i ++ replicate count 0 → size ≡ length (bytes_of i) → take size bytes ≡ bytes_of i

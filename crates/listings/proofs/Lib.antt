@@ -1,3 +1,4 @@
+mod Prelude
 pub mod Codes
 pub mod Stepping
 pub mod SourceLines

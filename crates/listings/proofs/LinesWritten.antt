@@ -1,13 +1,6 @@
 -- Lines as they are formatted.
-use Rattle.std.proofs.Common.{◌≡◌, ℕ, ◌+◌, ◌-◌, ◌/◌, ◌%◌, ◌^◌, ◌<◌, ◌≤◌, true, List, [], ◌∷◌, ◌++◌, Option, Some, Result, OnOk, IfSome, decimal, length, replicate, ⊎_elim, ap, sym, subst, ◌∙◌, arith}
-use Rattle.std.proofs.lemmas.Bool.{cases_lt}
-use Rattle.std.proofs.lemmas.Fmt.{decimal_digit, decimal_step}
-use Rattle.std.proofs.lemmas.List.{length-append}
-use Rattle.std.specs.Fmt.{digits_output, format_spec, styled_digits_output, ◌++?◌}
-use Rattle.std.specs.Io.KnownBytes.{Appends}
-unfoldable use Rattle.std.specs.Fmt.{digits}
-use Rattle.object_commands.proofs.Lines.{hole_is}
-use Rattle.object_commands.specs.Placing.{address_digits}
+use Rattle.listings.proofs.Prelude.{◌≡◌, ℕ, ◌+◌, ◌-◌, ◌/◌, ◌%◌, ◌^◌, ◌<◌, ◌≤◌, true, List, [], ◌∷◌, ◌++◌, Option, Some, Result, OnOk, decimal, length, replicate, ⊎_elim, ap, sym, subst, ◌∙◌, arith, cases_lt, decimal_digit, decimal_step, length-append, digits_output, format_spec, styled_digits_output, ◌++?◌, Appends, digits, hole_is, address_digits}
+use Rattle.std.proofs.Common.{IfSome}
 
 -- an address after a space
 pub address_written : {E : Type 0} (result : Result (Unit {0}) E) (d : _) (spec : _) (n : ℕ) (old new : List ℕ)

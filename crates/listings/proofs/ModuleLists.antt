@@ -1,22 +1,5 @@
 -- The listing of a module.
-use Rattle.std.proofs.Common.{◌≡◌, ℕ, ◌+◌, ◌==◌, Bool, true, false, if◌then◌else◌, List, [], ◌∷◌, ◌++◌, Contains, map, Some, refl, ap, sym, subst, ◌∙◌}
-use Rattle.std.proofs.lemmas.Bool.{eqb-true}
-use Rattle.std.proofs.lemmas.List.{append_assoc}
-use Rattle.std.proofs.lemmas.Option.{none-some, same_Some}
-use Rattle.mem80.specs.declared.range.Piece.{Piece}
-use Rattle.object_modules.specs.Image.{Symbol, range_at}
-use Rattle.typed_trees.specs.Weight.{constant_bytes}
-use Rattle.listings.specs.Listing.{cells_in, lines_of, parts_in, parts_text, sizes_text}
-use Rattle.listings.specs.declared.named.Named.{Named}
-use Rattle.listings.specs.declared.parts.Part.{Part}
-use Rattle.listings.specs.declared.views.ModuleView.{ModuleView}
-use Rattle.listings.specs.internal.Adding.{Adds}
-use Rattle.listings.specs.internal.Modules.{code_text}
-use Rattle.listings.specs.internal.Parts.{AddsParts, IsLone, lined}
-use Rattle.listings.specs.internal.Programs.{IsCodeOf, ListsView, code_size, data_size, text_of, typed_of}
-use Rattle.listings.specs.internal.Views.{name_at, named_view, symbol_at}
-use Rattle.listings.proofs.NamesAdded.{contains_first, contains_later}
-use Rattle.listings.proofs.Shown.{bytes_are_shown, cells_added, cells_lined, each_added, none_left_out, parts_shown}
+use Rattle.listings.proofs.{Prelude.{◌≡◌, ℕ, ◌+◌, ◌==◌, Bool, true, false, if◌then◌else◌, List, [], ◌∷◌, ◌++◌, Contains, map, Some, refl, ap, sym, subst, ◌∙◌, eqb-true, append_assoc, none-some, same_Some, Piece, Symbol, range_at, constant_bytes, cells_in, lines_of, parts_in, parts_text, sizes_text, Named, Part, ModuleView, Adds, code_text, AddsParts, IsLone, lined, IsCodeOf, ListsView, code_size, data_size, text_of, typed_of, name_at, named_view, symbol_at}, NamesAdded.{contains_first, contains_later}, Shown.{bytes_are_shown, cells_added, cells_lined, each_added, none_left_out, parts_shown}}
 
 -- a name that is found stands for the address
 found_by : (t : Bool) (first symbol : Symbol) (symbols : List Symbol) (address : ℕ) → (first.address == address) ≡ t

@@ -1,24 +1,7 @@
 -- Names that are added.
-use Rattle.std.proofs.Common.{◌≡◌, inl, inr, ℕ, zero, suc, ◌-◌, ◌≤◌, List, [], ◌∷◌, ◌++◌, Contains, drop, get_or, length, take, map, filter_map, zip, slice_get, Option, Some, None, option_map, refl, ap, sym, subst, ◌∙◌, arith}
-use Rattle.std.proofs.lemmas.List.{append-nil, append_assoc}
-use Rattle.std.proofs.lemmas.List.Elements.{Contains-append_left, Contains-append_right}
-use Rattle.std.proofs.lemmas.Option.{none-some, same_Some, slice_get-map}
-use Rattle.std.specs.List.{AllByRecursion, cons_option}
-use Rattle.std.specs.Prelude.{IfSome, option_to_list}
-use Rattle.layout.specs.Placement.{ModulePlacement}
-use Rattle.object_modules.specs.Image.{Symbol}
-use Rattle.runtime8080.specs.declared.routine.Routine.{Routine}
+use Rattle.listings.proofs.{Prelude.{◌≡◌, inl, inr, ℕ, zero, suc, ◌-◌, ◌≤◌, List, [], ◌∷◌, ◌++◌, Contains, drop, get_or, length, take, map, filter_map, zip, slice_get, Option, Some, None, option_map, refl, ap, sym, subst, ◌∙◌, arith, append-nil, append_assoc, Contains-append_left, Contains-append_right, none-some, same_Some, slice_get-map, AllByRecursion, cons_option, IfSome, option_to_list, ModulePlacement, Symbol, Routine, TypedModule, TypedObject, TypedProcedure, object_view, CodeObject, object_symbol, routine_names, NameText, Named, ModuleView, AddsNames, AreNamesSoFar, HasAmong, IsNameAmong, IsNameIn, names_in, pair_of, typed_of, named_view, named_with, routine_name, text_of_name}, Adding.{split_first}}
 use Rattle.runtime8080.specs.declared.routine.Routine.TheVariants as routines
-use Rattle.typed_trees.specs.TypedTrees.{TypedModule, TypedObject, TypedProcedure}
-use Rattle.typed_trees.specs.Views.{object_view}
-use Rattle.typed_trees.specs.declared.module.TypedObject.{TypedObject as CodeObject}
-use Rattle.listings.specs.Names.{object_symbol, routine_names}
-use Rattle.listings.specs.declared.named.NameText.{NameText}
-use Rattle.listings.specs.declared.named.Named.{Named}
-use Rattle.listings.specs.declared.views.ModuleView.{ModuleView}
-use Rattle.listings.specs.internal.Programs.{AddsNames, AreNamesSoFar, HasAmong, IsNameAmong, IsNameIn, names_in, pair_of, typed_of}
-use Rattle.listings.specs.internal.Views.{named_view, named_with, routine_name, text_of_name}
-use Rattle.listings.proofs.Adding.{split_first}
+pub use Rattle.call_graphs.proofs.Elements.{at_head as contains_first}
 
 -- what stands at a place is an element
 pub contains_at : {A : Type 0} (xs : List A) (n : ℕ) (x : A) → slice_get xs n ≡ Some x → Contains xs x
@@ -84,9 +67,6 @@ code_name_more view old now new address text so_far fits is =
     names_more (IsNameIn view) old now new (option_map (named_with address) text) so_far (if_code view address text fits) is
 
 -- objects of a module, one after another
-pub contains_first : {A : Type 0} (x : A) (xs : List A) → Contains (x ∷ xs) x
-contains_first x xs = (zero, omega arith, refl)
-
 pub contains_later : {A : Type 0} (first x : A) (xs : List A) → Contains xs x → Contains (first ∷ xs) x
 contains_later first x xs found = (suc found.0, omega (arith, found.1), found.2)
 

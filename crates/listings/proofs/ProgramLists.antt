@@ -1,25 +1,5 @@
 -- The listing of a program.
-use Rattle.std.proofs.Common.{◌≡◌, ◌⊎◌, inl, inr, ⊎_elim, ℕ, ◌+◌, ◌-◌, ◌<◌, ◌≤◌, List, [], ◌∷◌, ◌++◌, Contains, drop, flat_map, get_or, length, map, take, zip, sym, subst}
-use Rattle.std.proofs.lemmas.List.Elements.{Contains-append_cases, Contains-append_left, Contains-append_right, All-contains, All-from_recursion}
-use Rattle.std.specs.List.{AllByRecursion}
-use Rattle.layout.specs.Placement.{ModulePlacement}
-use Rattle.mem80.specs.declared.range.Piece.{Piece}
-use Rattle.mem80.specs.declared.range.Range.{Range}
-use Rattle.object_modules.specs.Image.{Symbol, range_at}
-use Rattle.object_modules.specs.Module.{ObjectModule}
-use Rattle.sources.specs.Programs.{program_modules}
-use Rattle.tool.specs.Construction.{Construction}
-use Rattle.typed_trees.specs.TypedTrees.{TypedModule, TypedProcedure}
-use Rattle.typed_trees.specs.Weight.{constant_bytes}
-use Rattle.listings.specs.Listing.{ListsModule}
-use Rattle.listings.specs.Names.{IsNameOf, module_symbols, routine_names}
-use Rattle.listings.specs.Programs.{AreListed, ListsProgram, next_module, no_module}
-use Rattle.listings.specs.declared.named.Named.{Named}
-use Rattle.listings.specs.declared.views.ModuleView.{ModuleView}
-use Rattle.listings.specs.internal.Adding.{Adds, IsBegun}
-use Rattle.listings.specs.internal.Programs.{AreViews, Follow, IsListingOf, IsNameAmong, ListsView, ListsViews, code_size, data_size, next_view, no_view, object_of, pair_of, placed_of, text_of, typed_of}
-use Rattle.listings.specs.internal.Views.{named_view}
-use Rattle.listings.proofs.Adding.{ended, gone_on, none_left, split_first}
+use Rattle.listings.proofs.{Prelude.{◌≡◌, ◌⊎◌, inl, inr, ⊎_elim, ℕ, ◌+◌, ◌-◌, ◌<◌, ◌≤◌, List, [], ◌∷◌, ◌++◌, Contains, drop, flat_map, get_or, length, map, take, zip, sym, subst, Contains-append_cases, Contains-append_left, Contains-append_right, All-contains, All-from_recursion, AllByRecursion, ModulePlacement, Piece, Range, Symbol, range_at, ObjectModule, program_modules, Construction, TypedModule, TypedProcedure, constant_bytes, ListsModule, IsNameOf, module_symbols, routine_names, AreListed, ListsProgram, next_module, no_module, Named, ModuleView, Adds, IsBegun, AreViews, Follow, IsListingOf, IsNameAmong, ListsView, ListsViews, code_size, data_size, next_view, no_view, object_of, pair_of, placed_of, text_of, typed_of, named_view}, Adding.{ended, gone_on, none_left, split_first}}
 
 -- one module more
 pub view_listed : (names : List Symbol) (pieces : List Piece) (all left : List ModuleView) (view d : ModuleView) (old now new : List ℕ) → 1 ≤ length left → view ≡ get_or left 0 d

@@ -1,22 +1,5 @@
 -- What parts are shown as.
-use Rattle.std.proofs.Common.{◌≡◌, inl, inr, ℕ, suc, ◌+◌, ◌-◌, ◌<◌, ◌≤◌, ◌==◌, ◌||◌, nat_lt, min, drop, filter, get_or, length, take, arith, Bool, true, false, cond, List, [], ◌∷◌, ◌++◌, All, flat_map, map, option_and_then, slice_index, codes, Result, OnOk, Option, Some, None, refl, ap, sym, subst, ◌∙◌}
-use Rattle.std.proofs.lemmas.List.{append-nil, append_assoc, take_all}
-use Rattle.std.proofs.lemmas.List.Elements.{All-from_recursion}
-use Rattle.std.proofs.lemmas.Option.{none-some}
-use Rattle.std.specs.List.{AllByRecursion}
-use Rattle.isa8080.specs.Text.{byte_digits}
-use Rattle.isa8080.specs.declared.instr.Instr.{Instr}
-use Rattle.object_commands.specs.Listing.{part_line}
-use Rattle.mem80.specs.declared.range.Piece.{Piece}
-use Rattle.object_modules.specs.Image.{Symbol}
-use Rattle.typed_trees.specs.Weight.{constant_bytes}
-use Rattle.listings.specs.Listing.{IsShown, IsTextOf, Part as ShownPart, ShowsByte, cells_in, cells_of, margin, name_line, part_lines, parts_beside, parts_in, parts_text, word_of}
-use Rattle.listings.specs.declared.parts.CodeSegment.{CodeSegment}
-use Rattle.listings.specs.declared.parts.Part.{Part}
-use Rattle.listings.specs.declared.views.ModuleView.{ModuleView}
-use Rattle.listings.specs.internal.Parts.{AddsParts, IsCodePart, IsGood, IsGoodBy, IsKindBy, IsLone, IsPartOf, bytes_shown, instr_text, kept_cells, lined, lines_if, part_view, text_by, text_for}
-use Rattle.listings.proofs.Adding.{none_left, on_ok, split_first}
-use Rattle.listings.specs.internal.Programs.{IsCodeOf, code_size, typed_of}
+use Rattle.listings.proofs.{Prelude.{◌≡◌, inl, inr, ℕ, suc, ◌+◌, ◌-◌, ◌<◌, ◌≤◌, ◌==◌, ◌||◌, nat_lt, min, drop, filter, get_or, length, take, arith, Bool, true, false, cond, List, [], ◌∷◌, ◌++◌, All, flat_map, map, option_and_then, slice_index, codes, Result, OnOk, Option, Some, None, refl, ap, sym, subst, ◌∙◌, append-nil, append_assoc, take_all, All-from_recursion, none-some, AllByRecursion, byte_digits, Instr, part_line, Piece, Symbol, constant_bytes, IsShown, IsTextOf, ShownPart, ShowsByte, cells_in, cells_of, margin, name_line, part_lines, parts_beside, parts_in, parts_text, word_of, CodeSegment, Part, ModuleView, AddsParts, IsCodePart, IsGood, IsGoodBy, IsKindBy, IsLone, IsPartOf, bytes_shown, instr_text, kept_cells, lined, lines_if, part_view, text_by, text_for, IsCodeOf, code_size, typed_of}, Adding.{none_left, on_ok, split_first}}
 
 -- the same bytes
 pub cells_lined : (name_at : ℕ → Option Symbol) (parts : List Part) → flat_map (λ (part : ℕ × ShownPart). cells_of part.1) (map (lined name_at) parts) ≡ flat_map kept_cells parts

@@ -1,11 +1,6 @@
 -- The lines of a source, one after another.
-use Rattle.std.proofs.Common.{◌≡◌, ℕ, suc, ◌+◌, ◌<◌, ◌≤◌, ◌==◌, Bool, true, false, cond, if◌then◌else◌, List, [], ◌∷◌, ◌++◌, Option, get_or, ◌-◌, drop, length, take, refl, ap, sym, subst, ◌∙◌, arith}
-use Rattle.std.proofs.lemmas.Bool.{eqb-true}
-use Rattle.std.proofs.lemmas.List.{append-nil, append_assoc, drop_all, length-drop, length-take}
-use Rattle.object_modules.specs.Image.{Symbol}
-use Rattle.listings.specs.Listing.{Part, before_lines, lines_of, listed_from, numbered_line, parts_in, parts_text}
-use Rattle.listings.specs.internal.Modules.{first_length}
-use Rattle.listings.proofs.Adding.{none_left as no_more, split_first}
+use Rattle.listings.proofs.{Prelude.{◌≡◌, ℕ, suc, ◌+◌, ◌<◌, ◌≤◌, ◌==◌, Bool, true, false, cond, if◌then◌else◌, List, [], ◌∷◌, ◌++◌, Option, get_or, ◌-◌, drop, length, take, refl, ap, sym, subst, ◌∙◌, arith, eqb-true, append-nil, append_assoc, drop_all, length-drop, length-take, Symbol, before_lines, lines_of, listed_from, numbered_line, parts_in, parts_text, first_length}, Adding.{none_left as no_more, split_first}}
+use Rattle.listings.specs.Listing.{Part}
 
 -- after the last byte nothing is left
 pub none_left : (text : List ℕ) (n : ℕ) → length text ≤ n → [] ≡ drop (n + 1) text

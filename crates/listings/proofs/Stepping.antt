@@ -1,21 +1,6 @@
 -- Places of an image, shown part by part.
-use Rattle.std.proofs.Common.{◌≡◌, ℕ, zero, suc, ◌+◌, ◌-◌, ◌<◌, ◌≤◌, ◌%◌, min, Bool, true, false, nat_lt, if◌then◌else◌, List, [], ◌∷◌, ◌++◌, length, take, slice_index, Option, Some, None, refl, ap, sym, subst, ◌∙◌, arith}
-use Rattle.std.proofs.lemmas.Bool.{ltb-true}
-use Rattle.std.proofs.lemmas.List.{append-nil, append_assoc, length-take}
-use Rattle.std.proofs.lemmas.Grind.{flat_map-append}
-use Rattle.std.specs.List.{AllByRecursion}
-use Rattle.std.specs.Prelude.{IfSome, flat_map, option_to_list}
-use Rattle.isa8080.specs.Code.{bytes_of}
-use Rattle.isa8080.specs.declared.instr.Instr.{Instr}
-use Rattle.mem80.specs.declared.memory.TheConstants.{MEMORY_SIZE}
-use Rattle.mem80.specs.declared.range.Piece.{Piece}
-use Rattle.listings.specs.Listing.{AllThere, IsNoCodeAt, byte_among, cell_of, cells_from, cells_in}
-unfoldable use Rattle.listings.specs.Listing.{byte_in}
-use Rattle.listings.specs.declared.image.Coded.{Coded}
-use Rattle.listings.specs.declared.parts.CodeSegment.{CodeSegment}
-use Rattle.listings.specs.declared.parts.Part.{Part}
-use Rattle.listings.specs.internal.Parts.{AddsParts, IsAdding, IsByteAt, IsCodeIn, IsGoodBy, IsKindBy, IsLone, IsNoCode, IsPartOf, StepsOver, bytes_shown, cells_if, kept_cells, room_of}
-use Rattle.listings.specs.internal.Reading.{IsCoded, IsCodedAt}
+use Rattle.listings.proofs.Prelude.{◌≡◌, ℕ, zero, suc, ◌+◌, ◌-◌, ◌<◌, ◌≤◌, ◌%◌, min, Bool, true, false, nat_lt, if◌then◌else◌, List, [], ◌∷◌, ◌++◌, length, take, slice_index, Option, Some, None, refl, ap, sym, subst, ◌∙◌, arith, ltb-true, append-nil, append_assoc, length-take, flat_map-append, AllByRecursion, IfSome, option_to_list, bytes_of, Instr, MEMORY_SIZE, Piece, AllThere, IsNoCodeAt, byte_among, cell_of, cells_from, cells_in, byte_in, Coded, CodeSegment, Part, AddsParts, IsAdding, IsByteAt, IsCodeIn, IsGoodBy, IsKindBy, IsLone, IsNoCode, IsPartOf, StepsOver, bytes_shown, cells_if, kept_cells, room_of, IsCoded, IsCodedAt}
+use Rattle.std.specs.Prelude.{flat_map}
 
 -- a byte has an address of the memory
 in_memory : (pieces : List Piece) (address byte : ℕ) → byte_in pieces address ≡ Some byte → address < MEMORY_SIZE

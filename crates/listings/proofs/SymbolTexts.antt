@@ -1,26 +1,6 @@
 -- The symbols of a program.
-use Rattle.std.proofs.Common.{◌≡◌, inl, inr, ℕ, suc, ◌+◌, ◌-◌, ◌<◌, ◌≤◌, Bool, true, false, cond, List, [], ◌∷◌, ◌++◌, drop, flat_map, get_or, length, map, slice_get, take, zip, codes, min, Option, Some, None, refl, ap, sym, subst, ◌∙◌, arith}
-use Rattle.std.proofs.lemmas.List.{append-nil, append_assoc}
-use Rattle.std.proofs.lemmas.List.Elements.{All-from_recursion}
-use Rattle.std.proofs.lemmas.List.Kept.{AllPairs-cons}
-use Rattle.std.proofs.lemmas.Option.{none-some}
+use Rattle.listings.proofs.{Prelude.{◌≡◌, inl, inr, ℕ, suc, ◌+◌, ◌-◌, ◌<◌, ◌≤◌, Bool, true, false, cond, List, [], ◌∷◌, ◌++◌, drop, flat_map, get_or, length, map, slice_get, take, zip, codes, min, Option, Some, None, refl, ap, sym, subst, ◌∙◌, arith, append-nil, append_assoc, All-from_recursion, AllPairs-cons, none-some, AllByRecursion, AllPairs, ModulePlacement, PieceKind, kind_of, address_digits, range_line, Construction, size_of_object, TypedModule, TypedObject, TypedProcedure, object_view, procedure_view, CodeObject, CodeProcedure, HasSymbols, HaveSymbols, IsOwnerIn, SymbolsOfProgram, is_own, line_if, next_symbols, no_symbols, object_line, procedure_line, source_line, ModuleView, Adds, IsBegun, AreViews, pair_of, placed_of, typed_of, HasLine, HasObjectLines, HasProcedureLines, HasSourceLines, Rises, has_kind, line_of, own_of, owner_text}, Adding.{ended, gone_on, none_left, split_first}, NamesAdded.{name_contained}}
 use Rattle.std.specs.Fmt.{decimal}
-use Rattle.std.specs.List.{AllByRecursion, AllPairs}
-use Rattle.layout.specs.Placement.{ModulePlacement, PieceKind, kind_of}
-use Rattle.object_commands.specs.Placing.{address_digits, range_line}
-use Rattle.tool.specs.Construction.{Construction}
-use Rattle.typed_trees.specs.Sizes.{size_of_object}
-use Rattle.typed_trees.specs.TypedTrees.{TypedModule, TypedObject, TypedProcedure}
-use Rattle.typed_trees.specs.Views.{object_view, procedure_view}
-use Rattle.typed_trees.specs.declared.module.TypedObject.{TypedObject as CodeObject}
-use Rattle.typed_trees.specs.declared.module.TypedProcedure.{TypedProcedure as CodeProcedure}
-use Rattle.listings.specs.Symbols.{HasSymbols, HaveSymbols, IsOwnerIn, SymbolsOfProgram, is_own, line_if, next_symbols, no_symbols, object_line, procedure_line, source_line}
-use Rattle.listings.specs.declared.views.ModuleView.{ModuleView}
-use Rattle.listings.specs.internal.Adding.{Adds, IsBegun}
-use Rattle.listings.specs.internal.Programs.{AreViews, pair_of, placed_of, typed_of}
-use Rattle.listings.specs.internal.Symbols.{HasLine, HasObjectLines, HasProcedureLines, HasSourceLines, Rises, has_kind, line_of, own_of, owner_text}
-use Rattle.listings.proofs.Adding.{ended, gone_on, none_left, split_first}
-use Rattle.listings.proofs.NamesAdded.{name_contained}
 
 -- procedures
 no_procedure : (of_module : List ℕ) (procedure : TypedProcedure) → is_own procedure.visibility ≡ false → HasProcedureLines of_module (procedure ∷ []) []

@@ -1,22 +1,11 @@
 -- The modules of a program, one after another.
-use Rattle.std.proofs.Common.{◌≡◌, ℕ, zero, suc, ◌+◌, ◌≤◌, List, [], ◌∷◌, ◌++◌, length, map, slice_get, take, Some, refl, ap, sym, ◌∙◌, arith}
-use Rattle.std.proofs.lemmas.List.{length-map, take_all}
-use Rattle.std.proofs.lemmas.Option.{none-some, same_Some}
-use Rattle.sources.specs.Programs.{program_modules, texts_of}
-use Rattle.sources.specs.declared.sources.Source.{Source}
-use Rattle.tool.specs.Construction.{Construction, IsConstruction}
-use Rattle.listings.specs.declared.views.ModuleView.{ModuleView}
-use Rattle.listings.specs.internal.Programs.{AreFirstViews, AreViews, Follow, IsViewAt, code_size, data_size, object_of, placed_of, text_of, typed_of}
+use Rattle.listings.proofs.Prelude.{◌≡◌, ℕ, zero, suc, ◌+◌, ◌≤◌, List, [], ◌∷◌, ◌++◌, length, map, slice_get, take, Some, refl, ap, sym, ◌∙◌, arith, length-map, take_all, none-some, same_Some, program_modules, texts_of, Source, Construction, IsConstruction, ModuleView, AreFirstViews, AreViews, Follow, IsViewAt, code_size, data_size, object_of, placed_of, text_of, typed_of, map_push}
 
 -- the first elements of a list, and the one after them
 taken : {A : Type 0} (xs : List A) (n : ℕ) (x : A) → slice_get xs n ≡ Some x → take n xs ++ x ∷ [] ≡ take (suc n) xs
 taken [] n x e = absurd (none-some x e)
 taken (y ∷ xs) zero x e = ap (λ first. first ∷ []) (sym (same_Some y x e))
 taken (y ∷ xs) (suc n) x e = ap (λ others. y ∷ others) (taken xs n x e)
-
-map_push : {A B : Type 0} (f : A → B) (xs : List A) (x : A) → map f (xs ++ x ∷ []) ≡ map f xs ++ f x ∷ []
-map_push f [] x = refl
-map_push f (y ∷ xs) x = ap (λ others. f y ∷ others) (map_push f xs x)
 
 mapped : {A B : Type 0} (f : A → B) (seen : List A) (x : A) (all : List B) (n : ℕ) → map f seen ≡ take n all → slice_get all n ≡ Some (f x) → map f (seen ++ x ∷ []) ≡ take (suc n) all
 mapped f seen x all n are at = map_push f seen x ∙ ap (λ others. others ++ f x ∷ []) are ∙ taken all n (f x) at

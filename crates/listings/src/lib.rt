@@ -7,11 +7,13 @@ mod lines;
 mod marked;
 mod modules;
 mod named;
+mod origins;
 mod parts;
 mod places;
 mod programs;
 mod symbol_lines;
 mod views;
 
+pub use origins::{CodeLines, CodeOrigin, SourceLine, code_lines};
 pub use programs::listing_of;
 pub use symbol_lines::symbols_of;

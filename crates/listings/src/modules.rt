@@ -19,11 +19,10 @@ use crate::parts::{CodeSegment, Part, push_bytes, push_code};
 use crate::places::put_range;
 use crate::views::ModuleView;
 use mem80::Piece;
-use object_modules::Segment;
+use object_modules::{Name, Segment};
 use std::alloc::{AllocError, Global};
 use std::io;
 use std::io::Write;
-use symbols::Name;
 use trees::next_number;
 
 /// What the modules of a program have in common: the pieces of its image, and its names.

@@ -9,9 +9,9 @@ ghost use Rattle.listings.specs.internal.Views.{name_at, named_view, named_with,
 
 use crate::views::ModuleView;
 use codegen8080::CodePart;
+use object_modules::Name;
 use runtime8080::Routine;
 use std::alloc::{AllocError, Global};
-use symbols::Name;
 use typed_trees::{Home, Typed, TypedObject, TypedProcedure};
 
 /// What a name is written as: a name of the source, or that of a routine, which has small letters.

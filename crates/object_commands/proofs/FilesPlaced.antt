@@ -1,8 +1,5 @@
 -- Object files that are read and placed.
-use Rattle.object_commands.proofs.Prelude.{◌≡◌, ◌⊎◌, ℕ, List, Option, None, Result, Ok, Err, IfOk, inl, inr, subst, Appends, Keeps, AppendsBeginning, Directory, HasFile, Absolute, IsPlaced, plan_view, ObjectModule, Spells, PlacesBytes, PlacesFile, PrintsHex, PrintsPlaces, StopsHex, StopsPlaces, jump_refusal, pieces_with, places_text, Keeps-refl}
-use Rattle.hex80.specs.Texts.{BeginsText, WritesText}
-use Rattle.mem80.specs.declared.plan.Plan.{Plan}
-use Rattle.object_commands.specs.Listing.{ListsModule, PrintsListing, StopsListing}
+use Rattle.object_commands.proofs.Prelude.{◌≡◌, ◌⊎◌, ℕ, List, Option, None, Result, Ok, Err, IfOk, inl, inr, subst, Appends, Keeps, AppendsBeginning, Directory, HasFile, Absolute, IsPlaced, plan_view, ObjectModule, Spells, PlacesBytes, PlacesFile, PrintsHex, PrintsPlaces, StopsHex, StopsPlaces, jump_refusal, pieces_with, places_text, Keeps-refl, BeginsText, WritesText, Plan, ListsModule, PrintsListing, StopsListing}
 
 -- what the bytes of a file spell is what the file spells
 pub file_placed : {X E : Type 0} (object : X → ObjectModule) (absolute : X → Absolute) (files : Option Directory) (name bytes slice : List ℕ) (plan : Plan) (result : Result X E)

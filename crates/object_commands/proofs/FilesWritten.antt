@@ -1,7 +1,5 @@
 -- Files that are written, and those that stay.
-use Rattle.object_commands.proofs.Prelude.{◌≡◌, ℕ, ◌+◌, ◌<◌, ◌≤◌, Bool, true, false, List, [], ◌++◌, Option, None, Some, inl, inr, length, take, drop, refl, sym, ap, subst, ◌∙◌, arith, unwrap_or, if◌then◌else◌, bytes_eq, bytes_eq-Decides, take-add, take-length, take-append-drop, BeginsFile, ChangesFiles, Directory, GrowsFile, KeepsFiles, with_file, text_of, IsBeginning, HasFiles, stays_on}
-use Rattle.link.specs.Streams.{Merges, WritesMerge}
-use Rattle.object_commands.specs.Linking.{KeepsOthers, LinksFiles, MergesTo, StopsLinking, StopsWriting}
+use Rattle.object_commands.proofs.Prelude.{◌≡◌, ℕ, ◌+◌, ◌<◌, ◌≤◌, Bool, true, false, List, [], ◌++◌, Option, None, Some, inl, inr, length, take, drop, refl, sym, ap, subst, ◌∙◌, arith, unwrap_or, if◌then◌else◌, bytes_eq, bytes_eq-Decides, take-add, take-length, take-append-drop, BeginsFile, ChangesFiles, Directory, GrowsFile, KeepsFiles, with_file, text_of, IsBeginning, HasFiles, stays_on, Merges, WritesMerge, KeepsOthers, LinksFiles, MergesTo, StopsLinking, StopsWriting}
 
 -- a file that was begun is empty
 pub begun : (old new : Option Directory) (name bytes : List ℕ) → BeginsFile old new name → ChangesFiles old new (with_file name (take 0 bytes))

@@ -1,20 +1,5 @@
 -- Lines of listings.
-use Rattle.object_commands.proofs.Prelude.{◌≡◌, ℕ, ◌+◌, ◌≤◌, Bool, false, None, arith, append-nil, append_assoc, drop, flat_map, get_or, length, take-length, ◌^◌, ◌-◌, ◌<◌, true, List, take, [], ◌∷◌, ◌++◌, Option, Some, Result, OnOk, IfSome, refl, ap, subst, sym, ◌∙◌, Appends, digits, digits_output, format_spec, styled_digits_output, hex_byte, Absolute, ObjectModule, plan_view}
-use Rattle.isa8080.specs.Text.{byte_digits}
-use Rattle.isa8080.specs.Code.{Form, One, Two, Three, Unknown, first_instruction, form_of, instruction_of}
-use Rattle.std.specs.Prelude.{◌&&◌, if◌then◌else◌, nat_le, not, slice_index}
-use Rattle.std.proofs.lemmas.Bool.{and_parts, leb-true}
-use Rattle.std.proofs.lemmas.List.{length-drop}
-use Rattle.mem80.specs.declared.memory.TheConstants.{MEMORY_SIZE}
-use Rattle.mem80.specs.declared.range.Piece.{Piece}
-use Rattle.isa8080.specs.declared.instr.Instr.{Instr}
-use Rattle.mem80.specs.declared.range.Range.{Range}
-use Rattle.object_commands.proofs.Lists.{left_is, nothing_left}
-use Rattle.object_commands.specs.Listing.{AreListed, IsListing, ListsModule, next_piece, no_piece, begins, ends, if_whole, is_named_within, is_whole, label_line, part_line, shown_text, size_of}
-use Rattle.object_commands.specs.internal.Listed.{ListsPiece, ListsPieces}
-use Rattle.object_modules.specs.Image.{Symbol, code_range}
-use Rattle.mem80.specs.declared.plan.Plan.{Plan}
-unfoldable use Rattle.object_commands.specs.Listing.{part_lines, shown_at}
+use Rattle.object_commands.proofs.{Prelude.{◌≡◌, ℕ, ◌+◌, ◌≤◌, Bool, false, None, arith, append-nil, append_assoc, drop, flat_map, get_or, length, take-length, ◌^◌, ◌-◌, ◌<◌, true, List, take, [], ◌∷◌, ◌++◌, Option, Some, Result, OnOk, IfSome, refl, ap, subst, sym, ◌∙◌, Appends, digits, digits_output, format_spec, styled_digits_output, hex_byte, Absolute, ObjectModule, plan_view, byte_digits, Form, One, Two, Three, Unknown, first_instruction, form_of, instruction_of, ◌&&◌, if◌then◌else◌, nat_le, not, slice_index, and_parts, leb-true, length-drop, MEMORY_SIZE, Piece, Instr, Range, AreListed, IsListing, ListsModule, next_piece, no_piece, begins, ends, if_whole, is_named_within, is_whole, label_line, part_line, shown_text, size_of, ListsPiece, ListsPieces, Symbol, code_range, Plan, part_lines, shown_at}, Lists.{left_is, nothing_left}}
 
 -- what a hole `{:02X}` writes of a byte
 byte_is : (d : _) (spec : _) (n : ℕ) → digits_output d ≡ Some (digits 16 true n) → spec ≡ format_spec 32 0 4 2 (2 ^ 64 - 1) → n < 256

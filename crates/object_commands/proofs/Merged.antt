@@ -1,22 +1,9 @@
 -- Merges of object files that were placed, or why not.
-use Rattle.object_commands.proofs.Prelude.{◌≡◌, ℕ, List, Option, Result, Err, Ok, OnErr, inl, inr, subst, tells_no_file, Directory, TellsOther, TellsRefusal, HasFiles, Tells, Absolute, IsPlaced, plan_view, ObjectModule, placement_number, refusal_line}
+use Rattle.object_commands.proofs.Prelude.{◌≡◌, ℕ, List, Option, Result, Err, Ok, OnErr, inl, inr, subst, tells_no_file, Directory, TellsOther, TellsRefusal, HasFiles, Tells, Absolute, IsPlaced, plan_view, ObjectModule, placement_number, refusal_line, CountsFailure, StopsAt, Ending, file_line, memory_line, Merges, StreamFault, HasNoMerge, LocateFault, Plan, image_of, PlacesMerge, PlacesTexts, RefusesPlacing, TellsNoMerge, merge_line}
 use Rattle.std.specs.Prelude.{codes}
-use Rattle.ports.specs.Events.{CountsFailure}
-use Rattle.host.specs.Reading.{StopsAt}
-use Rattle.host.specs.declared.endings.Ending.{Ending}
-use Rattle.host.specs.Refusals.{file_line, memory_line}
-use Rattle.link.specs.Streams.{Merges}
-use Rattle.link.specs.declared.StreamFault.{StreamFault}
+use Rattle.link.specs.Faults.{refusal_of}
 use Rattle.link.specs.declared.StreamFault.TheVariants as stream
-use Rattle.link.specs.internal.Causes.{HasNoMerge}
-use Rattle.link_laws.specs.Faults.{refusal_of}
 use Rattle.locate.specs.Locating as locating
-use Rattle.locate.specs.declared.fault.LocateFault.{LocateFault}
-use Rattle.mem80.specs.declared.plan.Plan.{Plan}
-use Rattle.object_modules.specs.Image.{image_of}
-use Rattle.object_commands.specs.Merging.{PlacesMerge, PlacesTexts}
-unfoldable use Rattle.object_commands.specs.Merging.{RefusesPlacing, TellsNoMerge}
-use Rattle.object_commands.specs.internal.Merges.{merge_line}
 
 pub places_texts : (texts : List (List ℕ)) (plan : Plan) (object : ObjectModule) (absolute : Absolute) → Merges texts object → IsPlaced (plan_view plan) object absolute
     → PlacesTexts texts plan absolute

@@ -1,27 +1,7 @@
 -- Jumps beside the pieces of a placed module.
-use Rattle.object_commands.proofs.Prelude.{◌≡◌, ◌∙◌, ℕ, zero, suc, ◌+◌, ◌-◌, ◌≤◌, Bool, true, false, ◌||◌, List, [], ◌∷◌, length, map, slice_get, Option, None, Some, Ok, inl, inr, refl, sym, ap, subst, arith, if◌then◌else◌, nat_lt, cases_lt, ltb-false, or_parts, All-cons, All-from_recursion, AllPairs-cons, AllByRecursion, option_flatten, option_map, option_or, Absolute, IsPlaced, plan_view, ObjectModule, jump_meets, jump_piece, jump_range, jump_refusal, pieces_with, LeavesRoom}
-use Rattle.mem80.proofs.Ranges.{meets_decides}
-use Rattle.mem80.specs.Pieces.{AreApart, AreWritable, EndsInMemory, byte_in, range_of}
-use Rattle.mem80.specs.Range.{IsIn, ranges_meet}
-use Rattle.mem80.specs.declared.plan.Plan.{Plan}
-use Rattle.mem80.specs.declared.range.Piece.{Piece}
-use Rattle.mem80.specs.declared.range.Range.{Range}
-use Rattle.isa8080.specs.Code.{bytes_of}
-use Rattle.isa8080.specs.declared.instr.Instr.TheVariants.{Jmp}
-use Rattle.omf80.proofs.Conditions.{none_holds}
-use Rattle.omf80.specs.Records.{first_that_holds}
-use Rattle.std.specs.Prelude.{◌++◌, replicate}
-use Rattle.object_modules.specs.Image.{Image, PassesMemory, PlacementRefusal, SegmentsMeet, at_address, code_range, data_range, gain_at, image_of, passes_memory, placed, placed_bytes, range_at, stack_range}
-unfoldable use Rattle.object_modules.specs.Image.{image_at, placement_refusal}
+use Rattle.object_commands.proofs.Prelude.{◌≡◌, ◌∙◌, ℕ, zero, suc, ◌+◌, ◌-◌, ◌≤◌, Bool, true, false, ◌||◌, List, [], ◌∷◌, length, map, slice_get, Option, None, Some, Ok, inl, inr, refl, sym, ap, subst, arith, if◌then◌else◌, nat_lt, cases_lt, ltb-false, or_parts, All-cons, All-from_recursion, AllPairs-cons, AllByRecursion, option_flatten, option_map, option_or, Absolute, IsPlaced, plan_view, ObjectModule, jump_meets, jump_piece, jump_range, jump_refusal, pieces_with, LeavesRoom, meets_decides, AreApart, AreWritable, EndsInMemory, byte_in, range_of, IsIn, ranges_meet, Plan, Piece, Range, bytes_of, Jmp, none_holds, first_that_holds, replicate, Image, PassesMemory, PlacementRefusal, SegmentsMeet, at_address, code_range, data_range, gain_at, image_of, passes_memory, placed, placed_bytes, range_at, stack_range, image_at, placement_refusal, unless_refused, SetByte, places_of, moved_after, Code, Data, Target, refusal_of, LocateFault, byte_of_piece, one_more, within}
+use Rattle.std.specs.Prelude.{◌++◌}
 use Rattle.object_modules.specs.Image as images
-use Rattle.object_modules.specs.Merge.{unless_refused}
-use Rattle.object_modules.specs.Module.{SetByte, places_of}
-use Rattle.object_modules.specs.Moving.{moved_after}
-use Rattle.object_modules.specs.declared.segment.Segment.TheVariants.{Code, Data}
-use Rattle.object_modules.specs.declared.segment.Target.{Target}
-use Rattle.locate.specs.Locating.{refusal_of}
-use Rattle.locate.specs.declared.fault.LocateFault.{LocateFault}
-use Rattle.locate.proofs.Pieces.{byte_of_piece, one_more, within}
 
 -- the places of a segment with their fixes done are as many as before
 resolved_length :

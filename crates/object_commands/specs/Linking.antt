@@ -1,7 +1,7 @@
 -- What linking makes of files.
 use Rattle.std.specs.Prelude.{◌≡◌, ◌⊎◌, ℕ, false, List, Option, None, Some}
 use Rattle.std.specs.Str.{bytes_eq}
-use Rattle.failure.specs.Writing.{IsBeginning}
+use Rattle.host.specs.Writing.{IsBeginning}
 use Rattle.host.specs.Files.{ChangesFiles, Directory, KeepsFiles, with_file}
 use Rattle.object_modules.specs.Module.{ObjectModule}
 use Rattle.object_modules.specs.Text.{text_of}

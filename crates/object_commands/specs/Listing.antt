@@ -4,7 +4,7 @@ use Rattle.std.specs.Prelude.{◌≡◌, ◌⊎◌, ℕ, ◌+◌, ◌-◌, ◌*�
 use Rattle.std.specs.Prelude.{List, [], ◌∷◌, ◌++◌, codes, drop, length, replicate, slice_index, take, Option, None, Some}
 use Rattle.std.specs.Io.KnownBytes.{Appends, Keeps}
 use Rattle.std.specs.List.{flat_map, list_any}
-use Rattle.failure.specs.Writing.{AppendsBeginning}
+use Rattle.host.specs.Writing.{AppendsBeginning}
 use Rattle.isa8080.specs.Code.{first_instruction}
 use Rattle.isa8080.specs.Text.{byte_digits, text_of, word_digits}
 use Rattle.isa8080.specs.declared.instr.Instr.{Instr}

@@ -6,7 +6,7 @@ use Rattle.host.specs.Refusals.{Tells, file_line, memory_line, refusal_line}
 use Rattle.link.specs.Streams.{IsFirstFaulty, IsRefused, Merges}
 use Rattle.locate.specs.Locating.{Absolute, IsPlaced, plan_view}
 use Rattle.mem80.specs.declared.plan.Plan.{Plan}
-use Rattle.ports.specs.Events.{CountsFailure}
+use Rattle.host.specs.Events.{CountsFailure}
 use Rattle.object_modules.specs.Image.{PlacementRefusal, image_of, placement_number}
 use Rattle.object_modules.specs.Merge.{LinkRefusal, DuplicatePublic, UnresolvedExternal, SegmentTooLong, NotOneMain}
 use Rattle.object_modules.specs.Merge.{HighByteMoves, link_number}

@@ -15,8 +15,8 @@ use mem80::{Bytes, MEMORY_SIZE, Piece, Plan, Range, overlap};
 use object_modules::{ObjectModule, Segment};
 use std::alloc::{AllocError, Global};
 
-// How many bytes a jump has.
-const JUMP_SIZE: u16 = 3;
+/// How many bytes a jump has.
+pub const JUMP_SIZE: u16 = 3;
 
 /// So many addresses from a base on.
 pub(crate) fn range_from(base: u16, size: u16) -> Range

@@ -2,15 +2,14 @@
 
 ghost use Rattle.std.specs.Prelude.{◌≡◌, ◌⊎◌, [], ◌∷◌, ◌++◌, IfOk, map};
 ghost use Rattle.host.specs.Refusals.{Tells, TellsOther, TellsRefusal};
-ghost use Rattle.link_laws.specs.Faults.{refusal_of};
+ghost use Rattle.link.specs.Faults.{refusal_of};
 ghost use Rattle.object_commands.specs.Linking.{KeepsOthers, LinksFiles, MergesTo, StopsLinking};
 ghost use Rattle.object_commands.specs.Merging.{file_at};
 ghost use Rattle.object_commands.specs.internal.Merges.{merge_line, refused_line};
 
 use crate::refusals::{refuse_link_at, refuse_object};
 use crate::writing_files::write_file;
-use failure::Failure;
-use host::{Ending, Files, read_files, refuse_file, refuse_memory, refuse_output};
+use host::{Ending, Failure, Files, read_files, refuse_file, refuse_memory, refuse_output};
 use link::{LinkFault, StreamFault, link_records};
 use std::alloc::{AllocError, Global};
 use std::io::Write;

@@ -4,7 +4,7 @@ ghost use Rattle.std.specs.Prelude.{◌≡◌, [], IfErr, IfOk, OnErr, OnOk, map
 ghost use Rattle.std.specs.List.{AllZip};
 ghost use Rattle.host.specs.Files.{KeepsFiles};
 ghost use Rattle.host.specs.Refusals.{TellsOther, TellsRefusal};
-ghost use Rattle.failure.specs.Failure.{IfFault};
+ghost use Rattle.host.specs.Failure.{IfFault};
 ghost use Rattle.link.specs.Streams.{Merges};
 ghost use Rattle.link.specs.internal.Causes.{HasNoMerge, IsFaultyAt};
 ghost use Rattle.object_modules.specs.Spelling.{Spells};
@@ -12,8 +12,7 @@ ghost use Rattle.object_commands.specs.Merging.{PlacesMerge, PlacesTexts, Refuse
 
 use crate::linking::{refuse_merge, slices_of};
 use crate::refusals::refuse_place;
-use failure::Failure;
-use host::{Ending, Files, read_files, refuse_file, refuse_memory};
+use host::{Ending, Failure, Files, read_files, refuse_file, refuse_memory};
 use link::{Merged, StreamFault, link};
 use locate::{Absolute, locate};
 use mem80::Plan;

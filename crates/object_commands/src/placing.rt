@@ -13,9 +13,10 @@ use crate::jumps::{pieces_with_jump, refusal_of_jump};
 use crate::listing::listing_of;
 use crate::places::lines_of;
 use crate::refusals::{refuse_object, refuse_place};
-use failure::{Failure, WriteFault, write_bytes};
 use hex80::write_hex;
-use host::{Ending, Files, refuse_file, refuse_memory, refuse_output};
+use host::{
+    Ending, Failure, Files, WriteFault, refuse_file, refuse_memory, refuse_output, write_bytes,
+};
 use locate::{Absolute, locate};
 use mem80::Plan;
 use object_modules::ObjectModule;

@@ -5,7 +5,7 @@ ghost use Rattle.host.specs.Refusals.{Tells, TellsOther, refusal_line};
 ghost use Rattle.object_modules.specs.Numbers.{number_of};
 ghost use Rattle.object_modules.specs.Merge.{link_number};
 ghost use Rattle.object_modules.specs.Image.{placement_number};
-ghost use Rattle.link_laws.specs.Faults as merging;
+ghost use Rattle.link.specs.Faults as merging;
 ghost use Rattle.locate.specs.Locating as locating;
 
 use host::{Ending, refuse, refuse_name};

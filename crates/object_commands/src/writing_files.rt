@@ -4,8 +4,7 @@ ghost use Rattle.std.specs.Prelude.{◌≡◌, ◌<◌, length, IfErr, OnOk, OnE
 ghost use Rattle.host.specs.Files.{ChangesFiles, Counts, with_file};
 ghost use Rattle.object_commands.specs.Linking.{StopsWriting};
 
-use failure::Failure;
-use host::{FileFault, Files};
+use host::{Failure, FileFault, Files};
 
 /// Writes a file from its beginning. After a failure all files are as before, or it has a beginning of the bytes and the
 /// others are as before.

@@ -2,8 +2,7 @@
 //! `run_words`.
 #![tactic(auto)]
 
-use explaining::{KeptFiles, KeptLines, run_words};
-use host::HostFiles;
+use explaining::{HostFiles, KeptFiles, KeptLines, run_words};
 use std::io::Write;
 use std::process::ExitCode;
 use std::{env, io, rt};

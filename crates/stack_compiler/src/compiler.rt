@@ -10,6 +10,7 @@ ghost use Rattle.stack_code.specs.Code.{program_code};
 ghost use Rattle.stack_compiler.specs.Compiled.{IsCompiled};
 ghost use Rattle.stack_compiler.specs.internal.MainCode.{IsCodeOf};
 
+use crate::marking::{Marks, StackMark};
 use crate::procedures::{emit_main, emit_modules};
 use crate::tables::tables_of;
 use join::Joined;
@@ -44,6 +45,7 @@ fn number_of_main(modules: &[Typed]) -> usize
 fn code_with_main(
     alloc: Global,
     program: &Program<'_>,
+    marks: &mut Marks,
     number: usize,
     main: &Typed,
 ) -> Result<Vec<Instruction>, AllocError>
@@ -51,14 +53,18 @@ fn code_with_main(
         (placement_view program.now.placement.now) number (module_view main.now)) }
 {
     let mut code = Vec::new(alloc);
-    emit_main(alloc, program, &mut code, number, main)?;
-    emit_modules(alloc, program, &mut code)?;
+    emit_main(alloc, program, &mut code, marks, number, main)?;
+    emit_modules(alloc, program, &mut code, marks)?;
     Ok(code)
 }
 
 // The code of a program, nothing where it has no modules.
 #[tactic(auto, using(crate::proofs::MainModules::code_made, crate::proofs::MainModules::code_of_none))]
-fn code_of(alloc: Global, program: &Program<'_>) -> Result<Vec<Instruction>, AllocError>
+fn code_of(
+    alloc: Global,
+    program: &Program<'_>,
+    marks: &mut Marks,
+) -> Result<Vec<Instruction>, AllocError>
     ensures { IfOk result (λ code. IsCodeOf (map module_view program.now.modules.now)
         (placement_view program.now.placement.now) code.items) }
 {
@@ -66,7 +72,7 @@ fn code_of(alloc: Global, program: &Program<'_>) -> Result<Vec<Instruction>, All
     let number = number_of_main(modules);
     match modules.get(number) {
         Some(main) => {
-            let code = code_with_main(alloc, program, number, main)?;
+            let code = code_with_main(alloc, program, marks, number, main)?;
             Ok(code)
         }
         None => Ok(Vec::new(alloc)),
@@ -97,7 +103,9 @@ fn compile_program(alloc: Global, program: &Program<'_>) -> Result<StackProgram,
     ensures { IfOk result (IsCompiled (map module_view program.now.modules.now)
         (placement_view program.now.placement.now)) }
 {
-    let instructions = code_of(alloc, program)?;
+    let mut marks = Marks::new(alloc, false);
+    let instructions = code_of(alloc, program, &mut marks)?;
+    drop(marks);
     with_tables(alloc, program, instructions)
 }
 
@@ -112,4 +120,17 @@ pub fn compile(
 {
     let program = Program::new(alloc, joined, placement)?;
     compile_program(alloc, &program)
+}
+
+/// Where the parts of the code that `compile` makes of a program begin, in the order of the code.
+pub fn stack_marks(
+    alloc: Global,
+    joined: &Joined,
+    placement: &Placement,
+) -> Result<Vec<StackMark>, AllocError> {
+    let program = Program::new(alloc, joined, placement)?;
+    let mut marks = Marks::new(alloc, true);
+    let code = code_of(alloc, &program, &mut marks)?;
+    drop(code);
+    Ok(marks.into_list())
 }

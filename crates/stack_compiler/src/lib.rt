@@ -4,6 +4,7 @@
 mod compiler;
 mod expressions;
 mod jumps;
+mod marking;
 mod procedures;
 mod purpose;
 mod site;
@@ -11,4 +12,5 @@ mod statements;
 mod tables;
 mod variables;
 
-pub use compiler::compile;
+pub use compiler::{compile, stack_marks};
+pub use marking::{StackMark, StackPart};

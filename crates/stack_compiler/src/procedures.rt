@@ -8,6 +8,7 @@ ghost use Rattle.stack_code.specs.Code.{main_code, parameter_code, parameters_co
 ghost use Rattle.stack_compiler.specs.internal.Sequences.{modules_code_from, procedures_code_from};
 ghost use Rattle.stack_compiler.specs.internal.Sites.{site_view};
 
+use crate::marking::{Marks, StackPart};
 use crate::purpose::{emit, emit_all};
 use crate::site::Site;
 use crate::statements::emit_list;
@@ -64,12 +65,14 @@ fn emit_parameters(
 fn emit_procedure(
     site: &Site<'_>,
     code: &mut Vec<Instruction>,
+    marks: &mut Marks,
     number: usize,
     procedure: &TypedProcedure,
 ) -> Result<(), AllocError>
     ensures { OnOk result (code.new.items ≡ code.old.items
         ++ procedure_code (site_view site.now) (number, procedure_view procedure.now)) }
 {
+    marks.put(site, code, StackPart::Procedure(number))?;
     emit(
         code,
         Instruction::Begin {
@@ -84,7 +87,7 @@ fn emit_procedure(
         procedure.parameters.as_slice(),
     )?;
     emit(code, Instruction::Discard)?;
-    emit_list(site, code, &procedure.body)?;
+    emit_list(site, code, marks, &procedure.body)?;
     emit_all(code, &[Instruction::Push(0), Instruction::Return])
 }
 
@@ -92,13 +95,14 @@ fn emit_procedure(
 fn emit_procedures(
     site: &Site<'_>,
     code: &mut Vec<Instruction>,
+    marks: &mut Marks,
     procedures: &[TypedProcedure],
 ) -> Result<(), AllocError>
     ensures { OnOk result (code.new.items ≡ code.old.items
         ++ procedures_code_from (site_view site.now) 0 (map procedure_view procedures.now)) }
 {
     for (number, procedure) in procedures.iter().enumerate() {
-        emit_procedure(site, code, number, procedure)?;
+        emit_procedure(site, code, marks, number, procedure)?;
     }
     Ok(())
 }
@@ -107,12 +111,13 @@ fn emit_procedures(
 fn emit_module(
     site: &Site<'_>,
     code: &mut Vec<Instruction>,
+    marks: &mut Marks,
     typed: &Typed,
 ) -> Result<(), AllocError>
     ensures { OnOk result (code.new.items ≡ code.old.items
         ++ procedures_code_from (site_view site.now) 0 (map procedure_view typed.now.procedures.items)) }
 {
-    emit_procedures(site, code, typed.procedures.as_slice())
+    emit_procedures(site, code, marks, typed.procedures.as_slice())
 }
 
 /// The procedures of all modules of a program.
@@ -120,6 +125,7 @@ pub(crate) fn emit_modules(
     alloc: Global,
     program: &Program<'_>,
     code: &mut Vec<Instruction>,
+    marks: &mut Marks,
 ) -> Result<(), AllocError>
     ensures { OnOk result (code.new.items ≡ code.old.items
         ++ modules_code_from (map module_view program.now.modules.now)
@@ -132,7 +138,8 @@ pub(crate) fn emit_modules(
             program: &*program,
             number_of_module,
         };
-        emit_module(&site, code, typed)?;
+        emit_module(&site, code, marks, typed)?;
+        marks.end_module(&site);
     }
     Ok(())
 }
@@ -143,6 +150,7 @@ pub(crate) fn emit_main(
     alloc: Global,
     program: &Program<'_>,
     code: &mut Vec<Instruction>,
+    marks: &mut Marks,
     number_of_module: usize,
     typed: &Typed,
 ) -> Result<(), AllocError>
@@ -155,6 +163,7 @@ pub(crate) fn emit_main(
         program: &*program,
         number_of_module,
     };
-    emit_list(&site, code, &typed.main.body)?;
+    emit_list(&site, code, marks, &typed.main.body)?;
+    marks.end_main(&site);
     emit(code, Instruction::Halt)
 }

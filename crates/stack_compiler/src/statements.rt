@@ -12,6 +12,7 @@ ghost use Rattle.stack_compiler.specs.internal.Sites.{site_view};
 
 use crate::expressions::{emit_after, emit_arguments, emit_call, emit_expression, emit_target};
 use crate::jumps::{close_cases, close_jump, close_jump_unless, emit_loop_back, holes, next_place};
+use crate::marking::Marks;
 use crate::purpose::{Purpose, emit, emit_all};
 use crate::site::Site;
 use crate::variables::variable_code;
@@ -195,10 +196,28 @@ fn emit_stepping(
 
 /// A statement.
 #[cycle(statement)]
-#[tactic(auto, using(typed_trees::specs::declared::statement::TypedStatement::the_lemmas, typed_trees::proofs::Views::statement_rows_are))]
 pub(crate) fn emit_statement(
     site: &Site<'_>,
     code: &mut Vec<Instruction>,
+    marks: &mut Marks,
+    statement: &TypedStatement,
+) -> Result<(), AllocError>
+    ensures { OnOk result (code.new.items
+        ≡ code.old.items ++ statement_code (site_view site.now) (statement_view statement.now)) }
+{
+    let open = marks.begin_statement(site, code)?;
+    emit_kind(site, code, marks, statement)?;
+    marks.end_statement(open);
+    Ok(())
+}
+
+// A statement, after its mark.
+#[cycle(statement)]
+#[tactic(auto, using(typed_trees::specs::declared::statement::TypedStatement::the_lemmas, typed_trees::proofs::Views::statement_rows_are))]
+fn emit_kind(
+    site: &Site<'_>,
+    code: &mut Vec<Instruction>,
+    marks: &mut Marks,
     statement: &TypedStatement,
 ) -> Result<(), AllocError>
     ensures { OnOk result (code.new.items
@@ -228,17 +247,22 @@ pub(crate) fn emit_statement(
                 label: *label,
             },
         ),
-        TypedStatement::If(branch) => emit_if(site, code, branch),
-        TypedStatement::Do(body) => emit_list(site, code, body),
-        TypedStatement::While(turns) => emit_while(site, code, turns),
-        TypedStatement::Iterate(turns) => emit_iterate(site, code, turns),
-        TypedStatement::Case(choice) => emit_case(site, code, choice),
+        TypedStatement::If(branch) => emit_if(site, code, marks, branch),
+        TypedStatement::Do(body) => emit_list(site, code, marks, body),
+        TypedStatement::While(turns) => emit_while(site, code, marks, turns),
+        TypedStatement::Iterate(turns) => emit_iterate(site, code, marks, turns),
+        TypedStatement::Case(choice) => emit_case(site, code, marks, choice),
     }
 }
 
 // IF with ELSE, or without.
 #[cycle(statement)]
-fn emit_if(site: &Site<'_>, code: &mut Vec<Instruction>, branch: &TypedIf) -> Result<(), AllocError>
+fn emit_if(
+    site: &Site<'_>,
+    code: &mut Vec<Instruction>,
+    marks: &mut Marks,
+    branch: &TypedIf,
+) -> Result<(), AllocError>
     ensures { OnOk result (code.new.items ≡ code.old.items
         ++ (expression_code (site_view site.now) (expression_view branch.now.condition)
         ++ choice_code (statement_code (site_view site.now) (statement_view branch.now.body))
@@ -247,13 +271,13 @@ fn emit_if(site: &Site<'_>, code: &mut Vec<Instruction>, branch: &TypedIf) -> Re
     emit_expression(site, code, &branch.condition)?;
     let choice = next_place(code);
     emit(code, Instruction::JumpUnless(0))?;
-    emit_statement(site, code, &branch.body)?;
+    emit_statement(site, code, marks, &branch.body)?;
     match &branch.otherwise {
         Some(otherwise) => {
             let end = next_place(code);
             emit(code, Instruction::Jump(0))?;
             close_jump_unless(code, choice);
-            emit_statement(site, code, otherwise)?;
+            emit_statement(site, code, marks, otherwise)?;
             close_jump(code, end);
         }
         None => close_jump_unless(code, choice),
@@ -266,12 +290,13 @@ fn emit_if(site: &Site<'_>, code: &mut Vec<Instruction>, branch: &TypedIf) -> Re
 pub(crate) fn emit_list(
     site: &Site<'_>,
     code: &mut Vec<Instruction>,
+    marks: &mut Marks,
     list: &TypedList,
 ) -> Result<(), AllocError>
     ensures { OnOk result (code.new.items
         ≡ code.old.items ++ list_code (site_view site.now) (list_view list.now)) }
 {
-    emit_statements(site, code, list.statements.as_slice())
+    emit_statements(site, code, marks, list.statements.as_slice())
 }
 
 // Statements one after another.
@@ -279,13 +304,14 @@ pub(crate) fn emit_list(
 fn emit_statements(
     site: &Site<'_>,
     code: &mut Vec<Instruction>,
+    marks: &mut Marks,
     statements: &[TypedStatement],
 ) -> Result<(), AllocError>
     ensures { OnOk result (code.new.items
         ≡ code.old.items ++ statements_code (site_view site.now) (statements_view statements.now)) }
 {
     for statement in statements {
-        emit_statement(site, code, statement)?;
+        emit_statement(site, code, marks, statement)?;
     }
     Ok(())
 }
@@ -295,6 +321,7 @@ fn emit_statements(
 fn emit_while(
     site: &Site<'_>,
     code: &mut Vec<Instruction>,
+    marks: &mut Marks,
     turns: &TypedWhile,
 ) -> Result<(), AllocError>
     ensures { OnOk result (code.new.items ≡ code.old.items
@@ -304,7 +331,8 @@ fn emit_while(
 {
     let start = next_place(code);
     emit(code, Instruction::Jump(0))?;
-    emit_list(site, code, &turns.body)?;
+    emit_list(site, code, marks, &turns.body)?;
+    marks.end_body(site, code)?;
     close_jump(code, start);
     emit_expression(site, code, &turns.condition)?;
     emit_loop_back(code, start)
@@ -315,6 +343,7 @@ fn emit_while(
 fn emit_iterate(
     site: &Site<'_>,
     code: &mut Vec<Instruction>,
+    marks: &mut Marks,
     turns: &TypedIterate,
 ) -> Result<(), AllocError>
     ensures { OnOk result (code.new.items ≡ code.old.items
@@ -324,7 +353,8 @@ fn emit_iterate(
     emit_first(site, code, &turns.head)?;
     let start = next_place(code);
     emit(code, Instruction::Jump(0))?;
-    emit_list(site, code, &turns.body)?;
+    emit_list(site, code, marks, &turns.body)?;
+    marks.end_body(site, code)?;
     emit_stepping(site, code, &turns.head)?;
     let leave = next_place(code);
     emit(code, Instruction::JumpUnless(0))?;
@@ -339,6 +369,7 @@ fn emit_iterate(
 fn emit_case(
     site: &Site<'_>,
     code: &mut Vec<Instruction>,
+    marks: &mut Marks,
     choice: &TypedCase,
 ) -> Result<(), AllocError>
     ensures { OnOk result (code.new.items ≡ code.old.items
@@ -350,14 +381,20 @@ fn emit_case(
 {
     emit_expression(site, code, &choice.choice)?;
     emit(code, Instruction::Case(choice.body.len()))?;
-    let cases = cases_of(site, choice.body.as_slice())?;
+    let base = marks.enter(code);
+    let cases = cases_of(site, marks, choice.body.as_slice())?;
+    marks.leave(base);
     code.extend_from_slice(cases.as_slice())?;
     Ok(())
 }
 
 // A jump to each statement of DO CASE, and one past them; and then the statements, each with a jump past those after it.
 #[cycle(statement)]
-fn cases_of(site: &Site<'_>, statements: &[TypedStatement]) -> Result<Vec<Instruction>, AllocError>
+fn cases_of(
+    site: &Site<'_>,
+    marks: &mut Marks,
+    statements: &[TypedStatement],
+) -> Result<Vec<Instruction>, AllocError>
     ensures { IfOk result (λ cases. cases.items
         ≡ entries_code (site_view site.now) (count_of_statements (statements_view statements.now)) 0
         (statements_view statements.now)
@@ -365,7 +402,7 @@ fn cases_of(site: &Site<'_>, statements: &[TypedStatement]) -> Result<Vec<Instru
 {
     let mut cases = holes(site.alloc, statements.len())?;
     let mut ends = Vec::new(site.alloc);
-    open_cases(site, &mut cases, &mut ends, statements)?;
+    open_cases(site, &mut cases, &mut ends, marks, statements)?;
     close_cases(&mut cases, ends.as_slice());
     Ok(cases)
 }
@@ -376,6 +413,7 @@ fn open_cases(
     site: &Site<'_>,
     cases: &mut Vec<Instruction>,
     ends: &mut Vec<usize>,
+    marks: &mut Marks,
     statements: &[TypedStatement],
 ) -> Result<(), AllocError>
     ensures { OnOk result (opening cases.new.items ends.new.items
@@ -384,7 +422,7 @@ fn open_cases(
 {
     for (entry, statement) in statements.iter().enumerate() {
         close_jump(cases, entry);
-        emit_statement(site, cases, statement)?;
+        emit_statement(site, cases, marks, statement)?;
         emit(cases, Instruction::Jump(0))?;
         ends.push(cases.len())?;
     }

@@ -26,7 +26,7 @@ use typed_trees::{Typed, charge_of};
 
 /// Runs a program from its main module on, which has this number: from a memory, with room on the stack and a budget
 /// of turns of loops, jumps and calls. The charge of the main module is taken first. `kinds` tells each byte of memory apart at
-/// the placement.
+/// the placement. `at` becomes the number of the instruction at which the machine stands at the end, 0 if it does not start.
 #[tactic(auto, using(crate::proofs::Starts::refused, crate::proofs::Starts::given_up, crate::proofs::Starts::runs_on, crate::proofs::Starts::stays, crate::proofs::Starts::fails_on, crate::proofs::Leading::out_of_memory))]
 pub fn run<'a, P: Ports>(
     alloc: Global,
@@ -40,6 +40,7 @@ pub fn run<'a, P: Ports>(
     memory: Memory,
     budget: &mut u64,
     ports: &mut P,
+    at: &mut usize,
 ) -> Result<SourceEnd, RunFault>
     requires kinds { AreKindsOf joined.now placement.now kinds.now }
     requires tables { AreTablesOf
@@ -67,6 +68,7 @@ pub fn run<'a, P: Ports>(
     ensures failed { IfErr result (λ fault. FaultCounts fault (P.failures ports.old) (P.failures ports.new)) }
     ensures script { P.script ports.new ≡ P.script ports.old }
 {
+    *at = 0;
     let charge = charge_of(&main.main);
     if (room as u32) < charge {
         return Ok(SourceEnd::Outside(Reason::Stack));
@@ -94,5 +96,6 @@ pub fn run<'a, P: Ports>(
     };
     let result = machine.go_on(loaded, ports);
     *budget = machine.budget;
+    *at = machine.at;
     result
 }

@@ -4,7 +4,7 @@ use crate::events::word_of;
 use crate::page::Page;
 use crate::runs::machine_with;
 use asm8080::{Code, CodeBytes, Fault, Label, WordForm};
-use failure::Failure;
+use host::Failure;
 use isa8080::{Instr, Pair};
 use objmod::{Segment, Target};
 use std::alloc::Global;

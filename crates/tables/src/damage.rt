@@ -2,7 +2,7 @@
 
 use crate::page::Page;
 use crate::texts::Bytes;
-use failure::Failure;
+use host::Failure;
 use objmod::{Fault, read};
 use std::alloc::Global;
 

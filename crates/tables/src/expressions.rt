@@ -4,14 +4,13 @@ use crate::page::Page;
 use crate::runs::put_bytes;
 use asm8080::CodeBytes;
 use cpu8080::Machine;
-use exprgen8080::Emission;
+use exprgen8080::{Emission, Facts, Part, Site, Task};
 use frames::FramePlan;
 use isa8080::Registers;
 use mem80::Memory;
 use ports::Script;
 use sources::read_source;
 use std::alloc::Global;
-use steps8080::{Facts, Part, Site, Task};
 use tool::emit_expression;
 use treecode::{ExpressionNumber, Statement, TreeModule, lower};
 

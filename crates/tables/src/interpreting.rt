@@ -3,7 +3,7 @@
 use crate::events::print_events;
 use crate::faulty::FaultyPorts;
 use crate::page::Page;
-use failure::Failure;
+use host::Failure;
 use interpreter::{RunFault, SourceEnd, interpret};
 use mem80::Memory;
 use ports::Ports;
@@ -25,6 +25,7 @@ fn interpreted<P: Ports>(
         return Err(Failure::Memory);
     };
     let mut budget = 100;
+    let mut at = 0;
     Ok(interpret(
         alloc,
         built.program(),
@@ -33,6 +34,7 @@ fn interpreted<P: Ports>(
         memory,
         ports,
         &mut budget,
+        &mut at,
     ))
 }
 

@@ -4,8 +4,7 @@ ghost use Rattle.std.specs.Prelude.{◌≡◌, ◌≤◌, length};
 ghost use Rattle.ports.specs.Events.{CountsFailure};
 
 use crate::texts::Bytes;
-use failure::Failure;
-use host::{FileFault, Files};
+use host::{Failure, FileFault, Files};
 use std::alloc::Global;
 
 // A file of this name can't be begun.

@@ -2,7 +2,7 @@
 
 use crate::page::Page;
 use crate::texts::Bytes;
-use failure::Failure;
+use host::Failure;
 use link::{LinkFault, StreamFault, link_records};
 use objmod::ObjectModule;
 use std::alloc::Global;

@@ -3,7 +3,7 @@
 use crate::Count;
 use crate::page::Page;
 use crate::scanned::scanned;
-use failure::Failure;
+use host::Failure;
 use literally::expand;
 use names::{Binding, BuiltIn, Entity, bind};
 use std::alloc::Global;

@@ -5,7 +5,7 @@ use crate::interpreting::{CALLS, word_of_end};
 use crate::objects::CALLING;
 use crate::page::Page;
 use cpu8080::DecodeTable;
-use failure::Failure;
+use host::Failure;
 use link::{StreamFault, link_records};
 use mem80::Memory;
 use ports::{Event, Script};

@@ -16,7 +16,7 @@ usual_values : values_read (usual Run []) ≡ Ok (record {
   memory = [];
   input_files = [];
   output_files = [];
-  watch = record { count = false; until_dry = false };
+  watch = record { count = false; until_dry = false; place = false };
 })
 usual_values = refl
 

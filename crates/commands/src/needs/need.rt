@@ -1,7 +1,7 @@
 //! How much of the stack the program of sources needs.
 
 ghost use Rattle.std.specs.Prelude.{◌≡◌, ◌<◌, Err, IfOk, length, map};
-ghost use Rattle.failure.specs.Failure.{IfFault};
+ghost use Rattle.host.specs.Failure.{IfFault};
 ghost use Rattle.typed_trees.specs.Views.{module_view};
 ghost use Rattle.layout.specs.Joined.{IsJoined};
 ghost use Rattle.join.specs.Views.{modules_of};
@@ -12,7 +12,7 @@ ghost use Rattle.commands.specs.internal.Reading.{IsFirstFault, IsOfJoining, IsO
 
 use crate::needs::fault::NeedFault;
 use crate::needs::line::line_of;
-use failure::Failure;
+use host::Failure;
 use join::{Joined, join};
 use sources::{MOST_SOURCES, Source, SourceModule, read_source};
 use stack_need::need;

@@ -7,8 +7,7 @@ ghost use Rattle.commands.specs.Printing.{PrintsNeed, StopsNeed, TellsNoNeed};
 
 use crate::needs::need_text;
 use crate::printed_needs::refusals::refuse_need;
-use failure::{Failure, write_bytes};
-use host::{Ending, refuse_memory, refuse_output};
+use host::{Ending, Failure, refuse_memory, refuse_output, write_bytes};
 use sources::Source;
 use std::alloc::Global;
 use std::io::Write;

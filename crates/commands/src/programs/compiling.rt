@@ -1,7 +1,7 @@
 //! Sources that are compiled to object files.
 
 ghost use Rattle.std.specs.Prelude.{◌≡◌, ◌⊎◌, ◌∷◌, [], IfOk};
-ghost use Rattle.failure.specs.Failure.{IfFault};
+ghost use Rattle.host.specs.Failure.{IfFault};
 ghost use Rattle.host.specs.Refusals.{TellsRefusal};
 ghost use Rattle.command_line.specs.Command.{compile_in};
 ghost use Rattle.object_commands.specs.Linking.{KeepsOthers};
@@ -11,10 +11,8 @@ ghost use Rattle.commands.specs.Refusing.{RefusesCompiling};
 
 use crate::programs::refusals::refuse_sources;
 use command_line::CompileOrder;
-use failure::Failure;
-use host::{Ending, Files, refuse_file, refuse_memory};
-use object_commands::write_file;
-use objmod::write;
+use host::{Ending, Failure, Files, refuse_file, refuse_memory};
+use object_commands::{write, write_file};
 use std::alloc::Global;
 use std::io::Write;
 use tool::{ToolFault, compile};

@@ -18,8 +18,7 @@ use crate::port_outputs::deliver;
 use crate::programs::carrying::carry_out_sources;
 use crate::refusals::refuse_value;
 use command_line::{ProgramOrder, Settings};
-use failure::Failure;
-use host::{Ending, Files, refuse_memory};
+use host::{Ending, Failure, Files, refuse_memory};
 use std::alloc::Global;
 use std::io::Write;
 

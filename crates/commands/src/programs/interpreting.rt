@@ -22,10 +22,10 @@ use crate::input_ports::InputPorts;
 use crate::programs::loading::{script_of, start_memory};
 use crate::programs::map::print_map;
 use crate::programs::refusals::refuse_sources;
+use crate::programs::standing::text_of_line;
 use crate::reports::print_report;
 use command_line::{ProgramOrder, Settings};
-use failure::{Failure, WriteFault};
-use host::{Ending, refuse_memory, refuse_output};
+use host::{Ending, Failure, WriteFault, refuse_memory, refuse_output};
 use interpreter::{RunFault, SourceEnd, interpret};
 use meaning::Reason;
 use mem80::Memory;
@@ -57,7 +57,7 @@ pub(crate) fn interpret_sources<O: Write, E: Write>(
         (map (λ output. output.items) outputs.new.items) (O.contents out.old) (O.contents out.new) }
 {
     match build(alloc, sources, &settings.plan) {
-        Ok(built) => interpret_program(alloc, order, settings, &built, outputs, out, err),
+        Ok(built) => interpret_program(alloc, order, settings, &built, sources, outputs, out, err),
         Err(Failure::Fault(fault)) => refuse_sources(&fault, order.files.as_slice(), err),
         Err(Failure::Memory) => refuse_memory(err),
     }
@@ -70,6 +70,7 @@ fn interpret_program<O: Write, E: Write>(
     order: &ProgramOrder,
     settings: &Settings,
     built: &Built,
+    sources: &[Source],
     outputs: &mut Vec<Vec<u8>>,
     out: &mut O,
     err: &mut E,
@@ -84,7 +85,7 @@ fn interpret_program<O: Write, E: Write>(
         (values_in settings.now) built.now (status_of result)
         (map (λ output. output.items) outputs.new.items) (O.contents out.old) (O.contents out.new) }
 {
-    match print_program(alloc, order.map, settings, built, outputs, out) {
+    match print_program(alloc, order.map, settings, built, sources, outputs, out) {
         Ok(end) => ending_of(end),
         Err(Failure::Fault(_)) => refuse_output(err),
         Err(Failure::Memory) => refuse_memory(err),
@@ -99,6 +100,7 @@ fn print_program<O: Write>(
     with_map: bool,
     settings: &Settings,
     built: &Built,
+    sources: &[Source],
     outputs: &mut Vec<Vec<u8>>,
     out: &mut O,
 ) -> Result<Option<Option<SourceEnd>>, Failure<WriteFault>>
@@ -113,7 +115,7 @@ fn print_program<O: Write>(
     if with_map {
         print_map(alloc, built, out)?;
     }
-    let end = print_meaning(alloc, settings, built, outputs, out)?;
+    let end = print_meaning(alloc, settings, built, sources, outputs, out)?;
     Ok(end)
 }
 
@@ -124,6 +126,7 @@ fn print_meaning<O: Write>(
     alloc: Global,
     settings: &Settings,
     built: &Built,
+    sources: &[Source],
     outputs: &mut Vec<Vec<u8>>,
     out: &mut O,
 ) -> Result<Option<Option<SourceEnd>>, Failure<WriteFault>>
@@ -140,9 +143,13 @@ fn print_meaning<O: Write>(
         return Err(Failure::Memory);
     };
     if settings.watch.until_dry {
-        print_until_dry(alloc, settings, built, memory, script, outputs, out)
+        print_until_dry(
+            alloc, settings, built, sources, memory, script, outputs, out,
+        )
     } else {
-        print_to_end(alloc, settings, built, memory, script, outputs, out)
+        print_to_end(
+            alloc, settings, built, sources, memory, script, outputs, out,
+        )
     }
 }
 
@@ -152,6 +159,7 @@ fn print_until_dry<O: Write>(
     alloc: Global,
     settings: &Settings,
     built: &Built,
+    sources: &[Source],
     memory: Memory,
     script: Script,
     outputs: &mut Vec<Vec<u8>>,
@@ -171,12 +179,16 @@ fn print_until_dry<O: Write>(
     let run = interpret_built(alloc, settings.limit, built, memory, &mut ports)?;
     let end = dry_end(run, &ports);
     let events = ports.events();
+    let Ok(text) = text_of_line(alloc, settings, built, sources, run.at) else {
+        return Err(Failure::Memory);
+    };
     print_report(
         alloc,
         settings,
         events,
         run.used,
         word_of(end),
+        text.as_str(),
         outputs,
         out,
     )?;
@@ -189,6 +201,7 @@ fn print_to_end<O: Write>(
     alloc: Global,
     settings: &Settings,
     built: &Built,
+    sources: &[Source],
     memory: Memory,
     script: Script,
     outputs: &mut Vec<Vec<u8>>,
@@ -208,25 +221,30 @@ fn print_to_end<O: Write>(
     let run = interpret_built(alloc, settings.limit, built, memory, &mut script)?;
     let end = Some(run.end);
     let events = script.events();
+    let Ok(text) = text_of_line(alloc, settings, built, sources, run.at) else {
+        return Err(Failure::Memory);
+    };
     print_report(
         alloc,
         settings,
         events,
         run.used,
         word_of(end),
+        text.as_str(),
         outputs,
         out,
     )?;
     Ok(end)
 }
 
-// How a run of a source stopped, where no port failed; which port was to be read, where a read failed; and how much of the
-// budget was used.
+// How a run of a source stopped, where no port failed; which port was to be read, where a read failed; how much of the budget
+// was used; and at which instruction the run stands.
 #[derive(Clone, Copy)]
 struct SourceRun {
     end: Option<SourceEnd>,
     read: Option<u8>,
     used: u64,
+    at: usize,
 }
 
 // How a run ended, or None where it came to a read of a port past its input.
@@ -261,6 +279,7 @@ fn interpret_built<P: Ports>(
     ensures script { P.script ports.new ≡ P.script ports.old }
 {
     let mut left = budget;
+    let mut at = 0;
     match interpret(
         alloc,
         built.program(),
@@ -269,21 +288,25 @@ fn interpret_built<P: Ports>(
         memory,
         ports,
         &mut left,
+        &mut at,
     ) {
         Ok(end) => Ok(SourceRun {
             end: Some(end),
             read: None,
             used: budget.saturating_sub(left),
+            at,
         }),
         Err(RunFault::Input(port)) => Ok(SourceRun {
             end: None,
             read: Some(port),
             used: budget.saturating_sub(left),
+            at,
         }),
         Err(RunFault::Output(_)) => Ok(SourceRun {
             end: None,
             read: None,
             used: budget.saturating_sub(left),
+            at,
         }),
         Err(RunFault::Memory) => Err(Failure::Memory),
     }

@@ -2,13 +2,13 @@
 
 ghost use Rattle.std.specs.Prelude.{◌≡◌, ◌++◌, [], IfOk, OnErr, OnOk, map};
 ghost use Rattle.std.specs.Io.KnownBytes.{Appends};
-ghost use Rattle.failure.specs.Writing.{AppendsBeginning};
+ghost use Rattle.host.specs.Writing.{AppendsBeginning};
 ghost use Rattle.typed_trees.specs.Views.{module_view, object_view};
 ghost use Rattle.layout.specs.Placement.{kind_of};
 ghost use Rattle.placing.specs.Views.{module_placement_view};
 ghost use Rattle.commands.specs.Map.{map_line, map_of, map_text, module_text, object_line};
 
-use failure::{Failure, WriteFault, write_bytes};
+use host::{Failure, WriteFault, write_bytes};
 use object_modules::Name;
 use placing::ModulePlacement;
 use std::alloc::Global;

@@ -9,6 +9,7 @@ mod loading;
 mod map;
 mod refusals;
 mod running;
+mod standing;
 
 pub use carrying::carry_out_sources;
 pub use compiling::compile_file;

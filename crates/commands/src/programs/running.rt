@@ -13,15 +13,16 @@ ghost use Rattle.commands.specs.Ends.{machine_status};
 ghost use Rattle.commands.specs.Running.{PrintsBuilt, PrintsTexts, StopsBuilt};
 
 use crate::image_runs::{ending_of, print_image};
+use crate::places::Places;
 use crate::port_inputs::quiet_of;
 use crate::port_outputs::put_outputs;
 use crate::programs::loading::{script_of, start_memory};
 use crate::programs::map::print_map;
 use crate::programs::refusals::refuse_sources;
+use crate::programs::standing::print_with_line;
 use command_line::{ProgramOrder, Settings};
 use cpu8080::{DecodeTable, End};
-use failure::{Failure, WriteFault};
-use host::{Ending, refuse_memory, refuse_output};
+use host::{Ending, Failure, WriteFault, refuse_memory, refuse_output};
 use std::alloc::Global;
 use std::io::Write;
 use tool::{Built, Source, build, print_run};
@@ -49,7 +50,7 @@ pub(crate) fn run_sources<O: Write, E: Write>(
         (map (λ output. output.items) outputs.new.items) (O.contents out.old) (O.contents out.new) }
 {
     match build(alloc, sources, &settings.plan) {
-        Ok(built) => run_built(alloc, order, settings, &built, outputs, out, err),
+        Ok(built) => run_built(alloc, order, settings, &built, sources, outputs, out, err),
         Err(Failure::Fault(fault)) => refuse_sources(&fault, order.files.as_slice(), err),
         Err(Failure::Memory) => refuse_memory(err),
     }
@@ -62,6 +63,7 @@ fn run_built<O: Write, E: Write>(
     order: &ProgramOrder,
     settings: &Settings,
     built: &Built,
+    sources: &[Source],
     outputs: &mut Vec<Vec<u8>>,
     out: &mut O,
     err: &mut E,
@@ -76,7 +78,7 @@ fn run_built<O: Write, E: Write>(
         (values_in settings.now) built.now (status_of result)
         (map (λ output. output.items) outputs.new.items) (O.contents out.old) (O.contents out.new) }
 {
-    match print_built(alloc, order.map, settings, built, outputs, out) {
+    match print_built(alloc, order.map, settings, built, sources, outputs, out) {
         Ok(end) => ending_of(end),
         Err(Failure::Fault(_)) => refuse_output(err),
         Err(Failure::Memory) => refuse_memory(err),
@@ -91,6 +93,7 @@ fn print_built<O: Write>(
     with_map: bool,
     settings: &Settings,
     built: &Built,
+    sources: &[Source],
     outputs: &mut Vec<Vec<u8>>,
     out: &mut O,
 ) -> Result<Option<End>, Failure<WriteFault>>
@@ -104,7 +107,7 @@ fn print_built<O: Write>(
     if with_map {
         print_map(alloc, built, out)?;
     }
-    let end = print_program(alloc, settings, built, outputs, out)?;
+    let end = print_program(alloc, settings, built, sources, outputs, out)?;
     Ok(end)
 }
 
@@ -116,6 +119,7 @@ fn print_program<O: Write>(
     alloc: Global,
     settings: &Settings,
     built: &Built,
+    sources: &[Source],
     outputs: &mut Vec<Vec<u8>>,
     out: &mut O,
 ) -> Result<Option<End>, Failure<WriteFault>>
@@ -125,8 +129,18 @@ fn print_program<O: Write>(
     ensures err { OnErr result (StopsBuilt Run [] (values_in settings.now) built.now
         (O.contents out.old) (O.contents out.new)) }
 {
+    if settings.watch.place {
+        return print_with_line(alloc, settings, built, sources, outputs, out);
+    }
     if settings.watch.count || settings.watch.until_dry {
-        let end = print_image(alloc, built.image(), settings, outputs, out)?;
+        let end = print_image(
+            alloc,
+            built.image(),
+            settings,
+            &Places::Addresses,
+            outputs,
+            out,
+        )?;
         return Ok(end);
     }
     print_plain(alloc, settings, built, outputs, out)
@@ -143,6 +157,7 @@ fn print_plain<O: Write>(
 ) -> Result<Option<End>, Failure<WriteFault>>
     requires plain { settings.now.watch.count ≡ false }
     requires to_end { settings.now.watch.until_dry ≡ false }
+    requires unplaced { settings.now.watch.place ≡ false }
     ensures ok { IfOk result (λ end. PrintsBuilt Run [] (values_in settings.now) built.now
         (machine_status end) (map (λ output. output.items) outputs.new.items)
         (O.contents out.old) (O.contents out.new)) }

@@ -1,5 +1,5 @@
 -- A segment of a merge, piece by piece.
-use Rattle.std.specs.Prelude.{◌≡◌, ℕ, ◌+◌, ◌<◌, ◌≤◌, Bool, if◌then◌else◌, List, [], ◌∷◌, length, map, flat_map, filter_map, Some}
+use Rattle.std.specs.Prelude.{◌≡◌, ℕ, ◌+◌, ◌≤◌, Bool, false, if◌then◌else◌, List, [], ◌∷◌, length, map, flat_map, filter_map, Some}
 use Rattle.std.specs.List.{list_any, AllByRecursion}
 use Rattle.object_modules.specs.declared.object.ModuleParts.{ModuleParts}
 use Rattle.object_modules.specs.declared.segment.Alignment.{Alignment}
@@ -7,6 +7,7 @@ use Rattle.object_modules.specs.declared.segment.Alignment.TheVariants.{Byte, Pa
 use Rattle.object_modules.specs.declared.segment.Fix.{Fix}
 use Rattle.object_modules.specs.declared.segment.Segment.{Segment}
 use Rattle.object_modules.specs.declared.segment.Segment.TheVariants.{Code, Data}
+use Rattle.object_modules.specs.Before.{is_empty}
 use Rattle.object_modules.specs.Displacements.{Start, Linked, code_end, data_end, displacement_in, gain_in, target_kept}
 use Rattle.object_modules.specs.Module.{Public, IsObjectModule, alignment_of, is_page, length_of}
 use Rattle.object_modules.specs.Rules.{fix_end}
@@ -31,12 +32,12 @@ abbrev pub AreWithin : (offset size : ℕ) → List Fix → Type 0
 AreWithin offset size fixes =
     AllByRecursion (λ (fix : Fix). (offset ≤ fix.offset) × (fix_end fix ≤ offset + size)) fixes
 
--- runs within a size that each have the fixes in front that begin before their end
+-- runs that have bytes, within a size, each with the fixes in front that begin before its end; no fix is left
 abbrev pub HaveTheirFixes : (size : ℕ) → List Fix → List (Run ℕ) → Type 0
-HaveTheirFixes size fixes [] = Unit {0}
+HaveTheirFixes size fixes [] = fixes ≡ []
 HaveTheirFixes size fixes (run ∷ others) =
     (run_end run ≤ size)
-    × (run.offset < 65536)
+    × (is_empty run.items ≡ false)
     × AreWithin run.offset (length run.items) (fixes_below (run_end run) fixes)
     × HaveTheirFixes size (fixes_past (run_end run) fixes) others
 

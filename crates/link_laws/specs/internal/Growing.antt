@@ -10,12 +10,12 @@ use Rattle.object_modules.specs.declared.segment.Target.{Target}
 use Rattle.object_modules.specs.declared.segment.Target.TheVariants.{InSegment, External}
 use Rattle.object_modules.specs.Before.{content_end, is_empty}
 use Rattle.object_modules.specs.Displacements.{Start, Linked, public_named, start_of, target_of_public}
-use Rattle.object_modules.specs.Module.{Public}
+use Rattle.object_modules.specs.Module.{ObjectModule, Public}
 use Rattle.object_modules.specs.Rules.{is_within}
-use Rattle.object_modules.specs.Runs.{fixes_in, with_run}
+use Rattle.object_modules.specs.Runs.{fixes_in, runs_of, with_run}
 use Rattle.object_modules.specs.Spelling.{FixedContent}
 use Rattle.object_modules.specs.Text.{Run}
-use Rattle.object_modules.specs.internal.Joining.{run_at, with_runs, fix_kept, run_fixed}
+use Rattle.object_modules.specs.internal.Joining.{run_at, with_runs, fix_kept, fixes_below, fixes_past, run_end, run_fixed, runs_fixed}
 use Rattle.object_laws.proofs.Merges.HighBytes.{high_byte_moves}
 use Rattle.link_laws.specs.internal.Building.{piece_runs, piece_fixes}
 use Rattle.objmod.specs.internal.Keeping.{fixes_by_place, is_in}
@@ -89,7 +89,28 @@ grown_in resolved segment grown (fixed ∷ others) =
     grown_in resolved segment (if is_in segment fixed then with_content resolved segment grown fixed else grown)
     others
 
--- a segment after a piece of a module, and after those of several
+-- a segment after the runs of a piece, each with the fixes in front that begin before its end
+abbrev pub grown_over : Resolved → Segment → Grown → List Fix → List (Run ℕ) → Grown
+grown_over resolved segment grown fixes [] = grown
+grown_over resolved segment grown fixes (run ∷ others) =
+    grown_over resolved segment
+    (grown_with resolved segment grown run.offset run.items (fixes_below (run_end run) fixes))
+    (fixes_past (run_end run) fixes) others
+
+-- a segment after a piece of a module whose targets are resolved
+abbrev pub grown_from : Resolved → Segment → Grown → ObjectModule → Grown
+grown_from resolved segment grown object = record {
+  runs =
+      with_runs grown.runs
+      (runs_fixed (start_of resolved.start segment) (gain_by resolved) (fixes_in object segment)
+      (runs_of object segment));
+  fixes =
+      grown.fixes
+      ++ filter_map (fix_kept (start_of resolved.start segment) (kept_by resolved)) (fixes_in object segment);
+  moves = grown.moves || list_any (moves_by resolved) (fixes_in object segment);
+}
+
+-- the same by the publics of the merge, and a segment after the pieces of several modules
 abbrev pub grown_by : List Public → Segment → Grown → Linked → Grown
 grown_by publics segment grown one = record {
   runs = with_runs grown.runs (piece_runs publics segment one);

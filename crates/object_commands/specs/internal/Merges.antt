@@ -3,7 +3,7 @@ use Rattle.std.specs.Prelude.{ℕ, List}
 use Rattle.host.specs.Refusals.{output_line, refusal_line}
 use Rattle.link.specs.declared.StreamFault.{StreamFault}
 use Rattle.link.specs.declared.StreamFault.TheVariants as stream
-use Rattle.link_laws.specs.Faults.{refusal_of}
+use Rattle.link.specs.Faults.{refusal_of}
 use Rattle.object_modules.specs.Merge.{LinkRefusal, link_number}
 use Rattle.object_modules.specs.Numbers.{number_of}
 use Rattle.object_commands.specs.Merging.{file_at, name_told}

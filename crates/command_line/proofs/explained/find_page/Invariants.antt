@@ -1,5 +1,5 @@
-use Rattle.std.proofs.Common.{◌≡◌, map, find, length}
-use Rattle.command_line.specs.Explained.{is_page_of}
+use Rattle.command_line.proofs.Prelude.{◌≡◌, map, length, is_page_of}
+use Rattle.std.proofs.Common.{find}
 use Rattle.command_line.proofs.explained.find_page.Given as goal
 
 abbrev pub invariant-loop-rest : goal.invariant-loop-rest

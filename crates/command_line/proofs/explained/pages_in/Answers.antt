@@ -1,6 +1,4 @@
-use Rattle.std.proofs.Common.{rules, tests}
-use Rattle.std.proofs.lemmas.Iterator.Consumers.{map_from_collect}
-use Rattle.std.proofs.lemmas.Iterator.Splits.{YieldsList-from_slice_split}
+use Rattle.command_line.proofs.Prelude.{rules, tests, map_from_collect, YieldsList-from_slice_split}
 use Rattle.command_line.proofs.explained.pages_in.Goals as goal
 
 pub returns : goal.returns

@@ -1,6 +1,4 @@
-use Rattle.command_line.proofs.Prelude.{◌∙◌, sym, texts}
-use Rattle.command_line.proofs.PortFiles.{none_left}
-use Rattle.command_line.proofs.OutputFiles.{files_end, names_read}
+use Rattle.command_line.proofs.{Prelude.{◌∙◌, sym, texts}, PortFiles.{none_left}, OutputFiles.{files_end, names_read}}
 use Rattle.command_line.proofs.output_files.output_files.Goals as goal
 
 pub returns-in_err-push-in-Ok-clause-memory : goal.returns-in_err-push-in-Ok-clause-memory

@@ -1,5 +1,4 @@
-use Rattle.command_line.proofs.Prelude.{◌≡◌, ◌≤◌, length, map, texts}
-use Rattle.command_line.specs.Settings.{output_files_after, output_files_read, port_file_in}
+use Rattle.command_line.proofs.Prelude.{◌≡◌, ◌≤◌, length, map, texts, output_files_after, output_files_read, port_file_in}
 use Rattle.command_line.proofs.output_files.output_files.Given as goal
 
 -- these files, and then those that the texts that are left write, are those that all write

@@ -1,5 +1,4 @@
-use Rattle.command_line.proofs.Prelude.{◌∙◌, arith}
-use Rattle.command_line.proofs.OutputFiles.{colon_there, no_colon}
+use Rattle.command_line.proofs.{Prelude.{◌∙◌, arith}, OutputFiles.{colon_there, no_colon}}
 use Rattle.command_line.proofs.output_files.port_and_output.Goals as goal
 
 pub returns-in-Some : goal.returns-in-Some

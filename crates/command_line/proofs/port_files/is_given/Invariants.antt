@@ -1,5 +1,4 @@
-use Rattle.command_line.proofs.Prelude.{◌≡◌, length}
-use Rattle.command_line.specs.Settings.{has_input}
+use Rattle.command_line.proofs.Prelude.{◌≡◌, length, has_input}
 use Rattle.command_line.proofs.port_files.is_given.Given as goal
 
 abbrev pub invariant-loop-rest : goal.invariant-loop-rest

@@ -1,5 +1,4 @@
-use Rattle.command_line.proofs.Prelude.{◌≡◌, length, map}
-use Rattle.command_line.specs.Settings.{has_file, port_file_in}
+use Rattle.command_line.proofs.Prelude.{◌≡◌, length, map, has_file, port_file_in}
 use Rattle.command_line.proofs.port_files.is_named.Given as goal
 
 abbrev pub invariant-loop-rest : goal.invariant-loop-rest

@@ -1,5 +1,4 @@
-use Rattle.command_line.proofs.Prelude.{◌∙◌, arith}
-use Rattle.command_line.proofs.PortFiles.{colon_there, no_colon}
+use Rattle.command_line.proofs.{Prelude.{◌∙◌, arith}, PortFiles.{colon_there, no_colon}}
 use Rattle.command_line.proofs.port_files.port_and_name.Goals as goal
 
 pub returns-in-Some : goal.returns-in-Some

@@ -1,5 +1,4 @@
-use Rattle.command_line.proofs.Prelude.{◌∙◌, sym, texts}
-use Rattle.command_line.proofs.PortFiles.{files_end, names_read, none_left}
+use Rattle.command_line.proofs.{Prelude.{◌∙◌, sym, texts}, PortFiles.{files_end, names_read, none_left}}
 use Rattle.command_line.proofs.port_files.port_files.Goals as goal
 
 pub returns-in_err-push-in-Ok-clause-memory : goal.returns-in_err-push-in-Ok-clause-memory

@@ -1,5 +1,4 @@
-use Rattle.command_line.proofs.Prelude.{◌≡◌, ◌≤◌, length, map, texts}
-use Rattle.command_line.specs.Settings.{port_file_in, port_files_after, port_files_read}
+use Rattle.command_line.proofs.Prelude.{◌≡◌, ◌≤◌, length, map, texts, port_file_in, port_files_after, port_files_read}
 use Rattle.command_line.proofs.port_files.port_files.Given as goal
 
 -- these files, and then those that the texts that are left write, are those that all write

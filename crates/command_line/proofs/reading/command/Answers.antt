@@ -1,9 +1,5 @@
-use Rattle.command_line.proofs.Prelude.{◌≡◌, ◌∙◌, [], ap, sym, subst, ◌<◌, length, option_and_then, option_map, texts, is_simple_and_free, HasKind, App, fault_of, is_simple, subcommand_of, subcommand_rows_of, IsFaultOf, Orders, named_in, plm_app, wanted_by, wanted_in, wanted_of_match, Order}
-use Rattle.command_line.proofs.CommandLemmas.{fault_among, gives_none, out_of_memory, tells_none, wants_any}
-use Rattle.command_line.proofs.Given.{compile_failed, compile_ordered, convert_failed, convert_ordered, execute_failed, execute_ordered, execute_text_failed, execute_text_ordered, explain_failed, explain_ordered, files_failed, files_ordered, link_failed, link_ordered, map_failed, map_ordered, jump_failed, jump_ordered, need_failed, need_ordered, place_failed, place_ordered, place_text_failed, place_text_ordered, text_failed, text_ordered, watch_failed, watch_ordered, execute_watch_failed, execute_watch_ordered}
-use Rattle.command_line.proofs.PlmWords.{order_is_there, some_files, plm_is_free, plm_is_simple}
+use Rattle.command_line.proofs.{Prelude.{◌≡◌, ◌∙◌, [], ap, sym, subst, ◌<◌, length, option_and_then, option_map, texts, is_simple_and_free, HasKind, App, fault_of, is_simple, subcommand_of, subcommand_rows_of, IsFaultOf, Orders, named_in, plm_app, wanted_by, wanted_in, wanted_of_match, Order}, CommandLemmas.{fault_among, gives_none, out_of_memory, tells_none, wants_any}, Given.{compile_failed, compile_ordered, convert_failed, convert_ordered, execute_failed, execute_ordered, execute_text_failed, execute_text_ordered, explain_failed, explain_ordered, files_failed, files_ordered, link_failed, link_ordered, map_failed, map_ordered, jump_failed, jump_ordered, need_failed, need_ordered, place_failed, place_ordered, place_text_failed, place_text_ordered, text_failed, text_ordered, watch_failed, watch_ordered, execute_watch_failed, execute_watch_ordered}, PlmWords.{order_is_there, some_files, plm_is_free, plm_is_simple}, reading.command.Goals.{In-Ok}}
 use Rattle.command_line.proofs.reading.command.Goals as goal
-use Rattle.command_line.proofs.reading.command.Goals.{In-Ok}
 
 no_fault : (c : In-Ok) → fault_of plm_app (texts c.args.words.now) ≡ []
 no_fault c =

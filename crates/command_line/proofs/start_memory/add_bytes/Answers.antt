@@ -1,5 +1,4 @@
-use Rattle.command_line.proofs.Prelude.{◌∙◌, ◌+◌, refl, arith}
-use Rattle.command_line.proofs.MemoryBytes.{pair_step}
+use Rattle.command_line.proofs.{Prelude.{◌∙◌, ◌+◌, refl, arith}, MemoryBytes.{pair_step}}
 use Rattle.command_line.proofs.start_memory.add_bytes.Goals as goal
 
 pub loop-rest-preserved : goal.loop-rest-preserved

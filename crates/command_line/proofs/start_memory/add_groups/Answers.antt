@@ -1,5 +1,4 @@
-use Rattle.command_line.proofs.Prelude.{◌∙◌, memory_group}
-use Rattle.command_line.proofs.Inputs.{group_step}
+use Rattle.command_line.proofs.{Prelude.{◌∙◌, memory_group}, Inputs.{group_step}}
 use Rattle.command_line.proofs.start_memory.add_groups.Goals as goal
 
 pub loop-rest-preserved : goal.loop-rest-preserved

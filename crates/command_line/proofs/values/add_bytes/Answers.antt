@@ -1,5 +1,4 @@
-use Rattle.command_line.proofs.Prelude.{◌∙◌}
-use Rattle.command_line.proofs.Inputs.{pair_step}
+use Rattle.command_line.proofs.{Prelude.{◌∙◌}, Inputs.{pair_step}}
 use Rattle.command_line.proofs.values.add_bytes.Goals as goal
 
 pub loop-rest-preserved : goal.loop-rest-preserved

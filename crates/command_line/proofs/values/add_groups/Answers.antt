@@ -1,5 +1,4 @@
-use Rattle.command_line.proofs.Prelude.{◌∙◌, group_bytes}
-use Rattle.command_line.proofs.Inputs.{group_step}
+use Rattle.command_line.proofs.{Prelude.{◌∙◌, group_bytes}, Inputs.{group_step}}
 use Rattle.command_line.proofs.values.add_groups.Goals as goal
 
 pub loop-rest-preserved : goal.loop-rest-preserved

@@ -1,5 +1,4 @@
-use Rattle.command_line.proofs.Prelude.{◌≡◌, false, slice_index, lit<, ◌==◌}
-use Rattle.command_line.proofs.Decimals.{number_read, number_refused}
+use Rattle.command_line.proofs.{Prelude.{◌≡◌, false, slice_index, lit<, ◌==◌}, Decimals.{number_read, number_refused}}
 use Rattle.command_line.proofs.values.limit.Goals as goal
 
 pub returns-in-Err : goal.returns-in-Err

@@ -1,5 +1,4 @@
-use Rattle.command_line.proofs.Prelude.{◌≡◌, false, slice_index, arith, lit<, ◌==◌}
-use Rattle.command_line.proofs.Decimals.{number_read, number_refused}
+use Rattle.command_line.proofs.{Prelude.{◌≡◌, false, slice_index, arith, lit<, ◌==◌}, Decimals.{number_read, number_refused}}
 use Rattle.command_line.proofs.values.place.Goals as goal
 
 pub returns-in-Ok : goal.returns-in-Ok

@@ -1,5 +1,4 @@
-use Rattle.commands.proofs.{Prelude.{refl, stays, tells_no_file}, OrdersKept.{kept_as_wanted, stops_as_wanted}}
-use Rattle.command_line.specs.Command.{wanted_in}
+use Rattle.commands.proofs.{Prelude.{refl, stays, tells_no_file, wanted_in}, OrdersKept.{kept_as_wanted, stops_as_wanted}}
 use Rattle.commands.proofs.console.carry_out.Goals as goal
 
 pub returns-in-Explain-clause-unchanged : goal.returns-in-Explain-clause-unchanged

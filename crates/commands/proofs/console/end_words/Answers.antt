@@ -1,5 +1,4 @@
-use Rattle.command_line.specs.Command.{wanted_by}
-use Rattle.commands.proofs.{Prelude.{ap, texts, status_of, refl, subst, stays, tells_no_file, IsWrong}, Untold.{runs_out}, OrdersKept.{converts_by_words, kept_by_words, kept_stops, memory_converts, tells_any, tells_by_words}, ProgramsTold.{memory_by_words, quiet_by_any, quiet_by_words, refuses_by_words, runs_by_words}, TextsTold.{help_at_most, none_told}}
+use Rattle.commands.proofs.{Prelude.{wanted_by, ap, texts, status_of, refl, subst, stays, tells_no_file, IsWrong}, Untold.{runs_out}, OrdersKept.{converts_by_words, kept_by_words, kept_stops, memory_converts, tells_any, tells_by_words}, ProgramsTold.{memory_by_words, quiet_by_any, quiet_by_words, refuses_by_words, runs_by_words}, TextsTold.{help_at_most, none_told}}
 use Rattle.commands.proofs.console.end_words.Goals as goal
 
 pub returns-in-Ok-clause-not_wrong : goal.returns-in-Ok-clause-not_wrong

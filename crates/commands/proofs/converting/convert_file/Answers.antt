@@ -1,6 +1,4 @@
-use Rattle.commands.proofs.Prelude.{None, ap, status_of}
-use Rattle.commands.proofs.Converted.{file_converted, file_unheld, file_unread}
-use Rattle.commands.proofs.Tables.{kept_then_all_but}
+use Rattle.commands.proofs.{Prelude.{None, ap, status_of}, Converted.{file_converted, file_unheld, file_unread}, Tables.{kept_then_all_but}}
 use Rattle.commands.proofs.converting.convert_file.Goals as goal
 
 pub returns-in-Err-Fault-clause-converted : goal.returns-in-Err-Fault-clause-converted

@@ -1,6 +1,4 @@
-use Rattle.commands.proofs.Prelude.{None, ap, refl, status_of, stays, ◌∙◌}
-use Rattle.commands.proofs.Converted.{are_put, held_stopped, held_unheld, old_converted, parts_before, stops_including}
-use Rattle.commands.proofs.Tables.{kept_then_all_but}
+use Rattle.commands.proofs.{Prelude.{None, ap, refl, status_of, stays, ◌∙◌}, Converted.{are_put, held_stopped, held_unheld, old_converted, parts_before, stops_including}, Tables.{kept_then_all_but}}
 use Rattle.commands.proofs.converting.convert_old.Goals as goal
 
 pub returns-in_default-clause-converted : goal.returns-in_default-clause-converted

@@ -1,5 +1,4 @@
-use Rattle.commands.proofs.Prelude.{None, ap, arith, refl, status_of, stays}
-use Rattle.commands.proofs.Converted.{held_too_long, held_unheld, module_printed, rewritten_printed}
+use Rattle.commands.proofs.{Prelude.{None, ap, arith, refl, status_of, stays}, Converted.{held_too_long, held_unheld, module_printed, rewritten_printed}}
 use Rattle.commands.proofs.converting.convert_text.Goals as goal
 
 pub returns-in-Ok-Module-clause-converted : goal.returns-in-Ok-Module-clause-converted

@@ -1,5 +1,4 @@
-use Rattle.commands.proofs.Prelude.{None, ap, status_of}
-use Rattle.commands.proofs.Converted.{tabled_as_wanted, tabled_unheld}
+use Rattle.commands.proofs.{Prelude.{None, ap, status_of}, Converted.{tabled_as_wanted, tabled_unheld}}
 use Rattle.commands.proofs.converting.print_converted.Goals as goal
 
 pub returns-in_default-clause-printed : goal.returns-in_default-clause-printed

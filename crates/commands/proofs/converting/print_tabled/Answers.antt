@@ -1,6 +1,4 @@
-use Rattle.commands.proofs.Prelude.{None, ap, status_of}
-use Rattle.commands.proofs.Converted.{tabled_stopped, tabled_unwritten, tabled_without, tabled_written}
-use Rattle.commands.proofs.Tables.{none_wanted, one_wanted, stopped_but, written_but}
+use Rattle.commands.proofs.{Prelude.{None, ap, status_of}, Converted.{tabled_stopped, tabled_unwritten, tabled_without, tabled_written}, Tables.{none_wanted, one_wanted, stopped_but, written_but}}
 use Rattle.commands.proofs.converting.print_tabled.Goals as goal
 
 pub returns-in_default-clause-printed : goal.returns-in_default-clause-printed

@@ -1,6 +1,4 @@
-use Rattle.commands.proofs.{Prelude.{◌∙◌, Some, [], ap, inl, map, refl, stays, values_in}, RefusedRuns.{refused_ended, refused_unended}, Executed.{memory_first}, Delivered.{kept_but, kept_then_but, kept_then_delivered, not_wrong_after, told_instead}}
-use Rattle.command_line.specs.{Command.{execute_in}, Settings.{file_names, port_file_in}}
-use Rattle.commands.specs.Executing.{PrintsMerge}
+use Rattle.commands.proofs.{Prelude.{◌∙◌, Some, [], ap, inl, map, refl, stays, values_in, execute_in, file_names, port_file_in, PrintsMerge}, RefusedRuns.{refused_ended, refused_unended}, Executed.{memory_first}, Delivered.{kept_but, kept_then_but, kept_then_delivered, not_wrong_after, told_instead}}
 use Rattle.commands.proofs.executing.deliver_objects.Goals as goal
 
 pub returns-in-Refused-clause-unchanged : goal.returns-in-Refused-clause-unchanged

@@ -1,5 +1,4 @@
-use Rattle.commands.proofs.{Prelude.{◌∙◌, stays_on, values_in}, InputFiles.{told_before}, Executed.{not_placed, not_run, runs_merge, told_later}}
-use Rattle.command_line.specs.Command.{execute_in}
+use Rattle.commands.proofs.{Prelude.{◌∙◌, stays_on, values_in, execute_in}, InputFiles.{told_before}, Executed.{not_placed, not_run, runs_merge, told_later}}
 use Rattle.commands.proofs.executing.execute_with.Goals as goal
 
 pub returns-in-Err-clause-told : goal.returns-in-Err-clause-told

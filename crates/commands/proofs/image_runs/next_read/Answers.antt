@@ -1,8 +1,4 @@
-use Rattle.commands.proofs.Prelude.{◌==◌, ◌∙◌, ap}
-use Rattle.std.proofs.Common.{arith}
-use Rattle.std.proofs.lemmas.Bool.{eqb-true, false_from_ne_true}
-use Rattle.mem80.specs.Memory.{byte_at}
-use Rattle.commands.proofs.StepReads.{reads_nothing}
+use Rattle.commands.proofs.{Prelude.{◌==◌, ◌∙◌, ap, arith, eqb-true, false_from_ne_true, byte_at}, StepReads.{reads_nothing}}
 use Rattle.commands.proofs.image_runs.next_read.Goals as goal
 
 pub returns-else-get-clause-nothing : goal.returns-else-get-clause-nothing

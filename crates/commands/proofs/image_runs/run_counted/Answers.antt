@@ -1,9 +1,8 @@
-use Rattle.commands.proofs.Prelude.{◌∙◌, refl}
-use Rattle.commands.proofs.Steps.{begins, ends_so, fault_counted, goes_further, halt_counted, illegal_counted, limit_counted, limit_run}
+use Rattle.commands.proofs.{Prelude.{◌∙◌, refl}, Steps.{begins, ends_so, fault_counted, goes_further, halt_counted, illegal_counted, limit_counted, limit_run}}
 use Rattle.commands.proofs.image_runs.run_counted.Goals as goal
 
 pub loop-done-init : goal.loop-done-init
-loop-done-init g c = begins c.args.limit c.args.machine.now c.requires
+loop-done-init g c = begins c.args.limit c.args.machine.now c.requires.run
 
 pub loop-done-preserved : goal.loop-done-preserved
 loop-done-preserved g c = goes_further c.args.limit c.args.machine.now c.loop-done.done c.loop-done.machine c.loop-done.invariant c.run.new.self c.run.result c.run.ensures.run c.run.ensures.script c.loop-done-test.true _ c.in-Limit.is refl

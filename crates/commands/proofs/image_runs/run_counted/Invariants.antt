@@ -1,5 +1,4 @@
-use Rattle.commands.proofs.Prelude.{◌-◌}
-use Rattle.commands.proofs.Steps.{SoFar}
+use Rattle.commands.proofs.{Prelude.{◌-◌}, Steps.{SoFar}}
 use Rattle.commands.proofs.image_runs.run_counted.Given as goal
 
 -- so many steps were made, and the machine runs

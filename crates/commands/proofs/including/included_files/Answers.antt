@@ -1,9 +1,4 @@
-use Rattle.commands.proofs.{Prelude.{arith, passed, refl, sym, texts, ◌∙◌}, Included.{all_looked, none_looked, one_more, stops_next_name, was_looked, was_stopped}}
-use Rattle.host.proofs.FilesRead.{stays, stays_on}
-use Rattle.literally.proofs.Failures.{passed_on}
-use Rattle.convert.specs.Includes.{candidates}
-use Rattle.command_line.specs.Command.{convert_in}
-use Rattle.commands.specs.Including.{StopsLooking, StopsLookingForNext}
+use Rattle.commands.proofs.{Prelude.{arith, passed, refl, sym, texts, ◌∙◌, stays, stays_on, passed_on, candidates, convert_in, StopsLooking, StopsLookingForNext}, Included.{all_looked, none_looked, one_more, stops_next_name, was_looked, was_stopped}}
 use Rattle.commands.proofs.including.included_files.Goals as goal
 
 pub names-init : goal.names-init

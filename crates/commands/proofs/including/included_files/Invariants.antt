@@ -1,6 +1,4 @@
-use Rattle.commands.proofs.Prelude.{◌≡◌, ◌-◌, length, KeepsFiles}
-use Rattle.command_line.specs.Command.{convert_in}
-use Rattle.commands.specs.Including.{Looks}
+use Rattle.commands.proofs.Prelude.{◌≡◌, ◌-◌, length, KeepsFiles, convert_in, Looks}
 use Rattle.commands.proofs.including.included_files.Given as goal
 
 abbrev pub invariant-names : goal.invariant-names

@@ -1,7 +1,4 @@
-use Rattle.commands.proofs.{Prelude.{Some, ap, map, subst, sym, ◌∙◌, ◌≡◌}, Included.{found_next, looks_on, none_left, stops_next, was_missing, was_text}}
-use Rattle.host.proofs.FilesRead.{stays_on}
-use Rattle.literally.proofs.Failures.{passed_on}
-use Rattle.commands.specs.Including.{StopsLooking, found_view}
+use Rattle.commands.proofs.{Prelude.{Some, ap, map, subst, sym, ◌∙◌, ◌≡◌, stays_on, passed_on, StopsLooking, found_view}, Included.{found_next, looks_on, none_left, stops_next, was_missing, was_text}}
 use Rattle.commands.proofs.including.look_at.Goals as goal
 
 pub returns-in-Ok-Some-clause-found : goal.returns-in-Ok-Some-clause-found

@@ -1,7 +1,4 @@
-use Rattle.std.proofs.Common.{arith}
-use Rattle.std.proofs.lemmas.Grind.{common_steps}
-use Rattle.commands.proofs.Prelude.{refl}
-use Rattle.commands.proofs.PortReads.{none_counted, room}
+use Rattle.commands.proofs.{Prelude.{arith, common_steps, refl}, PortReads.{none_counted, room}}
 use Rattle.commands.proofs.input_ports.bytes_left.Goals as goal
 
 pub overflow_add-left : goal.overflow_add-left

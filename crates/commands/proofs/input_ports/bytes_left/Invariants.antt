@@ -1,5 +1,4 @@
-use Rattle.std.proofs.Common.{length}
-use Rattle.commands.proofs.PortReads.{CountedSoFar}
+use Rattle.commands.proofs.{Prelude.{length}, PortReads.{CountedSoFar}}
 use Rattle.commands.proofs.input_ports.bytes_left.Given as goal
 
 -- the bytes that were counted, and then those that are left to be counted, are all

@@ -1,5 +1,4 @@
-use Rattle.commands.proofs.Prelude.{◌≡◌, ◌++◌, length, map, texts}
-use Rattle.command_line.specs.Settings.{file_names, port_file_in}
+use Rattle.commands.proofs.Prelude.{◌≡◌, ◌++◌, length, map, texts, file_names, port_file_in}
 use Rattle.commands.proofs.port_inputs.names_of.Given as goal
 
 -- what was made, and then the names of the files that are left, are all

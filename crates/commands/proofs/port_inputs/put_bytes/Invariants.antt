@@ -1,6 +1,4 @@
-use Rattle.commands.proofs.Prelude.{◌≡◌, ◌++◌, length}
-use Rattle.command_line.specs.Settings.{port_file_in}
-use Rattle.commands.specs.InputFiles.{bytes_of_file}
+use Rattle.commands.proofs.Prelude.{◌≡◌, ◌++◌, length, port_file_in, bytes_of_file}
 use Rattle.commands.proofs.port_inputs.put_bytes.Given as goal
 
 -- what was added, and then the bytes that are left, are all

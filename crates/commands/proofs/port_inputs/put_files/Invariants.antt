@@ -1,6 +1,4 @@
-use Rattle.commands.proofs.Prelude.{◌≡◌, ◌++◌, length, map, zip, flat_map}
-use Rattle.command_line.specs.Settings.{port_file_in}
-use Rattle.commands.specs.InputFiles.{bytes_of_file}
+use Rattle.commands.proofs.Prelude.{◌≡◌, ◌++◌, length, map, zip, flat_map, port_file_in, bytes_of_file}
 use Rattle.commands.proofs.port_inputs.put_files.Given as goal
 
 -- what was added, and then what the files that are left add, is all

@@ -1,6 +1,4 @@
-use Rattle.commands.proofs.Prelude.{◌≡◌, ◌++◌, length, map}
-use Rattle.command_line.specs.Settings.{port_file_in}
-use Rattle.commands.specs.InputFiles.{ports_of}
+use Rattle.commands.proofs.Prelude.{◌≡◌, ◌++◌, length, map, port_file_in, ports_of}
 use Rattle.commands.proofs.port_inputs.put_ports.Given as goal
 
 -- what was added, and then the ports of the files that are left, are all

@@ -1,6 +1,4 @@
-use Rattle.commands.proofs.Prelude.{◌≡◌, length, map}
-use Rattle.command_line.specs.Settings.{file_names, port_file_in}
-use Rattle.commands.specs.OutputFiles.{dash_bytes}
+use Rattle.commands.proofs.Prelude.{◌≡◌, length, map, file_names, port_file_in, dash_bytes}
 use Rattle.commands.proofs.port_outputs.bytes_for_output.Given as goal
 
 -- the bytes among those that are left are those among all

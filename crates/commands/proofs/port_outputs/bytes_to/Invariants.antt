@@ -1,5 +1,4 @@
-use Rattle.commands.proofs.Prelude.{◌≡◌, ◌++◌, length}
-use Rattle.commands.specs.OutputFiles.{bytes_written}
+use Rattle.commands.proofs.Prelude.{◌≡◌, ◌++◌, length, bytes_written}
 use Rattle.commands.proofs.port_outputs.bytes_to.Given as goal
 
 -- what was made, and then the bytes of the events that are left, are all

@@ -1,6 +1,4 @@
-use Rattle.commands.proofs.Prelude.{◌≡◌, ◌++◌, length, map}
-use Rattle.command_line.specs.Settings.{port_file_in}
-use Rattle.commands.specs.OutputFiles.{outputs_for}
+use Rattle.commands.proofs.Prelude.{◌≡◌, ◌++◌, length, map, port_file_in, outputs_for}
 use Rattle.commands.proofs.port_outputs.gathered.Given as goal
 
 -- what was made, and then the bytes of the files that are left, are all

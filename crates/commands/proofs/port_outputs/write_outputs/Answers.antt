@@ -1,5 +1,4 @@
-use Rattle.commands.proofs.{Prelude.{◌∙◌, refl}, OutputFiles.{others_left, output_left, output_stops, written_on}}
-use Rattle.command_line.specs.Settings.{port_file_in}
+use Rattle.commands.proofs.{Prelude.{◌∙◌, refl, port_file_in}, OutputFiles.{others_left, output_left, output_stops, written_on}}
 use Rattle.commands.proofs.port_outputs.write_outputs.Goals as goal
 
 pub loop-rest-preserved : goal.loop-rest-preserved

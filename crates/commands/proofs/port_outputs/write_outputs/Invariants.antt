@@ -1,5 +1,4 @@
-use Rattle.commands.proofs.{Prelude.{◌≡◌, length, map}, OutputFiles.{WrittenSoFar}}
-use Rattle.command_line.specs.Settings.{file_names, port_file_in}
+use Rattle.commands.proofs.{Prelude.{◌≡◌, length, map, file_names, port_file_in}, OutputFiles.{WrittenSoFar}}
 use Rattle.commands.proofs.port_outputs.write_outputs.Given as goal
 
 -- no call failed, and the files before those that are left were written

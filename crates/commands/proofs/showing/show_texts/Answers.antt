@@ -1,5 +1,4 @@
-use Rattle.command_line.specs.Command.{place_in}
-use Rattle.commands.proofs.{Prelude.{refl, sym, ap, ◌∙◌, map, texts_of}, Shown.{listing_printed, listing_stopped, memory_shown, printed_by, refused_by, refused_not_done}}
+use Rattle.commands.proofs.{Prelude.{place_in, refl, sym, ap, ◌∙◌, map, texts_of}, Shown.{listing_printed, listing_stopped, memory_shown, printed_by, refused_by, refused_not_done}}
 use Rattle.commands.proofs.showing.show_texts.Goals as goal
 
 pub returns-then-takes_object-clause-printed : goal.returns-then-takes_object-clause-printed

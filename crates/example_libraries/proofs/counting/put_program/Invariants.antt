@@ -1,4 +1,4 @@
-use Rattle.std.proofs.Common.{◌+◌, ◌*◌, ◌≤◌}
+use Rattle.example_libraries.proofs.Prelude.{◌+◌, ◌*◌, ◌≤◌}
 use Rattle.example_libraries.proofs.counting.put_program.Given as goal
 
 -- each instruction took at most three bytes

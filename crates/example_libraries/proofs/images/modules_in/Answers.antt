@@ -1,5 +1,4 @@
-use Rattle.example_libraries.proofs.Prelude.{◌+◌, take, sym, subst, arith, AllZip, Spells}
-use Rattle.link.proofs.Reading.{bytes_of, one_more}
+use Rattle.example_libraries.proofs.Prelude.{◌+◌, take, sym, subst, arith, AllZip, Spells, bytes_of, one_more}
 use Rattle.example_libraries.proofs.images.modules_in.Goals as goal
 
 pub loop-file-preserved : goal.loop-file-preserved

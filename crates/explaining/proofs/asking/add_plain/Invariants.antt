@@ -1,6 +1,4 @@
-use Rattle.std.proofs.Common.{◌≡◌, ◌++◌, length}
-use Rattle.clap.specs.Walk.{texts}
-use Rattle.explaining.specs.Asking.{plain_after}
+use Rattle.explaining.proofs.Prelude.{◌≡◌, ◌++◌, length, texts, plain_after}
 use Rattle.explaining.proofs.asking.add_plain.Given as goal
 
 -- what was added, with what the words that are left add, is what all add

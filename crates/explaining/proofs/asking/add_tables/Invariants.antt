@@ -1,6 +1,4 @@
-use Rattle.std.proofs.Common.{◌≡◌, ◌+◌, length}
-use Rattle.clap.specs.Walk.{texts}
-use Rattle.explaining.specs.Asking.{tables_after}
+use Rattle.explaining.proofs.Prelude.{◌≡◌, ◌+◌, length, texts, tables_after}
 use Rattle.explaining.proofs.asking.add_tables.Given as goal
 
 -- what was added, with what the words that are left name, is what all name

@@ -1,6 +1,4 @@
-use Rattle.std.proofs.Common.{◌≡◌, length}
-use Rattle.clap.specs.Walk.{texts}
-use Rattle.explaining.specs.Asking.{asks_after}
+use Rattle.explaining.proofs.Prelude.{◌≡◌, length, texts, asks_after}
 use Rattle.explaining.proofs.asking.asks_after.Given as goal
 
 -- the words that are left ask just where all did

@@ -1,5 +1,4 @@
-use Rattle.std.proofs.Common.{length}
-use Rattle.explaining.proofs.Looked.{LookedSoFar}
+use Rattle.explaining.proofs.{Prelude.{length}, Looked.{LookedSoFar}}
 use Rattle.explaining.proofs.console.look_for_all.Given as goal
 
 -- of all files those before the ones that are left were looked for

@@ -1,4 +1,4 @@
-use Rattle.std.proofs.Common.{length}
+use Rattle.explaining.proofs.Prelude.{length}
 use Rattle.explaining.proofs.named.count_before.Given as goal
 
 -- fewer words are left after each turn

@@ -1,5 +1,4 @@
-use Rattle.host.proofs.Prelude.{codes, refl}
-use Rattle.host.proofs.LinesPrinted.{tells_other}
+use Rattle.host.proofs.{Prelude.{codes, refl}, LinesPrinted.{tells_other}}
 use Rattle.host.proofs.endings.refuse_memory.Goals as goal
 
 pub returns-clause-told : goal.returns-clause-told

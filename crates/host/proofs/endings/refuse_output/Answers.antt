@@ -1,5 +1,4 @@
-use Rattle.host.proofs.Prelude.{refl}
-use Rattle.host.proofs.LinesPrinted.{same_line, tells_output}
+use Rattle.host.proofs.{Prelude.{refl}, LinesPrinted.{same_line, tells_output}}
 use Rattle.host.proofs.endings.refuse_output.Goals as goal
 
 pub returns-clause-line : goal.returns-clause-line

@@ -1,5 +1,4 @@
-use Rattle.host.proofs.Prelude.{refl}
-use Rattle.host.proofs.LinesPrinted.{piece_begun, piece_sent}
+use Rattle.host.proofs.{Prelude.{refl}, LinesPrinted.{piece_begun, piece_sent}}
 use Rattle.host.proofs.endings.write_pieces.Goals as goal
 
 pub loop-rest-preserved : goal.loop-rest-preserved

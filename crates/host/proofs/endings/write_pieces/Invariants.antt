@@ -1,5 +1,4 @@
-use Rattle.host.proofs.Prelude.{length}
-use Rattle.host.proofs.LinesPrinted.{Sent, joined}
+use Rattle.host.proofs.{Prelude.{length}, LinesPrinted.{Sent, joined}}
 use Rattle.host.proofs.endings.write_pieces.Given as goal
 
 -- what was written, with a beginning of what is left, is a beginning of all

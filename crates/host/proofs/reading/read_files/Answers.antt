@@ -1,5 +1,4 @@
-use Rattle.host.proofs.Prelude.{◌∙◌, map, refl}
-use Rattle.host.proofs.FilesRead.{read_on, stays_on, stops_next, was_there}
+use Rattle.host.proofs.{Prelude.{◌∙◌, map, refl}, FilesRead.{read_on, stays_on, stops_next, was_there}}
 use Rattle.host.proofs.reading.read_files.Goals as goal
 
 pub loop-rest-preserved : goal.loop-rest-preserved

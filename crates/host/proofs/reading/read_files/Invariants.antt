@@ -1,5 +1,4 @@
-use Rattle.host.proofs.Prelude.{◌≡◌, length, map, KeepsFiles}
-use Rattle.host.proofs.FilesRead.{ReadSoFar}
+use Rattle.host.proofs.{Prelude.{◌≡◌, length, map, KeepsFiles}, FilesRead.{ReadSoFar}}
 use Rattle.host.proofs.reading.read_files.Given as goal
 
 -- the files are as they were, no call failed, and what was read is what the names before those that are left have

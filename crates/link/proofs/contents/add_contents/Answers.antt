@@ -1,8 +1,8 @@
 use Rattle.link.proofs.Prelude.{length, ap, sym, subst, ◌∙◌, Code, Data, same_segment, AreWithin, first_within}
 use Rattle.link.proofs.contents.add_contents.Goals as goal
 
-pub add_content-requires-clause-within : goal.add_content-requires-clause-within
-add_content-requires-clause-within c =
+pub add-requires-clause-within : goal.add-requires-clause-within
+add-requires-clause-within c =
     subst (AreWithin c.in-Some.content.offset (length c.in-Some.content.bytes.now))
     (sym (c.as_slice.ensures ∙ c.in_ok-take.ensures.fixes))
     (first_within c.args.resolved.now Code c.in-Some.content.offset c.in-Some.content.bytes.now
@@ -10,8 +10,8 @@ add_content-requires-clause-within c =
     c.in-Some.content.segment c.loop-content.invariant.code_fits c.in-Some.ensures.0
     (ap (λ s. same_segment s Code) c.in-Code.is))
 
-pub add_content-requires-in-Data-clause-within : goal.add_content-requires-in-Data-clause-within
-add_content-requires-in-Data-clause-within c =
+pub add-requires-in-Data-clause-within : goal.add-requires-in-Data-clause-within
+add-requires-in-Data-clause-within c =
     subst (AreWithin c.in-Some.content.offset (length c.in-Some.content.bytes.now))
     (sym (c.as_slice-in-Data.ensures ∙ c.in_ok-take.ensures.fixes))
     (first_within c.args.resolved.now Data c.in-Some.content.offset c.in-Some.content.bytes.now

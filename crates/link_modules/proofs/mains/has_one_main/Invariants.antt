@@ -1,9 +1,6 @@
-use Rattle.std.proofs.Common.{◌≡◌, ◌==◌, drop, length}
-use Rattle.object_modules.specs.Displacements.{linked_modules}
-use Rattle.object_modules.specs.Merge.{main_modules}
-use Rattle.link_laws.specs.internal.Passes.{one_main}
+use Rattle.link_modules.proofs.Prelude.{◌≡◌, ◌==◌, drop, length, linked_modules, main_modules, one_main}
 use Rattle.link_modules.proofs.mains.has_one_main.Given as goal
 
-abbrev pub invariant-loop-module : goal.invariant-loop-module
-invariant-loop-module l =
-    one_main l.found (drop l.module-index l.modules) ≡ (length (main_modules (linked_modules l.modules)) == 1)
+abbrev pub invariant-loop-input : goal.invariant-loop-input
+invariant-loop-input g l =
+    one_main l.found (drop l.input-index l.inputs) ≡ (length (main_modules (linked_modules l.inputs)) == 1)

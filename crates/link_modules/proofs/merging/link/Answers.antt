@@ -1,16 +1,22 @@
-use Rattle.std.proofs.Common.{◌≡◌, [], Err, rules}
-use Rattle.object_modules.specs.Merge.{merge_of, public_names}
-use Rattle.link_laws.specs.Faults.{refusal_of}
-use Rattle.link_laws.specs.declared.fault.LinkFault.{LinkFault}
-use Rattle.link_laws.specs.internal.Passes.{gathered}
-use Rattle.link_laws.proofs.Linkings.{by_names, handed_on}
+use Rattle.link_modules.proofs.Prelude.{◌≡◌, List, Ok, Err, subst, ◌∙◌, IfOk, IfFault, ObjectModule, starts_of, merge_of, refusal_of, LinkFault}
+use Rattle.link_modules.specs.Merging.{Merged}
 use Rattle.link_modules.proofs.merging.link.Goals as goal
 
-pub returns-in_err-names-clause-refused : goal.returns-in_err-names-clause-refused
-returns-in_err-names-clause-refused c =
-    handed_on c.from_residual.result c.public_names_of.result c.in_err-names.field-0.0
-    (λ (fault : LinkFault). gathered [] (public_names c.args.modules.now) ≡ Err (refusal_of fault))
-    (λ (fault : LinkFault). gathered [] (public_names c.args.modules.now) ≡ Err (refusal_of fault))
-    (λ (fault : LinkFault). merge_of c.args.modules.now ≡ Err (refusal_of fault))
-    (search rules) c.in_err-names.was (λ fault h k. by_names c.args.modules.now (refusal_of fault) h)
-    c.public_names_of.ensures.fault c.public_names_of.ensures.fault
+pub returns-clause-merged : goal.returns-clause-merged
+returns-clause-merged c =
+    subst
+    (λ (modules : List ObjectModule). IfOk c.merge.result (λ (merged : Merged). merge_of modules ≡ Ok merged.object))
+    (c.as_slice.ensures.value ∙ c.in_ok-inputs.ensures) c.merge.ensures.merged
+
+pub returns-clause-starts : goal.returns-clause-starts
+returns-clause-starts c =
+    subst
+    (λ (modules : List ObjectModule). IfOk c.merge.result (λ (merged : Merged). merged.starts ≡ starts_of modules))
+    (c.as_slice.ensures.value ∙ c.in_ok-inputs.ensures) c.merge.ensures.starts
+
+pub returns-clause-refused : goal.returns-clause-refused
+returns-clause-refused c =
+    subst
+    (λ (modules : List ObjectModule).
+    IfFault c.merge.result (λ (fault : LinkFault). merge_of modules ≡ Err (refusal_of fault)))
+    (c.as_slice.ensures.value ∙ c.in_ok-inputs.ensures) c.merge.ensures.refused

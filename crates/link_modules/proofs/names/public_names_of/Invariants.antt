@@ -1,7 +1,5 @@
-use Rattle.std.proofs.Common.{◌≡◌, [], drop}
-use Rattle.object_modules.specs.Merge.{public_names}
-use Rattle.link_laws.specs.internal.Passes.{gathered}
+use Rattle.link_modules.proofs.Prelude.{◌≡◌, [], drop, public_names, gathered}
 use Rattle.link_modules.proofs.names.public_names_of.Given as goal
 
-abbrev pub invariant-loop-module : goal.invariant-loop-module
-invariant-loop-module l = gathered l.table (public_names (drop l.module-index l.modules)) ≡ gathered [] (public_names l.modules)
+abbrev pub invariant-loop-input : goal.invariant-loop-input
+invariant-loop-input g l = gathered l.table (public_names (drop l.input-index l.inputs)) ≡ gathered [] (public_names l.inputs)

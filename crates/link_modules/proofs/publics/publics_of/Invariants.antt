@@ -1,8 +1,6 @@
-use Rattle.std.proofs.Common.{◌≡◌, ◌++◌, drop, map}
-use Rattle.object_modules.specs.Displacements.{all_publics}
-use Rattle.object_modules.specs.Views.{owned_public_view}
+use Rattle.link_modules.proofs.Prelude.{◌≡◌, ◌++◌, drop, map, all_publics, owned_public_view}
 use Rattle.link_modules.proofs.publics.publics_of.Given as goal
 
 abbrev pub invariant-loop-one : goal.invariant-loop-one
-invariant-loop-one l =
+invariant-loop-one g l =
     map owned_public_view l.publics.items ++ all_publics (drop l.one-index l.placed) ≡ all_publics l.placed

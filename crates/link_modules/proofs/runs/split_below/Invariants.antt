@@ -1,5 +1,4 @@
-use Rattle.std.proofs.Common.{◌≡◌, ◌++◌, drop, take}
-use Rattle.object_modules.specs.internal.Joining.{fixes_below, fixes_past}
+use Rattle.link_modules.proofs.Prelude.{◌≡◌, ◌++◌, drop, take, fixes_below, fixes_past}
 use Rattle.link_modules.proofs.runs.split_below.Given as goal
 
 abbrev pub invariant-loop-fix : goal.invariant-loop-fix

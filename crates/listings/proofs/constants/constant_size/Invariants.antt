@@ -1,6 +1,4 @@
-use Rattle.std.proofs.Common.{◌≡◌, ◌+◌, ◌≤◌, min, drop, sum_by}
-use Rattle.typed_trees.specs.Views.{module_view}
-use Rattle.typed_trees.specs.Weight.{constant_bytes, size_of_constant}
+use Rattle.listings.proofs.Prelude.{◌≡◌, ◌+◌, ◌≤◌, min, drop, sum_by, module_view, constant_bytes, size_of_constant}
 use Rattle.listings.proofs.constants.constant_size.Given as goal
 
 -- the bytes so far, and those of the constants that are left, are all

@@ -1,5 +1,4 @@
-use Rattle.std.proofs.Common.{◌≡◌, length}
-use Rattle.listings.specs.Listing.{byte_among}
+use Rattle.listings.proofs.Prelude.{◌≡◌, length, byte_among}
 use Rattle.listings.proofs.image.byte_among.Given as goal
 
 -- the pieces that are left have the byte just where all have it

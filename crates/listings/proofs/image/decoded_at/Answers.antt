@@ -1,9 +1,4 @@
-use Rattle.std.proofs.Common.{◌≡◌, ℕ, ◌+◌, length, None, Option, Some, refl, ap, ◌∙◌}
-use Rattle.std.proofs.lemmas.Option.{none-some, same_Some}
-use Rattle.isa8080.specs.Code.{bytes_of}
-use Rattle.isa8080.specs.declared.instr.Instr.{Instr}
-use Rattle.listings.specs.Listing.{AllThere}
-use Rattle.listings.proofs.Codes.{code_read}
+use Rattle.listings.proofs.{Prelude.{◌≡◌, ℕ, ◌+◌, length, None, Option, Some, refl, ap, ◌∙◌, none-some, same_Some, bytes_of, Instr, AllThere}, Codes.{code_read}}
 use Rattle.listings.proofs.image.decoded_at.Goals as goal
 
 pub returns-in_err-instr-clause-whole : goal.returns-in_err-instr-clause-whole

@@ -1,5 +1,4 @@
-use Rattle.listings.specs.internal.Views.{name_at}
-use Rattle.listings.proofs.Shown.{lone_put}
+use Rattle.listings.proofs.{Prelude.{name_at}, Shown.{lone_put}}
 use Rattle.listings.proofs.lines.put_part.Goals as goal
 
 pub returns-in-None : goal.returns-in-None

@@ -1,8 +1,4 @@
-use Rattle.std.proofs.Common.{◌≡◌, ◌++◌, length, map}
-use Rattle.std.specs.List.{AllByRecursion}
-use Rattle.listings.specs.Listing.{parts_beside, parts_text}
-use Rattle.listings.specs.internal.Parts.{IsGood, lined}
-use Rattle.listings.specs.internal.Views.{name_at}
+use Rattle.listings.proofs.Prelude.{◌≡◌, ◌++◌, length, map, AllByRecursion, parts_beside, parts_text, IsGood, lined, name_at}
 use Rattle.listings.proofs.lines.put_parts_beside.Given as goal
 
 -- what was added, and then what the rest adds, is all

@@ -1,5 +1,4 @@
-use Rattle.std.proofs.Common.{arith}
-use Rattle.listings.proofs.LinesWritten.{five_digits, four_digits, one_digit, room_is, three_digits, two_digits}
+use Rattle.listings.proofs.{Prelude.{arith}, LinesWritten.{five_digits, four_digits, one_digit, room_is, three_digits, two_digits}}
 use Rattle.listings.proofs.lines.room_before.Goals as goal
 
 pub returns-then-number-lt10 : goal.returns-then-number-lt10

@@ -1,6 +1,4 @@
-use Rattle.std.proofs.Common.{refl}
-use Rattle.listings.specs.declared.parts.CodeSegment.{CodeSegment}
-use Rattle.listings.proofs.Shown.{code_of_module}
+use Rattle.listings.proofs.{Prelude.{refl, CodeSegment}, Shown.{code_of_module}}
 use Rattle.listings.proofs.modules.code_parts.Goals as goal
 
 pub returns : goal.returns

@@ -1,5 +1,4 @@
-use Rattle.std.proofs.Common.{refl}
-use Rattle.listings.proofs.SourceLines.{length_done, length_more, within_more}
+use Rattle.listings.proofs.{Prelude.{refl}, SourceLines.{length_done, length_more, within_more}}
 use Rattle.listings.proofs.modules.line_length.Goals as goal
 
 pub loop-rest-preserved : goal.loop-rest-preserved

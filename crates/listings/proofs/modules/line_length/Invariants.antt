@@ -1,5 +1,4 @@
-use Rattle.std.proofs.Common.{◌≡◌, ◌+◌, length}
-use Rattle.listings.specs.internal.Modules.{first_length}
+use Rattle.listings.proofs.Prelude.{◌≡◌, ◌+◌, length, first_length}
 use Rattle.listings.proofs.modules.line_length.Given as goal
 
 -- the bytes so far, and those of the rest before its first line feed, are all

@@ -1,8 +1,4 @@
-use Rattle.std.proofs.Common.{◌+◌, ◌++◌, length, map, refl, ap, ◌∙◌}
-use Rattle.listings.specs.Listing.{lines_of, listed_from}
-use Rattle.listings.specs.internal.Parts.{lined}
-use Rattle.listings.specs.internal.Views.{name_at}
-use Rattle.listings.proofs.SourceLines.{next_count, next_line}
+use Rattle.listings.proofs.{Prelude.{◌+◌, ◌++◌, length, map, refl, ap, ◌∙◌, lines_of, listed_from, lined, name_at}, SourceLines.{next_count, next_line}}
 use Rattle.listings.proofs.modules.put_lines.Goals as goal
 
 pub loop-text-preserved : goal.loop-text-preserved

@@ -1,7 +1,4 @@
-use Rattle.std.proofs.Common.{◌≡◌, ◌++◌, ◌+◌, length, map}
-use Rattle.listings.specs.Listing.{lines_of, listed_from}
-use Rattle.listings.specs.internal.Parts.{lined}
-use Rattle.listings.specs.internal.Views.{name_at}
+use Rattle.listings.proofs.Prelude.{◌≡◌, ◌++◌, ◌+◌, length, map, lines_of, listed_from, lined, name_at}
 use Rattle.listings.proofs.modules.put_lines.Given as goal
 
 -- what was added, and then what the lines that are left add, is all

@@ -1,11 +1,4 @@
-use Rattle.std.proofs.Common.{◌++◌, ap, map, ◌∙◌}
-use Rattle.listings.specs.Listing.{lines_of, parts_in, parts_text}
-use Rattle.listings.specs.internal.Modules.{code_text}
-use Rattle.listings.specs.internal.Parts.{lined}
-use Rattle.listings.specs.internal.Programs.{text_of}
-use Rattle.listings.specs.internal.Views.{name_at}
-use Rattle.listings.proofs.Adding.{on_ok}
-use Rattle.listings.proofs.ModuleLists.{module_listed}
+use Rattle.listings.proofs.{Prelude.{◌++◌, ap, map, ◌∙◌, lines_of, parts_in, parts_text, code_text, lined, text_of, name_at}, Adding.{on_ok}, ModuleLists.{module_listed}}
 use Rattle.listings.proofs.modules.put_module.Goals as goal
 
 pub returns : goal.returns

@@ -1,5 +1,4 @@
-use Rattle.std.proofs.Common.{◌≡◌, length}
-use Rattle.listings.specs.internal.Views.{name_at}
+use Rattle.listings.proofs.Prelude.{◌≡◌, length, name_at}
 use Rattle.listings.proofs.named.name_at.Given as goal
 
 -- the names that are left have the first name of the address

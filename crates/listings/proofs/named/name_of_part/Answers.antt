@@ -1,5 +1,4 @@
-use Rattle.typed_trees.specs.Views.{module_view, procedure_view}
-use Rattle.listings.proofs.NamesAdded.{procedure_named, routine_named}
+use Rattle.listings.proofs.{Prelude.{module_view, procedure_view}, NamesAdded.{procedure_named, routine_named}}
 use Rattle.listings.proofs.named.name_of_part.Goals as goal
 
 pub returns-in_ok-procedure-in-Procedure : goal.returns-in_ok-procedure-in-Procedure

@@ -1,6 +1,4 @@
-use Rattle.std.proofs.Common.{length, map}
-use Rattle.listings.specs.internal.Programs.{AreNamesSoFar}
-use Rattle.listings.specs.internal.Views.{named_view}
+use Rattle.listings.proofs.Prelude.{length, map, AreNamesSoFar, named_view}
 use Rattle.listings.proofs.named.names_of.Given as goal
 
 abbrev pub invariant-loop-rest : goal.invariant-loop-rest

@@ -1,4 +1,4 @@
-use Rattle.listings.specs.internal.Programs.{AddsNames, IsNameIn}
+use Rattle.listings.proofs.Prelude.{AddsNames, IsNameIn}
 use Rattle.listings.proofs.named.put_code_names.Given as goal
 
 abbrev pub invariant-loop-mark : goal.invariant-loop-mark

@@ -1,6 +1,4 @@
-use Rattle.std.proofs.Common.{refl}
-use Rattle.listings.specs.internal.Programs.{pair_of}
-use Rattle.listings.proofs.NamesAdded.{object_named, objects_left}
+use Rattle.listings.proofs.{Prelude.{refl, pair_of}, NamesAdded.{object_named, objects_left}}
 use Rattle.listings.proofs.named.put_objects.Goals as goal
 
 pub loop-objects-preserved : goal.loop-objects-preserved

@@ -1,6 +1,4 @@
-use Rattle.std.proofs.Common.{length, map}
-use Rattle.typed_trees.specs.Views.{object_view}
-use Rattle.listings.specs.internal.Programs.{AddsNames, HasAmong, IsNameIn, pair_of}
+use Rattle.listings.proofs.Prelude.{length, map, object_view, AddsNames, HasAmong, IsNameIn, pair_of}
 use Rattle.listings.proofs.named.put_objects.Given as goal
 
 -- names were added, and what is left are objects of the module

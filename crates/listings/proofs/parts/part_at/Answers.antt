@@ -1,5 +1,4 @@
-use Rattle.std.proofs.Common.{refl}
-use Rattle.listings.proofs.Stepping.{code_part}
+use Rattle.listings.proofs.{Prelude.{refl}, Stepping.{code_part}}
 use Rattle.listings.proofs.parts.part_at.Goals as goal
 
 pub returns-in-Some-clause-part : goal.returns-in-Some-clause-part

@@ -1,6 +1,4 @@
-use Rattle.std.proofs.Common.{◌+◌, ◌-◌}
-use Rattle.listings.specs.Listing.{cells_in}
-use Rattle.listings.specs.internal.Parts.{IsAdding, IsPartOf}
+use Rattle.listings.proofs.Prelude.{◌+◌, ◌-◌, cells_in, IsAdding, IsPartOf}
 use Rattle.listings.proofs.parts.push_code.Given as goal
 
 -- what was added shows the places up to an offset

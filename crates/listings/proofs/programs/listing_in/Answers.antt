@@ -1,5 +1,4 @@
-use Rattle.std.proofs.Common.{◌≡◌}
-use Rattle.listings.proofs.ProgramLists.{views_whole}
+use Rattle.listings.proofs.{Prelude.{◌≡◌}, ProgramLists.{views_whole}}
 use Rattle.listings.proofs.programs.listing_in.Goals as goal
 
 pub returns : goal.returns

@@ -1,7 +1,4 @@
-use Rattle.std.proofs.Common.{length, map}
-use Rattle.listings.specs.internal.Adding.{IsBegun}
-use Rattle.listings.specs.internal.Programs.{ListsViews}
-use Rattle.listings.specs.internal.Views.{named_view}
+use Rattle.listings.proofs.Prelude.{length, map, IsBegun, ListsViews, named_view}
 use Rattle.listings.proofs.programs.listing_in.Given as goal
 
 abbrev pub invariant-loop-rest : goal.invariant-loop-rest

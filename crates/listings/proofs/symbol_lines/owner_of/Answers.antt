@@ -1,6 +1,4 @@
-use Rattle.typed_trees.specs.Views.{procedure_view}
-use Rattle.listings.specs.internal.Programs.{typed_of}
-use Rattle.listings.proofs.SymbolTexts.{owner_found}
+use Rattle.listings.proofs.{Prelude.{procedure_view, typed_of}, SymbolTexts.{owner_found}}
 use Rattle.listings.proofs.symbol_lines.owner_of.Goals as goal
 
 pub returns : goal.returns

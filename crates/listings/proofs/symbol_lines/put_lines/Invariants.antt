@@ -1,5 +1,4 @@
-use Rattle.listings.specs.internal.Adding.{IsBegun}
-use Rattle.listings.specs.internal.Symbols.{HasSourceLines}
+use Rattle.listings.proofs.Prelude.{IsBegun, HasSourceLines}
 use Rattle.listings.proofs.symbol_lines.put_lines.Given as goal
 
 abbrev pub invariant-loop-number : goal.invariant-loop-number

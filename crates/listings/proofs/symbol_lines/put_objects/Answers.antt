@@ -1,7 +1,4 @@
-use Rattle.std.proofs.Common.{refl}
-use Rattle.listings.specs.internal.Programs.{typed_of}
-use Rattle.listings.specs.internal.Symbols.{owner_text}
-use Rattle.listings.proofs.SymbolTexts.{addresses_ended, object_next, objects_ended}
+use Rattle.listings.proofs.{Prelude.{refl, typed_of, owner_text}, SymbolTexts.{addresses_ended, object_next, objects_ended}}
 use Rattle.listings.proofs.symbol_lines.put_objects.Goals as goal
 
 pub returns-in_default-addresses : goal.returns-in_default-addresses

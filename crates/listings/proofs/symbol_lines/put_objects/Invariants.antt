@@ -1,8 +1,4 @@
-use Rattle.std.proofs.Common.{length, map}
-use Rattle.typed_trees.specs.Views.{object_view}
-use Rattle.listings.specs.internal.Adding.{IsBegun}
-use Rattle.listings.specs.internal.Programs.{typed_of}
-use Rattle.listings.specs.internal.Symbols.{HasObjectLines}
+use Rattle.listings.proofs.Prelude.{length, map, object_view, IsBegun, typed_of, HasObjectLines}
 use Rattle.listings.proofs.symbol_lines.put_objects.Given as goal
 
 abbrev pub invariant-loop-objects : goal.invariant-loop-objects

@@ -1,7 +1,4 @@
-use Rattle.typed_trees.specs.Views.{procedure_view}
-use Rattle.listings.specs.internal.Programs.{typed_of}
-use Rattle.listings.proofs.Adding.{on_ok}
-use Rattle.listings.proofs.SymbolTexts.{procedure_added}
+use Rattle.listings.proofs.{Prelude.{procedure_view, typed_of}, Adding.{on_ok}, SymbolTexts.{procedure_added}}
 use Rattle.listings.proofs.symbol_lines.put_procedure.Goals as goal
 
 pub returns : goal.returns

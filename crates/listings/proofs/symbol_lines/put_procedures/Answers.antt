@@ -1,5 +1,4 @@
-use Rattle.listings.specs.internal.Programs.{typed_of}
-use Rattle.listings.proofs.SymbolTexts.{procedures_ended}
+use Rattle.listings.proofs.{Prelude.{typed_of}, SymbolTexts.{procedures_ended}}
 use Rattle.listings.proofs.symbol_lines.put_procedures.Goals as goal
 
 pub returns : goal.returns

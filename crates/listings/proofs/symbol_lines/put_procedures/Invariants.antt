@@ -1,8 +1,4 @@
-use Rattle.std.proofs.Common.{length, map}
-use Rattle.typed_trees.specs.Views.{procedure_view}
-use Rattle.listings.specs.internal.Adding.{IsBegun}
-use Rattle.listings.specs.internal.Programs.{typed_of}
-use Rattle.listings.specs.internal.Symbols.{HasProcedureLines}
+use Rattle.listings.proofs.Prelude.{length, map, procedure_view, IsBegun, typed_of, HasProcedureLines}
 use Rattle.listings.proofs.symbol_lines.put_procedures.Given as goal
 
 abbrev pub invariant-loop-rest : goal.invariant-loop-rest

@@ -1,8 +1,4 @@
-use Rattle.std.proofs.Common.{map, subst}
-use Rattle.listings.specs.Symbols.{HaveSymbols}
-use Rattle.listings.specs.internal.Adding.{IsBegun}
-use Rattle.listings.specs.internal.Programs.{pair_of}
-use Rattle.listings.proofs.SymbolTexts.{modules_ended}
+use Rattle.listings.proofs.{Prelude.{map, subst, HaveSymbols, IsBegun, pair_of}, SymbolTexts.{modules_ended}}
 use Rattle.listings.proofs.symbol_lines.symbols_in.Goals as goal
 
 pub returns : goal.returns

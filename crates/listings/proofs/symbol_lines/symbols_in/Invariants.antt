@@ -1,7 +1,4 @@
-use Rattle.std.proofs.Common.{length, map}
-use Rattle.listings.specs.Symbols.{HaveSymbols}
-use Rattle.listings.specs.internal.Adding.{IsBegun}
-use Rattle.listings.specs.internal.Programs.{pair_of}
+use Rattle.listings.proofs.Prelude.{length, map, HaveSymbols, IsBegun, pair_of}
 use Rattle.listings.proofs.symbol_lines.symbols_in.Given as goal
 
 abbrev pub invariant-loop-rest : goal.invariant-loop-rest

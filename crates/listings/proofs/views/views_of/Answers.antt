@@ -1,6 +1,4 @@
-use Rattle.std.proofs.Common.{◌+◌, refl, ap, ◌∙◌}
-use Rattle.sources.specs.Programs.{texts_of}
-use Rattle.listings.proofs.ViewsMade.{view_added}
+use Rattle.listings.proofs.{Prelude.{◌+◌, refl, ap, ◌∙◌, texts_of}, ViewsMade.{view_added}}
 use Rattle.listings.proofs.views.views_of.Goals as goal
 
 pub loop-number-preserved : goal.loop-number-preserved

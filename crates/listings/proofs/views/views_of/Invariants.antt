@@ -1,5 +1,4 @@
-use Rattle.sources.specs.Programs.{texts_of}
-use Rattle.listings.specs.internal.Programs.{AreFirstViews}
+use Rattle.listings.proofs.Prelude.{texts_of, AreFirstViews}
 use Rattle.listings.proofs.views.views_of.Given as goal
 
 abbrev pub invariant-loop-number : goal.invariant-loop-number

@@ -1,4 +1,4 @@
-use Rattle.locate.proofs.Tests.{meet_is}
+use Rattle.object_commands.proofs.Prelude.{meet_is}
 use Rattle.object_commands.proofs.jumps.meets.Goals as goal
 
 pub returns : goal.returns

@@ -1,8 +1,4 @@
-use Rattle.mem80.specs.Pieces.{AreWritable}
-use Rattle.mem80.specs.declared.range.Piece.{Piece}
-use Rattle.object_commands.proofs.Prelude.{◌∙◌, ◌∷◌, List, ap, subst, sym, jump_piece}
-use Rattle.object_commands.proofs.Lists.{all_made}
-use Rattle.object_commands.proofs.Rooms.{writable_with}
+use Rattle.object_commands.proofs.{Prelude.{AreWritable, Piece, ◌∙◌, ◌∷◌, List, ap, subst, sym, jump_piece}, Lists.{all_made}, Rooms.{writable_with}}
 use Rattle.object_commands.proofs.jumps.pieces_with_jump.Goals as goal
 
 pub returns-clause-writable : goal.returns-clause-writable

@@ -1,7 +1,5 @@
-use Rattle.object_commands.proofs.Prelude.{refl, ◌∙◌, stops_as, stops_before, stops_last, tells_file, tells_no_file}
-use Rattle.object_commands.proofs.FilesWritten.{stops_linking}
+use Rattle.object_commands.proofs.{Prelude.{refl, ◌∙◌, stops_as, stops_before, stops_last, tells_file, tells_no_file}, FilesWritten.{stops_linking, kept_others, kept_then_others, kept_then_stopped, not_linked, written_others}}
 use Rattle.object_commands.proofs.linking.link_files.Goals as goal
-use Rattle.object_commands.proofs.FilesWritten.{kept_others, kept_then_others, kept_then_stopped, not_linked, written_others}
 
 pub returns-in-Err-Fault-clause-told : goal.returns-in-Err-Fault-clause-told
 returns-in-Err-Fault-clause-told g c = λ refused. tells_file _ _ _ _ _ _ _ _ refl (rw c.in-Err-Fault.field-0-is at c.in-Err-Fault.ensures.failed)

@@ -1,5 +1,4 @@
-use Rattle.object_commands.proofs.Prelude.{arith}
-use Rattle.object_commands.proofs.Lists.{item_added}
+use Rattle.object_commands.proofs.{Prelude.{arith}, Lists.{item_added}}
 use Rattle.object_commands.proofs.linking.slices_of.Goals as goal
 
 pub loop-text-preserved : goal.loop-text-preserved

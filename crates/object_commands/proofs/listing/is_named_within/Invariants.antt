@@ -1,6 +1,4 @@
-use Rattle.object_commands.proofs.Prelude.{◌≡◌, map, length}
-use Rattle.locate.specs.Locating.{symbol_view}
-use Rattle.object_commands.specs.Listing.{is_named_within}
+use Rattle.object_commands.proofs.Prelude.{◌≡◌, map, length, symbol_view, is_named_within}
 use Rattle.object_commands.proofs.listing.is_named_within.Given as goal
 
 abbrev pub invariant-loop-rest : goal.invariant-loop-rest

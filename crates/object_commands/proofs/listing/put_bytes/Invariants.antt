@@ -1,5 +1,4 @@
-use Rattle.object_commands.proofs.Prelude.{◌≡◌, ◌++◌, ◌∷◌, [], flat_map, length}
-use Rattle.isa8080.specs.Text.{byte_digits}
+use Rattle.object_commands.proofs.Prelude.{◌≡◌, ◌++◌, ◌∷◌, [], flat_map, length, byte_digits}
 use Rattle.object_commands.proofs.listing.put_bytes.Given as goal
 
 -- what was added, and then what the rest adds, is all

@@ -1,7 +1,4 @@
-use Rattle.object_commands.proofs.Prelude.{arith}
-use Rattle.locate.specs.Locating.{symbol_view}
-use Rattle.object_commands.specs.Listing.{label_line}
-use Rattle.object_commands.proofs.Lists.{list_added}
+use Rattle.object_commands.proofs.{Prelude.{arith, symbol_view, label_line}, Lists.{list_added}}
 use Rattle.object_commands.proofs.listing.put_labels.Goals as goal
 
 pub loop-symbol-preserved : goal.loop-symbol-preserved

@@ -1,6 +1,4 @@
-use Rattle.object_commands.proofs.Prelude.{◌≡◌, ◌++◌, drop, map, flat_map}
-use Rattle.locate.specs.Locating.{symbol_view}
-use Rattle.object_commands.specs.Listing.{label_line}
+use Rattle.object_commands.proofs.Prelude.{◌≡◌, ◌++◌, drop, map, flat_map, symbol_view, label_line}
 use Rattle.object_commands.proofs.listing.put_labels.Given as goal
 
 -- what was added, and then what the rest adds, is all

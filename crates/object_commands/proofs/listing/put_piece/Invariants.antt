@@ -1,6 +1,4 @@
-use Rattle.object_commands.proofs.Prelude.{length, map}
-use Rattle.locate.specs.Locating.{symbol_view}
-use Rattle.object_commands.proofs.Listings.{ListedSoFar}
+use Rattle.object_commands.proofs.{Prelude.{length, map, symbol_view}, Listings.{ListedSoFar}}
 use Rattle.object_commands.proofs.listing.put_piece.Given as goal
 
 abbrev pub invariant-loop-rest : goal.invariant-loop-rest

@@ -1,5 +1,4 @@
-use Rattle.object_commands.proofs.Prelude.{arith}
-use Rattle.object_commands.proofs.Listings.{piece_next, pieces_whole}
+use Rattle.object_commands.proofs.{Prelude.{arith}, Listings.{piece_next, pieces_whole}}
 use Rattle.object_commands.proofs.listing.put_pieces.Goals as goal
 
 pub loop-piece-preserved : goal.loop-piece-preserved

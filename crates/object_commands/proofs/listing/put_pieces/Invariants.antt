@@ -1,6 +1,4 @@
-use Rattle.object_commands.proofs.Prelude.{drop, map}
-use Rattle.locate.specs.Locating.{symbol_view}
-use Rattle.object_commands.proofs.Listings.{PiecesSoFar}
+use Rattle.object_commands.proofs.{Prelude.{drop, map, symbol_view}, Listings.{PiecesSoFar}}
 use Rattle.object_commands.proofs.listing.put_pieces.Given as goal
 
 abbrev pub invariant-loop-piece : goal.invariant-loop-piece

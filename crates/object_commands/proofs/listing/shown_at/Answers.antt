@@ -1,5 +1,4 @@
-use Rattle.object_commands.proofs.Prelude.{refl}
-use Rattle.object_commands.proofs.Listings.{shown_by}
+use Rattle.object_commands.proofs.{Prelude.{refl}, Listings.{shown_by}}
 use Rattle.object_commands.proofs.listing.shown_at.Goals as goal
 
 pub returns-clause-shown : goal.returns-clause-shown

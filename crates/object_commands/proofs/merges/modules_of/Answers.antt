@@ -1,6 +1,5 @@
-use Rattle.std.specs.List.{AllZip}
+use Rattle.object_commands.proofs.Prelude.{AllZip, ◌+◌, take, sym, subst, arith, Spells}
 use Rattle.link.proofs.Reading.{bytes_of, one_more}
-use Rattle.object_commands.proofs.Prelude.{◌+◌, take, sym, subst, arith, Spells}
 use Rattle.object_commands.proofs.merges.modules_of.Goals as goal
 
 pub loop-file-preserved : goal.loop-file-preserved

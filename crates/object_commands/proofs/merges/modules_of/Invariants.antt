@@ -1,5 +1,4 @@
-use Rattle.std.specs.List.{AllZip}
-use Rattle.object_commands.proofs.Prelude.{map, take, Spells}
+use Rattle.object_commands.proofs.Prelude.{AllZip, map, take, Spells}
 use Rattle.object_commands.proofs.merges.modules_of.Given as goal
 
 abbrev pub invariant-loop-file : goal.invariant-loop-file

@@ -1,5 +1,4 @@
-use Rattle.object_commands.proofs.Prelude.{refl, stops_as, tells_file, tells_no_file}
-use Rattle.object_commands.proofs.Merged.{for_file, for_memory, not_merged, told_later}
+use Rattle.object_commands.proofs.{Prelude.{refl, stops_as, tells_file, tells_no_file}, Merged.{for_file, for_memory, not_merged, told_later}}
 use Rattle.object_commands.proofs.merges.place_merge.Goals as goal
 
 pub returns-in-Err-Fault-clause-told : goal.returns-in-Err-Fault-clause-told

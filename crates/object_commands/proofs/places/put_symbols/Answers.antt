@@ -1,5 +1,4 @@
-use Rattle.object_commands.proofs.Prelude.{arith, symbol_view, symbol_line}
-use Rattle.object_commands.proofs.Lists.{list_added}
+use Rattle.object_commands.proofs.{Prelude.{arith, symbol_view, symbol_line}, Lists.{list_added}}
 use Rattle.object_commands.proofs.places.put_symbols.Goals as goal
 
 pub loop-symbol-preserved : goal.loop-symbol-preserved

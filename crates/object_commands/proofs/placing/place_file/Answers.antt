@@ -1,7 +1,5 @@
-use Rattle.object_commands.proofs.Prelude.{refl, stops_alone, tells_file, tells_no_file}
-use Rattle.object_commands.proofs.Merged.{told_later}
+use Rattle.object_commands.proofs.{Prelude.{refl, stops_alone, tells_file, tells_no_file}, Merged.{told_later}, FilesPlaced.{file_placed}}
 use Rattle.object_commands.proofs.placing.place_file.Goals as goal
-use Rattle.object_commands.proofs.FilesPlaced.{file_placed}
 
 pub returns-in-Err-Fault-clause-told : goal.returns-in-Err-Fault-clause-told
 returns-in-Err-Fault-clause-told g c = tells_file _ _ _ _ _ _ _ _ refl (rw c.in-Err-Fault.field-0-is at c.in-Err-Fault.ensures.failed)

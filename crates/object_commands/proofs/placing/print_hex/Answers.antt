@@ -1,5 +1,4 @@
-use Rattle.object_commands.proofs.Refused.{tells_later}
-use Rattle.object_commands.proofs.Rooms.{leaves_room, no_refusal}
+use Rattle.object_commands.proofs.{Refused.{tells_later}, Rooms.{leaves_room, no_refusal}}
 use Rattle.object_commands.proofs.placing.print_hex.Goals as goal
 
 pub returns-in-Err-Fault-clause-told : goal.returns-in-Err-Fault-clause-told

@@ -1,5 +1,4 @@
-use Rattle.object_commands.proofs.Refused.{other_later}
-use Rattle.object_commands.proofs.FilesPlaced.{begins_listing}
+use Rattle.object_commands.proofs.{Refused.{other_later}, FilesPlaced.{begins_listing}}
 use Rattle.object_commands.proofs.placing.print_list.Goals as goal
 
 pub returns-in-Err-Fault-clause-refused : goal.returns-in-Err-Fault-clause-refused

@@ -1,6 +1,4 @@
-use Rattle.object_commands.proofs.Prelude.{◌∙◌}
-use Rattle.object_commands.proofs.Refused.{tells_later}
-use Rattle.object_commands.proofs.FilesPlaced.{begins_places}
+use Rattle.object_commands.proofs.{Prelude.{◌∙◌}, Refused.{tells_later}, FilesPlaced.{begins_places}}
 use Rattle.object_commands.proofs.placing.print_places.Goals as goal
 
 pub returns-in-Err-Fault-clause-refused : goal.returns-in-Err-Fault-clause-refused

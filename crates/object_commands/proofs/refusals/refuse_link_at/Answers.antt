@@ -1,5 +1,4 @@
-use Rattle.object_commands.proofs.Prelude.{refl, same_line}
-use Rattle.object_commands.proofs.Refused.{link_told}
+use Rattle.object_commands.proofs.{Prelude.{refl, same_line}, Refused.{link_told}}
 use Rattle.object_commands.proofs.refusals.refuse_link_at.Goals as goal
 
 pub returns-clause-line : goal.returns-clause-line

@@ -1,6 +1,4 @@
-use Rattle.object_commands.proofs.Prelude.{◌∙◌, arith, rules, common_steps}
-use Rattle.failure.proofs.WritingLemmas.{on_err}
-use Rattle.object_commands.proofs.FilesWritten.{begun, grown, not_begun, stopped_midway, written_whole}
+use Rattle.object_commands.proofs.{Prelude.{◌∙◌, arith, rules, common_steps, on_err}, FilesWritten.{begun, grown, not_begun, stopped_midway, written_whole}}
 use Rattle.object_commands.proofs.writing_files.write_file.Goals as goal
 
 pub loop-sent-preserved : goal.loop-sent-preserved

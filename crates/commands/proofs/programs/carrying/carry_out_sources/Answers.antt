@@ -1,5 +1,4 @@
-use Rattle.commands.proofs.{Prelude.{refl, ◌∙◌, stays_on, stops_as, tells_file, tells_no_file}, InputFiles.{named, refused_after, same_texts, told_after, told_before}, Names.{stops_in_files}, Printed.{prints_files}, Untold.{for_file, for_memory, refuses_files}}
-use Rattle.host.proofs.FilesRead.{stops_before}
+use Rattle.commands.proofs.{Prelude.{refl, ◌∙◌, stays_on, stops_as, tells_file, tells_no_file, stops_before}, InputFiles.{named, refused_after, same_texts, told_after, told_before}, Names.{stops_in_files}, Printed.{prints_files}, Untold.{for_file, for_memory, refuses_files}}
 use Rattle.commands.proofs.programs.carrying.carry_out_sources.Goals as goal
 
 pub returns-in-Ok-clause-unchanged : goal.returns-in-Ok-clause-unchanged

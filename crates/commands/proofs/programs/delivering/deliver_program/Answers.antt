@@ -1,6 +1,4 @@
-use Rattle.commands.proofs.{Prelude.{◌∙◌, Some, [], ap, inl, map, refl, stays, values_in}, RefusedRuns.{refused_ended, refused_unended}, Untold.{for_memory}, Delivered.{kept_but, kept_then_but, kept_then_delivered, not_wrong_after, told_instead}}
-use Rattle.command_line.specs.{Command.{program_in}, Settings.{file_names, port_file_in}}
-use Rattle.commands.specs.Running.{PrintsFiles}
+use Rattle.commands.proofs.{Prelude.{◌∙◌, Some, [], ap, inl, map, refl, stays, values_in, program_in, file_names, port_file_in, PrintsFiles}, RefusedRuns.{refused_ended, refused_unended}, Untold.{for_memory}, Delivered.{kept_but, kept_then_but, kept_then_delivered, not_wrong_after, told_instead}}
 use Rattle.commands.proofs.programs.delivering.deliver_program.Goals as goal
 
 pub returns-in-Refused-clause-unchanged : goal.returns-in-Refused-clause-unchanged

@@ -1,5 +1,4 @@
-use Rattle.commands.proofs.{Prelude.{◌-◌}, StartMemory.{FilledBelow}}
-use Rattle.mem80.specs.declared.memory.TheConstants.{MEMORY_SIZE}
+use Rattle.commands.proofs.{Prelude.{◌-◌, MEMORY_SIZE}, StartMemory.{FilledBelow}}
 use Rattle.commands.proofs.programs.loading.fill_memory.Given as goal
 
 abbrev pub invariant-loop-next : goal.invariant-loop-next
