@@ -1,5 +1,8 @@
 -- Why sources were not run or interpreted, or not compiled.
 use Rattle.commands.proofs.{Prelude.{◌≡◌, ℕ, ◌<◌, ◌≤◌, Bool, List, [], ◌∷◌, Bor, Err, Ok, Option, Result, inl, inr, length, map, refl, subst, sym, ⊎_elim, cases_lt, length-map, texts, CountsFailure, Failure, Fault, Directory, HasFile, HasFiles, StopsAt, Tells, file_line, memory_line, output_line, CompileWanted, ProgramWanted, Values, values_read, Action, MOST_SOURCES, IsProgramOf, program_modules, texts_of, Construction, IsConstruction, IsInOrder, IsRefusedAlone, ToolFault, TooManySources, CompilesTo, fault_line, map_if, RefusesCompiling, RefusesFiles, RefusesFor, RefusesProgram, RefusesTexts, RunsOut, TellsUnwritten, StopsBuilt, KeepsFiles, ◌++◌, HasInput, input_names, RefusesRead}, InputFiles.{input_there, named}, Printed.{stays_written}}
+use Rattle.std.proofs.Common.{◌∙◌, ap, suc}
+use Rattle.typed_trees.specs.TypedTrees.{TypedModule}
+use Rattle.sources.specs.Programs.{AreSourcesOf}
 use Rattle.sources.specs.declared.sources.Source.{Source}
 use Rattle.tool.specs.Sources.{HasCause}
 
@@ -17,11 +20,36 @@ no_failure built failure e = cc
 same_fault : {A : Type 0} (result : Result A (Failure ToolFault)) (fault other : ToolFault) → result ≡ Err (Fault fault) → result ≡ Err (Fault other) → fault ≡ other
 same_fault result fault other e f = cc
 
+-- there are as many sources as modules
+same_count : (texts : List (List ℕ)) (modules : List TypedModule) → AreSourcesOf texts modules
+    → length texts ≡ length modules
+same_count [] [] are = refl
+same_count [] (typed ∷ modules) are = absurd are
+same_count (text ∷ texts) [] are = absurd are
+same_count (text ∷ texts) (typed ∷ modules) are = ap suc (same_count texts modules are.1)
+
 -- sources of which there would be another answer if they were too many
 module _ (sources : List Source) where
+  few_if : (MOST_SOURCES < length sources → ⊥) → length sources ≤ MOST_SOURCES
+  few_if none =
+      ⊎_elim (λ (more : MOST_SOURCES < length sources). absurd (none more))
+      (λ (few : length sources ≤ MOST_SOURCES). few) (cases_lt MOST_SOURCES (length sources))
+
+  pub few_sources : {A : Type 0} (built : A) (failure : Failure ToolFault)
+      → (MOST_SOURCES < length sources → Ok built ≡ Err failure) → length sources ≤ MOST_SOURCES
+  few_sources built failure past = few_if (λ more. no_failure built failure (past more))
+
+  -- there are as many as the program has modules, and object modules
+  pub as_many : (built : Construction) → IsProgramOf (texts_of sources) (program_modules built.program)
+      → IsConstruction built → length sources ≡ length built.objects
+  as_many built program construction =
+      sym (length-map sources (λ (s : Source). s.text.now))
+      ∙ same_count (texts_of sources) (program_modules built.program) program.sources
+      ∙ sym construction.objects
+
   few_texts : (MOST_SOURCES < length sources → ⊥) → length (texts_of sources) ≤ MOST_SOURCES
   few_texts none = subst (λ (count : ℕ). count ≤ MOST_SOURCES) (sym (length-map sources (λ (s : Source). s.text.now)))
-      (⊎_elim (λ (more : MOST_SOURCES < length sources). absurd (none more)) (λ (few : length sources ≤ MOST_SOURCES). few) (cases_lt MOST_SOURCES (length sources)))
+      (few_if none)
 
   pub few_built : {A : Type 0} (built : A) (failure : Failure ToolFault) → (MOST_SOURCES < length sources → Ok built ≡ Err failure) → length (texts_of sources) ≤ MOST_SOURCES
   few_built built failure past = few_texts (λ more. no_failure built failure (past more))

@@ -4,3 +4,4 @@ pub mod Reading
 pub mod Converting
 pub mod InputPorts
 pub mod SourceRuns
+pub mod Shown

@@ -44,24 +44,45 @@ fn spelled_line(alloc: Global, name: &Name, number: u32) -> Result<String, Alloc
 }
 
 // The module of a number, if there is one.
-fn module_at(program: &Joined, number: u32) -> Option<&Typed>
+fn module_at(program: &Joined, number: usize) -> Option<&Typed>
     ensures { IfSome result (λ typed. slice_get (modules_of program.now) number ≡ Some typed.now) }
 {
-    program.modules().get(number as usize)
+    program.modules().get(number)
 }
 
-/// The name of the module of a line, and its number. It is out of memory where there is no such module.
+/// The name of the module of a line, and its number, if there is such a module.
+#[tactic(auto, using(crate::proofs::PlacesTold::line_named))]
 pub(crate) fn line_text(
     alloc: Global,
     program: &Joined,
-    line: SourceLine,
-) -> Result<String, AllocError>
-    ensures { IfOk result (λ text. NamesLine (module_names program.now) text.bytes.items) }
+    number_of_module: usize,
+    line: u32,
+) -> Result<Option<String>, AllocError>
+    ensures { IfOk result (λ found. IfSome found
+        (λ text. NamesLine (module_names program.now) text.bytes.items)) }
 {
-    let Some(typed) = module_at(program, line.module) else {
-        return Err(AllocError);
-    };
-    spelled_line(alloc, &typed.name, line.line)
+    match module_at(program, number_of_module) {
+        Some(typed) => {
+            let text = spelled_line(alloc, &typed.name, line)?;
+            Ok(Some(text))
+        }
+        None => Ok(None),
+    }
+}
+
+// The text of a line, if it is known.
+fn known_text(
+    alloc: Global,
+    program: &Joined,
+    line: Option<SourceLine>,
+) -> Result<Option<String>, AllocError>
+    ensures { IfOk result (λ found. IfSome found
+        (λ text. NamesLine (module_names program.now) text.bytes.items)) }
+{
+    match line {
+        Some(line) => line_text(alloc, program, line.module as usize, line.line),
+        None => Ok(None),
+    }
 }
 
 impl Places<'_> {
@@ -100,8 +121,8 @@ impl Places<'_> {
         let Places::Lines(program, lines) = *self else {
             return address_text(alloc, stand.address);
         };
-        match known_line(lines, stand) {
-            Some(line) => line_text(alloc, program, line),
+        match known_text(alloc, program, known_line(lines, stand))? {
+            Some(text) => Ok(text),
             None => address_text(alloc, stand.address),
         }
     }

@@ -1,7 +1,8 @@
 //! The listing of a program.
 
-ghost use Rattle.std.specs.Prelude.{IfOk};
+ghost use Rattle.std.specs.Prelude.{◌≡◌, ◌≤◌, IfOk, length};
 ghost use Rattle.sources.specs.Programs.{texts_of};
+ghost use Rattle.sources.specs.declared.sources.TheConstants.{MOST_SOURCES};
 ghost use Rattle.listings.specs.Programs.{ListsProgram};
 ghost use Rattle.listings.specs.internal.Programs.{IsListingOf};
 
@@ -24,6 +25,7 @@ fn listing_in(alloc: Global, built: &Built, views: &[ModuleView]) -> Result<Vec<
     let mut lines = Vec::new(alloc);
     let mut rest = views;
     while let [view, more @ ..] = rest {
+        // A write into a vector fails only if memory runs out.
         let Ok(()) = put_module(alloc, &mut lines, shared, view) else {
             return Err(AllocError);
         };
@@ -33,9 +35,11 @@ fn listing_in(alloc: Global, built: &Built, views: &[ModuleView]) -> Result<Vec<
 }
 
 /// The listing of a program that was built from these sources: their lines, each with the code of what begins there. For other
-/// sources it may be out of memory.
+/// sources, as many, it may be out of memory.
 #[tactic(auto, using(crate::proofs::ProgramLists::program_listed))]
 pub fn listing_of(alloc: Global, built: &Built, sources: &[Source]) -> Result<Vec<u8>, AllocError>
+    requires few { length sources.now ≤ MOST_SOURCES }
+    requires as_many { length sources.now ≡ length built.now.objects }
     ensures listed { IfOk result (λ lines. ListsProgram (texts_of sources.now) built.now lines.items) }
 {
     let marks = all_marks(alloc, sources)?;

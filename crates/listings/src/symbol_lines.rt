@@ -1,9 +1,10 @@
 //! The symbols of a program: its procedures, its variables and the lines of its code, with their addresses.
 
-ghost use Rattle.std.specs.Prelude.{◌≡◌, ◌++◌, ◌∷◌, [], IfOk, OnOk, codes, map};
+ghost use Rattle.std.specs.Prelude.{◌≡◌, ◌≤◌, ◌++◌, ◌∷◌, [], IfOk, OnOk, codes, length, map};
 ghost use Rattle.layout.specs.Placement.{kind_of};
 ghost use Rattle.object_commands.specs.Placing.{range_line};
 ghost use Rattle.typed_trees.specs.Views.{object_view, procedure_view};
+ghost use Rattle.sources.specs.declared.sources.TheConstants.{MOST_SOURCES};
 ghost use Rattle.listings.specs.Symbols.{HasSymbols, HaveSymbols, IsOwnerIn, SymbolsOfProgram, is_own, object_line, source_line};
 ghost use Rattle.listings.specs.internal.Adding.{Adds};
 ghost use Rattle.listings.specs.internal.Programs.{pair_of, typed_of};
@@ -290,6 +291,7 @@ fn symbols_in(alloc: Global, views: &[ModuleView]) -> Result<Vec<u8>, AllocError
     let mut lines = Vec::new(alloc);
     let mut rest = views;
     while let [view, more @ ..] = rest {
+        // A write into a vector fails only if memory runs out.
         let Ok(()) = put_module(alloc, &mut lines, view) else {
             return Err(AllocError);
         };
@@ -299,9 +301,11 @@ fn symbols_in(alloc: Global, views: &[ModuleView]) -> Result<Vec<u8>, AllocError
 }
 
 /// The symbols of a program that was built from these sources: its procedures, its variables and the lines of its code. For
-/// other sources it may be out of memory.
+/// other sources, as many, it may be out of memory.
 #[tactic(auto, using(crate::proofs::SymbolTexts::program_symbols))]
 pub fn symbols_of(alloc: Global, built: &Built, sources: &[Source]) -> Result<Vec<u8>, AllocError>
+    requires few { length sources.now ≤ MOST_SOURCES }
+    requires as_many { length sources.now ≡ length built.now.objects }
     ensures symbols { IfOk result (λ lines. SymbolsOfProgram built.now lines.items) }
 {
     let marks = all_marks(alloc, sources)?;

@@ -1,12 +1,13 @@
 //! Runs of programs on the 8080.
 
-ghost use Rattle.std.specs.Prelude.{◌≡◌, [], IfOk, OnErr, false, map};
+ghost use Rattle.std.specs.Prelude.{◌≡◌, ◌≤◌, [], IfOk, OnErr, false, length, map};
 ghost use Rattle.host.specs.Endings.{status_of};
 ghost use Rattle.host.specs.Refusals.{TellsOther};
 ghost use Rattle.command_line.specs.Command.{program_in};
 ghost use Rattle.command_line.specs.Settings.{values_in};
 ghost use Rattle.command_line.specs.declared.orders.Action.TheVariants.{Run};
 ghost use Rattle.sources.specs.Programs.{texts_of};
+ghost use Rattle.sources.specs.declared.sources.TheConstants.{MOST_SOURCES};
 ghost use Rattle.commands.specs.Map.{map_if};
 ghost use Rattle.commands.specs.Refusing.{RefusesTexts, TellsUnwritten};
 ghost use Rattle.commands.specs.Ends.{machine_status};
@@ -68,6 +69,8 @@ fn run_built<O: Write, E: Write>(
     out: &mut O,
     err: &mut E,
 ) -> Ending
+    requires few { length sources.now ≤ MOST_SOURCES }
+    requires as_many { length sources.now ≡ length built.now.objects }
     ensures not_wrong { result ≡ Ending.WrongLine → ⊥ }
     ensures told { result ≡ Ending.Refused → TellsOther (E.contents err.old) (E.contents err.new) }
     ensures refused { result ≡ Ending.Refused → TellsUnwritten (E.contents err.old) (E.contents err.new) }
@@ -97,6 +100,8 @@ fn print_built<O: Write>(
     outputs: &mut Vec<Vec<u8>>,
     out: &mut O,
 ) -> Result<Option<End>, Failure<WriteFault>>
+    requires few { length sources.now ≤ MOST_SOURCES }
+    requires as_many { length sources.now ≡ length built.now.objects }
     ensures ok { IfOk result (λ end. PrintsBuilt Run
         (map_if with_map built.now) (values_in settings.now) built.now
         (machine_status end) (map (λ output. output.items) outputs.new.items)
@@ -123,6 +128,8 @@ fn print_program<O: Write>(
     outputs: &mut Vec<Vec<u8>>,
     out: &mut O,
 ) -> Result<Option<End>, Failure<WriteFault>>
+    requires few { length sources.now ≤ MOST_SOURCES }
+    requires as_many { length sources.now ≡ length built.now.objects }
     ensures ok { IfOk result (λ end. PrintsBuilt Run [] (values_in settings.now) built.now
         (machine_status end) (map (λ output. output.items) outputs.new.items)
         (O.contents out.old) (O.contents out.new)) }

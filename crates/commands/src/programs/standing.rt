@@ -1,8 +1,9 @@
 //! Runs of programs of which it is told where they stood at their end.
 
-ghost use Rattle.std.specs.Prelude.{◌≡◌, [], IfOk, OnErr, map, true};
+ghost use Rattle.std.specs.Prelude.{◌≡◌, ◌≤◌, [], IfOk, IfSome, OnErr, length, map, true};
 ghost use Rattle.command_line.specs.Settings.{values_in};
 ghost use Rattle.command_line.specs.declared.orders.Action.TheVariants.{Run};
+ghost use Rattle.sources.specs.declared.sources.TheConstants.{MOST_SOURCES};
 ghost use Rattle.commands.specs.Ends.{machine_status};
 ghost use Rattle.commands.specs.Running.{PrintsBuilt, StopsBuilt};
 ghost use Rattle.commands.specs.Standing.{NamesLine, module_names};
@@ -13,7 +14,7 @@ use command_line::Settings;
 use cpu8080::End;
 use host::{Failure, WriteFault};
 use interpreter::{StackMark, StackPart, stack_marks};
-use listings::{SourceLine, code_lines};
+use listings::code_lines;
 use sources::{SourceLines, source_lines};
 use std::alloc::{AllocError, Global};
 use std::io::Write;
@@ -30,6 +31,8 @@ pub(crate) fn print_with_line<O: Write>(
     outputs: &mut Vec<Vec<u8>>,
     out: &mut O,
 ) -> Result<Option<End>, Failure<WriteFault>>
+    requires few { length sources.now ≤ MOST_SOURCES }
+    requires as_many { length sources.now ≡ length built.now.objects }
     ensures ok { IfOk result (λ end. PrintsBuilt Run [] (values_in settings.now) built.now
         (machine_status end) (map (λ output. output.items) outputs.new.items)
         (O.contents out.old) (O.contents out.new)) }
@@ -72,38 +75,39 @@ fn line_of(lines: &SourceLines, part: StackPart) -> Option<u32> {
     }
 }
 
-// The line of the source of a mark.
+// The line of the source of a mark, if it has one.
 fn marked_line(
     alloc: Global,
     sources: &[Source],
     mark: StackMark,
-) -> Result<SourceLine, AllocError> {
+) -> Result<Option<u32>, AllocError> {
     let Some(source) = sources.get(mark.number_of_module) else {
-        return Err(AllocError);
+        return Ok(None);
     };
+    // The source was read before, so that only memory may be out.
     let Ok(lines) = source_lines(alloc, source.text) else {
         return Err(AllocError);
     };
-    let Ok(module) = u32::try_from(mark.number_of_module) else {
-        return Err(AllocError);
-    };
-    match line_of(&lines, mark.part) {
-        Some(line) => Ok(SourceLine { module, line }),
-        None => Err(AllocError),
-    }
+    Ok(line_of(&lines, mark.part))
 }
 
-// The line from which an instruction of the interpreter comes.
-fn interpreted_line(
+// The text of the line from which an instruction of the interpreter comes, if it comes from one.
+fn interpreted_text(
     alloc: Global,
     built: &Built,
     sources: &[Source],
     at: usize,
-) -> Result<SourceLine, AllocError> {
+) -> Result<Option<String>, AllocError>
+    ensures { IfOk result (λ found. IfSome found
+        (λ text. NamesLine (module_names built.now.program) text.bytes.items)) }
+{
     let marks = stack_marks(alloc, built.program(), built.placement())?;
-    match part_at(marks.as_slice(), at) {
-        Some(mark) => marked_line(alloc, sources, mark),
-        None => Err(AllocError),
+    let Some(mark) = part_at(marks.as_slice(), at) else {
+        return Ok(None);
+    };
+    match marked_line(alloc, sources, mark)? {
+        Some(line) => line_text(alloc, built.program(), mark.number_of_module, line),
+        None => Ok(None),
     }
 }
 
@@ -122,6 +126,8 @@ pub(crate) fn text_of_line(
     if !settings.watch.place {
         return Ok(String::new(alloc));
     }
-    let line = interpreted_line(alloc, built, sources, at)?;
-    line_text(alloc, built.program(), line)
+    match interpreted_text(alloc, built, sources, at)? {
+        Some(text) => Ok(text),
+        None => Err(AllocError),
+    }
 }

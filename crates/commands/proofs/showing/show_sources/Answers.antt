@@ -1,5 +1,11 @@
-use Rattle.commands.proofs.{Prelude.{refl}, Shown.{fault_shown, memory_shown, program_printed, program_stopped}, Untold.{few_built, few_but}}
+use Rattle.commands.proofs.{Prelude.{refl}, Shown.{fault_shown, memory_shown, program_printed, program_stopped}, Untold.{as_many, few_built, few_but, few_sources}}
 use Rattle.commands.proofs.showing.show_sources.Goals as goal
+
+pub show_built-requires-clause-few : goal.show_built-requires-clause-few
+show_built-requires-clause-few g c = few_sources _ _ _ c.in-Ok.ensures.too_many
+
+pub show_built-requires-clause-as_many : goal.show_built-requires-clause-as_many
+show_built-requires-clause-as_many g c = as_many _ _ c.in-Ok.ensures.program c.in-Ok.ensures.construction
 
 pub returns-in-Ok-clause-printed : goal.returns-in-Ok-clause-printed
 returns-in-Ok-clause-printed g c = λ done.

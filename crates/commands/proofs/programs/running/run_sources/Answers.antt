@@ -1,5 +1,11 @@
-use Rattle.commands.proofs.{Prelude.{refl}, Printed.{run_of_texts}, Untold.{few_built, few_but, tells_cause, tells_unwritten}}
+use Rattle.commands.proofs.{Prelude.{refl}, Printed.{run_of_texts}, Untold.{as_many, few_built, few_but, few_sources, tells_cause, tells_unwritten}}
 use Rattle.commands.proofs.programs.running.run_sources.Goals as goal
+
+pub run_built-requires-clause-few : goal.run_built-requires-clause-few
+run_built-requires-clause-few g c = few_sources _ _ _ c.in-Ok.ensures.too_many
+
+pub run_built-requires-clause-as_many : goal.run_built-requires-clause-as_many
+run_built-requires-clause-as_many g c = as_many _ _ c.in-Ok.ensures.program c.in-Ok.ensures.construction
 
 pub returns-in-Ok-clause-ran : goal.returns-in-Ok-clause-ran
 returns-in-Ok-clause-ran g c = λ other.
