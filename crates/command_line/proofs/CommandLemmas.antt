@@ -1,5 +1,5 @@
 -- From the matches of the subcommand to the order, and from an error to a failure.
-use Rattle.command_line.proofs.{Prelude.{◌≡◌, List, [], ◌∷◌, Option, Some, None, inl, inr, refl, sym, ap, subst, ◌∙◌, Ok, Err, IfOk, IsErrAnd, Result, option_map, IsAmong, Kinds, Row, Text, kind_of, subcommand_name_of, subcommand_rows_of, ArgMatches, HasKind, Error, ErrorKind, DisplayHelp, DisplayVersion, OutOfMemory, Failure, Fault, Memory, LineFault, IfFault, IsFaultOf, IsOrderOf, Wanted, Order, IsFailureFor, Version, Wrong}, Levels.{never}}
+use Rattle.command_line.proofs.{Prelude.{◌≡◌, List, [], ◌∷◌, Option, Some, None, inl, inr, refl, sym, ap, subst, ◌∙◌, Ok, Err, IfOk, IsErrAnd, Result, option_map, IsAmong, Kinds, Row, Text, kind_of, subcommand_name_of, subcommand_rows_of, ArgMatches, HasKind, Error, ErrorKind, DisplayHelp, DisplayVersion, OutOfMemory, Failure, Fault, Memory, LineFault, IfFault, IsFaultOf, IsOrderOf, Wanted, Order, IsFailureFor, Version, Wrong, Bool, true, false, if◌then◌else◌, bytes_eq, wanted_of_match, command_in, wanted_of_command, word_of, CommandName, COMMANDS}, Levels.{never}}
 use Rattle.command_line.specs.declared.reading.LineFault.TheVariants.{Help}
 
 mapped_twice : {A B C : Type 0} (f : B → C) (g : A → B) (o : Option A) → option_map f (option_map g o) ≡ option_map (λ x. f (g x)) o
@@ -29,6 +29,28 @@ match_found m name rows e f = both_found (subcommand_rows_of m) name rows (e ∙
 -- or that there is none
 pub no_match_found : (m : ArgMatches) → None ≡ subcommand_name_of m → subcommand_rows_of m ≡ None
 no_match_found m e = none_found (subcommand_rows_of m) (e ∙ sym (name_of_rows m))
+
+-- what the first of these commands that the word calls wants
+abbrev first_wanted : List CommandName → Text → List Row → Option Wanted
+first_wanted [] word rows = None
+first_wanted (command ∷ more) word rows =
+    if bytes_eq word (word_of command) then Some (wanted_of_command command rows) else first_wanted more word rows
+
+first_is : (commands : List CommandName) (word : Text) (rows : List Row)
+    → option_map (λ command. wanted_of_command command rows) (command_in commands word) ≡ first_wanted commands word rows
+first_is [] word rows = refl
+first_is (command ∷ more) word rows = go (first_is more word rows) (bytes_eq word (word_of command))
+  where
+    go : option_map (λ one. wanted_of_command one rows) (command_in more word) ≡ first_wanted more word rows → (t : Bool)
+        → option_map (λ one. wanted_of_command one rows) (if t then Some command else command_in more word)
+        ≡ (if t then Some (wanted_of_command command rows) else first_wanted more word rows)
+    go others true = refl
+    go others false = others
+
+-- what the command wants that a word calls
+pub wanted_is : (word : Text) (rows : List Row)
+    → option_map (λ command. wanted_of_command command rows) (command_in COMMANDS word) ≡ wanted_of_match (word, rows)
+wanted_is word rows = first_is COMMANDS word rows
 
 -- where the words have no fault, a call fails only for memory
 pub only_memory : (error : Error) (failure : Failure LineFault) (kinds : Kinds) → kinds ≡ [] → HasKind kinds error → IsFailureFor error failure → failure ≡ Memory

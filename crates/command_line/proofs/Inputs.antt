@@ -1,5 +1,5 @@
 -- The bytes of an input, one after another, and groups.
-use Rattle.command_line.proofs.Prelude.{◌≡◌, ℕ, ◌<◌, List, [], ◌∷◌, ◌++◌, Option, Some, None, Bool, true, false, length, refl, ◌∙◌, ap, append_assoc, arith, ◌-◌, ◌≤◌, take, drop, get_or, map, Bor, ◌==◌, option_and_then, option_map, append-nil, take-length, Text, byte_of, bytes_for, all_groups, if_read, in_front, InputByte}
+use Rattle.command_line.proofs.Prelude.{◌≡◌, ℕ, ◌<◌, List, [], ◌∷◌, ◌++◌, Option, Some, None, Bool, true, false, length, refl, ◌∙◌, ap, append_assoc, arith, ◌-◌, ◌≤◌, take, drop, get_or, map, Bor, ◌==◌, option_and_then, option_map, append-nil, take-length, Text, byte_of, bytes_for, all_groups, if_read, in_front, InputByte, group_bytes, nat_tests}
 
 pub in_front_twice : {A : Type 0} (before bytes : List A) (found : Option (List A)) → in_front (before ++ bytes) found ≡ in_front before (in_front bytes found)
 in_front_twice before bytes None = refl
@@ -27,6 +27,30 @@ pub bytes_end : (before : List InputByte) (port : ℕ) (rest : Text) → length 
 bytes_end before port [] short = ap Some (append-nil before)
 bytes_end before port (lone ∷ []) short = refl
 bytes_end before port (high ∷ low ∷ more) short = absurd (omega arith)
+
+-- a group of the bytes of a port has two digits and a colon (58)
+pub short_group : (before : List InputByte) (group : Text) → length group < 3 → in_front before (group_bytes group) ≡ None
+short_group before [] short = refl
+short_group before (a ∷ []) short = refl
+short_group before (a ∷ b ∷ []) short = refl
+short_group before (a ∷ b ∷ c ∷ more) short = absurd (omega arith)
+
+pub no_colon : (before : List InputByte) (group : Text) → 3 ≤ length group → (get_or group 2 0 ≡ 58 → ⊥) → in_front before (group_bytes group) ≡ None
+no_colon before [] long other = absurd (omega arith)
+no_colon before (a ∷ []) long other = absurd (omega arith)
+no_colon before (a ∷ b ∷ []) long other = absurd (omega arith)
+no_colon before (a ∷ b ∷ c ∷ more) long other =
+    let no : (c == 58) ≡ false = grind (arith, nat_tests) in
+    rw no refl
+
+pub group_is : (group : Text) (port : Option ℕ) → 3 ≤ length group → get_or group 2 0 ≡ 58 → port ≡ byte_of (get_or group 0 0) (get_or group 1 0)
+    → group_bytes group ≡ option_and_then (λ p. bytes_for p (take (length group - 3) (drop 3 group))) port
+group_is [] port long colon is = absurd (omega arith)
+group_is (a ∷ []) port long colon is = absurd (omega arith)
+group_is (a ∷ b ∷ []) port long colon is = absurd (omega arith)
+group_is (a ∷ b ∷ c ∷ more) port long colon is =
+    let count : length (a ∷ b ∷ c ∷ more) - 3 ≡ length more = omega arith in
+    rw (is, count, take-length more, colon) refl
 
 -- a group that was added stands in front of the others
 one_more_group : {A : Type 0} (written : Text → Option (List A)) (before after : List A) (group : Text) (others : List Text) → in_front before (written group) ≡ if_read true after

@@ -133,29 +133,12 @@ pub(crate) struct Teaching {
 /// What `plm --version` prints after the name of the program.
 pub(crate) const VERSION: &str = "1.0";
 
-pub(crate) const ABOUT: &str = "\
+pub(crate) const PLM: Teaching = Teaching {
+    about: "\
 Compiles PL/M-80 sources, and runs their image on a simulated 8080 or interprets them;
-links object files, and places them in memory";
-
-pub(crate) const GUIDE: &str = text_of!([] "\
-A source is a module, as in this file of one line:
-  M: DO; OUTPUT(1) = 42; END M;
-Both `plm run FILE` and `plm interpret FILE` print
-  OUT 01 2A
-  HALT
-
-With each command, before or after its name:
-  --explain        shows where a fault is, what it means and what is likely wrong
-  --explain=TABLE  also tells from where its line comes, by a table of plm convert --lines
-
-Numbers, where X is the name or the text that is printed with one:
-" TEXTS CODE MODULES SEGMENTS MERGES OBJECTS PLACES IMAGES COUNTS LENGTHS FILES VALUES MEMORY "\n\
-Read more in the folder docs:
-  language.md     a manual of the language; definition.md has its exact rules
-  old-sources.md  from a listing of the time to a run
-  faults.md       each number in plain words, with an example and its cure;
-                  plm explain NUMBER prints what it says of one
-  commands.md     the commands, their options and what they print");
+links object files, and places them in memory",
+    printed: PRINTED_BY_PLM,
+};
 
 pub(crate) const COMPILE: Teaching = Teaching {
     about: "Compiles a source to an object file",
@@ -216,6 +199,26 @@ pub(crate) const RUN_LIMIT: &str = "The most instructions that are run, to 10000
 
 pub(crate) const INTERPRET_LIMIT: &str =
     "The budget: the most calls, GOTOs and turns of loops, to 1000000000000";
+
+const PRINTED_BY_PLM: &str = text_of!([] "\
+A source is a module, as in this file of one line:
+  M: DO; OUTPUT(1) = 42; END M;
+Both `plm run FILE` and `plm interpret FILE` print
+  OUT 01 2A
+  HALT
+
+With each command, before or after its name:
+  --explain        shows where a fault is, what it means and what is likely wrong
+  --explain=TABLE  also tells from where its line comes, by a table of plm convert --lines
+
+Numbers, where X is the name or the text that is printed with one:
+" TEXTS CODE MODULES SEGMENTS MERGES OBJECTS PLACES IMAGES COUNTS LENGTHS FILES VALUES MEMORY "\n\
+Read more in the folder docs:
+  language.md     a manual of the language; definition.md has its exact rules
+  old-sources.md  from a listing of the time to a run
+  faults.md       each number in plain words, with an example and its cure;
+                  plm explain NUMBER prints what it says of one
+  commands.md     the commands, their options and what they print");
 
 const PRINTED_BY_COMPILE: &str = text_of!([] "\
 The source is one module. Names that it declares EXTERNAL are found by `plm link`.

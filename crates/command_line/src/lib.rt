@@ -2,8 +2,10 @@
 #![tactic(auto)]
 
 mod app;
+mod arguments;
 mod explained;
 mod help;
+mod names;
 mod orders;
 mod output_files;
 mod port_files;

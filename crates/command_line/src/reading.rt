@@ -15,8 +15,10 @@ ghost use Rattle.command_line.specs.Command.{plm_app, program_of, text_of, texts
 ghost use Rattle.command_line.specs.Command.{wanted_in, wanted_of_match};
 ghost use Rattle.command_line.specs.Command.{compile_of, wants_compile, wants_link, wants_need, wants_place, wants_program};
 ghost use Rattle.command_line.specs.internal.Errors.{IsFailureFor};
+ghost use Rattle.command_line.specs.internal.Names.{wanted_of_command};
 
 use crate::app::plm_command;
+use crate::names::{CommandName, command_called};
 use crate::orders::{
     Action, CompileOrder, ConvertOrder, ExecuteOrder, ExplainOrder, LinkOrder, NeedOrder, Order,
     PlaceAction, PlaceOrder, PlanTexts, ProgramOrder, Watch,
@@ -121,7 +123,7 @@ fn plan<'a>(matches: &ArgMatches<'a>) -> PlanTexts<'a>
 }
 
 // The order for a command that builds sources, from the matches of its arguments. It is there in each answer, so that
-// `order_named` hands it on as it is.
+// `order_for` hands it on as it is.
 fn program<'a>(
     alloc: Global,
     action: Action,
@@ -261,28 +263,42 @@ fn locate<'a>(alloc: Global, matches: &ArgMatches<'a>) -> Result<Option<Order<'a
     }
 }
 
-// The order for the command of a name, from the matches of its arguments.
-fn order_named<'a>(
+// The order for a command, from the matches of its arguments.
+fn order_for<'a>(
     alloc: Global,
-    name: &str,
+    command: CommandName,
     matches: &ArgMatches<'a>,
 ) -> Result<Option<Order<'a>>, AllocError>
     ensures { IfOk result (λ order.
-        option_map wanted_in order ≡ wanted_of_match (name.now, rows_of (found_of matches.now))) }
+        option_map wanted_in order ≡ Some (wanted_of_command command (rows_of (found_of matches.now)))) }
 {
-    match name {
-        "compile" => compile(matches),
-        "run" => program(alloc, Action::Run, matches),
-        "interpret" => program(alloc, Action::Interpret, matches),
-        "link" => link(alloc, matches),
-        "locate" => locate(alloc, matches),
-        "hex" => place(alloc, PlaceAction::Hex, matches),
-        "list" => place(alloc, PlaceAction::Listing, matches),
-        "symbols" => place(alloc, PlaceAction::Symbols, matches),
-        "execute" => execute(alloc, matches),
-        "explain" => explain(matches),
-        "convert" => convert(alloc, matches),
-        _ => Ok(None),
+    match command {
+        CommandName::Compile => compile(matches),
+        CommandName::Run => program(alloc, Action::Run, matches),
+        CommandName::Interpret => program(alloc, Action::Interpret, matches),
+        CommandName::Link => link(alloc, matches),
+        CommandName::Locate => locate(alloc, matches),
+        CommandName::Hex => place(alloc, PlaceAction::Hex, matches),
+        CommandName::List => place(alloc, PlaceAction::Listing, matches),
+        CommandName::Symbols => place(alloc, PlaceAction::Symbols, matches),
+        CommandName::Execute => execute(alloc, matches),
+        CommandName::Explain => explain(matches),
+        CommandName::Convert => convert(alloc, matches),
+    }
+}
+
+// The order for the command that a word calls, from the matches of its arguments.
+fn order_called<'a>(
+    alloc: Global,
+    word: &str,
+    matches: &ArgMatches<'a>,
+) -> Result<Option<Order<'a>>, AllocError>
+    ensures { IfOk result (λ order.
+        option_map wanted_in order ≡ wanted_of_match (word.now, rows_of (found_of matches.now))) }
+{
+    match command_called(word) {
+        Some(command) => order_for(alloc, command, matches),
+        None => Ok(None),
     }
 }
 
@@ -292,7 +308,7 @@ fn order_in<'a>(alloc: Global, matches: &ArgMatches<'a>) -> Result<Option<Order<
         option_map wanted_in order ≡ option_and_then wanted_of_match (subcommand_rows_of matches.now)) }
 {
     match matches.subcommand() {
-        Some((name, found)) => order_named(alloc, name, found),
+        Some((word, found)) => order_called(alloc, word, found),
         None => Ok(None),
     }
 }

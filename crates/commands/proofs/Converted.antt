@@ -1,6 +1,7 @@
 -- Sources that were converted, or not.
 use Rattle.commands.proofs.{Prelude.{◌≡◌, ◌<◌, ◌≤◌, ℕ, List, [], length, map, Option, None, Some, inl, inr, refl, sym, ap, subst, ◌∙◌, ◌⊎◌, arith, Ending, Done, Refused, status_of, AppendsBeginning, Appends, Keeps, ChangesFiles, Directory, HasFile, KeepsFiles, stays_on, Tells, memory_line, refusal_line, file_line, CountsFailure, TellsUnwritten, ConvertWanted, LONGEST_SOURCE, Lexeme, lexemes_of, one_reading, Expands, not_both, TypedModule, HasReadCause, IsSourceOf, ReadFault, Expansion, Storage, Syntax, TooLong, Typing, Words, advice_view, usual_advice, Parts, as_it_is, assembled, IsRefused, no_expansion, no_words, Change, plain, line_table, prepared, prepared_notes, rule_view, table_of_rules, IsConverted, note_lines, place_at, Advice, PlacedNote, Entry, Rule, IsIncluded, StopsLookingForNext, Converts, ConvertsByTables, HasNoConversion, IsMistyped, IsModule, IsNoModule, IsPutTogether, StopsIncluding, StopsSource, changed, fault_line_at, medium_of, rewritten, BeginsTable, WritesTable, IsOfForm, PrintsModule, form_of_fault, table_if, ConvertsFile, ConvertsText, RefusesText, ConvertsHeld, ConvertsParts, PrintsNoted, PrintsTabled, unchanged, with_file, StopsWriting}, Printed.{stays_written}, Included.{was_included, was_stopped_for_next}, Tables.{kept_begins, table_begun, table_stopped, table_written, was_begun, was_stopped_writing, was_written}}
 use Rattle.sources.specs.Faults.{line_of, number_of}
+use Rattle.commands.specs.internal.Converting.{PrintsConverted}
 use Rattle.commands.specs.Converting.{stays}
 use Rattle.literally.specs.declared.fault.Fault as expansion_fault
 
@@ -96,6 +97,17 @@ module _ (wanted : ConvertWanted) (entries : List Entry) (text : List ℕ) (note
   ))
   tabled_as_wanted status some is (inr (inr (one, same, begun, told, nothing))) =
       inr (inr (one, same, table_begun wanted.lines files later table some is begun, told, nothing))
+
+-- what was put together is a text as it is
+pub module_as_it_is : (wanted : ConvertWanted) (notes : List PlacedNote) (text : List ℕ) (parts : Parts)
+    (files later : Option Directory) (status before after : ℕ) (old new out now : Option (List ℕ))
+    → parts ≡ as_it_is notes text
+    → PrintsConverted wanted [] parts [] text notes files later status before after old new out now
+    → PrintsModule wanted notes text files later status before after old new out now
+module_as_it_is wanted notes text parts files later status before after old new out now same printed =
+    subst
+    (λ (p : Parts). PrintsConverted wanted [] p [] text notes files later status before after old new out now)
+    same printed
 
 -- what was put together was converted and printed, or not
 module _ (wanted : ConvertWanted) (entries : List Entry) (rules : List Rule) (parts : Parts) (files later : Option Directory) (before after : ℕ) (old new out now : Option (List ℕ)) where

@@ -1,5 +1,5 @@
 -- Runs with files of ports, or without.
-use Rattle.commands.proofs.{Prelude.{◌≡◌, ◌⊎◌, ℕ, ◌==◌, true, false, List, [], ◌∷◌, ◌++◌, length, arith, Bor, Option, None, Some, Ok, inl, inr, refl, sym, ap, subst, ◌∙◌, Directory, KeepsFiles, status_of, TellsRefusal, TellsOther, Ending, Refused, WrongLine, texts, ProgramWanted, Values, values_read, PrintsFiles, PrintsProgram, stays, tells_no_file, Action, ToRun, Interpret, Construction, map_if, nat_tests, ExecuteWanted, NamedPort, execute_read, file_names, outputs_in, TellsOutput, ByOutputs, ChangesOutputs, Delivers, DeliversRun, KeepsAllBut, Shows, dash_bytes, outputs_for, PrintsExecution, PrintsMerge, PrintsBuilt}, OutputFiles.{but_then, kept_then_outputs}}
+use Rattle.commands.proofs.{Prelude.{◌≡◌, ◌⊎◌, ℕ, List, [], ◌∷◌, Option, None, Some, inl, inr, refl, sym, ap, subst, ◌∙◌, Directory, KeepsFiles, status_of, TellsRefusal, TellsOther, Ending, Refused, WrongLine, Values, stays, tells_no_file, Action, ToRun, Interpret, Construction, map_if, NamedPort, execute_in, file_names, outputs_in, program_in, TellsOutput, ByOutputs, ChangesOutputs, Delivers, DeliversRun, KeepsAllBut, Shows, dash_bytes, outputs_for, PrintsBuilt, PrintsWith, RunOrder, Objects, Sources, output_texts}, OutputFiles.{but_then, kept_then_outputs}}
 pub use Rattle.commands.proofs.OutputFiles.{kept_but}
 
 -- what holds without files of ports and with them
@@ -7,28 +7,13 @@ pub by_any : (words : List (List ℕ)) {P Q : Type 0} → P → Q → ByOutputs 
 by_any [] p q = p
 by_any (text ∷ words) p q = q
 
--- whether there are texts, as the count of words says
-no_texts : (words : List (Bor (List ℕ))) → (length words == 0) ≡ true → texts words ≡ []
-no_texts [] none = refl
-no_texts (word ∷ words) none =
-    let some : (length (word ∷ words) == 0) ≡ false = grind (arith, nat_tests) in
-    cc
+pub without_any : (words : List (List ℕ)) {P : Type 0} (Q : Type 0) → words ≡ [] → P → ByOutputs words P Q
+without_any [] Q none p = p
+without_any (text ∷ words) Q none p = cc
 
-pub no_words : (held words : List (Bor (List ℕ))) → held ≡ words → (length held == 0) ≡ true → texts words ≡ []
-no_words held words same none = no_texts words (subst (λ (l : List (Bor (List ℕ))). (length l == 0) ≡ true) same none)
-
--- what holds without files of ports, where there are none, and what holds with them, where there are some
-pub without_words : (held words : List (Bor (List ℕ))) (without with_files : Type 0) → held ≡ words → (length held == 0) ≡ true → without → ByOutputs (texts words) without with_files
-without_words held words without with_files same none holds =
-    subst (λ (l : List (List ℕ)). ByOutputs l without with_files) (sym (no_words held words same none)) holds
-
-by_texts : (words : List (Bor (List ℕ))) (without with_files : Type 0) → (length words == 0) ≡ false → with_files → ByOutputs (texts words) without with_files
-by_texts [] without with_files some holds = cc
-by_texts (word ∷ words) without with_files some holds = holds
-
-pub with_words : (held words : List (Bor (List ℕ))) (without with_files : Type 0) → held ≡ words → (length held == 0) ≡ false → with_files → ByOutputs (texts words) without with_files
-with_words held words without with_files same some holds =
-    by_texts words without with_files (subst (λ (l : List (Bor (List ℕ))). (length l == 0) ≡ false) same some) holds
+pub with_some : (words : List (List ℕ)) (P : Type 0) {Q : Type 0} → (words ≡ [] → ⊥) → Q → ByOutputs words P Q
+with_some [] P some q = absurd (some refl)
+with_some (text ∷ words) P some q = q
 
 -- the files that change
 pub but_changes : (names : List (List ℕ)) (old new : Option Directory) → KeepsAllBut names old new → ChangesOutputs names old new
@@ -54,27 +39,25 @@ none_built ToRun before values built status outputs old new none printed =
     printed.gathered ∙ ap (λ (files : List NamedPort). outputs_for files printed.events) none
 none_built Interpret before values built status outputs old new none printed = printed.gathered ∙ ap (λ (files : List NamedPort). outputs_for files printed.events) none
 
-pub plain_program : (wanted : ProgramWanted) (values : Values) (files : Option Directory) (status : ℕ) (outputs : List (List ℕ)) (old new : Option (List ℕ)) → wanted.output_files ≡ []
-    → file_names values.output_files ≡ outputs_in wanted.output_files → values_read wanted ≡ Ok values → PrintsFiles wanted values files status outputs old new
-    → PrintsProgram wanted files status [] old new
-plain_program wanted values files status outputs old new none named written printed =
+pub plain_run : (order : RunOrder) (values : Values) (files : Option Directory) (status : ℕ)
+    (outputs : List (List ℕ)) (old new : Option (List ℕ)) → output_texts order ≡ []
+    → file_names values.output_files ≡ outputs_in (output_texts order)
+    → PrintsWith order values files status outputs old new → outputs ≡ []
+plain_run (Sources order) values files status outputs old new none named printed =
     let read = printed.printed in
     let done = read.printed in
-    let same : read.full.output_files ≡ values.output_files = ap (λ (v : Values). v.output_files) read.input.full_is in
-    let empty : outputs ≡ [] =
-    none_built wanted.action (map_if wanted.map done.built) read.full done.built status outputs old new (same ∙ no_outputs wanted.output_files values.output_files none named) done.printed in
-    record { values = values; written = written; printed = subst (λ (l : List (List ℕ)). PrintsFiles wanted values files status l old new) empty printed }
-
-pub plain_execution : (wanted : ExecuteWanted) (values : Values) (files : Option Directory) (status : ℕ) (outputs : List (List ℕ)) (old new : Option (List ℕ)) → wanted.output_files ≡ []
-    → file_names values.output_files ≡ outputs_in wanted.output_files → execute_read wanted ≡ Ok values → PrintsMerge wanted values files status outputs old new
-    → PrintsExecution wanted files status [] old new
-plain_execution wanted values files status outputs old new none named written printed =
+    let same : read.full.output_files ≡ values.output_files =
+    ap (λ (v : Values). v.output_files) read.input.full_is in
+    none_built (program_in order.now).action (map_if (program_in order.now).map done.built) read.full done.built
+    status outputs old new
+    (same ∙ no_outputs (program_in order.now).output_files values.output_files none named) done.printed
+plain_run (Objects order) values files status outputs old new none named printed =
     let read = printed.printed in
-    let same : read.full.output_files ≡ values.output_files = ap (λ (v : Values). v.output_files) read.input.full_is in
-    let empty : outputs ≡ [] =
+    let same : read.full.output_files ≡ values.output_files =
+    ap (λ (v : Values). v.output_files) read.input.full_is in
     read.printed.gathered
-    ∙ ap (λ (held : List NamedPort). outputs_for held read.printed.events) (same ∙ no_outputs wanted.output_files values.output_files none named) in
-    record { values = values; written = written; printed = subst (λ (l : List (List ℕ)). PrintsMerge wanted values files status l old new) empty printed }
+    ∙ ap (λ (held : List NamedPort). outputs_for held read.printed.events)
+    (same ∙ no_outputs (execute_in order.now).output_files values.output_files none named)
 
 -- what was told where a run that was kept was not delivered
 module _ (files : Option Directory) (names held outputs : List (List ℕ)) (before now after : ℕ) (old mid new : Option (List ℕ)) where
@@ -104,15 +87,6 @@ not_wrong_after ending result other same wrong = other (sym (same (λ refused. c
   where
     clash : WrongLine ≡ Refused → ⊥
     clash e = cc
-
--- what was told of files of ports and of others, by the names that texts write
-pub told_as_written : (files : Option Directory) (first held written of_values of_texts : List (List ℕ)) (before after : ℕ) (old new : Option (List ℕ)) → held ≡ written → of_values ≡ of_texts
-    → (TellsRefusal files (first ++ held) before after old new) ⊎ (TellsOutput before after old new of_values)
-    → (TellsRefusal files (first ++ written) before after old new) ⊎ (TellsOutput before after old new of_texts)
-told_as_written files first held written of_values of_texts before after old new same named (inl told) =
-    inl (subst (λ (l : List (List ℕ)). TellsRefusal files (first ++ l) before after old new) same told)
-told_as_written files first held written of_values of_texts before after old new same named (inr told) =
-    inr (subst (λ (l : List (List ℕ)). TellsOutput before after old new l) named told)
 
 -- a run that was kept, and then delivered
 module _ (prints : ℕ → (outputs : List (List ℕ)) → (old new : Option (List ℕ)) → Type 0) (names outputs : List (List ℕ)) (lines : List ℕ) (old mid new : Option Directory)

@@ -1,11 +1,6 @@
 -- Merges of objects that were run, or not.
-use Rattle.commands.proofs.{Prelude.{◌≡◌, ℕ, List, [], Ok, Option, inl, inr, sym, subst, ◌++◌, Directory, KeepsFiles, Tells, TellsRefusal, memory_line, RefusesFor, RunsOut, PrintsImage, Values, Absolute, ExecuteWanted, execute_read, PlacesMerge, RefusesPlacing, PrintsExecution, PrintsMerge, StopsImage, StopsRead, HasInput, input_names, RefusesExecution, RefusesObjects, TellsUnwritten, no_names}, InputFiles.{input_there, refused_after, told_after}, Printed.{stays_written}}
+use Rattle.commands.proofs.{Prelude.{◌≡◌, ℕ, List, [], Ok, Option, inl, inr, ◌++◌, Directory, KeepsFiles, Tells, TellsRefusal, memory_line, RefusesFor, RunsOut, PrintsImage, Values, Absolute, ExecuteWanted, execute_read, PlacesMerge, RefusesPlacing, PrintsExecution, PrintsMerge, StopsImage, StopsRead, HasInput, input_names, RefusesExecution, RefusesObjects, TellsUnwritten, no_names}, InputFiles.{input_there, refused_after, told_after}, Printed.{stays_written}}
 use Rattle.commands.specs.Executing.{PrintsRead}
-
--- the status of the ending is that of the end
-pub image_status : (values : Values) (image : Absolute) (outputs : List (List ℕ)) (old new : Option (List ℕ)) (status of_end : ℕ) → status ≡ of_end → PrintsImage no_names [] values image of_end outputs old new
-    → PrintsImage no_names [] values image status outputs old new
-image_status values image outputs old new status of_end same printed = subst (λ (s : ℕ). PrintsImage no_names [] values image s outputs old new) (sym same) printed
 
 -- the files of the input were read, and the image was run, or not whole
 module _ (values full : Values) (files : Option Directory) (image : Absolute) (old new : Option (List ℕ)) (input : HasInput files values full) where

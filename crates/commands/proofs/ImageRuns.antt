@@ -1,31 +1,13 @@
 -- Runs of images that were printed.
-use Rattle.commands.proofs.{Prelude.{◌≡◌, ℕ, Bool, true, false, List, [], Option, Some, inl, inr, refl, sym, ap, subst, ◌∙◌, Appends, AppendsBeginning, Event, Values, started, IsStart, GivesInput, ImageDoes, PrintsImage, machine_status, machine_word, run_report, Absolute, report_of, BeginsRun, PrintsRun, end_word, Machine, IsRun, End, StopsImage, quiet_ports, outputs_of, NamesPlace, StandsAt, no_names, stand_of, with_place, CarriesOut, DoesOnMachine, last_words, PrintsWords, StopsWords}, Printed.{stays_written, whole_begins}}
+use Rattle.commands.proofs.{Prelude.{◌≡◌, ℕ, Bool, true, false, List, [], Option, Some, Result, Ok, Err, inl, inr, refl, sym, ap, subst, ◌∙◌, IfOk, OnErr, OnOk, Appends, AppendsBeginning, Event, Ending, status_of, Values, started, IsStart, GivesInput, ImageDoes, PrintsImage, machine_status, machine_word, run_report, Absolute, report_of, BeginsRun, PrintsRun, end_word, Machine, IsRun, End, StopsImage, quiet_ports, outputs_of, NamesPlace, StandsAt, no_names, with_place, CarriesOut, DoesOnMachine, last_words, EndsOnMachine, Outcome, told_of}, Printed.{stays_written, whole_begins}}
 
 pub nothing : (names : List (List ℕ)) (values : Values) (image : Absolute) (known : Option (List ℕ)) → StopsImage names values image known known
 nothing names values image known = inl (stays_written known)
-
--- a report with a text of its place
-module _ (names : List (List ℕ)) (values : Values) (events : List Event) (steps : ℕ) (word said : List ℕ) (place : ℕ) (text written : List ℕ) (old new : Option (List ℕ)) (is_word : said ≡ word) (spelled : written ≡ text)
-    (named : NamesPlace names place text) where
-  report_of_words : run_report values events steps said written ≡ run_report values events steps word text
-  report_of_words = ap (λ (w : List ℕ). run_report values events steps w written) is_word ∙ ap (λ (t : List ℕ). run_report values events steps word t) spelled
-
-  pub words_printed : Appends old new (run_report values events steps said written) → PrintsWords names values events steps word place old new
-  words_printed printed = record { text = text; named = named; printed = subst (λ (l : List ℕ). Appends old new l) report_of_words printed }
-
-  pub words_begun : AppendsBeginning old new (run_report values events steps said written) → StopsWords names values events steps word place old new
-  words_begun begun = inr (record { text = text; named = named; printed = subst (λ (l : List ℕ). AppendsBeginning old new l) report_of_words begun })
-
-pub no_words : (names : List (List ℕ)) (values : Values) (events : List Event) (steps : ℕ) (word : List ℕ) (place : ℕ) (known : Option (List ℕ)) → StopsWords names values events steps word place known known
-no_words names values events steps word place known = inl (stays_written known)
 
 -- a run that may read past its input
 pub ran_to_end : (values : Values) (from : Machine) (end : End) (machine : Machine) (events : List Event) → values.watch.until_dry ≡ false → events ≡ machine.state.events → IsRun values.limit from end machine
     → DoesOnMachine values.watch.until_dry values.limit from (Some end) events
 ran_to_end values from end machine events to_end same run = (machine, run, same, λ on. let bad : false ≡ true = sym to_end ∙ on in cc)
-
-pub stands_so : (limit : ℕ) (from : Machine) (end : End) (machine : Machine) (place : ℕ) → IsRun limit from end machine → place ≡ stand_of end machine → StandsAt limit from (Some end) machine.state.events place
-stands_so limit from end machine place run is = (machine, run, refl, is)
 
 -- from its start an image does this
 module _ (values : Values) (image : Absolute) (memory : List ℕ) (script : List (List ℕ)) (before : List Event) (failures : ℕ) (from : Machine) (old new : Option (List ℕ)) (start : IsStart values memory) (gives : GivesInput values.input script)
@@ -46,34 +28,51 @@ module _ (values : Values) (image : Absolute) (memory : List ℕ) (script : List
       stands = λ wanted. subst (λ (m : Machine). StandsAt values.limit m end events place) same_start (stands wanted);
     }
 
-    -- what was printed once it had ended
-    module _ (names : List (List ℕ)) (seen : List Event) (shown : seen ≡ events) where
-      pub image_printed : (outputs : List (List ℕ)) → outputs ≡ outputs_of values seen → PrintsWords names values seen steps (machine_word end) place old new → PrintsImage names [] values image (machine_status end) outputs old new
-      image_printed outputs gathered words = record {
-        end = end;
-        events = events;
-        steps = steps;
-        place = place;
-        text = words.text;
-        does = image_does;
-        named = λ wanted. words.named;
-        ended = refl;
-        gathered = gathered ∙ ap (λ (es : List Event). outputs_of values es) shown;
-        printed = subst (λ (es : List Event). Appends old new (run_report values es steps (machine_word end) words.text)) shown words.printed;
-      }
+  -- what was printed once it had ended, with this outcome
+  module _ (names : List (List ℕ)) (outcome : Outcome) (events seen : List Event) (shown : seen ≡ events)
+      (ends : EndsOnMachine names values from outcome events) where
+    ended_does : ImageDoes values image ends.end events outcome.steps ends.place
+    ended_does =
+        image_does ends.end events outcome.steps ends.place ends.does ends.counted (λ wanted. ends.stands)
 
-      pub image_begun : StopsWords names values seen steps (machine_word end) place old new → StopsImage names values image old new
-      image_begun (inl kept) = inl kept
-      image_begun (inr words) = inr (record {
-        end = end;
-        events = events;
-        steps = steps;
-        place = place;
-        text = words.text;
-        does = image_does;
-        named = λ wanted. words.named;
-        printed = subst (λ (es : List Event). AppendsBeginning old new (run_report values es steps (machine_word end) words.text)) shown words.printed;
-      })
+    report_is : told_of values seen outcome
+        ≡ run_report values events outcome.steps (machine_word ends.end) outcome.text.bytes.items
+    report_is =
+        ap (λ (es : List Event). told_of values es outcome) shown
+        ∙ ap (λ (w : List ℕ). run_report values events outcome.steps w outcome.text.bytes.items) ends.word
+
+    pub image_printed : {E : Type 0} (result : Result Ending E) (outputs : List (List ℕ))
+        → IfOk result (λ ending. ending ≡ outcome.ending) → OnOk result (outputs ≡ outputs_of values seen)
+        → OnOk result (Appends old new (told_of values seen outcome))
+        → IfOk result (λ ending. PrintsImage names [] values image (status_of ending) outputs old new)
+    image_printed (Err failure) outputs same gathered printed = tt
+    image_printed (Ok ending) outputs same gathered printed = record {
+      end = ends.end;
+      events = events;
+      steps = outcome.steps;
+      place = ends.place;
+      text = outcome.text.bytes.items;
+      does = ended_does;
+      named = λ wanted. ends.named;
+      ended = ap status_of same ∙ ends.status;
+      gathered = gathered ∙ ap (λ (es : List Event). outputs_of values es) shown;
+      printed = subst (λ (l : List ℕ). Appends old new l) report_is printed;
+    }
+
+    pub image_begun : {E : Type 0} (result : Result Ending E)
+        → OnErr result (AppendsBeginning old new (told_of values seen outcome))
+        → OnErr result (StopsImage names values image old new)
+    image_begun (Ok ending) begun = tt
+    image_begun (Err failure) begun = inr (record {
+      end = ends.end;
+      events = events;
+      steps = outcome.steps;
+      place = ends.place;
+      text = outcome.text.bytes.items;
+      does = ended_does;
+      named = λ wanted. ends.named;
+      printed = subst (λ (l : List ℕ). AppendsBeginning old new l) report_is begun;
+    })
 
   -- what was printed while it ran, where it is not watched
   module _ (plain : values.watch.count ≡ false) (to_end : values.watch.until_dry ≡ false) (unplaced : values.watch.place ≡ false) (quiet : List ℕ) (silent : quiet ≡ quiet_ports values) where
@@ -96,9 +95,11 @@ module _ (values : Values) (image : Absolute) (memory : List ℕ) (script : List
     plain_does end machine run =
         image_does (Some end) machine.state.events 0 0 (ran_to_end values from end machine machine.state.events to_end refl run) (not_counted (Some end) machine.state.events) (not_standing (Some end) machine.state.events)
 
-    pub plain_printed : (end : End) (machine : Machine) (seen : List Event) (outputs : List (List ℕ)) → seen ≡ machine.state.events → outputs ≡ outputs_of values seen → PrintsRun quiet values.limit from end machine old new
-        → PrintsImage no_names [] values image (machine_status (Some end)) outputs old new
-    plain_printed end machine seen outputs shown gathered ran = record {
+    pub plain_printed : (end : End) (machine : Machine) (seen : List Event) (outputs : List (List ℕ)) (status : ℕ)
+        → seen ≡ machine.state.events → outputs ≡ outputs_of values seen → status ≡ machine_status (Some end)
+        → PrintsRun quiet values.limit from end machine old new
+        → PrintsImage no_names [] values image status outputs old new
+    plain_printed end machine seen outputs status shown gathered is ran = record {
       end = Some end;
       events = machine.state.events;
       steps = 0;
@@ -106,7 +107,7 @@ module _ (values : Values) (image : Absolute) (memory : List ℕ) (script : List
       text = [];
       does = plain_does end machine ran.run;
       named = not_named;
-      ended = refl;
+      ended = is;
       gathered = gathered ∙ ap (λ (es : List Event). outputs_of values es) shown;
       printed = subst (λ (text : List ℕ). Appends old new text) (plain_report machine.state.events (end_word end)) ran.printed;
     }

@@ -26,6 +26,7 @@ pub mod SourceRuns
 pub mod Untold
 pub mod Shown
 pub mod Executed
+pub mod RunOrders
 pub mod Explained
 pub mod Included
 pub mod Converted

@@ -74,6 +74,11 @@ pub use Rattle.commands.specs.internal.Converting.{IsOfForm, PrintsModule, form_
 unfoldable pub use Rattle.commands.specs.internal.Converting.{ConvertsHeld, ConvertsParts, PrintsNoted, PrintsTabled}
 pub use Rattle.commands.specs.internal.InputPorts.{HasMore, IsAtDry, IsLeft, IsPast, ReadsNext, ReadsNothing, StaysWithin, left_at}
 pub use Rattle.commands.specs.internal.LineFaults.{IsWrong}
-pub use Rattle.commands.specs.internal.Places.{PrintsWords, StopsWords, names_in}
+pub use Rattle.commands.specs.internal.Outcomes.{EndsAsSource, EndsOnMachine, EndsRun, told_of}
+pub use Rattle.commands.specs.internal.Places.{names_in}
 pub use Rattle.commands.specs.internal.Reading.{IsFirstFault, IsOfJoining, IsOfSource, IsUnread}
 pub use Rattle.commands.specs.internal.SourceRuns.{RunsSource}
+pub use Rattle.commands.specs.internal.RunOrders.{PrintsWith, RefusesWith, first_names, input_texts, output_texts, values_wanted, wanted_run}
+pub use Rattle.commands.specs.declared.reports.Outcome.{Outcome}
+pub use Rattle.commands.specs.declared.runs.RunOrder.{RunOrder}
+pub use Rattle.commands.specs.declared.runs.RunOrder.TheVariants.{Objects, Sources}

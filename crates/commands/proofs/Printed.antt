@@ -127,11 +127,6 @@ module _ (action : Action) (wanted : Bool) (values : Values) (built : Constructi
   pub stops_alone : wanted ≡ false → StopsBuilt action [] values built a c → StopsBuilt action (map_if wanted built) values built a c
   stops_alone is_off stops = rw is_off stops
 
--- the status of the ending is that of the end
-module _ (action : Action) (before : List ℕ) (values : Values) (built : Construction) (outputs : List (List ℕ)) (old new : Option (List ℕ)) (status of_end : ℕ) where
-  pub built_status : status ≡ of_end → PrintsBuilt action before values built of_end outputs old new → PrintsBuilt action before values built status outputs old new
-  built_status same printed = subst (λ (s : ℕ). PrintsBuilt action before values built s outputs old new) (sym same) printed
-
 -- what a program of the interpreter does is what was built
 pub same_source : (built : Construction) (joined : Joined) (placement : CodePlacement) (plan : Plan) (memory : List ℕ) (script : List (List ℕ)) (events : List Event)
     → joined ≡ built.program → placement_view placement ≡ built.placement → plan ≡ built.plan
@@ -144,11 +139,16 @@ same_source built joined placement plan memory script events same at planned =
 -- what was printed of a program that was built of texts
 module _ (with_map : Bool) (values : Values) (texts : List (List ℕ)) (built : Construction) (status : ℕ) (outputs : List (List ℕ)) (old new : Option (List ℕ)) (few : length texts ≤ MOST_SOURCES)
     (program : IsProgramOf texts (program_modules built.program)) (plan : built.plan ≡ values.plan) (construction : IsConstruction built) where
-  pub run_of_texts : PrintsBuilt ToRun (map_if with_map built) values built status outputs old new → PrintsTexts ToRun with_map values texts status outputs old new
-  run_of_texts printed = record { built = built; few = few; program = program; plan = plan; construction = construction; printed = printed }
-
-  pub meaning_of_texts : PrintsBuilt Interpret (map_if with_map built) values built status outputs old new → PrintsTexts Interpret with_map values texts status outputs old new
-  meaning_of_texts printed = record { built = built; few = few; program = program; plan = plan; construction = construction; printed = printed }
+  pub printed_of_texts : (action : Action) → PrintsBuilt action (map_if with_map built) values built status outputs old new
+      → PrintsTexts action with_map values texts status outputs old new
+  printed_of_texts action printed = record {
+    built = built;
+    few = few;
+    program = program;
+    plan = plan;
+    construction = construction;
+    printed = printed;
+  }
 
 -- the texts are those of files with these names
 pub prints_files : (files : Option Directory) (wanted : ProgramWanted) (values : Values) (names order : List (Bor (List ℕ))) (read used : List (List ℕ)) (status : ℕ) (outputs : List (List ℕ)) (old new : Option (List ℕ))
@@ -173,9 +173,3 @@ prints_read files wanted values full read status outputs old new input printed =
 pub prints_texts : (action : Action) (with_map : Bool) (values : Values) (used read : List (List ℕ)) (status : ℕ) (outputs : List (List ℕ)) (old new : Option (List ℕ)) → used ≡ read
     → PrintsTexts action with_map values used status outputs old new → PrintsTexts action with_map values read status outputs old new
 prints_texts action with_map values used read status outputs old new are printed = subst (λ (l : List (List ℕ)). PrintsTexts action with_map values l status outputs old new) are printed
-
--- the action is this one
-pub by_action : (action this : Action) (with_map : Bool) (values : Values) (texts : List (List ℕ)) (status : ℕ) (outputs : List (List ℕ)) (old new : Option (List ℕ)) → action ≡ this
-    → PrintsTexts this with_map values texts status outputs old new → PrintsTexts action with_map values texts status outputs old new
-by_action action this with_map values texts status outputs old new is printed =
-    subst (λ (a : Action). PrintsTexts a with_map values texts status outputs old new) (sym is) printed

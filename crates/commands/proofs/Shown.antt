@@ -84,11 +84,10 @@ module _ (action : PlaceAction) (plan : Plan) (files : Option Directory) (names 
     (has : HasFiles files (map (λ n. n.now) names) read) (are : used ≡ read) where
   pub files_shown : (out now : Option (List ℕ)) → PrintsTextsBy (takes_object action used) action plan used out now
       → PrintsShown action files (texts order) plan out now
-  files_shown out now printed = record {
-    texts = read;
-    read = named names order files read same has;
-    printed = subst (λ (l : List (List ℕ)). PrintsTextsBy (takes_object action l) action plan l out now) are printed;
-  }
+  files_shown out now printed =
+      let of_read : PrintsTextsBy (takes_object action read) action plan read out now =
+      subst (λ (l : List (List ℕ)). PrintsTextsBy (takes_object action l) action plan l out now) are printed in
+      record { texts = read; read = named names order files read same has; printed = of_read }
 
   pub files_refused : (old new out now : Option (List ℕ)) → RefusesTextsBy (takes_object action used) action plan (texts order) used old new out now
       → RefusesShown action files (texts order) plan old new out now

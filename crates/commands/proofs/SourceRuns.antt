@@ -1,5 +1,5 @@
 -- Runs of sources that were printed.
-use Rattle.commands.proofs.{Prelude.{◌≡◌, ℕ, Bool, true, false, List, [], ◌∷◌, ◌++◌, Option, Some, None, inr, refl, sym, ap, subst, ◌∙◌, Appends, AppendsBeginning, Event, Values, Interpret, Construction, source_of, IsStart, GivesInput, PrintsBuilt, SourceDoes, StopsBuilt, run_report, source_status, source_word, IfSome, Stop, Run, StopsBefore, Uses, outputs_of, NamesLine, module_names, DoesAsSource, IsWithinInput, UsesBudget, HasMore, IsPast, RunsSource}, PortReads.{passes, read_within, write_within}}
+use Rattle.commands.proofs.{Prelude.{◌≡◌, ℕ, Bool, true, false, List, [], ◌∷◌, ◌++◌, Option, Some, None, Result, Ok, Err, IfOk, OnErr, OnOk, inr, refl, sym, ap, subst, ◌∙◌, Appends, AppendsBeginning, Ending, status_of, Event, Values, Interpret, Construction, source_of, IsStart, GivesInput, PrintsBuilt, SourceDoes, StopsBuilt, run_report, source_word, IfSome, Stop, Run, StopsBefore, Uses, outputs_of, module_names, DoesAsSource, IsWithinInput, UsesBudget, HasMore, IsPast, RunsSource, EndsAsSource, Outcome, told_of}, PortReads.{passes, read_within, write_within}}
 use Rattle.interpreter.specs.RunFault.TheVariants as faults
 
 -- a run of the source is one of what was built
@@ -37,77 +37,91 @@ module _ (until_dry : Bool) (script : List (List ℕ)) (runs : ℕ → Run) (lim
   used_to_dry (Some stop) read ran past = let bad : ⊥ = subst (λ (port : Option ℕ). IsPast port script events) ran.0 past in absurd bad
   used_to_dry None read ran past = (ran.next, ran.used_is)
 
--- what was printed of it
-module _ (values : Values) (built : Construction) (memory : List ℕ) (script : List (List ℕ)) (before : List Event) (old new : Option (List ℕ)) (start : IsStart values memory) (gives : GivesInput values.input script) (none : before ≡ [])
-    (end : Option Stop) (read : Option ℕ) (events : List Event) (used : ℕ) (ran : RunsSource (source_of built memory script before) values.limit end read events used) where
-  from_start : RunsSource (source_of built memory script []) values.limit end read events used
-  from_start = subst (λ (es : List Event). RunsSource (source_of built memory script es) values.limit end read events used) none ran
+  -- how it ended: at its end, or before a read past the input where it is to end there
+  module _ (end : Option Stop) (ran : RunsSource runs limit end read events used)
+      (answer : Option (Option Stop)) (same : IfSome answer (λ other. other ≡ end))
+      (dry : answer ≡ None → IsPast read script events) where
+    pub source_does : (until_dry ≡ true → IsWithinInput script events) → (answer ≡ None → until_dry ≡ true)
+        → (until_dry ≡ true → IfSome answer (λ other. HasMore read script events))
+        → DoesAsSource until_dry script runs limit answer events
+    source_does within = by answer same dry
+      where
+        by : (answer : Option (Option Stop)) → IfSome answer (λ other. other ≡ end)
+            → (answer ≡ None → IsPast read script events) → (answer ≡ None → until_dry ≡ true)
+            → (until_dry ≡ true → IfSome answer (λ other. HasMore read script events))
+            → DoesAsSource until_dry script runs limit answer events
+        by None same dry on more = to_dry end read ran (on refl) (within (on refl)) (dry refl)
+        by (Some other) same dry on more =
+            subst (λ (e : Option Stop). DoesAsSource until_dry script runs limit (Some e) events) (sym same)
+            (to_end end ran (λ wanted. (within wanted, more wanted)))
 
-  module _ (answer : Option (Option Stop)) (does : DoesAsSource values.watch.until_dry script (source_of built memory script []) values.limit answer events) (counted : UsesBudget (source_of built memory script []) values.limit answer events used)
-      (seen : List Event) (word text written : List ℕ) (shown : seen ≡ events) (last : word ≡ source_word answer) (spelled : written ≡ text) (named : values.watch.place ≡ true → NamesLine (module_names built.program) text) where
-    source_does : SourceDoes values built answer events used
-    source_does = record { memory = memory; start = start; script = script; gives = gives; does = does; counted = λ counts. counted }
+    pub source_uses : UsesBudget runs limit answer events used
+    source_uses = by answer same dry
+      where
+        by : (answer : Option (Option Stop)) → IfSome answer (λ other. other ≡ end)
+            → (answer ≡ None → IsPast read script events) → UsesBudget runs limit answer events used
+        by None same dry = used_to_dry end read ran (dry refl)
+        by (Some other) same dry =
+            subst (λ (e : Option Stop). UsesBudget runs limit (Some e) events used) (sym same)
+            (used_to_end end ran)
 
-    report_is : run_report values seen used word written ≡ run_report values events used (source_word answer) text
-    report_is =
-        ap (λ (es : List Event). run_report values es used word written) shown
-        ∙ ap (λ (w : List ℕ). run_report values events used w written) last
-        ∙ ap (λ (t : List ℕ). run_report values events used (source_word answer) t) spelled
+-- what was printed of it, with this outcome
+module _ (values : Values) (built : Construction) (memory : List ℕ) (script : List (List ℕ)) (before : List Event)
+    (old new : Option (List ℕ)) (start : IsStart values memory) (gives : GivesInput values.input script)
+    (none : before ≡ []) (outcome : Outcome) (events seen : List Event) (shown : seen ≡ events)
+    (ends : EndsAsSource (module_names built.program) values script (source_of built memory script before)
+    outcome events) where
+  runs_are : source_of built memory script before ≡ source_of built memory script []
+  runs_are = ap (λ (es : List Event). source_of built memory script es) none
 
-    printed : (outputs : List (List ℕ)) → outputs ≡ outputs_of values seen → Appends old new (run_report values seen used word written) → PrintsBuilt Interpret [] values built (source_status answer) outputs old new
-    printed outputs gathered all = record {
-      end = answer;
-      events = events;
-      steps = used;
-      text = text;
-      does = source_does;
-      named = named;
-      ended = refl;
-      gathered = gathered ∙ ap (λ (es : List Event). outputs_of values es) shown;
-      printed = subst (λ (text : List ℕ). Appends old new text) report_is all;
-    }
+  source_done : SourceDoes values built ends.end events outcome.steps
+  source_done = record {
+    memory = memory;
+    start = start;
+    script = script;
+    gives = gives;
+    does = subst
+        (λ (runs : ℕ → Run). DoesAsSource values.watch.until_dry script runs values.limit ends.end events)
+        runs_are ends.does;
+    counted = λ counts.
+        subst (λ (runs : ℕ → Run). UsesBudget runs values.limit ends.end events outcome.steps)
+        runs_are ends.counted;
+  }
 
-    begun : AppendsBeginning old new (run_report values seen used word written) → StopsBuilt Interpret [] values built old new
-    unfolding StopsBuilt
-    begun some = inr (record { end = answer; events = events; steps = used; text = text; does = source_does; named = named; printed = subst (λ (text : List ℕ). AppendsBeginning old new text) report_is some })
+  report_is : told_of values seen outcome
+      ≡ run_report values events outcome.steps (source_word ends.end) outcome.text.bytes.items
+  report_is =
+      ap (λ (es : List Event). told_of values es outcome) shown
+      ∙ ap (λ (w : List ℕ). run_report values events outcome.steps w outcome.text.bytes.items) ends.word
 
-  -- of a run to its end
-  module _ (off : values.watch.until_dry ≡ false) (answer : Option (Option Stop)) (is : answer ≡ Some end) (seen : List Event) (word text written : List ℕ) (shown : seen ≡ events) (last : word ≡ source_word answer) (spelled : written ≡ text)
-      (named : values.watch.place ≡ true → NamesLine (module_names built.program) text) where
-    unwatched : values.watch.until_dry ≡ true → IsWithinInput script events × HasMore read script events
-    unwatched on = let bad : false ≡ true = sym off ∙ on in cc
+  pub source_printed : {E : Type 0} (result : Result Ending E) (outputs : List (List ℕ))
+      → IfOk result (λ ending. ending ≡ outcome.ending) → OnOk result (outputs ≡ outputs_of values seen)
+      → OnOk result (Appends old new (told_of values seen outcome))
+      → IfOk result (λ ending. PrintsBuilt Interpret [] values built (status_of ending) outputs old new)
+  source_printed (Err failure) outputs same gathered printed = tt
+  source_printed (Ok ending) outputs same gathered printed = record {
+    end = ends.end;
+    events = events;
+    steps = outcome.steps;
+    text = outcome.text.bytes.items;
+    does = source_done;
+    named = ends.named;
+    ended = ap status_of same ∙ ends.status;
+    gathered = gathered ∙ ap (λ (es : List Event). outputs_of values es) shown;
+    printed = subst (λ (l : List ℕ). Appends old new l) report_is printed;
+  }
 
-    does_to_end : DoesAsSource values.watch.until_dry script (source_of built memory script []) values.limit answer events
-    does_to_end = subst (λ (a : Option (Option Stop)). DoesAsSource values.watch.until_dry script (source_of built memory script []) values.limit a events) (sym is)
-        (to_end values.watch.until_dry script (source_of built memory script []) values.limit read events used end from_start unwatched)
-
-    uses_to_end : UsesBudget (source_of built memory script []) values.limit answer events used
-    uses_to_end = subst (λ (a : Option (Option Stop)). UsesBudget (source_of built memory script []) values.limit a events used) (sym is)
-        (used_to_end values.watch.until_dry script (source_of built memory script []) values.limit read events used end from_start)
-
-    pub end_printed : (outputs : List (List ℕ)) → outputs ≡ outputs_of values seen → Appends old new (run_report values seen used word written) → PrintsBuilt Interpret [] values built (source_status answer) outputs old new
-    end_printed outputs gathered all = printed answer does_to_end uses_to_end seen word text written shown last spelled named outputs gathered all
-
-    pub end_begun : AppendsBeginning old new (run_report values seen used word written) → StopsBuilt Interpret [] values built old new
-    end_begun some = begun answer does_to_end uses_to_end seen word text written shown last spelled named some
-
-  -- of a run that ends before a read past the input
-  module _ (on : values.watch.until_dry ≡ true) (within : IsWithinInput script events) (answer : Option (Option Stop)) (same : IfSome answer (λ other. other ≡ end)) (dry : answer ≡ None → IsPast read script events) (more : IfSome answer (λ other. HasMore read script events))
-      (seen : List Event) (word text written : List ℕ) (shown : seen ≡ events) (last : word ≡ source_word answer) (spelled : written ≡ text) (named : values.watch.place ≡ true → NamesLine (module_names built.program) text) where
-    does_so : (answer : Option (Option Stop)) → IfSome answer (λ other. other ≡ end) → (answer ≡ None → IsPast read script events) → IfSome answer (λ other. HasMore read script events) → DoesAsSource values.watch.until_dry script (source_of built memory script []) values.limit answer events
-    does_so None same dry more = to_dry values.watch.until_dry script (source_of built memory script []) values.limit read events used end read from_start on within (dry refl)
-    does_so (Some other) same dry more =
-        subst (λ (e : Option Stop). DoesAsSource values.watch.until_dry script (source_of built memory script []) values.limit (Some e) events) (sym same)
-        (to_end values.watch.until_dry script (source_of built memory script []) values.limit read events used end from_start (λ is. (within, more)))
-
-    uses_so : (answer : Option (Option Stop)) → IfSome answer (λ other. other ≡ end) → (answer ≡ None → IsPast read script events) → UsesBudget (source_of built memory script []) values.limit answer events used
-    uses_so None same dry = used_to_dry values.watch.until_dry script (source_of built memory script []) values.limit read events used end read from_start (dry refl)
-    uses_so (Some other) same dry =
-        subst (λ (e : Option Stop). UsesBudget (source_of built memory script []) values.limit (Some e) events used) (sym same)
-        (used_to_end values.watch.until_dry script (source_of built memory script []) values.limit read events used end from_start)
-
-    pub dry_printed : (outputs : List (List ℕ)) → outputs ≡ outputs_of values seen → Appends old new (run_report values seen used word written) → PrintsBuilt Interpret [] values built (source_status answer) outputs old new
-    dry_printed outputs gathered all = printed answer (does_so answer same dry more) (uses_so answer same dry) seen word text written shown last spelled named outputs gathered all
-
-    pub dry_begun : AppendsBeginning old new (run_report values seen used word written) → StopsBuilt Interpret [] values built old new
-    dry_begun some = begun answer (does_so answer same dry more) (uses_so answer same dry) seen word text written shown last spelled named some
+  pub source_begun : {E : Type 0} (result : Result Ending E)
+      → OnErr result (AppendsBeginning old new (told_of values seen outcome))
+      → OnErr result (StopsBuilt Interpret [] values built old new)
+  unfolding StopsBuilt
+  source_begun (Ok ending) begun = tt
+  source_begun (Err failure) begun = inr (record {
+    end = ends.end;
+    events = events;
+    steps = outcome.steps;
+    text = outcome.text.bytes.items;
+    does = source_done;
+    named = ends.named;
+    printed = subst (λ (l : List ℕ). AppendsBeginning old new l) report_is begun;
+  })

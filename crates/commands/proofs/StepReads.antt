@@ -1,5 +1,5 @@
 -- Steps that read no port, and steps that stay within the input.
-use Rattle.commands.proofs.{Prelude.{◌≡◌, ℕ, ◌+◌, ◌<◌, Bool, true, false, List, [], ◌∷◌, ◌++◌, length, Option, Some, None, refl, sym, ap, subst, ◌∙◌, arith, Event, IfSome, length-append, agree_below_at, if◌then◌else◌, byte_at, AddsEvent, read_event, write_event, input_value, act, Form, One, Two, Three, Unknown, form_of, State, holds, Instr, CallIf, Dcr, In, Inr, JumpIf, Mvi, Out, ReturnIf, Of, M, Status, advance, carry_out, next_byte, next_word, step_by, step_of, Machine, IsWithinInput, HasMore, ReadsNext, ReadsNothing, StaysWithin}, PortReads.{read_within, write_within}, Steps.{same_last}}
+use Rattle.commands.proofs.{Prelude.{◌≡◌, ℕ, ◌+◌, ◌<◌, Bool, true, false, List, [], ◌∷◌, ◌++◌, length, Option, Some, None, refl, sym, ap, ◌∙◌, arith, Event, IfSome, length-append, agree_below_at, if◌then◌else◌, byte_at, AddsEvent, read_event, write_event, input_value, act, Form, One, Two, Three, Unknown, form_of, State, holds, Instr, CallIf, Dcr, In, Inr, JumpIf, Mvi, Out, ReturnIf, Of, M, Status, advance, carry_out, next_byte, next_word, step_by, step_of, Machine, IsWithinInput, HasMore, ReadsNext, ReadsNothing, StaysWithin}, PortReads.{read_within, write_within}, Steps.{same_last}}
 use Rattle.std.specs.Prelude.{◌==◌}
 
 -- ---- only IN reads

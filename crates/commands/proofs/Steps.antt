@@ -1,5 +1,5 @@
 -- Steps of a machine: how many were made, and one that reads past the input.
-use Rattle.commands.proofs.{Prelude.{◌≡◌, ℕ, suc, ◌+◌, ◌-◌, ◌<◌, ◌≤◌, true, List, [], ◌++◌, ◌∷◌, length, Option, Some, None, refl, sym, ap, subst, ◌∙◌, arith, Event, IfSome, drop, byte_at, AddsEvent, CountsFailure, read_event, input_value, queue_of, reads_of, form_of, State, wrap, Status, carry_out, next_byte, step_by, state_after, step_of, state_after_sum, stays_state, Machine, FailsAfter, IsRun, End, Made, made_on, none_made, run_on, slice_ends, StandsAt, stand_of, CarriesOut, ComesToDry, DoesOnMachine, IsWithinInput, asked_by, IsAtDry, ReadsNext, StaysWithin}, PortReads.{passes}}
+use Rattle.commands.proofs.{Prelude.{Bool, ◌≡◌, ℕ, suc, ◌+◌, ◌-◌, ◌<◌, ◌≤◌, true, List, [], ◌++◌, ◌∷◌, length, Option, Some, None, refl, sym, ap, subst, ◌∙◌, arith, Event, IfSome, drop, byte_at, AddsEvent, CountsFailure, read_event, input_value, queue_of, reads_of, form_of, State, wrap, Status, carry_out, next_byte, step_by, state_after, step_of, state_after_sum, stays_state, Machine, FailsAfter, IsRun, End, Made, made_on, none_made, run_on, slice_ends, StandsAt, stand_of, CarriesOut, ComesToDry, DoesOnMachine, IsWithinInput, asked_by, IsAtDry, ReadsNext, StaysWithin}, PortReads.{passes}}
 use Rattle.isa8080.specs.declared.registers.Status.TheVariants as status
 use Rattle.cpu8080.specs.declared.machine.End.TheVariants as ends
 
@@ -130,16 +130,21 @@ pub same_last : (events : List Event) (one other : Event) → events ++ one ∷ 
 same_last [] one other same = ap (first_or one) same
 same_last (event ∷ events) one other same = same_last events one other (ap (λ (l : List Event). drop 1 l) same)
 
-module _ (limit : ℕ) (start new : Machine) (end : End) (run : IsRun limit start end new) (same : new.script ≡ start.script) (within : IsWithinInput new.script new.state.events) where
+module _ (until_dry : Bool) (limit : ℕ) (start new : Machine) (end : End) (run : IsRun limit start end new)
+    (same : new.script ≡ start.script)
+    (within : until_dry ≡ true → IsWithinInput new.script new.state.events) where
   -- a port that failed at such a read
-  comes_to_dry : end ≡ ends.PortFault → IsAtDry new → ComesToDry limit start new.state.events
-  comes_to_dry is at =
+  comes_to_dry : until_dry ≡ true → end ≡ ends.PortFault → IsAtDry new → ComesToDry limit start new.state.events
+  comes_to_dry on is at =
       let stops : IsRun limit start ends.PortFault new = subst (λ (e : End). IsRun limit start e new) is run in
       let value : ℕ = input_value new.script new.state.events at.0 in
-      let read : (step_of new.script new.state).events ≡ new.state.events ++ read_event at.0 value ∷ [] = at.1 stops.2.status_is in
-      let fails : (step_of start.script new.state).events ≡ new.state.events ++ stops.2.next.0 ∷ [] = stops.2.next.1 in
+      let read : (step_of new.script new.state).events ≡ new.state.events ++ read_event at.0 value ∷ [] =
+      at.1 stops.2.status_is in
+      let fails : (step_of start.script new.state).events ≡ new.state.events ++ stops.2.next.0 ∷ [] =
+      stops.2.next.1 in
       let next : stops.2.next.0 ≡ read_event at.0 value =
-      same_last new.state.events stops.2.next.0 (read_event at.0 value) (sym fails ∙ ap (λ (script : List (List ℕ)). (step_of script new.state).events) (sym same) ∙ read) in
+      same_last new.state.events stops.2.next.0 (read_event at.0 value)
+      (sym fails ∙ ap (λ (script : List (List ℕ)). (step_of script new.state).events) (sym same) ∙ read) in
       record {
         steps = stops.0;
         before_limit = stops.1;
@@ -147,39 +152,67 @@ module _ (limit : ℕ) (start new : Machine) (end : End) (run : IsRun limit star
         stops = stops.2;
         events_are = refl;
         dry = passes start.script new.state.events stops.2.next.0 at.0
-            (subst (λ (script : List (List ℕ)). IsWithinInput script new.state.events) same within)
-            (subst (λ (script : List (List ℕ)). reads_of new.state.events at.0 ≡ length (queue_of script at.0)) same at.2)
+            (subst (λ (script : List (List ℕ)). IsWithinInput script new.state.events) same (within on))
+            (subst (λ (script : List (List ℕ)). reads_of new.state.events at.0 ≡ length (queue_of script at.0))
+            same at.2)
             (ap (λ (e : Event). e.write) next) (ap (λ (e : Event). e.port) next);
       }
 
   -- how it ended
-  pub dry_does : (answer : Option End) → IfSome answer (λ other. other ≡ end) → (answer ≡ None → (end ≡ ends.PortFault) × IsAtDry new) → (answer ≡ Some ends.PortFault → StaysWithin new) → DoesOnMachine true limit start answer new.state.events
-  dry_does None same_end dry failed = (refl, comes_to_dry (dry refl).0 (dry refl).1)
-  dry_does (Some other) same_end dry failed =
-      let ended : IsRun limit start other new = subst (λ (e : End). IsRun limit start e new) (sym same_end) run in
-      (new, ended, refl, λ on. asked_within other ended (λ is. failed (ap (λ (e : End). Some e) is)))
+  pub dry_does : (answer : Option End) → IfSome answer (λ other. other ≡ end) → (answer ≡ None → until_dry ≡ true)
+      → (answer ≡ None → (end ≡ ends.PortFault) × IsAtDry new)
+      → (until_dry ≡ true → answer ≡ Some ends.PortFault → StaysWithin new)
+      → DoesOnMachine until_dry limit start answer new.state.events
+  dry_does None same_end on dry failed = (on refl, comes_to_dry (on refl) (dry refl).0 (dry refl).1)
+  dry_does (Some other) same_end on dry failed =
+      let ended : IsRun limit start other new = subst (λ (e : End). IsRun limit start e new) (sym same_end) run in (
+        new,
+        ended,
+        refl,
+        λ wanted. asked_within wanted other ended (λ is. failed wanted (ap (λ (e : End). Some e) is)),
+      )
     where
-      so_far : IsWithinInput start.script new.state.events
-      so_far = subst (λ (script : List (List ℕ)). IsWithinInput script new.state.events) same within
+      so_far : until_dry ≡ true → IsWithinInput start.script new.state.events
+      so_far wanted =
+          subst (λ (script : List (List ℕ)). IsWithinInput script new.state.events) same (within wanted)
 
-      asked_within : (other : End) → IsRun limit start other new → (other ≡ ends.PortFault → StaysWithin new) → IsWithinInput start.script (asked_by start.script other new)
-      asked_within ends.Halted ended failed = so_far
-      asked_within ends.Illegal ended failed = so_far
-      asked_within ends.Limit ended failed = so_far
-      asked_within ends.PortFault ended failed =
-          let adds : AddsEvent new.state.events (step_of new.script new.state).events ended.2.next.0 = subst (λ (script : List (List ℕ)). AddsEvent new.state.events (step_of script new.state).events ended.2.next.0) (sym same) ended.2.next.1 in
-          let all : IsWithinInput start.script (new.state.events ++ ended.2.next.0 ∷ []) = subst (λ (script : List (List ℕ)). IsWithinInput script (new.state.events ++ ended.2.next.0 ∷ [])) same (failed refl ended.2.status_is ended.2.next.0 adds) in
+      asked_within : until_dry ≡ true → (other : End) → IsRun limit start other new
+          → (other ≡ ends.PortFault → StaysWithin new)
+          → IsWithinInput start.script (asked_by start.script other new)
+      asked_within wanted ends.Halted ended failed = so_far wanted
+      asked_within wanted ends.Illegal ended failed = so_far wanted
+      asked_within wanted ends.Limit ended failed = so_far wanted
+      asked_within wanted ends.PortFault ended failed =
+          let adds : AddsEvent new.state.events (step_of new.script new.state).events ended.2.next.0 =
+          subst
+          (λ (script : List (List ℕ)).
+          AddsEvent new.state.events (step_of script new.state).events ended.2.next.0)
+          (sym same) ended.2.next.1 in
+          let all : IsWithinInput start.script (new.state.events ++ ended.2.next.0 ∷ []) =
+          subst (λ (script : List (List ℕ)). IsWithinInput script (new.state.events ++ ended.2.next.0 ∷ [])) same
+          (failed refl ended.2.status_is ended.2.next.0 adds) in
           subst (λ (es : List Event). IsWithinInput start.script es) (sym ended.2.next.1) all
 
   -- where it stands
-  pub dry_stands : (answer : Option End) (place : ℕ) → IfSome answer (λ other. other ≡ end) → (answer ≡ None → (end ≡ ends.PortFault) × IsAtDry new) → place ≡ stand_of end new → StandsAt limit start answer new.state.events place
+  pub dry_stands : (answer : Option End) (place : ℕ) → IfSome answer (λ other. other ≡ end)
+      → (answer ≡ None → (end ≡ ends.PortFault) × IsAtDry new) → place ≡ stand_of end new
+      → StandsAt limit start answer new.state.events place
   dry_stands None place same_end dry is =
-      let stops : IsRun limit start ends.PortFault new = subst (λ (e : End). IsRun limit start e new) (dry refl).0 run in
+      let stops : IsRun limit start ends.PortFault new =
+      subst (λ (e : End). IsRun limit start e new) (dry refl).0 run in
       (stops.0, (new, stops.2, refl, subst (λ (e : End). place ≡ stand_of e new) (dry refl).0 is))
-  dry_stands (Some other) place same_end dry is =
-      (new, subst (λ (e : End). IsRun limit start e new) (sym same_end) run, refl, subst (λ (e : End). place ≡ stand_of e new) (sym same_end) is)
+  dry_stands (Some other) place same_end dry is = (
+    new,
+    subst (λ (e : End). IsRun limit start e new) (sym same_end) run,
+    refl,
+    subst (λ (e : End). place ≡ stand_of e new) (sym same_end) is,
+  )
 
-  pub dry_counted : (answer : Option End) (steps : ℕ) → IfSome answer (λ other. other ≡ end) → (answer ≡ None → (end ≡ ends.PortFault) × IsAtDry new) → CarriesOut limit start (Some end) new.state.events steps
+  pub dry_counted : (answer : Option End) (steps : ℕ) → IfSome answer (λ other. other ≡ end)
+      → (answer ≡ None → (end ≡ ends.PortFault) × IsAtDry new)
+      → CarriesOut limit start (Some end) new.state.events steps
       → CarriesOut limit start answer new.state.events steps
-  dry_counted None steps same_end dry counted = subst (λ (e : End). CarriesOut limit start (Some e) new.state.events steps) (dry refl).0 counted
-  dry_counted (Some other) steps same_end dry counted = subst (λ (e : End). CarriesOut limit start (Some e) new.state.events steps) (sym same_end) counted
+  dry_counted None steps same_end dry counted =
+      subst (λ (e : End). CarriesOut limit start (Some e) new.state.events steps) (dry refl).0 counted
+  dry_counted (Some other) steps same_end dry counted =
+      subst (λ (e : End). CarriesOut limit start (Some e) new.state.events steps) (sym same_end) counted

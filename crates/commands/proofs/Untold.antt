@@ -53,12 +53,6 @@ module _ (action : Action) (with_map : Bool) (values : Values) where
   tells_unwritten names sources built old new out now few program planned construction told printed =
       inr (record { built = built; few = few; program = program; plan = planned; construction = construction; told = told; printed = printed })
 
--- the action is this one
-pub refused_by_action : (action this : Action) (with_map : Bool) (values : Values) (names sources : List (List ℕ)) (old new out now : Option (List ℕ)) → action ≡ this
-    → RefusesTexts this with_map values names sources old new out now → RefusesTexts action with_map values names sources old new out now
-refused_by_action action this with_map values names sources old new out now is refused =
-    subst (λ (a : Action). RefusesTexts a with_map values names sources old new out now) (sym is) refused
-
 -- the texts are those of the files that are wanted
 pub refuses_files : (wanted : ProgramWanted) (values : Values) (files : Option Directory) (names order : List (Bor (List ℕ))) (read used : List (List ℕ)) (old new out now : Option (List ℕ))
     → names ≡ order → wanted.files ≡ texts order → HasFiles files (map (λ n. n.now) names) read → used ≡ read

@@ -11,7 +11,7 @@ use Rattle.command_line.specs.Command.{wants_link, wants_need, wants_place, want
 use Rattle.command_line.specs.Settings.{Read, ◌>>=◌, execute_read, jump_read, names_in, only_file, outputs_in, page_read}
 use Rattle.command_line.specs.Settings.{plan_read, values_read}
 use Rattle.command_line.specs.declared.orders.PlaceAction.{PlaceAction}
-use Rattle.command_line.specs.declared.orders.PlaceAction.TheVariants.{Locate, Hex, Listing, Symbols}
+use Rattle.command_line.specs.declared.orders.PlaceAction.TheVariants.{Hex, Listing, Symbols}
 use Rattle.object_commands.specs.Linking.{KeepsOthers, LinksFiles, StopsLinking}
 use Rattle.object_commands.specs.Placing.{PrintsHex, PrintsPlaces, StopsHex, StopsPlaces}
 use Rattle.commands.specs.Compiling.{CompilesFile, StopsCompiling}

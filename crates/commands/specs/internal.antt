@@ -4,3 +4,5 @@ pub mod Reading
 pub mod Converting
 pub mod InputPorts
 pub mod SourceRuns
+pub mod Outcomes
+pub mod RunOrders

@@ -6,23 +6,20 @@ ghost use Rattle.host.specs.Refusals.{TellsOther, TellsRefusal};
 ghost use Rattle.clap.specs.Walk.{texts};
 ghost use Rattle.clap.specs.Words.{fault_of};
 ghost use Rattle.host.specs.Files.{KeepsFiles};
-ghost use Rattle.command_line.specs.Command.{plm_app, place_in, program_in, wanted_by, wanted_in, wants_place, wants_program};
-ghost use Rattle.command_line.specs.Settings.{outputs_in, plan_read};
-ghost use Rattle.commands.specs.OutputFiles.{ChangesOutputs};
-ghost use Rattle.commands.specs.Refusing.{RefusesProgram};
-ghost use Rattle.commands.specs.Running.{PrintsProgram};
+ghost use Rattle.command_line.specs.Command.{plm_app, place_in, wanted_by, wanted_in, wants_place};
+ghost use Rattle.command_line.specs.Settings.{plan_read};
 ghost use Rattle.commands.specs.Orders.{AsksHelpAtMost, ChangesAsWanted, ChangesByWords, PrintsAsWanted, PrintsByWords, PrintsObject, PrintsWanted, RefusesAsWanted, RefusesByWords, RefusesNoText, RefusesObject, RefusesPlaced, RunsAsWanted, RunsByWords, StopsAsWanted, StopsByWords, QuietAsWanted, QuietByWords, TellsObjectText, TellsText, TellsTextByWords, WritesAsWanted, WritesByWords, names_by_words, names_of};
-ghost use Rattle.commands.specs.Converting.{ConvertsAsWanted, ConvertsByWords, TellsAsWanted, TellsByWords, TellsOutput, TellsRun};
+ghost use Rattle.commands.specs.Converting.{ConvertsAsWanted, ConvertsByWords, TellsAsWanted, TellsByWords, TellsOutput};
 ghost use Rattle.commands.specs.internal.LineFaults.{IsWrong};
 
 use crate::converting::convert_by_tables;
-use crate::executing::execute_objects;
 use crate::explaining::explain_number;
 use crate::needing::tell_need;
-use crate::programs::{carry_out_sources, carry_out_to_files, compile_file};
+use crate::programs::compile_file;
 use crate::refusals::refuse_value;
+use crate::runs::{RunOrder, run_order};
 use crate::showing::show_files;
-use command_line::{LineFault, Order, PlaceAction, PlaceOrder, ProgramOrder, command};
+use command_line::{LineFault, Order, PlaceAction, PlaceOrder, command};
 use host::{Ending, Failure, Files, refuse_memory, refuse_write};
 use mem80::Plan;
 use object_commands::{link_files, print_hex, print_places};
@@ -209,11 +206,15 @@ fn carry_out<F: Files, O: Write, E: Write>(
 {
     match order {
         Order::Compile(compile) => compile_file(alloc, compile, files, err),
-        Order::Program(program) => carry_out_program(alloc, program, files, out, err),
+        Order::Program(program) => {
+            run_order(alloc, &RunOrder::Sources(program), files, out, err)
+        }
         Order::Link(link) => link_files(alloc, link.objects.as_slice(), link.out, files, err),
         Order::Place(place) => carry_out_place(alloc, place, files, out, err),
         Order::Need(need) => tell_need(alloc, need, files, out, err),
-        Order::Execute(execute) => execute_objects(alloc, execute, files, out, err),
+        Order::Execute(execute) => {
+            run_order(alloc, &RunOrder::Objects(execute), files, out, err)
+        }
         Order::Explain(explain) => explain_number(alloc, explain, out, err),
         Order::Convert(convert) => { convert_by_tables(alloc, convert, files, out, err) }
     }
@@ -302,78 +303,5 @@ fn carry_out_object<F: Files, O: Write, E: Write>(
         PlaceAction::Locate | PlaceAction::Listing | PlaceAction::Symbols => {
             print_places(alloc, file, plan, files, out, err)
         }
-    }
-}
-
-// Carries out an order on sources, with files of ports or without.
-fn carry_out_program<F: Files, O: Write, E: Write>(
-    alloc: Global,
-    order: &ProgramOrder,
-    files: &mut F,
-    out: &mut O,
-    err: &mut E,
-) -> Ending
-    ensures unchanged { ChangesOutputs (outputs_in (program_in order.now).output_files)
-        (F.files files.old) (F.files files.new) }
-    ensures untouched { result ≡ Ending.WrongLine → KeepsFiles (F.files files.old) (F.files files.new) }
-    ensures refused_text { result ≡ Ending.WrongLine → TellsText (wants_program (program_in order.now))
-        (E.contents err.old) (E.contents err.new) }
-    ensures silent { result ≡ Ending.WrongLine → O.contents out.new ≡ O.contents out.old }
-    ensures told { result ≡ Ending.Refused → TellsRun (program_in order.now).output_files
-        (TellsOutput (F.failures files.old) (F.failures files.new) (E.contents err.old) (E.contents err.new))
-        (TellsRefusal (F.files files.old) (names_of (wants_program (program_in order.now)))
-        (F.failures files.old) (F.failures files.new) (E.contents err.old) (E.contents err.new)) }
-    ensures refused { result ≡ Ending.Refused → RefusesAsWanted (wants_program (program_in order.now))
-        (F.files files.old) (F.files files.new) (F.failures files.old) (F.failures files.new)
-        (E.contents err.old) (E.contents err.new) (O.contents out.old) (O.contents out.new) }
-    ensures count { (result ≡ Ending.Refused → ⊥) → F.failures files.new ≡ F.failures files.old }
-    ensures quiet { (result ≡ Ending.Refused → ⊥) → (result ≡ Ending.WrongLine → ⊥) →
-        QuietAsWanted (wants_program (program_in order.now)) (E.contents err.old) (E.contents err.new) }
-    ensures ran { (result ≡ Ending.Refused → ⊥) → (result ≡ Ending.WrongLine → ⊥) →
-        RunsAsWanted (wants_program (program_in order.now)) (F.files files.old) (F.files files.new)
-        (status_of result)
-        (E.contents err.old) (E.contents err.new) (O.contents out.old) (O.contents out.new) }
-{
-    if order.output_files.as_slice().is_empty() {
-        carry_out_plainly(alloc, order, files, out, err)
-    } else {
-        carry_out_to_files(alloc, order, files, out, err)
-    }
-}
-
-// Carries out an order on sources without files of ports, once the values of its options are known.
-#[tactic(auto, using(host::proofs::FilesRead::stays))]
-fn carry_out_plainly<F: Files, O: Write, E: Write>(
-    alloc: Global,
-    order: &ProgramOrder,
-    files: &mut F,
-    out: &mut O,
-    err: &mut E,
-) -> Ending
-    ensures unchanged { KeepsFiles (F.files files.old) (F.files files.new) }
-    ensures refused_text { result ≡ Ending.WrongLine → TellsText (wants_program (program_in order.now))
-        (E.contents err.old) (E.contents err.new) }
-    ensures silent { result ≡ Ending.WrongLine → O.contents out.new ≡ O.contents out.old }
-    ensures told { result ≡ Ending.Refused → TellsRefusal (F.files files.old)
-        (names_of (wants_program (program_in order.now)))
-        (F.failures files.old) (F.failures files.new) (E.contents err.old) (E.contents err.new) }
-    ensures refused { result ≡ Ending.Refused → RefusesProgram (program_in order.now) (F.files files.old)
-        (F.failures files.old) (F.failures files.new)
-        (E.contents err.old) (E.contents err.new) (O.contents out.old) (O.contents out.new) }
-    ensures count { (result ≡ Ending.Refused → ⊥) → F.failures files.new ≡ F.failures files.old }
-    ensures quiet { (result ≡ Ending.Refused → ⊥) → (result ≡ Ending.WrongLine → ⊥) →
-        E.contents err.new ≡ E.contents err.old }
-    ensures ran { (program_in order.now).output_files ≡ [] →
-        (result ≡ Ending.Refused → ⊥) → (result ≡ Ending.WrongLine → ⊥) →
-        PrintsProgram (program_in order.now) (F.files files.old) (status_of result) []
-        (O.contents out.old) (O.contents out.new) }
-{
-    let mut outputs = Vec::new(alloc);
-    match order.settings(alloc) {
-        Ok(mut values) => {
-            carry_out_sources(alloc, order, &mut values, files, &mut outputs, out, err)
-        }
-        Err(Failure::Fault(fault)) => refuse_value(&fault, err),
-        Err(Failure::Memory) => refuse_memory(err),
     }
 }

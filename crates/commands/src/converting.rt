@@ -19,8 +19,9 @@ ghost use Rattle.commands.specs.internal.Converting.{ConvertsHeld, ConvertsParts
 use crate::including::included_files;
 use command_line::ConvertOrder;
 use convert::{
-    Advice, Assembly, Converted, Entry, Medium, PlacedNote, Rule, all_advice, all_rules, assemble,
-    assemble_as_is, convert_source, line_table, name_of_file, note_lines, place_at, plain, prepare,
+    Advice, Assembly, Converted, Edit, Entry, Medium, PlacedNote, Rule, all_advice, all_rules,
+    assemble, assemble_as_is, convert_source, line_table, name_of_file, note_lines, place_at,
+    plain, prepare,
 };
 use host::{
     Ending, Failure, Files, refuse, refuse_file, refuse_memory, refuse_name, refuse_output,
@@ -188,38 +189,20 @@ fn print_module<F: Files, O: Write, E: Write>(
     ensures count { (result ≡ Ending.Refused → ⊥) → F.failures files.new ≡ F.failures files.old }
     ensures quiet { (result ≡ Ending.Refused → ⊥) → E.contents err.new ≡ E.contents err.old }
 {
-    let Ok(table) = module_table(alloc, order, before, text) else {
-        return refuse_memory(err);
-    };
-    print_tabled(
-        alloc,
-        order,
-        table.as_slice(),
-        &[],
-        text,
-        before,
-        files,
-        out,
-        err,
-    )
-}
-
-// The table of lines of a module, if it is wanted.
-fn module_table(
-    alloc: Global,
-    order: &ConvertOrder,
-    before: &[PlacedNote],
-    text: &[u8],
-) -> Result<Vec<u8>, AllocError>
-    ensures { IfOk result (λ table. table.items ≡ table_if (convert_in order.now).lines
-        (line_table order.now.file.now [] (as_it_is before.now text.now) [] text.now)) }
-{
-    match order.lines {
-        Some(_) => {
-            let assembly = assemble_as_is(alloc, before, text)?;
-            line_table(alloc, order.file, &[], &assembly, &[], text)
-        }
-        None => Ok(Vec::new(alloc)),
+    match assemble_as_is(alloc, before, text) {
+        Ok(assembly) => print_changed(
+            alloc,
+            order,
+            &[],
+            &assembly,
+            &[],
+            text,
+            before,
+            files,
+            out,
+            err,
+        ),
+        Err(_) => refuse_memory(err),
     }
 }
 
@@ -324,35 +307,48 @@ fn print_assembly<F: Files, O: Write, E: Write>(
 {
     match converted_text(alloc, rules, assembly) {
         Ok(converted) => {
-            print_converted(alloc, order, entries, assembly, &converted, files, out, err)
+            print_changed(
+                alloc,
+                order,
+                entries,
+                assembly,
+                converted.edits.as_slice(),
+                converted.text.as_slice(),
+                converted.notes.as_slice(),
+                files,
+                out,
+                err,
+            )
         }
         Err(Failure::Fault(fault)) => refuse_fault(order.file, entries, assembly, &fault, err),
         Err(Failure::Memory) => refuse_memory(err),
     }
 }
 
-// Prints what was converted.
+// Prints what these edits make of what was put together.
 #[tactic(auto, using(crate::proofs::Tables::kept_same, crate::proofs::Tables::kept_all_but))]
-fn print_converted<F: Files, O: Write, E: Write>(
+fn print_changed<F: Files, O: Write, E: Write>(
     alloc: Global,
     order: &ConvertOrder,
     entries: &[Entry],
     assembly: &Assembly,
-    converted: &Converted,
+    edits: &[Edit],
+    text: &[u8],
+    notes: &[PlacedNote],
     files: &mut F,
     out: &mut O,
     err: &mut E,
 ) -> Ending
     ensures unchanged { KeepsAllBut (convert_in order.now).lines (F.files files.old) (F.files files.new) }
     ensures printed { PrintsConverted (convert_in order.now) entries.now (parts_of assembly.now)
-        (changes_of converted.now.edits.items) converted.now.text.items converted.now.notes.items
+        (changes_of edits.now) text.now notes.now
         (F.files files.old) (F.files files.new) (status_of result) (F.failures files.old) (F.failures files.new)
         (E.contents err.old) (E.contents err.new) (O.contents out.old) (O.contents out.new) }
     ensures ending { (result ≡ Ending.Done) ⊎ (result ≡ Ending.Refused) }
     ensures count { (result ≡ Ending.Refused → ⊥) → F.failures files.new ≡ F.failures files.old }
     ensures quiet { (result ≡ Ending.Refused → ⊥) → E.contents err.new ≡ E.contents err.old }
 {
-    let Ok(table) = converted_table(alloc, order, entries, assembly, converted) else {
+    let Ok(table) = table_of(alloc, order, entries, assembly, edits, text) else {
         return refuse_memory(err);
     };
     print_tabled(
@@ -360,32 +356,28 @@ fn print_converted<F: Files, O: Write, E: Write>(
         order,
         table.as_slice(),
         entries,
-        converted.text.as_slice(),
-        converted.notes.as_slice(),
+        text,
+        notes,
         files,
         out,
         err,
     )
 }
 
-// The table of lines of what was converted, if it is wanted.
-fn converted_table(
+// The table of lines of what these edits make of what was put together, if it is wanted.
+fn table_of(
     alloc: Global,
     order: &ConvertOrder,
     entries: &[Entry],
     assembly: &Assembly,
-    converted: &Converted,
+    edits: &[Edit],
+    text: &[u8],
 ) -> Result<Vec<u8>, AllocError>
     ensures { IfOk result (λ table. table.items ≡ table_if (convert_in order.now).lines
-        (line_table order.now.file.now entries.now (parts_of assembly.now)
-        (changes_of converted.now.edits.items) converted.now.text.items)) }
+        (line_table order.now.file.now entries.now (parts_of assembly.now) (changes_of edits.now) text.now)) }
 {
     match order.lines {
-        Some(_) => {
-            let edits = converted.edits.as_slice();
-            let text = converted.text.as_slice();
-            line_table(alloc, order.file, entries, assembly, edits, text)
-        }
+        Some(_) => line_table(alloc, order.file, entries, assembly, edits, text),
         None => Ok(Vec::new(alloc)),
     }
 }

@@ -1,6 +1,6 @@
 //! Runs of images, of which what they do is printed.
 
-ghost use Rattle.std.specs.Prelude.{◌≡◌, [], None, Some, IfOk, IfSome, OnErr, OnOk, false, map, true};
+ghost use Rattle.std.specs.Prelude.{◌≡◌, [], None, Some, IfOk, IfSome, OnErr, false, map, true};
 ghost use Rattle.host.specs.Endings.{status_of};
 ghost use Rattle.isa8080.specs.declared.registers.Status.TheVariants.{Running};
 ghost use Rattle.cpu8080.specs.Runs.{IsRun};
@@ -8,29 +8,29 @@ ghost use Rattle.tool.specs.Execution.{started};
 ghost use Rattle.command_line.specs.Settings.{values_in};
 ghost use Rattle.commands.specs.Ends.{GivesInput, machine_status, machine_word};
 ghost use Rattle.commands.specs.Executing.{StopsImage};
-ghost use Rattle.commands.specs.OutputFiles.{outputs_of};
 ghost use Rattle.commands.specs.Running.{PrintsImage};
-ghost use Rattle.commands.specs.Standing.{StandsAt, no_names, stand_of};
+ghost use Rattle.commands.specs.Standing.{no_names, stand_of};
 ghost use Rattle.commands.specs.Starting.{IsStart};
-ghost use Rattle.commands.specs.Steps.{CarriesOut, DoesOnMachine, IsWithinInput};
+ghost use Rattle.commands.specs.Steps.{CarriesOut, IsWithinInput};
 ghost use Rattle.commands.specs.internal.InputPorts.{IsAtDry, ReadsNext, ReadsNothing, StaysWithin};
-ghost use Rattle.commands.specs.internal.Places.{PrintsWords, StopsWords, names_in};
+ghost use Rattle.commands.specs.internal.Outcomes.{EndsOnMachine, EndsRun};
+ghost use Rattle.commands.specs.internal.Places.{names_in};
 
-use crate::input_ports::InputPorts;
+use crate::input_ports::{InputPorts, RunPorts};
 use crate::places::{Places, Stand};
 use crate::port_inputs::quiet_of;
 use crate::port_outputs::put_outputs;
 use crate::programs::{script_of, start_memory};
-use crate::reports::print_report;
+use crate::reports::{Outcome, print_report};
 use command_line::Settings;
 use cpu8080::{DecodeTable, End, Machine};
 use host::{Ending, Failure, WriteFault};
 use listings::SourceLine;
 use locate::Absolute;
 use mem80::Memory;
-use ports::{Event, Ports, Script};
+use ports::{Ports, Script};
 use printing::print_machine;
-use std::alloc::Global;
+use std::alloc::{AllocError, Global};
 use std::io::Write;
 
 // The code of IN, whose next byte is its port.
@@ -88,7 +88,7 @@ fn run_watched<P: Ports>(
         CarriesOut values.now.limit machine.old (Some result.0) machine.new.state.events result.1 }
     ensures script { machine.new.script ≡ machine.old.script }
 {
-    if values.watch.count || places.are_lines() {
+    if values.watch.count || matches!(*places, Places::Lines(_, _)) {
         run_counted(machine, values.limit, places)
     } else {
         (machine.run(values.limit), 0, None)
@@ -106,21 +106,14 @@ fn stand_of<P: Ports>(machine: &Machine<P>, end: End) -> u16
     }
 }
 
-// What is known of a run that has ended: how, how many steps it took, and where it stands.
-#[derive(Clone, Copy)]
-struct Ended {
-    end: Option<End>,
-    steps: u64,
-    stand: Stand,
-}
-
-// How a run ended, or None where it came to a read of a port past its input.
+// How a run ended, or None where it came to a read of a port before which it was to end.
 #[tactic(auto, using(crate::proofs::StepReads::stays_within))]
-fn dry_end(machine: &Machine<InputPorts>, end: End) -> Option<End>
-    ensures within { IsWithinInput machine.now.script machine.now.state.events }
+fn dry_end<P: RunPorts>(machine: &Machine<P>, end: End) -> Option<End>
+    ensures within { P.until_dry ≡ true → IsWithinInput machine.now.script machine.now.state.events }
     ensures same { IfSome result (λ other. other ≡ end) }
+    ensures ending { result ≡ None → P.until_dry ≡ true }
     ensures dry { result ≡ None → (end ≡ End.PortFault) × IsAtDry machine.now }
-    ensures failed { result ≡ Some End.PortFault → StaysWithin machine.now }
+    ensures failed { P.until_dry ≡ true → result ≡ Some End.PortFault → StaysWithin machine.now }
 {
     let is_dry = machine.ports().is_past(next_read(machine));
     match end {
@@ -131,57 +124,43 @@ fn dry_end(machine: &Machine<InputPorts>, end: End) -> Option<End>
     }
 }
 
-// Runs a machine that may read a port past its input.
-fn run_to_end<P: Ports>(machine: &mut Machine<P>, values: &Settings, places: &Places) -> Ended
-    requires run { machine.old.state.status ≡ Running }
-    requires to_end { values.now.watch.until_dry ≡ false }
-    ensures does { DoesOnMachine values.now.watch.until_dry values.now.limit machine.old result.end
-        machine.new.state.events }
-    ensures counted { values.now.watch.count ≡ true →
-        CarriesOut values.now.limit machine.old result.end machine.new.state.events result.steps }
-    ensures stands { StandsAt values.now.limit machine.old result.end machine.new.state.events
-        result.stand.address }
-{
-    let (end, steps, line) = run_watched(machine, values, places);
-    let address = stand_of(machine, end);
-    Ended {
-        end: Some(end),
-        steps,
-        stand: Stand { address, line },
-    }
-}
-
-// Runs a machine that is to end before it reads a port past its input.
-fn run_until_dry(machine: &mut Machine<InputPorts>, values: &Settings, places: &Places) -> Ended
-    requires run { machine.old.state.status ≡ Running }
-    requires until_dry { values.now.watch.until_dry ≡ true }
-    ensures does { DoesOnMachine values.now.watch.until_dry values.now.limit machine.old result.end
-        machine.new.state.events }
-    ensures counted { values.now.watch.count ≡ true →
-        CarriesOut values.now.limit machine.old result.end machine.new.state.events result.steps }
-    ensures stands { StandsAt values.now.limit machine.old result.end machine.new.state.events
-        result.stand.address }
-{
-    let (end, steps, line) = run_watched(machine, values, places);
-    let address = stand_of(machine, end);
-    Ended {
-        end: dry_end(machine, end),
-        steps,
-        stand: Stand { address, line },
-    }
-}
-
-// The last word of a run.
-fn word_of(end: Option<End>) -> &'static str
-    ensures { result.now ≡ machine_word end }
+// The last word of a run that ended so, and how the command ends.
+fn word_of(end: Option<End>) -> (&'static str, Ending)
+    ensures word { result.0.now ≡ machine_word end }
+    ensures status { status_of result.1 ≡ machine_status end }
+    ensures ended { EndsRun result.1 }
 {
     match end {
-        Some(End::Halted) => "HALT",
-        Some(End::Illegal) => "ILLEGAL",
-        Some(End::PortFault) => "PORT",
-        Some(End::Limit) => "LIMIT",
-        None => "DRY",
+        Some(End::Halted) => ("HALT", Ending::Done),
+        Some(End::Illegal) => ("ILLEGAL", Ending::Stopped),
+        Some(End::PortFault) => ("PORT", Ending::Stopped),
+        Some(End::Limit) => ("LIMIT", Ending::Limit),
+        None => ("DRY", Ending::Limit),
     }
+}
+
+// Runs a machine, of which it may be wanted that it ends before it reads a port past its input.
+fn outcome_of<P: RunPorts>(
+    alloc: Global,
+    machine: &mut Machine<P>,
+    values: &Settings,
+    places: &Places,
+) -> Result<Outcome, AllocError>
+    requires run { machine.old.state.status ≡ Running }
+    requires dry { values.now.watch.until_dry ≡ P.until_dry }
+    ensures { IfOk result (λ outcome. EndsOnMachine (names_in places.now) (values_in values.now) machine.old
+        outcome machine.new.state.events) }
+{
+    let (end, steps, line) = run_watched(machine, values, places);
+    let address = stand_of(machine, end);
+    let (word, ending) = word_of(dry_end(machine, end));
+    let text = places.text(alloc, Stand { address, line })?;
+    Ok(Outcome {
+        word,
+        ending,
+        steps,
+        text,
+    })
 }
 
 // A machine at its start: with an image loaded into a memory, these ports, and a table for what it decodes.
@@ -209,7 +188,7 @@ fn print_plain<O: Write>(
     table: DecodeTable,
     outputs: &mut Vec<Vec<u8>>,
     out: &mut O,
-) -> Result<Option<End>, Failure<WriteFault>>
+) -> Result<Ending, Failure<WriteFault>>
     requires start { IsStart (values_in values.now) memory }
     requires gives { GivesInput (values_in values.now).input script.script }
     requires none { script.events ≡ [] }
@@ -217,9 +196,10 @@ fn print_plain<O: Write>(
     requires plain { values.now.watch.count ≡ false }
     requires to_end { values.now.watch.until_dry ≡ false }
     requires unplaced { values.now.watch.place ≡ false }
-    ensures ok { IfOk result (λ end. PrintsImage no_names [] (values_in values.now) image.now
-        (machine_status end) (map (λ output. output.items) outputs.new.items)
+    ensures ok { IfOk result (λ ending. PrintsImage no_names [] (values_in values.now) image.now
+        (status_of ending) (map (λ output. output.items) outputs.new.items)
         (O.contents out.old) (O.contents out.new)) }
+    ensures ended { IfOk result EndsRun }
     ensures err { OnErr result (StopsImage no_names (values_in values.now) image.now
         (O.contents out.old) (O.contents out.new)) }
 {
@@ -231,106 +211,46 @@ fn print_plain<O: Write>(
     let Ok(()) = put_outputs(alloc, values, machine.ports().events(), outputs) else {
         return Err(Failure::Memory);
     };
-    Ok(Some(end))
-}
-
-// Prints the events of a run that ended so, and its last words with the text of its place.
-#[tactic(auto, using(crate::proofs::ImageRuns::no_words))]
-fn print_ended<O: Write>(
-    alloc: Global,
-    values: &Settings,
-    places: &Places,
-    events: &[Event],
-    ended: Ended,
-    outputs: &mut Vec<Vec<u8>>,
-    out: &mut O,
-) -> Result<(), Failure<WriteFault>>
-    ensures gathered { OnOk result (map (λ output. output.items) outputs.new.items
-        ≡ outputs_of (values_in values.now) events.now) }
-    ensures ok { OnOk result (PrintsWords (names_in places.now) (values_in values.now) events.now ended.steps
-        (machine_word ended.end) ended.stand.address (O.contents out.old) (O.contents out.new)) }
-    ensures err { OnErr result (StopsWords (names_in places.now) (values_in values.now) events.now ended.steps
-        (machine_word ended.end) ended.stand.address (O.contents out.old) (O.contents out.new)) }
-{
-    let Ok(text) = places.text(alloc, ended.stand) else {
-        return Err(Failure::Memory);
-    };
-    print_report(
-        alloc,
-        values,
-        events,
-        ended.steps,
-        word_of(ended.end),
-        text.as_str(),
-        outputs,
-        out,
-    )?;
-    Ok(())
+    let (_, ending) = word_of(Some(end));
+    Ok(ending)
 }
 
 // Prints what an image did, once it has ended.
-fn print_to_end<O: Write>(
+#[tactic(auto, using(crate::proofs::ImageRuns::nothing))]
+fn print_ended<P: RunPorts + Drop, O: Write>(
     alloc: Global,
     image: &Absolute,
     values: &Settings,
     places: &Places,
     memory: Memory,
-    script: Script,
+    ports: P,
     table: DecodeTable,
     outputs: &mut Vec<Vec<u8>>,
     out: &mut O,
-) -> Result<Option<End>, Failure<WriteFault>>
+) -> Result<Ending, Failure<WriteFault>>
     requires start { IsStart (values_in values.now) memory }
-    requires gives { GivesInput (values_in values.now).input script.script }
-    requires none { script.events ≡ [] }
-    requires unfailed { script.failures ≡ 0 }
-    requires to_end { values.now.watch.until_dry ≡ false }
-    ensures ok { IfOk result (λ end. PrintsImage (names_in places.now) [] (values_in values.now) image.now
-        (machine_status end) (map (λ output. output.items) outputs.new.items)
+    requires gives { GivesInput (values_in values.now).input (P.script ports) }
+    requires none { P.events ports ≡ [] }
+    requires unfailed { P.failures ports ≡ 0 }
+    requires dry { values.now.watch.until_dry ≡ P.until_dry }
+    ensures ok { IfOk result (λ ending. PrintsImage (names_in places.now) [] (values_in values.now) image.now
+        (status_of ending) (map (λ output. output.items) outputs.new.items)
         (O.contents out.old) (O.contents out.new)) }
+    ensures ended { IfOk result EndsRun }
     ensures err { OnErr result (StopsImage (names_in places.now) (values_in values.now) image.now
         (O.contents out.old) (O.contents out.new)) }
 {
-    let mut machine = machine_of(image, memory, script, table);
-    let ended = run_to_end(&mut machine, values, places);
-    let events = machine.ports().events();
-    print_ended(alloc, values, places, events, ended, outputs, out)?;
-    Ok(ended.end)
-}
-
-// Prints what an image did until its end, or a read of a port past its input.
-fn print_until_dry<O: Write>(
-    alloc: Global,
-    image: &Absolute,
-    values: &Settings,
-    places: &Places,
-    memory: Memory,
-    script: Script,
-    table: DecodeTable,
-    outputs: &mut Vec<Vec<u8>>,
-    out: &mut O,
-) -> Result<Option<End>, Failure<WriteFault>>
-    requires start { IsStart (values_in values.now) memory }
-    requires gives { GivesInput (values_in values.now).input script.script }
-    requires none { script.events ≡ [] }
-    requires until_dry { values.now.watch.until_dry ≡ true }
-    ensures ok { IfOk result (λ end. PrintsImage (names_in places.now) [] (values_in values.now) image.now
-        (machine_status end) (map (λ output. output.items) outputs.new.items)
-        (O.contents out.old) (O.contents out.new)) }
-    ensures err { OnErr result (StopsImage (names_in places.now) (values_in values.now) image.now
-        (O.contents out.old) (O.contents out.new)) }
-{
-    let ports = InputPorts::new(script, values.input.as_slice());
     let mut machine = machine_of(image, memory, ports, table);
-    let ended = run_until_dry(&mut machine, values, places);
-    let events = machine.ports().events();
-    print_ended(alloc, values, places, events, ended, outputs, out)?;
-    Ok(ended.end)
+    let Ok(outcome) = outcome_of(alloc, &mut machine, values, places) else {
+        return Err(Failure::Memory);
+    };
+    let events = machine.ports().log();
+    print_report(alloc, values, events, &outcome, outputs, out)
 }
 
 /// Prints what an image does on a memory as values start it, while it does that, unless its steps are counted, its place is
 /// told, or it is to end before it reads a port past its input; and gathers the bytes for the files of ports. The answer is
-/// how it ended, or None where it came to such a read. After a failure nothing was printed, or a beginning of that.
+/// how the command ends. After a failure nothing was printed, or a beginning of that.
 #[tactic(auto, using(crate::proofs::ImageRuns::nothing, crate::proofs::PlacesTold::any_names, crate::proofs::PlacesTold::any_stops))]
 pub(crate) fn print_image<O: Write>(
     alloc: Global,
@@ -339,10 +259,11 @@ pub(crate) fn print_image<O: Write>(
     places: &Places,
     outputs: &mut Vec<Vec<u8>>,
     out: &mut O,
-) -> Result<Option<End>, Failure<WriteFault>>
-    ensures ok { IfOk result (λ end. PrintsImage (names_in places.now) [] (values_in values.now) image.now
-        (machine_status end) (map (λ output. output.items) outputs.new.items)
+) -> Result<Ending, Failure<WriteFault>>
+    ensures ok { IfOk result (λ ending. PrintsImage (names_in places.now) [] (values_in values.now) image.now
+        (status_of ending) (map (λ output. output.items) outputs.new.items)
         (O.contents out.old) (O.contents out.new)) }
+    ensures ended { IfOk result EndsRun }
     ensures err { OnErr result (StopsImage (names_in places.now) (values_in values.now) image.now
         (O.contents out.old) (O.contents out.new)) }
 {
@@ -356,28 +277,16 @@ pub(crate) fn print_image<O: Write>(
         return Err(Failure::Memory);
     };
     if values.watch.until_dry {
-        print_until_dry(
-            alloc, image, values, places, memory, script, table, outputs, out,
+        let ports = InputPorts::new(script, values.input.as_slice());
+        print_ended(
+            alloc, image, values, places, memory, ports, table, outputs, out,
         )
     } else if values.watch.count || values.watch.place {
-        print_to_end(
+        print_ended(
             alloc, image, values, places, memory, script, table, outputs, out,
         )
     } else {
-        let end = print_plain(alloc, image, values, memory, script, table, outputs, out)?;
-        Ok(end)
-    }
-}
-
-/// How a command ends whose run ended so.
-pub(crate) fn ending_of(end: Option<End>) -> Ending
-    ensures refused { result ≡ Ending.Refused → ⊥ }
-    ensures not_wrong { result ≡ Ending.WrongLine → ⊥ }
-    ensures status { status_of result ≡ machine_status end }
-{
-    match end {
-        Some(End::Halted) => Ending::Done,
-        Some(End::Illegal) | Some(End::PortFault) => Ending::Stopped,
-        Some(End::Limit) | None => Ending::Limit,
+        let ending = print_plain(alloc, image, values, memory, script, table, outputs, out)?;
+        Ok(ending)
     }
 }

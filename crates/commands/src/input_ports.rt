@@ -1,6 +1,6 @@
-//! Ports that give the bytes of an input, and of which a read past it fails.
+//! Ports of runs: those that give the bytes of an input, and of which a read past it fails, and others.
 
-ghost use Rattle.std.specs.Prelude.{◌≡◌, ℕ, [], false, true, length};
+ghost use Rattle.std.specs.Prelude.{◌≡◌, ℕ, Bool, [], false, true, length};
 ghost use Rattle.commands.specs.Ends.{GivesInput, bytes_to};
 ghost use Rattle.commands.specs.Steps.{IsWithinInput};
 ghost use Rattle.commands.specs.internal.InputPorts.{HasMore, IsPast, left_at};
@@ -11,6 +11,36 @@ use std::marker::Model;
 
 // How many ports a machine has.
 const PORTS: usize = 256;
+
+/// Ports of a run, which may be to end before it reads past its input.
+pub(crate) trait RunPorts: Ports {
+    // Whether it is to end there.
+    ghost until_dry: { Bool };
+
+    /// The events so far, the first one first.
+    fn log(&self) -> &[Event]
+        ensures { result.now ≡ Self.events self.now };
+
+    /// Whether a read, of this port, is one before which the run ends: whether all bytes of the port were read.
+    fn is_past(&self, read: Option<u8>) -> bool
+        ensures within { until_dry ≡ true → IsWithinInput (Self.script self.now) (Self.events self.now) }
+        ensures ending { result ≡ true → until_dry ≡ true }
+        ensures past { result ≡ true → IsPast read (Self.script self.now) (Self.events self.now) }
+        ensures more { until_dry ≡ true → result ≡ false →
+            HasMore read (Self.script self.now) (Self.events self.now) };
+}
+
+impl RunPorts for Script {
+    ghost until_dry = { false };
+
+    fn log(&self) -> &[Event] {
+        self.events()
+    }
+
+    fn is_past(&self, _read: Option<u8>) -> bool {
+        false
+    }
+}
 
 /// The ports of a script, how many bytes each has left, and how often a read or a write failed.
 #[derive(Drop)]
@@ -66,21 +96,17 @@ impl InputPorts {
             failed: 0,
         }
     }
+}
 
-    /// The events so far, the first one first.
-    pub(crate) fn events(&self) -> &[Event]
-        ensures { result.now ≡ self.now.events }
-    {
+impl RunPorts for InputPorts {
+    ghost until_dry = { true };
+
+    fn log(&self) -> &[Event] {
         self.script.events()
     }
 
-    /// Whether a read, of this port, is past the input: whether all bytes of the port were read.
     #[tactic(auto, using(crate::proofs::PortReads::left_within, crate::proofs::PortReads::none_left, crate::proofs::PortReads::some_left))]
-    pub(crate) fn is_past(&self, read: Option<u8>) -> bool
-        ensures within { IsWithinInput self.now.script self.now.events }
-        ensures past { result ≡ true → IsPast read self.now.script self.now.events }
-        ensures more { result ≡ false → HasMore read self.now.script self.now.events }
-    {
+    fn is_past(&self, read: Option<u8>) -> bool {
         let left = &self.left;
         match read {
             Some(port) => left[port as usize] == 0,

@@ -17,6 +17,7 @@ mod printed_needs;
 mod programs;
 mod refusals;
 mod reports;
+mod runs;
 mod showing;
 
 pub use console::run_command;

@@ -1,11 +1,9 @@
 //! How much of the stack sources need.
 
 ghost use Rattle.std.specs.Prelude.{◌≡◌, ◌⊎◌};
-ghost use Rattle.host.specs.Refusals.{TellsOther, TellsRefusal};
+ghost use Rattle.host.specs.Refusals.{TellsRefusal};
 ghost use Rattle.host.specs.Files.{KeepsFiles};
-ghost use Rattle.sources.specs.Programs.{texts_of};
 ghost use Rattle.command_line.specs.Command.{need_in, wants_need};
-ghost use Rattle.commands.specs.Printing.{PrintsNeed, StopsNeed, TellsNoNeed};
 ghost use Rattle.commands.specs.Refusing.{RefusesFor};
 ghost use Rattle.commands.specs.Needing.{PrintsNeedOf, RefusesNeedOf};
 ghost use Rattle.commands.specs.Orders.{PrintsNeedWanted, RefusesNeed, TellsText};
@@ -15,7 +13,6 @@ use crate::programs::sources_of;
 use crate::refusals::refuse_value;
 use command_line::NeedOrder;
 use host::{Ending, Failure, Files, read_files, refuse_file, refuse_memory};
-use sources::Source;
 use std::alloc::Global;
 use std::io::Write;
 
@@ -80,29 +77,7 @@ fn tell_of_files<F: Files, O: Write, E: Write>(
         Err(Failure::Memory) => return refuse_memory(err),
     };
     match sources_of(alloc, names, texts.as_slice()) {
-        Ok(sources) => tell_of_sources(alloc, order, sources.as_slice(), out, err),
+        Ok(sources) => print_need(alloc, names, sources.as_slice(), out, err),
         Err(_) => refuse_memory(err),
     }
-}
-
-// Prints the need of the program of the sources of an order.
-#[tactic(auto, using(crate::proofs::NeedTold::refused_not_done, crate::proofs::NeedTold::no_need_by))]
-fn tell_of_sources<O: Write, E: Write>(
-    alloc: Global,
-    order: &NeedOrder,
-    sources: &[Source],
-    out: &mut O,
-    err: &mut E,
-) -> Ending
-    ensures printed { result ≡ Ending.Done → PrintsNeed (texts_of sources.now)
-        (O.contents out.old) (O.contents out.new) }
-    ensures ending { (result ≡ Ending.Done) ⊎ (result ≡ Ending.Refused) }
-    ensures refused { result ≡ Ending.Refused → TellsNoNeed (need_in order.now).files (texts_of sources.now)
-        (E.contents err.old) (E.contents err.new) }
-    ensures stopped { result ≡ Ending.Refused → StopsNeed (texts_of sources.now)
-        (O.contents out.old) (O.contents out.new) }
-    ensures told { result ≡ Ending.Refused → TellsOther (E.contents err.old) (E.contents err.new) }
-    ensures quiet { (result ≡ Ending.Refused → ⊥) → E.contents err.new ≡ E.contents err.old }
-{
-    print_need(alloc, order.files.as_slice(), sources, out, err)
 }

@@ -69,11 +69,6 @@ impl Places<'_> {
     ghost use Rattle.commands.specs.Standing.{NamesPlace};
     ghost use Rattle.commands.specs.internal.Places.{names_in};
 
-    /// Whether lines are told.
-    pub(crate) fn are_lines(&self) -> bool {
-        matches!(*self, Places::Lines(_, _))
-    }
-
     /// The last line of a source whose code a run met that comes to an address, after this one.
     pub(crate) fn line_after(
         &self,

@@ -154,15 +154,8 @@ fn bytes_for_output<'a>(ports: &[PortFile], outputs: &'a [Vec<u8>]) -> Option<&'
     None
 }
 
-// Writes lines to standard error. A failure there is passed over.
-#[tactic(auto, using(crate::proofs::OutputFiles::begun_of))]
-fn write_aside<E: Write>(lines: &[u8], err: &mut E)
-    ensures { AppendsBeginning (E.contents err.old) (E.contents err.new) lines.now }
-{
-    let _ = write_bytes(err, lines);
-}
-
 // Writes lines to standard output; or bytes, where there are such, and the lines to standard error.
+#[tactic(auto, using(crate::proofs::OutputFiles::begun_of))]
 fn show<O: Write, E: Write>(
     bytes: Option<&[u8]>,
     lines: &[u8],
@@ -178,7 +171,8 @@ fn show<O: Write, E: Write>(
     match bytes {
         Some(bytes) => {
             write_bytes(out, bytes)?;
-            write_aside(lines, err);
+            // a failure there is passed over
+            let _ = write_bytes(err, lines);
             Ok(())
         }
         None => {

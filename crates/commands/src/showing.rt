@@ -9,10 +9,9 @@ ghost use Rattle.commands.specs.Refusing.{RefusesFor};
 ghost use Rattle.commands.specs.Showing.{PrintsBuilt, PrintsShown, PrintsTextsBy, RefusesShown, RefusesTextsBy, ShowsProgram, StopsShowing, begins_object, is_object, takes_object};
 
 use crate::programs::{name_at, refuse_sources, sources_of};
+use crate::reports::print_text;
 use command_line::{PlaceAction, PlaceOrder};
-use host::{
-    Ending, Failure, Files, read_files, refuse_file, refuse_memory, refuse_output, write_bytes,
-};
+use host::{Ending, Failure, Files, read_files, refuse_file, refuse_memory};
 use listings::{listing_of, symbols_of};
 use mem80::Plan;
 use object_commands::print_list;
@@ -184,9 +183,5 @@ fn show_built<O: Write, E: Write>(
         Ok(lines) => lines,
         Err(_) => return refuse_memory(err),
     };
-    match write_bytes(out, lines.as_slice()) {
-        Ok(()) => Ending::Done,
-        Err(Failure::Fault(_)) => refuse_output(err),
-        Err(Failure::Memory) => refuse_memory(err),
-    }
+    print_text(lines.as_slice(), out, err)
 }

@@ -1,11 +1,11 @@
 //! A source with its files put in.
 
 ghost use Rattle.std.specs.Prelude.{◌≡◌, [], map, IfOk};
-ghost use Rattle.convert.specs.Assembly.{as_it_is, assembled, conditioned, controlled, blocks_put, file_put, included, line_of_source, line_put, lines_put, note_open, parts_of, parts_with, places_from, plain_line, switched, switched_by, switched_if, told_on, told_open, value_at, with_line, with_names, with_note, with_told, with_wanted};
+ghost use Rattle.convert.specs.Assembly.{as_it_is, assembled, conditioned, controlled, blocks_put, file_put, included, line_of_source, line_put, lines_put, parts_of, parts_with, places_from, switched, switched_by, told_on, told_open, value_at, with_line, with_names, with_note, with_told, with_wanted};
 ghost use Rattle.convert.specs.Controls.{argument_of, kind_at};
 ghost use Rattle.convert.specs.Lines.{lines_of_file};
 ghost use Rattle.convert.specs.Blocks.{blocks_after};
-ghost use Rattle.convert.specs.Switches.{items_of, switch_view};
+ghost use Rattle.convert.specs.Switches.{items_of};
 
 use crate::advice::Advice;
 use crate::blocks::{Block, Concern, applies, change_blocks, concern_at};
@@ -96,19 +96,6 @@ fn tell_concern(
     }
 }
 
-// What is told of an IF that is open at the end of its file.
-fn note_open(advice: &Advice, file: usize, block: Block) -> PlacedNote
-    ensures { result ≡ note_open advice.now file block }
-{
-    PlacedNote {
-        place: Place {
-            file,
-            line: block.line,
-        },
-        text: advice.no_end,
-    }
-}
-
 // Adds what is told of IFs that are open at the end of their file.
 fn tell_open(
     advice: &Advice,
@@ -121,7 +108,12 @@ fn tell_open(
 {
     let mut rest = blocks;
     while let [block, more @ ..] = rest {
-        tell(note_open(advice, file, *block), assembly)?;
+        let place = Place {
+            file,
+            line: block.line,
+        };
+        let text = advice.no_end;
+        tell(PlacedNote { place, text }, assembly)?;
         rest = more;
     }
     Ok(())
@@ -134,25 +126,6 @@ fn want(alloc: Global, name: &[u8], assembly: &mut Assembly) -> Result<(), Alloc
     let copy = Vec::from_slice(alloc, name)?;
     assembly.wanted.push(copy)?;
     Ok(())
-}
-
-// Sets or resets the switches of a group.
-fn add_names<'a>(
-    advice: &Advice,
-    place: Place,
-    on: bool,
-    items: &[&'a [u8]],
-    assembly: &mut Assembly<'a>,
-) -> Result<(), AllocError>
-    ensures { IfOk result (λ _. parts_of assembly.new
-        ≡ with_names advice.now place on (map (λ item. item.now) items.now) (parts_of assembly.old)) }
-{
-    if are_names(items) {
-        add_switches(on, items, &mut assembly.switches)
-    } else {
-        let text = advice.no_names;
-        tell(PlacedNote { place, text }, assembly)
-    }
 }
 
 // Sets or resets the switches in the group of the control at the front of a line.
@@ -168,7 +141,12 @@ fn add_group<'a>(
         ≡ with_names advice.now place on (items_of (argument_of line.now)) (parts_of assembly.old)) }
 {
     let items = items_of(alloc, argument_of(line))?;
-    add_names(advice, place, on, items.as_slice(), assembly)
+    if are_names(items.as_slice()) {
+        add_switches(on, items.as_slice(), &mut assembly.switches)
+    } else {
+        let text = advice.no_names;
+        tell(PlacedNote { place, text }, assembly)
+    }
 }
 
 // Sets or resets the switches of the control at the front of a line, if it has any.
@@ -223,32 +201,6 @@ fn switch_line<'a>(
     Ok(())
 }
 
-// The same if the line applies.
-fn switch_if<'a>(
-    alloc: Global,
-    applying: bool,
-    advice: &Advice,
-    place: Place,
-    line: &'a [u8],
-    assembly: &mut Assembly<'a>,
-) -> Result<(), AllocError>
-    ensures { IfOk result (λ _. parts_of assembly.new
-        ≡ switched_if applying advice.now place line.now (parts_of assembly.old)) }
-{
-    if applying {
-        switch_line(alloc, advice, place, line, assembly)
-    } else {
-        Ok(())
-    }
-}
-
-// What a condition says after the word of its control.
-fn value_at(alloc: Global, switches: &[Switch], control: &[u8]) -> Result<Option<bool>, AllocError>
-    ensures { IfOk result (λ value. value ≡ value_at (map switch_view switches.now) control.now) }
-{
-    condition_value(alloc, switches, after_word(control))
-}
-
 // A line with a control of an IF, or without one that ends it.
 fn put_condition(
     alloc: Global,
@@ -265,7 +217,7 @@ fn put_condition(
     ensures blocks { IfOk result (λ _. blocks.new.items
         ≡ blocks_after (value_at (parts_of assembly.old).switches control.now) kind place.line blocks.old.items) }
 {
-    let value = value_at(alloc, assembly.switches.as_slice(), control)?;
+    let value = condition_value(alloc, assembly.switches.as_slice(), after_word(control))?;
     let concern = concern_at(value, kind, blocks.as_slice());
     tell_concern(advice, place, concern, assembly)?;
     add_line(place, return_of(line), assembly)?;
@@ -408,20 +360,16 @@ fn put_line<'a>(
 {
     let applying = applies(blocks.as_slice());
     if !is_control(line) {
-        return add_line(place, plain_line(applying, line), assembly);
+        let kept = if applying { line } else { return_of(line) };
+        return add_line(place, kept, assembly);
     }
-    switch_if(alloc, applying, advice, place, line, assembly)?;
+    if applying {
+        switch_line(alloc, advice, place, line, assembly)?;
+    }
     let control = last_control(line);
     put_control(
         alloc, advice, entries, depth, place, line, control, blocks, assembly,
     )
-}
-
-// A line that applies, or what is left of one that does not.
-fn plain_line(applying: bool, line: &[u8]) -> &[u8]
-    ensures { result.now ≡ plain_line applying line.now }
-{
-    if applying { line } else { return_of(line) }
 }
 
 // The lines of a file.

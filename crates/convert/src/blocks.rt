@@ -1,7 +1,7 @@
 //! The parts of IF: which of them apply.
 
 ghost use Rattle.std.specs.Prelude.{◌≡◌, IfOk};
-ghost use Rattle.convert.specs.Blocks.{after_else, after_elseif, after_if, applies, blocks_after, concern_at, concern_at_else, concern_at_elseif, concern_of, does_apply, innermost, part_of, with_part};
+ghost use Rattle.convert.specs.Blocks.{after_else, after_elseif, applies, blocks_after, concern_at, concern_at_else, concern_at_elseif, concern_of, innermost, part_of, with_part};
 
 use crate::controls::ControlKind;
 use std::alloc::AllocError;
@@ -43,16 +43,6 @@ pub enum Concern {
     NoIf,
 }
 
-// Whether the lines of a part apply.
-fn does_apply(branch: Branch) -> bool
-    ensures { result ≡ does_apply branch }
-{
-    match branch {
-        Branch::Applies | Branch::Stays | Branch::ElseApplies | Branch::ElseStays => true,
-        Branch::Waits | Branch::Passed | Branch::ElsePassed => false,
-    }
-}
-
 /// The innermost of the open IFs; where none is open, one of which the lines apply.
 pub(crate) fn innermost(blocks: &[Block]) -> Block
     ensures { result ≡ innermost blocks.now }
@@ -71,7 +61,10 @@ pub(crate) fn innermost(blocks: &[Block]) -> Block
 pub(crate) fn applies(blocks: &[Block]) -> bool
     ensures { result ≡ applies blocks.now }
 {
-    does_apply(innermost(blocks).branch)
+    match innermost(blocks).branch {
+        Branch::Applies | Branch::Stays | Branch::ElseApplies | Branch::ElseStays => true,
+        Branch::Waits | Branch::Passed | Branch::ElsePassed => false,
+    }
 }
 
 // The part of a condition.
@@ -82,17 +75,6 @@ fn part_of(value: Option<bool>) -> Branch
         Some(true) => Branch::Applies,
         Some(false) => Branch::Waits,
         None => Branch::Stays,
-    }
-}
-
-// The first part of an IF among lines that apply or do not.
-fn after_if(around: bool, value: Option<bool>) -> Branch
-    ensures { result ≡ after_if around value }
-{
-    if around {
-        part_of(value)
-    } else {
-        Branch::Passed
     }
 }
 
@@ -146,7 +128,11 @@ pub(crate) fn change_blocks(
 {
     match kind {
         ControlKind::If => {
-            let branch = after_if(applies(blocks.as_slice()), value);
+            let branch = if applies(blocks.as_slice()) {
+                part_of(value)
+            } else {
+                Branch::Passed
+            };
             blocks.push(Block { branch, line })?;
             Ok(())
         }

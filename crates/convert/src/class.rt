@@ -1,7 +1,7 @@
 //! What words are to the rules.
 
 ghost use Rattle.std.specs.Prelude.{◌≡◌, ◌≤◌, ◌+◌, true, [], ◌∷◌, ◌++◌, length, IfOk};
-ghost use Rattle.convert.specs.Classes.{seen, seen_in, class_here, count_at, class_of, class_of_kind, is_value, class_at_end, is_inner, closed, opened};
+ghost use Rattle.convert.specs.Classes.{seen, seen_in, class_here, count_at, class_of, is_value, class_at_end, is_inner, closed, opened};
 
 use std::alloc::{AllocError, Global};
 use words::{Kind, Mark, ReservedWord, Word};
@@ -126,25 +126,16 @@ fn class_of(words: &[Word], kind: Kind, first: bool) -> Class
     ensures { result ≡ class_of words.now kind first }
 {
     match words {
-        [word] if !is_value(word.kind) || is_value(kind) => class_of_kind(word.kind, first),
+        [word] if !is_value(word.kind) || is_value(kind) => match word.kind {
+            Kind::Name => Class::Name,
+            Kind::Reserved(word) => Class::Reserved(word),
+            Kind::Number(_) if first => Class::FirstNumber,
+            Kind::Number(_) => Class::Number,
+            Kind::String => Class::String,
+            Kind::Mark(mark) => Class::Mark(mark),
+        },
         [_] => Class::Constant,
         _ => Class::Several,
-    }
-}
-
-fn class_of_kind(kind: Kind, first: bool) -> Class
-    ensures { result ≡ class_of_kind kind first }
-{
-    match kind {
-        Kind::Name => Class::Name,
-        Kind::Reserved(word) => Class::Reserved(word),
-        Kind::Number(_) => if first {
-            Class::FirstNumber
-        } else {
-            Class::Number
-        },
-        Kind::String => Class::String,
-        Kind::Mark(mark) => Class::Mark(mark),
     }
 }
 
@@ -153,16 +144,11 @@ fn class_in_block(class: Class, blocks: &[bool]) -> Class
     ensures { result ≡ class_at_end class (is_inner blocks.now) }
 {
     match class {
-        Class::Reserved(ReservedWord::End) if is_inner(blocks) => Class::EndOfDo,
+        Class::Reserved(ReservedWord::End) if !blocks.is_empty() && blocks[blocks.len() - 1] => {
+            Class::EndOfDo
+        }
         other => other,
     }
-}
-
-// Whether the last block is a DO in another block.
-fn is_inner(blocks: &[bool]) -> bool
-    ensures { result ≡ is_inner blocks.now }
-{
-    !blocks.is_empty() && blocks[blocks.len() - 1]
 }
 
 // Closes the last block at an END.

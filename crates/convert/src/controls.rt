@@ -2,7 +2,7 @@
 
 ghost use Rattle.std.specs.Prelude.{◌≡◌, ◌≤◌, false, drop, length};
 ghost use Rattle.std.specs.Str.{str_eq_ignore_ascii_case};
-ghost use Rattle.convert.specs.Controls.{after_blanks, argument_of, close_at, group_text, has_quote, is_blank, is_closed, is_last, kind_at, kind_of, last_control, quote_at, quoted_after, step_at, word_length};
+ghost use Rattle.convert.specs.Controls.{after_blanks, argument_of, close_at, group_text, has_quote, is_blank, is_last, kind_at, kind_of, last_control, quote_at, quoted_after, step_at, word_length};
 
 /// What a control does. IC is another word for INCLUDE.
 #[derive(Clone, Copy)]
@@ -161,13 +161,6 @@ fn close_at(line: &[u8]) -> usize
     count
 }
 
-// Whether a group is closed of which this follows its parenthesis.
-fn is_closed(line: &[u8]) -> bool
-    ensures { result ≡ is_closed line.now }
-{
-    close_at(line) < line.len()
-}
-
 /// How many bytes at the front go together: a word, a group that is closed, a text in quotes, or else one.
 pub(crate) fn step_at(line: &[u8]) -> usize
     ensures { result ≡ step_at line.now }
@@ -176,7 +169,7 @@ pub(crate) fn step_at(line: &[u8]) -> usize
         [first, rest @ ..] => {
             if first.is_ascii_alphabetic() {
                 word_length(line)
-            } else if *first == b'(' && is_closed(rest) {
+            } else if *first == b'(' && close_at(rest) < rest.len() {
                 close_at(rest) + 2
             } else if *first == b'\'' && has_quote(rest) {
                 quote_at(rest) + 2

@@ -1,7 +1,7 @@
 //! Conversion of the words of a text.
 
 ghost use Rattle.std.specs.Prelude.{◌≡◌, ◌≤◌, ◌+◌, ◌++◌, length, IfOk};
-ghost use Rattle.convert.specs.Converting.{change_at, change_by, changes_after, first_commas, fit, note_at, note_by, notes_after, passed_by, rule_at};
+ghost use Rattle.convert.specs.Converting.{change_at, changes_after, first_commas, fit, note_at, notes_after, passed_by, rule_at};
 ghost use Rattle.convert.specs.Edits.{changes_of};
 
 use crate::class::Seen;
@@ -65,24 +65,9 @@ fn change_at(
     ensures { IfOk result (λ _. changes_of edits.new.items
         ≡ changes_of edits.old.items ++ change_at source.now words.now found) }
 {
-    match found {
-        Some(rule) => change_by(alloc, source, words, rule, edits),
-        None => Ok(()),
-    }
-}
-
-// Adds what a rule changes at the front of words.
-fn change_by(
-    alloc: Global,
-    source: &[u8],
-    words: &[Seen],
-    rule: Rule,
-    edits: &mut Vec<Edit>,
-) -> Result<(), AllocError>
-    requires { length words.now ≤ 4294967296 }
-    ensures { IfOk result (λ _. changes_of edits.new.items
-        ≡ changes_of edits.old.items ++ change_by source.now words.now rule rule.action) }
-{
+    let Some(rule) = found else {
+        return Ok(());
+    };
     match rule.action {
         Action::Write(puts) => {
             let count = fit(&rule, words);
@@ -160,24 +145,18 @@ fn passed_by(words: &[Seen], found: Option<Rule>) -> usize
     }
 }
 
-// Adds what a rule tells.
+// Adds what a rule that was found tells.
 fn note_at(line: usize, found: Option<Rule>, notes: &mut Vec<Note>) -> Result<(), AllocError>
     ensures { IfOk result (λ _. notes.new.items ≡ notes.old.items ++ note_at line found) }
 {
     match found {
-        Some(rule) => note_by(line, rule.action, notes),
+        Some(rule) => match rule.action {
+            Action::Tell(text) => {
+                notes.push(Note { line, text })?;
+                Ok(())
+            }
+            Action::Write(_) => Ok(()),
+        },
         None => Ok(()),
-    }
-}
-
-fn note_by(line: usize, action: Action, notes: &mut Vec<Note>) -> Result<(), AllocError>
-    ensures { IfOk result (λ _. notes.new.items ≡ notes.old.items ++ note_by line action) }
-{
-    match action {
-        Action::Tell(text) => {
-            notes.push(Note { line, text })?;
-            Ok(())
-        }
-        Action::Write(_) => Ok(()),
     }
 }

@@ -2,7 +2,7 @@
 
 ghost use Rattle.std.specs.Prelude.{◌≡◌, ◌++◌, IfOk};
 ghost use Rattle.words.specs.Characters.{is_word_byte};
-ghost use Rattle.convert.specs.Edits.{apart, changes_of, gap, last_after, spliced};
+ghost use Rattle.convert.specs.Edits.{apart, changes_of, last_after, spliced};
 
 use crate::texts::between;
 use std::alloc::{AllocError, Global};
@@ -22,22 +22,15 @@ pub(crate) fn is_word_byte(b: u8) -> bool
     b.is_ascii_alphabetic() || b.is_ascii_digit() || b == b'$'
 }
 
-// Adds a blank between two bytes that would be of one word.
-fn write_gap(before: u8, after: u8, text: &mut Vec<u8>) -> Result<(), AllocError>
-    ensures { IfOk result (λ _. text.new.items ≡ text.old.items ++ gap before after) }
-{
-    if is_word_byte(before) && is_word_byte(after) {
-        text.push(b' ')?;
-    }
-    Ok(())
-}
-
 // Adds a piece after a byte, apart from it if both would be of one word.
 fn write_piece(last: u8, piece: &[u8], text: &mut Vec<u8>) -> Result<(), AllocError>
     ensures { IfOk result (λ _. text.new.items ≡ text.old.items ++ apart last piece.now) }
 {
-    if let [first, ..] = piece {
-        write_gap(last, *first, text)?;
+    if let [first, ..] = piece
+        && is_word_byte(last)
+        && is_word_byte(*first)
+    {
+        text.push(b' ')?;
     }
     text.extend_from_slice(piece)?;
     Ok(())

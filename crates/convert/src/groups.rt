@@ -1,7 +1,7 @@
 //! Groups: words in parentheses, and their items.
 
 ghost use Rattle.std.specs.Prelude.{◌≡◌, ◌≤◌, ◌+◌, length};
-ghost use Rattle.convert.specs.Groups.{closing, commas, is_left, depth_after, group_length, has_outside, has_text, inner, is_assign, is_based, is_comma, is_text, item_length};
+ghost use Rattle.convert.specs.Groups.{closing, commas, depth_after, group_length, has_outside, has_text, inner, is_assign, is_based, is_comma, is_text, item_length};
 
 use crate::class::{Class, Seen};
 use words::{Mark, ReservedWord};
@@ -38,10 +38,9 @@ pub(crate) fn group_length(words: &[Seen]) -> usize
     ensures within { result ≤ length words.now }
 {
     match words {
-        [first, after @ ..] => if is_left(first.class) {
-            closing(after)
-        } else {
-            0
+        [first, after @ ..] => match first.class {
+            Class::Mark(Mark::LeftParenthesis) => closing(after),
+            _ => 0,
         },
         [] => 0,
     }
@@ -67,15 +66,6 @@ fn closing(words: &[Seen]) -> usize
         rest = more;
     }
     0
-}
-
-fn is_left(class: Class) -> bool
-    ensures { result ≡ is_left class }
-{
-    match class {
-        Class::Mark(Mark::LeftParenthesis) => true,
-        _ => false,
-    }
 }
 
 /// The words of a group without its parentheses.
@@ -193,5 +183,5 @@ fn is_text(seen: &Seen) -> bool
 pub(crate) fn has_text(words: &[Seen]) -> bool
     ensures { result ≡ has_text words.now }
 {
-    words.iter().any(|seen| is_text(seen))
+    words.iter().any(is_text)
 }

@@ -2,7 +2,7 @@
 
 ghost use Rattle.std.specs.Prelude.{◌≡◌, ◌≤◌, ◌++◌, length, map, IfOk};
 ghost use Rattle.std.specs.List.{flat_map};
-ghost use Rattle.convert.specs.Includes.{after_device, answer_of, answer_from, answer_in, blank_at, candidates, ends_folder, file_name, folder_length, folder_of, forms_in, name_of_file, opened_after, opened_in, with_slash};
+ghost use Rattle.convert.specs.Includes.{after_device, answer_of, answer_from, blank_at, candidates, file_name, folder_length, forms_in, name_of_file, opened_after, with_slash};
 ghost use Rattle.convert.specs.internal.Answers.{answer_view};
 
 use crate::controls::{after_blanks, is_blank};
@@ -75,30 +75,14 @@ pub(crate) fn file_name(argument: &[u8]) -> &[u8]
     &name[..blank_at(name)]
 }
 
-// Whether a slash ends the name of a folder, or it has none.
-fn ends_folder(folder: &[u8]) -> bool
-    ensures { result ≡ ends_folder folder.now }
-{
-    folder.is_empty() || folder[folder.len() - 1] == b'/'
-}
-
-// Adds a folder with a slash at its end.
-fn add_folder(folder: &[u8], text: &mut Vec<u8>) -> Result<(), AllocError>
-    ensures { IfOk result (λ _. text.new.items ≡ text.old.items ++ with_slash folder.now) }
-{
-    text.extend_from_slice(folder)?;
-    if !ends_folder(folder) {
-        text.push(b'/')?;
-    }
-    Ok(())
-}
-
 // A folder with a slash at its end.
 fn with_slash(alloc: Global, folder: &[u8]) -> Result<Vec<u8>, AllocError>
     ensures { IfOk result (λ text. text.items ≡ with_slash folder.now) }
 {
-    let mut text = Vec::new(alloc);
-    add_folder(folder, &mut text)?;
+    let mut text = Vec::from_slice(alloc, folder)?;
+    if !folder.is_empty() && folder[folder.len() - 1] != b'/' {
+        text.push(b'/')?;
+    }
     Ok(text)
 }
 
@@ -120,19 +104,11 @@ fn folder_length(name: &[u8]) -> usize
     found
 }
 
-// The folder of a file, with its slash.
-fn folder_of(name: &[u8]) -> &[u8]
-    ensures { result.now ≡ folder_of name.now }
-{
-    &name[..folder_length(name)]
-}
-
 // A folder's name, and after it a file's.
 fn form(alloc: Global, folder: &[u8], name: &[u8]) -> Result<Vec<u8>, AllocError>
     ensures { IfOk result (λ text. text.items ≡ folder.now ++ name.now) }
 {
-    let mut text = Vec::new(alloc);
-    text.extend_from_slice(folder)?;
+    let mut text = Vec::from_slice(alloc, folder)?;
     text.extend_from_slice(name)?;
     Ok(text)
 }
@@ -187,18 +163,9 @@ pub fn candidates(
 {
     let mut names = Vec::new(alloc);
     add_candidates(alloc, folders, name, &mut names)?;
-    add_forms(alloc, folder_of(file.as_bytes()), name, &mut names)?;
+    let file = file.as_bytes();
+    add_forms(alloc, &file[..folder_length(file)], name, &mut names)?;
     Ok(names)
-}
-
-// What is known of a file of this number.
-fn answer_in<'a>(file: usize, found: &'a Option<Found>) -> Answer<'a>
-    ensures { answer_view result ≡ answer_in file found.now }
-{
-    match found {
-        Some(found) => Answer::Present(file, found.text.as_slice()),
-        None => Answer::Absent,
-    }
 }
 
 // What is known of a file by what was looked for.
@@ -209,7 +176,10 @@ fn answer_from<'a>(entries: &'a [Entry], name: &[u8]) -> Answer<'a>
     let mut rest = entries;
     while let [entry, more @ ..] = rest {
         if entry.name.as_slice() == name {
-            return answer_in(file, &entry.found);
+            return match &entry.found {
+                Some(found) => Answer::Present(file, found.text.as_slice()),
+                None => Answer::Absent,
+            };
         }
         file += 1;
         rest = more;
@@ -228,15 +198,6 @@ pub(crate) fn answer_of<'a>(entries: &'a [Entry], name: &[u8]) -> Answer<'a>
     }
 }
 
-fn opened_in(found: &Option<Found>) -> &[u8]
-    ensures { result.now ≡ opened_in found.now }
-{
-    match found {
-        Some(found) => found.opened.as_slice(),
-        None => &[],
-    }
-}
-
 // The name under which the file was opened that comes after this many of those that were looked for.
 fn opened_after(passed: usize, entries: &[Entry]) -> &[u8]
     ensures { result.now ≡ opened_after passed entries.now }
@@ -245,7 +206,10 @@ fn opened_after(passed: usize, entries: &[Entry]) -> &[u8]
     let mut rest = entries;
     while let [entry, more @ ..] = rest {
         if passed == 0 {
-            return opened_in(&entry.found);
+            return match &entry.found {
+                Some(found) => found.opened.as_slice(),
+                None => &[],
+            };
         }
         passed -= 1;
         rest = more;

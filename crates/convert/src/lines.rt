@@ -1,7 +1,7 @@
 //! Lines of old sources.
 
 ghost use Rattle.std.specs.Prelude.{◌≡◌, ◌≤◌, ◌==◌, ◌||◌, ◌-◌, get_or, length, map, IfOk};
-ghost use Rattle.convert.specs.Lines.{is_control, lines_of, lines_of_file, plain, return_of, without_end};
+ghost use Rattle.convert.specs.Lines.{is_control, lines_of, lines_of_file, plain, return_of};
 
 use std::alloc::{AllocError, Global};
 
@@ -21,19 +21,11 @@ pub fn plain(alloc: Global, source: &[u8]) -> Result<Vec<u8>, AllocError>
             return Ok(text);
         }
         rest = more;
-        if is_dropped(*byte) {
-            continue;
+        if *byte != FORM_FEED && *byte != 0 {
+            text.push(*byte)?;
         }
-        text.push(*byte)?;
     }
     Ok(text)
-}
-
-// Whether a byte is a form feed or a zero.
-fn is_dropped(byte: u8) -> bool
-    ensures { result ≡ ((byte == 12) || (byte == 0)) }
-{
-    byte == FORM_FEED || byte == 0
 }
 
 /// The lines of a text, without the line feeds between them.
@@ -43,22 +35,15 @@ pub(crate) fn lines_of(alloc: Global, text: &[u8]) -> Result<Vec<&[u8]>, AllocEr
     text.split(|byte| *byte == b'\n').collect(alloc)
 }
 
-// A text without a line feed at its end.
-fn without_end(text: &[u8]) -> &[u8]
-    ensures { result.now ≡ without_end text.now }
-{
-    if !text.is_empty() && text[text.len() - 1] == b'\n' {
-        &text[..text.len() - 1]
-    } else {
-        text
-    }
-}
-
 /// The lines of a file that is included: a line feed at its end ends the last one.
 pub(crate) fn lines_of_file(alloc: Global, text: &[u8]) -> Result<Vec<&[u8]>, AllocError>
     ensures { IfOk result (λ lines. map (λ line. line.now) lines.items ≡ lines_of_file text.now) }
 {
-    lines_of(alloc, without_end(text))
+    if !text.is_empty() && text[text.len() - 1] == b'\n' {
+        lines_of(alloc, &text[..text.len() - 1])
+    } else {
+        lines_of(alloc, text)
+    }
 }
 
 /// Whether a line has controls.

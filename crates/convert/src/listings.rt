@@ -3,7 +3,7 @@
 ghost use Rattle.std.specs.Prelude.{◌≡◌, ◌∷◌, ◌++◌, [], false, map, IfOk};
 ghost use Rattle.std.specs.List.{list_all};
 ghost use Rattle.convert.specs.Assembly.{line_of_source};
-ghost use Rattle.convert.specs.Listings.{begins, form_of, has_columns, has_marks, is_end, is_mark, is_number, is_printed, listed, listed_body, listed_text, listing_note, listing_notes_from};
+ghost use Rattle.convert.specs.Listings.{form_of, has_columns, has_marks, is_end, is_mark, is_number, is_printed, listed, listed_body, listed_text, listing_note, listing_notes_from};
 
 use crate::advice::Advice;
 use crate::assembly::{PlacedNote, line_of_source};
@@ -135,22 +135,15 @@ fn form_of(line: &[u8]) -> Listed
     }
 }
 
-// Whether a line begins with a text.
-fn begins(line: &[u8], text: &[u8]) -> bool
-    ensures { result ≡ begins text.now line.now }
-{
-    line.starts_with(text)
-}
-
 // Whether the compiler printed a line of its own.
 fn is_printed(line: &[u8]) -> bool
     ensures { result ≡ is_printed line.now }
 {
-    begins(line, b"PL/M-80 COMPILER")
-        || (begins(line, b"ISIS-II PL/M-80 ")
-            || (begins(line, b"OBJECT MODULE PLACED IN ")
-                || (begins(line, b"NO OBJECT MODULE ")
-                    || (begins(line, b"COMPILER INVOKED BY:") || begins(line, b"*** ")))))
+    line.starts_with(b"PL/M-80 COMPILER")
+        || (line.starts_with(b"ISIS-II PL/M-80 ")
+            || (line.starts_with(b"OBJECT MODULE PLACED IN ")
+                || (line.starts_with(b"NO OBJECT MODULE ")
+                    || (line.starts_with(b"COMPILER INVOKED BY:") || line.starts_with(b"*** ")))))
 }
 
 // Whether no source comes from a line on.
@@ -158,8 +151,8 @@ fn is_printed(line: &[u8]) -> bool
 fn is_end(line: &[u8]) -> bool
     ensures { result ≡ is_end line.now }
 {
-    begins(line, b"MODULE INFORMATION:")
-        || (begins(line, b"CROSS-REFERENCE LISTING") || begins(line, b"SYMBOL LISTING"))
+    line.starts_with(b"MODULE INFORMATION:")
+        || (line.starts_with(b"CROSS-REFERENCE LISTING") || line.starts_with(b"SYMBOL LISTING"))
 }
 
 // Whether the first columns of a line have what a compiler prints there.
@@ -174,13 +167,13 @@ fn has_columns(line: &[u8]) -> bool
 fn has_numbers(columns: &[u8]) -> bool
     ensures { result ≡ list_all is_number columns.now }
 {
-    columns.iter().all(|byte| is_number(*byte))
+    columns.iter().all(is_number)
 }
 
-fn is_number(byte: u8) -> bool
-    ensures { result ≡ is_number byte }
+fn is_number(byte: &u8) -> bool
+    ensures { result ≡ is_number byte.now }
 {
-    byte == b' ' || (byte == b'-' || byte.is_ascii_digit())
+    *byte == b' ' || (*byte == b'-' || byte.is_ascii_digit())
 }
 
 // Whether columns have the marks of a line alone.

@@ -1,8 +1,8 @@
 //! Lists of names, divided.
 
-ghost use Rattle.std.specs.Prelude.{◌≡◌, ◌≤◌, ◌+◌, ◌++◌, length, drop, IfOk};
+ghost use Rattle.std.specs.Prelude.{◌≡◌, ◌≤◌, ◌+◌, ◌++◌, length, IfOk};
 ghost use Rattle.convert.specs.Lists.{ending, list_text, next_values, offset_text, value_text};
-ghost use Rattle.convert.specs.Texts.{between, start_of};
+ghost use Rattle.convert.specs.Texts.{start_of};
 
 use crate::class::Seen;
 use crate::groups::{depth_after, is_comma, item_length};
@@ -124,20 +124,14 @@ fn next_values<'s, 'a>(value: Value, values: &'s [Seen<'a>]) -> &'s [Seen<'a>]
     ensures shorter { length result.now ≤ length values.now }
 {
     match value {
-        Value::Item(_) => after_item(values, item_length(values)),
+        Value::Item(_) => {
+            let count = item_length(values);
+            if count < values.len() {
+                &values[count + 1..]
+            } else {
+                &[]
+            }
+        }
         _ => values,
-    }
-}
-
-// The words after some, and after one more.
-fn after_item<'s, 'a>(words: &'s [Seen<'a>], count: usize) -> &'s [Seen<'a>]
-    requires { count ≤ length words.now }
-    ensures after { result.now ≡ drop (count + 1) words.now }
-    ensures shorter { length result.now ≤ length words.now }
-{
-    if count < words.len() {
-        &words[count + 1..]
-    } else {
-        &[]
     }
 }

@@ -1,7 +1,7 @@
 //! Where rules fit.
 
 ghost use Rattle.std.specs.Prelude.{◌≡◌, ◌≤◌, ◌+◌, length};
-ghost use Rattle.convert.specs.Numbers.{is_attribute, is_name, is_scope, is_type, is_values};
+ghost use Rattle.convert.specs.Numbers.{is_attribute, is_scope, is_type, is_values};
 ghost use Rattle.convert.specs.Matching.{based_length, part_length, length_of_parts, list_length, class_length, name_length, one, assigning_length, items_length, end_length};
 
 use crate::class::{Class, Seen};
@@ -41,8 +41,14 @@ pub(crate) fn part_length(part: Part, first: usize, words: &[Seen]) -> usize
     match part {
         Part::Is(class) => class_length(class, words),
         Part::Type => type_length(words),
-        Part::Scope => scope_length(words),
-        Part::Values => values_length(words),
+        Part::Scope => match words {
+            [seen, ..] if is_scope(seen.class) => 1,
+            _ => 0,
+        },
+        Part::Values => match words {
+            [seen, ..] if is_values(seen.class) => 1,
+            _ => 0,
+        },
         Part::Group => group_length(words),
         Part::Names => names_length(words),
         Part::BasedOne => based_length(false, words),
@@ -50,7 +56,10 @@ pub(crate) fn part_length(part: Part, first: usize, words: &[Seen]) -> usize
         Part::List => list_length(words),
         Part::Assigning => assigning_length(words),
         Part::ItemsFor => items_length(first, words),
-        Part::Attribute => attribute_length(words),
+        Part::Attribute => match words {
+            [seen, ..] if is_attribute(seen.class) => 1,
+            _ => 0,
+        },
         Part::EndOfText => end_length(words),
     }
 }
@@ -70,38 +79,11 @@ fn type_length(words: &[Seen]) -> usize
     ensures within { result ≤ length words.now }
 {
     match words {
-        [seen, ..] if is_type(seen.class) => 1,
-        _ => 0,
-    }
-}
-
-fn scope_length(words: &[Seen]) -> usize
-    ensures length { result ≡ one is_scope words.now }
-    ensures within { result ≤ length words.now }
-{
-    match words {
-        [seen, ..] if is_scope(seen.class) => 1,
-        _ => 0,
-    }
-}
-
-fn values_length(words: &[Seen]) -> usize
-    ensures length { result ≡ one is_values words.now }
-    ensures within { result ≤ length words.now }
-{
-    match words {
-        [seen, ..] if is_values(seen.class) => 1,
-        _ => 0,
-    }
-}
-
-fn attribute_length(words: &[Seen]) -> usize
-    ensures length { result ≡ one is_attribute words.now }
-    ensures within { result ≤ length words.now }
-{
-    match words {
-        [seen, ..] if is_attribute(seen.class) => 1,
-        _ => 0,
+        [seen, ..] => match seen.class {
+            Class::Reserved(ReservedWord::Byte | ReservedWord::Address) => 1,
+            _ => 0,
+        },
+        [] => 0,
     }
 }
 
@@ -121,8 +103,11 @@ fn names_length(words: &[Seen]) -> usize
     ensures within { result ≤ length words.now }
 {
     match words {
-        [seen, ..] if is_name(seen.class) => 1,
-        _ => group_length(words),
+        [seen, ..] => match seen.class {
+            Class::Name => 1,
+            _ => group_length(words),
+        },
+        [] => 0,
     }
 }
 
@@ -179,25 +164,6 @@ fn items_length(first: usize, words: &[Seen]) -> usize
         count
     } else {
         0
-    }
-}
-
-fn is_name(class: Class) -> bool
-    ensures { result ≡ is_name class }
-{
-    match class {
-        Class::Name => true,
-        _ => false,
-    }
-}
-
-fn is_type(class: Class) -> bool
-    ensures { result ≡ is_type class }
-{
-    match class {
-        Class::Reserved(ReservedWord::Byte) => true,
-        Class::Reserved(ReservedWord::Address) => true,
-        _ => false,
     }
 }
 

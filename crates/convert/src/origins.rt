@@ -3,7 +3,7 @@
 ghost use Rattle.std.specs.Prelude.{◌≡◌, ◌≤◌, ◌+◌, ◌∷◌, ◌++◌, min, length, take, IfOk};
 ghost use Rattle.convert.specs.Assembly.{parts_of};
 ghost use Rattle.convert.specs.Edits.{changes_of};
-ghost use Rattle.convert.specs.Origins.{HasOneRowEachOf, counted, ends_a_line, line_at, line_feeds, line_table, lines_after, lines_for, lines_in, row, rows};
+ghost use Rattle.convert.specs.Origins.{HasOneRowEachOf, counted, line_at, line_feeds, line_table, lines_after, lines_for, lines_in, row, rows};
 
 use crate::assembly::{Assembly, Place};
 use crate::edit::Edit;
@@ -126,18 +126,11 @@ fn lines_of_changes(alloc: Global, source: &[u8], edits: &[Edit]) -> Result<Vec<
     Ok(lines)
 }
 
-// Whether nothing follows the last line feed of a text.
-fn ends_a_line(text: &[u8]) -> bool
-    ensures { result ≡ ends_a_line text.now }
-{
-    text.is_empty() || text[text.len() - 1] == b'\n'
-}
-
 // The lines of a text, without the last if that is empty.
 fn counted<'a>(text: &[u8], lines: &'a [usize]) -> &'a [usize]
     ensures { result.now ≡ counted text.now lines.now }
 {
-    if ends_a_line(text) {
+    if text.is_empty() || text[text.len() - 1] == b'\n' {
         &lines[..lines.len().saturating_sub(1)]
     } else {
         lines

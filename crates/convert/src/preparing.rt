@@ -1,7 +1,7 @@
 //! What of a file is the source.
 
 ghost use Rattle.std.specs.Prelude.{◌≡◌, true, IfOk};
-ghost use Rattle.convert.specs.Preparing.{from_cards, from_listing, notes_of_listing, prepared, prepared_notes};
+ghost use Rattle.convert.specs.Preparing.{from_listing, notes_of_listing, prepared, prepared_notes};
 
 use crate::advice::Advice;
 use crate::assembly::PlacedNote;
@@ -37,11 +37,15 @@ pub fn prepare(
     ensures notes { IfOk result (λ made. made.notes.items ≡ prepared_notes advice.now medium file.now) }
 {
     let source = from_listing(alloc, advice, medium.listing, file)?;
-    let text = from_cards(alloc, medium.cards, source.text)?;
-    Ok(Prepared {
-        text,
-        notes: source.notes,
-    })
+    if medium.cards {
+        let text = carded(alloc, source.text.as_slice())?;
+        Ok(Prepared {
+            text,
+            notes: source.notes,
+        })
+    } else {
+        Ok(source)
+    }
 }
 
 // The source of a listing, if it is one.
@@ -77,15 +81,4 @@ fn unlist(alloc: Global, advice: &Advice, file: &[u8]) -> Result<Prepared, Alloc
     let mut notes = Vec::new(alloc);
     note_listing(advice, lines.as_slice(), &mut notes)?;
     Ok(Prepared { text, notes })
-}
-
-// What is in the columns of cards, if the text is on cards.
-fn from_cards(alloc: Global, is_on: bool, text: Vec<u8>) -> Result<Vec<u8>, AllocError>
-    ensures { IfOk result (λ made. made.items ≡ from_cards is_on text.items) }
-{
-    if is_on {
-        carded(alloc, text.as_slice())
-    } else {
-        Ok(text)
-    }
 }

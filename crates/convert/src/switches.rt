@@ -3,7 +3,7 @@
 ghost use Rattle.std.specs.Prelude.{◌≡◌, ◌++◌, map, true, IfOk};
 ghost use Rattle.std.specs.List.{list_all, slice_split};
 ghost use Rattle.convert.specs.Controls.{is_blank};
-ghost use Rattle.convert.specs.Switches.{are_names, begins_name, condition_value, failed, is_between_names, is_name, is_name_byte, is_on, is_operator, items_of, no_words, said_by, switch_view, switches_of, with_operand, with_operator, with_value, with_word, with_words};
+ghost use Rattle.convert.specs.Switches.{are_names, condition_value, is_between_names, is_name, is_name_byte, is_on, is_operator, items_of, no_words, switch_view, switches_of, with_operand, with_operator, with_value, with_word, with_words};
 
 use crate::controls::{is_blank, is_same};
 use crate::edit::is_word_byte;
@@ -82,29 +82,15 @@ fn has_name_bytes(word: &[u8]) -> bool
     true
 }
 
-fn begins_name(word: &[u8]) -> bool
-    ensures { result ≡ begins_name word.now }
-{
-    match word {
-        [first, ..] => first.is_ascii_alphabetic(),
-        [] => false,
-    }
-}
-
 // A letter, and then letters, digits, `$` and `_`, but no operator.
 fn is_name(word: &[u8]) -> bool
     ensures { result ≡ is_name word.now }
 {
-    begins_name(word) && (has_name_bytes(word) && !is_operator(word))
-}
-
-// A condition that is not understood.
-fn failed(condition: Condition) -> Condition
-    ensures { result ≡ failed condition }
-{
-    Condition {
-        expects: Expects::Nothing,
-        ..condition
+    match word {
+        [first, ..] => {
+            first.is_ascii_alphabetic() && (has_name_bytes(word) && !is_operator(word))
+        }
+        [] => false,
     }
 }
 
@@ -119,7 +105,10 @@ fn with_value(word: &[u8], value: bool, condition: Condition) -> Condition
             expects: Expects::Operator,
         }
     } else {
-        failed(condition)
+        Condition {
+            expects: Expects::Nothing,
+            ..condition
+        }
     }
 }
 
@@ -151,7 +140,10 @@ fn with_operator(word: &[u8], condition: Condition) -> Condition
             expects: Expects::Operand,
         }
     } else {
-        failed(condition)
+        Condition {
+            expects: Expects::Nothing,
+            ..condition
+        }
     }
 }
 
@@ -167,16 +159,6 @@ fn with_word(switches: &[Switch], word: &[u8], condition: Condition) -> Conditio
         Expects::Negated => with_value(word, !is_on(switches, word), condition),
         Expects::Operator => with_operator(word, condition),
         Expects::Nothing => condition,
-    }
-}
-
-// What a condition says that ends here.
-fn said_by(condition: Condition) -> Option<bool>
-    ensures { result ≡ said_by condition }
-{
-    match condition.expects {
-        Expects::Operator => Some(condition.any || condition.all),
-        Expects::Operand | Expects::Negated | Expects::Nothing => None,
     }
 }
 
@@ -214,23 +196,25 @@ pub(crate) fn condition_value(
     ensures { IfOk result (λ value. value ≡ condition_value (map switch_view switches.now) text.now) }
 {
     let words = words_of(alloc, text)?;
-    Ok(said_by(with_words(switches, words.as_slice())))
+    let condition = with_words(switches, words.as_slice());
+    match condition.expects {
+        Expects::Operator => Ok(Some(condition.any || condition.all)),
+        Expects::Operand | Expects::Negated | Expects::Nothing => Ok(None),
+    }
 }
 
 // A comma or a blank.
-fn is_between_names(byte: u8) -> bool
-    ensures { result ≡ is_between_names byte }
+fn is_between_names(byte: &u8) -> bool
+    ensures { result ≡ is_between_names byte.now }
 {
-    byte == b',' || is_blank(byte)
+    *byte == b',' || is_blank(*byte)
 }
 
 /// What is set or reset: texts with commas and blanks between them.
 pub(crate) fn items_of(alloc: Global, argument: &[u8]) -> Result<Vec<&[u8]>, AllocError>
     ensures { IfOk result (λ items. map (λ item. item.now) items.items ≡ items_of argument.now) }
 {
-    argument
-        .split(|byte| is_between_names(*byte))
-        .collect(alloc)
+    argument.split(is_between_names).collect(alloc)
 }
 
 /// Whether there are items that are not empty, and these are names.

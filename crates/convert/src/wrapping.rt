@@ -2,7 +2,7 @@
 
 ghost use Rattle.std.specs.Prelude.{◌≡◌, ◌≤◌, ◌++◌, true, false, length, IfOk};
 ghost use Rattle.convert.specs.Texts.{between, start_of};
-ghost use Rattle.convert.specs.Wrapping.{assigns, left, right, wrapped_text};
+ghost use Rattle.convert.specs.Wrapping.{left, right, wrapped_text};
 
 use crate::class::Seen;
 use crate::groups::{depth_after, has_assignment, is_comma, item_length};
@@ -27,7 +27,7 @@ pub(crate) fn write_wrapped(
     let mut rest = words;
     while let [seen, more @ ..] = rest {
         if depth == 0 && is_comma(seen.class) {
-            write_end(source, place, end, marked, text)?;
+            write_marked(source, place, end, right(marked), text)?;
             text.push(b',')?;
             fresh = true;
             marked = false;
@@ -37,8 +37,8 @@ pub(crate) fn write_wrapped(
             continue;
         }
         if fresh {
-            marked = assigns(rest);
-            write_beginning(source, place, seen.word.start as usize, marked, text)?;
+            marked = has_assignment(&rest[..item_length(rest)]);
+            write_marked(source, place, seen.word.start as usize, left(marked), text)?;
             fresh = false;
             place = seen.word.start as usize;
             end = seen.word.start as usize + seen.word.text.len();
@@ -50,46 +50,22 @@ pub(crate) fn write_wrapped(
         depth = depth_after(depth, seen.class);
         rest = more;
     }
-    write_end(source, place, end, marked, text)
+    write_marked(source, place, end, right(marked), text)
 }
 
-// Whether the item at the front assigns.
-fn assigns(words: &[Seen]) -> bool
-    requires { length words.now ≤ 4294967296 }
-    ensures { result ≡ assigns words.now }
-{
-    has_assignment(&words[..item_length(words)])
-}
-
-// Adds what is before an item, and its parenthesis, where there is to be one.
-fn write_beginning(
+// Adds a piece of the source, and its mark.
+fn write_marked(
     source: &[u8],
-    place: usize,
-    start: usize,
-    marked: bool,
+    from: usize,
+    to: usize,
+    mark: &[u8],
     text: &mut Vec<u8>,
 ) -> Result<(), AllocError>
     ensures { IfOk result (λ _. text.new.items
-        ≡ text.old.items ++ (between source.now place start ++ left marked)) }
+        ≡ text.old.items ++ (between source.now from to ++ mark.now)) }
 {
-    text.extend_from_slice(between(source, place, start))?;
-    text.extend_from_slice(left(marked))?;
-    Ok(())
-}
-
-// Adds an item, and its parenthesis, where there is to be one.
-fn write_end(
-    source: &[u8],
-    place: usize,
-    end: usize,
-    marked: bool,
-    text: &mut Vec<u8>,
-) -> Result<(), AllocError>
-    ensures { IfOk result (λ _. text.new.items
-        ≡ text.old.items ++ (between source.now place end ++ right marked)) }
-{
-    text.extend_from_slice(between(source, place, end))?;
-    text.extend_from_slice(right(marked))?;
+    text.extend_from_slice(between(source, from, to))?;
+    text.extend_from_slice(mark)?;
     Ok(())
 }
 

@@ -1,7 +1,7 @@
 //! What rules write.
 
 ghost use Rattle.std.specs.Prelude.{◌≡◌, ◌≤◌, ◌++◌, length, IfOk};
-ghost use Rattle.convert.specs.Writing.{attributes_of, put_text, puts_text, values_of, words_of_part};
+ghost use Rattle.convert.specs.Writing.{put_text, puts_text, values_of, words_of_part};
 
 use crate::class::Seen;
 use crate::groups::inner;

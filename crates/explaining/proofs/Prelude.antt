@@ -3,7 +3,7 @@ pub use Rattle.std.proofs.Common.{List, Option, arith, drop, length, length-drop
 pub use Rattle.host.proofs.FilesRead.{stays, stays_on}
 pub use Rattle.host.specs.{Files.{Counts, Directory, KeepsFiles}, Outcome.{Failure, TheVariants.{Fault, Memory}}}
 pub use Rattle.clap.specs.{Walk.{texts}, Words.{Text}}
-pub use Rattle.explaining.specs.Asking.{asks_after, plain_after, tables_after}
+pub use Rattle.explaining.specs.Asking.{asks, asks_after, plain_after, plain_words, table_count, tables_after}
 pub use Rattle.explaining.specs.Ending.{Ends, EndsExplained}
 pub use Rattle.explaining.specs.Growing.{Grows}
 pub use Rattle.explaining.specs.Looking.{Looks}

@@ -41,11 +41,12 @@ pub fn run_words<F: Files, O: Write, E: Write>(
     ensures err { OnErr result (err.new ≡ err.old) }
     ensures out { OnErr result (out.new ≡ out.old) }
 {
-    if asks(words) {
-        run_asked(alloc, words, files, out, err)
-    } else {
-        Ok(run_whole(alloc, words, files, out, err))
+    if !asks(words) {
+        return Ok(run_whole(alloc, words, files, out, err));
     }
+    let plain = plain_words(alloc, words)?;
+    let tables = table_names(alloc, words)?;
+    Ok(run_explained(alloc, plain.as_slice(), tables.as_slice(), files, out, err))
 }
 
 // Carries out words. What `run_command` promises is one fact here.
@@ -64,28 +65,6 @@ fn run_whole<F: Files, O: Write, E: Write>(
     run_command(alloc, words, files, out, err)
 }
 
-// Carries out the words without those that ask for an explanation, and explains how they ended.
-fn run_asked<F: Files, O: Write, E: Write>(
-    alloc: Global,
-    words: &[&str],
-    files: &mut KeptFiles<F>,
-    out: &mut O,
-    err: &mut KeptLines<E>,
-) -> Result<u8, AllocError>
-    ensures explained { IfOk result (λ status. EndsExplained
-        (plain_words (texts words.now)) (table_count (texts words.now)) status
-        (F.files files.old.inner) (F.files files.new.inner)
-        (F.failures files.old.inner) (F.failures files.new.inner)
-        (E.contents err.old.inner) (E.contents err.new.inner) (O.contents out.old) (O.contents out.new)) }
-    ensures files { OnErr result (files.new ≡ files.old) }
-    ensures err { OnErr result (err.new ≡ err.old) }
-    ensures out { OnErr result (out.new ≡ out.old) }
-{
-    let plain = plain_words(alloc, words)?;
-    let tables = table_names(alloc, words)?;
-    Ok(run_explained(alloc, plain.as_slice(), tables.as_slice(), files, out, err))
-}
-
 // Carries out words, and explains how they ended, with tables of these names.
 #[tactic(auto, using(crate::proofs::Looked::explained))]
 fn run_explained<F: Files, O: Write, E: Write>(
@@ -101,8 +80,8 @@ fn run_explained<F: Files, O: Write, E: Write>(
         (F.failures files.old.inner) (F.failures files.new.inner)
         (E.contents err.old.inner) (E.contents err.new.inner) (O.contents out.old) (O.contents out.new) }
 {
-    files.keep();
-    err.keep();
+    files.is_keeping = true;
+    err.is_keeping = true;
     let status = run_whole(alloc, words, files, out, err);
     explain(alloc, words, tables, files, status, err);
     status
@@ -121,31 +100,23 @@ fn explain<F: Files, E: Write>(
         (F.failures files.old.inner) (F.failures files.new.inner) }
     ensures grows { Grows (E.contents err.old.inner) (E.contents err.new.inner) }
 {
-    look_if(is_of_line(status, err.kept()), tables, files);
-    let page = explanation(alloc, words, tables, files.kept(), status, err.kept());
+    look_for_all(is_of_line(status, err.kept.as_slice()), tables, files);
+    let (kept, printed) = (files.kept.as_slice(), err.kept.as_slice());
+    let page = explanation(alloc, words, tables, kept, status, printed);
     let _ = write_bytes(err, page.bytes());
 }
 
 // Looks for files, if they are wanted.
-#[tactic(auto, using(crate::proofs::Looked::looks_none))]
-fn look_if<F: Files>(are_wanted: bool, names: &[&str], files: &mut KeptFiles<F>)
+#[tactic(auto, using(crate::proofs::Looked::begun, crate::proofs::Looked::ended, crate::proofs::Looked::looks_none))]
+fn look_for_all<F: Files>(are_wanted: bool, names: &[&str], files: &mut KeptFiles<F>)
     ensures { Looks (length names.now) (F.files files.old.inner) (F.files files.new.inner)
         (F.failures files.old.inner) (F.failures files.new.inner) }
 {
     if are_wanted {
-        look_for_all(names, files);
-    }
-}
-
-// Looks for files.
-#[tactic(auto, using(crate::proofs::Looked::begun, crate::proofs::Looked::ended))]
-fn look_for_all<F: Files>(names: &[&str], files: &mut KeptFiles<F>)
-    ensures { Looks (length names.now) (F.files files.old.inner) (F.files files.new.inner)
-        (F.failures files.old.inner) (F.failures files.new.inner) }
-{
-    let mut rest = names;
-    while let [name, more @ ..] = rest {
-        files.look_for(name);
-        rest = more;
+        let mut rest = names;
+        while let [name, more @ ..] = rest {
+            files.look_for(name);
+            rest = more;
+        }
     }
 }

@@ -6,12 +6,13 @@ use std::alloc::Global;
 use std::io;
 use std::io::Write;
 
-/// A writer that is given, and the bytes that it took since `keep` was called. Each call is handed on.
+/// A writer that is given, and the bytes that it took while they are to be kept: none where memory ran out. Each call is handed
+/// on.
 #[derive(Drop)]
 pub struct KeptLines<E> {
     inner: E,
-    is_keeping: bool,
-    kept: Vec<u8>,
+    pub(crate) is_keeping: bool,
+    pub(crate) kept: Vec<u8>,
 }
 
 impl<E> KeptLines<E> {
@@ -37,28 +38,6 @@ impl<E> KeptLines<E> {
         } = self;
         inner
     }
-
-    // Keeps what is written from now on.
-    pub(crate) fn keep(&mut self)
-        ensures { self.new.inner ≡ self.old.inner }
-    {
-        self.is_keeping = true;
-    }
-
-    /// What was kept. Where memory ran out, nothing is.
-    pub(crate) fn kept(&self) -> &[u8] {
-        self.kept.as_slice()
-    }
-
-    // Keeps bytes that were taken.
-    fn add(&mut self, bytes: &[u8])
-        ensures { self.new.inner ≡ self.old.inner }
-    {
-        if self.is_keeping && self.kept.extend_from_slice(bytes).is_err() {
-            self.is_keeping = false;
-            self.kept.clear();
-        }
-    }
 }
 
 impl<E: Write> Write for KeptLines<E> {
@@ -66,7 +45,11 @@ impl<E: Write> Write for KeptLines<E> {
 
     fn write(&mut self, buf: &[u8]) -> io::Result<usize> {
         let count = self.inner.write(buf)?;
-        self.add(buf.get(..count).unwrap_or(&[]));
+        let taken = buf.get(..count).unwrap_or(&[]);
+        if self.is_keeping && self.kept.extend_from_slice(taken).is_err() {
+            self.is_keeping = false;
+            self.kept.clear();
+        }
         Ok(count)
     }
 

@@ -1,46 +1,30 @@
-//! What kind of file bytes are.
+//! What kind of file bytes are, as the first of them show it.
 
-/// A kind of file, as its first bytes show it.
-#[derive(Clone, Copy, PartialEq, Eq)]
-pub(crate) enum FileKind {
-    /// An object file: it begins with the type of its first record.
-    Object,
-    /// A text of Intel HEX: it begins with a colon and a digit.
-    Hex,
-    /// Another text: it begins with a printed character or a blank.
-    Text,
-    /// Something else, or nothing.
-    Other,
-}
+/// What an object file begins with: the type of its first record.
+pub(crate) const OBJECT: u8 = 2;
 
-/// The kind of file that bytes are.
-pub(crate) fn kind_of(bytes: &[u8]) -> FileKind {
+/// What is said of a file where a source is taken, if it is an object file, or a text of Intel HEX, which begins with a colon
+/// and a digit.
+pub(crate) fn as_source(bytes: &[u8]) -> Option<&'static str> {
     match bytes {
-        [2, ..] => FileKind::Object,
-        [b':', digit, ..] if digit.is_ascii_hexdigit() => FileKind::Hex,
-        [first, ..] if first.is_ascii_graphic() || first.is_ascii_whitespace() => FileKind::Text,
-        _ => FileKind::Other,
-    }
-}
-
-/// What is said of a file of this kind where a source is taken, if it is no source.
-pub(crate) fn as_source(kind: FileKind) -> Option<&'static str> {
-    match kind {
-        FileKind::Object => {
-            Some("An object file, where a source is taken: plm execute runs objects")
+        [OBJECT, ..] => Some("An object file, where a source is taken: plm execute runs objects"),
+        [b':', digit, ..] if digit.is_ascii_hexdigit() => {
+            Some("A HEX text, where a source is taken")
         }
-        FileKind::Hex => Some("A HEX text, where a source is taken"),
-        FileKind::Text | FileKind::Other => None,
+        _ => None,
     }
 }
 
-/// What is said of a file of this kind where an object file is taken, if it is none.
-pub(crate) fn as_object(kind: FileKind) -> Option<&'static str> {
-    match kind {
-        FileKind::Hex => Some("A HEX text, where an object file is taken: no command reads one"),
-        FileKind::Text => Some(
+/// What is said of a file where an object file is taken, if it is a text of Intel HEX, or another that begins with a printed
+/// character or a blank.
+pub(crate) fn as_object(bytes: &[u8]) -> Option<&'static str> {
+    match bytes {
+        [b':', digit, ..] if digit.is_ascii_hexdigit() => {
+            Some("A HEX text, where an object file is taken: no command reads one")
+        }
+        [first, ..] if first.is_ascii_graphic() || first.is_ascii_whitespace() => Some(
             "A text, where an object file is taken: plm compile makes one of a source, and plm run takes sources",
         ),
-        FileKind::Object | FileKind::Other => None,
+        _ => None,
     }
 }

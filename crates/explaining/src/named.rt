@@ -1,27 +1,20 @@
 //! Labels and procedures of a source, by their names.
 
 use crate::left_out::is_same_name;
-use crate::openers::{Opened, Opener, openers};
+use crate::openers::{Opened, openers};
 use std::alloc::{AllocError, Global};
 use words::{Kind, Mark, ReservedWord, Word};
 
-// Whether words begin with a name and a colon, and PROCEDURE after it or not.
-fn is_named(words: &[Word], name: &[u8], is_procedure: bool) -> bool {
-    match words {
-        [first, colon, next, ..] => {
-            colon.kind == Kind::Mark(Mark::Colon)
-                && (next.kind == Kind::Reserved(ReservedWord::Procedure)) == is_procedure
-                && is_same_name(first.text, name)
-        }
-        _ => false,
-    }
-}
-
-// How many words stand before the first procedure of a name, or the first label.
+// How many words stand before the first procedure of a name, or the first label: a name and a colon, with PROCEDURE after it
+// or not.
 fn count_before(words: &[Word], name: &[u8], is_procedure: bool) -> usize {
     let mut rest = words;
-    while let [_, more @ ..] = rest {
-        if is_named(rest, name, is_procedure) {
+    while let [first, more @ ..] = rest {
+        if let [colon, next, ..] = more
+            && colon.kind == Kind::Mark(Mark::Colon)
+            && (next.kind == Kind::Reserved(ReservedWord::Procedure)) == is_procedure
+            && is_same_name(first.text, name)
+        {
             return words.len().saturating_sub(rest.len());
         }
         rest = more;
@@ -35,21 +28,15 @@ pub(crate) fn find_named(words: &[Word], name: &[u8], is_procedure: bool) -> Opt
     Some(word.line)
 }
 
-// The line of the innermost procedure of those that are open.
-fn innermost(open: &[Opener]) -> Option<u32> {
+// The line of the innermost procedure around what comes after words.
+fn procedure_after(alloc: Global, words: &[Word]) -> Result<Option<u32>, AllocError> {
     let mut line = None;
-    for opener in open {
+    for opener in &openers(alloc, words)? {
         if matches!(opener.opened, Opened::Procedure) {
             line = Some(opener.line);
         }
     }
-    line
-}
-
-// The line of the innermost procedure around what comes after words.
-fn procedure_after(alloc: Global, words: &[Word]) -> Result<Option<u32>, AllocError> {
-    let open = openers(alloc, words)?;
-    Ok(innermost(open.as_slice()))
+    Ok(line)
 }
 
 /// Whether the first label of a name is in another procedure than what comes after words that stand before others.

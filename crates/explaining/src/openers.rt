@@ -1,7 +1,5 @@
 //! What is open at a place of a source: a module, procedures and DOs that no END has ended.
 
-use crate::left_out::is_same_name;
-use crate::page::Page;
 use std::alloc::{AllocError, Global};
 use words::{Kind, Mark, ReservedWord, Word};
 
@@ -15,7 +13,7 @@ pub(crate) enum Opened {
     Group,
 }
 
-/// A word that an END is to end: what it opens, the name before it, if any, and its line.
+/// A word that an END is to end: what it opens, the name of the module or the procedure, and its line.
 #[derive(Clone, Copy)]
 pub(crate) struct Opener<'a> {
     pub(crate) opened: Opened,
@@ -24,34 +22,13 @@ pub(crate) struct Opener<'a> {
 }
 
 impl Opener<'_> {
-    /// Whether a module or a procedure of this name.
-    pub(crate) fn has_name(&self, name: &[u8]) -> bool {
+    /// What it opens, before its name.
+    pub(crate) fn what(&self) -> &'static str {
         match self.opened {
-            Opened::Module | Opened::Procedure => is_same_name(self.name, name),
-            Opened::Group => false,
+            Opened::Module => "the module ",
+            Opened::Procedure => "the procedure ",
+            Opened::Group => "the DO",
         }
-    }
-
-    /// Adds what it opens, and its line.
-    pub(crate) fn add(&self, page: &mut Page) {
-        match self.opened {
-            Opened::Module => page.text("the module "),
-            Opened::Procedure => page.text("the procedure "),
-            Opened::Group => page.text("the DO"),
-        }
-        if !matches!(self.opened, Opened::Group) {
-            page.shown(self.name);
-        }
-        page.text(" of line ");
-        page.number(self.line);
-    }
-}
-
-// The name before a colon at the end of words, or no bytes.
-fn name_before<'a>(words: &[Word<'a>]) -> &'a [u8] {
-    match words {
-        [.., name, colon] if colon.kind == Kind::Mark(Mark::Colon) => name.text,
-        _ => &[],
     }
 }
 
@@ -71,11 +48,15 @@ fn take_word<'a>(
         }
         _ => return Ok(()),
     };
-    open.push(Opener {
-        opened,
-        name: name_before(before),
-        line: word.line,
-    })?;
+    let name: &[u8] = match before {
+        [.., name, colon]
+            if colon.kind == Kind::Mark(Mark::Colon) && !matches!(opened, Opened::Group) => {
+            name.text
+        }
+        _ => &[],
+    };
+    let line = word.line;
+    open.push(Opener { opened, name, line })?;
     Ok(())
 }
 

@@ -1,9 +1,10 @@
 //! From which line of an old source that of a fault comes, as tables of lines tell it.
 
-use crate::kept_files::{Content, KeptFile, find_kept};
+use crate::explanation::Seen;
+use crate::kept_files::{KeptFile, kept_bytes};
 use crate::lines::{numbered_line, without_return};
-use crate::page::Page;
-use crate::told::{Told, are_digits};
+use crate::page::{Page, Piece};
+use crate::told::Told;
 
 // A row of a table: the name of a file, and the digits of the number of a line there.
 #[derive(Clone, Copy)]
@@ -25,36 +26,21 @@ enum Origin<'a> {
     From(Row<'a>),
 }
 
-// How many bytes stand before the last blank, if there is one.
-fn last_blank(row: &[u8]) -> Option<usize> {
-    let mut last = None;
-    for (at, byte) in row.iter().enumerate() {
+// What a line of a table says, if it is a row: the name of a file, a blank, and a number that counts from 1.
+fn row_of(line: &[u8]) -> Option<Row<'_>> {
+    let mut blank = None;
+    for (at, byte) in line.iter().enumerate() {
         if *byte == b' ' {
-            last = Some(at);
+            blank = Some(at);
         }
     }
-    last
-}
-
-// Whether bytes are the digits of a number that counts from 1.
-fn is_count(digits: &[u8]) -> bool {
-    match digits {
-        [first, ..] => *first != b'0' && are_digits(digits),
-        [] => false,
-    }
-}
-
-// What a line of a table says, if it is a row.
-fn row_of(line: &[u8]) -> Option<Row<'_>> {
-    let blank = last_blank(line)?;
-    let row = Row {
-        file: line.get(..blank).unwrap_or(&[]),
-        line: line.get(blank.saturating_add(1)..).unwrap_or(&[]),
-    };
-    if !row.file.is_empty() && is_count(row.line) {
-        Some(row)
-    } else {
-        None
+    let (file, after) = line.split_at(blank?.min(line.len()));
+    match after {
+        [_, b'0', ..] | [_] | [] => None,
+        [_, number @ ..] if !file.is_empty() && number.iter().all(u8::is_ascii_digit) => {
+            Some(Row { file, line: number })
+        }
+        _ => None,
     }
 }
 
@@ -64,10 +50,7 @@ fn count_rows(table: &[u8]) -> Option<usize> {
     let mut start = 0_usize;
     for (at, byte) in table.iter().enumerate() {
         if *byte == b'\n' {
-            let line = table.get(start..at).unwrap_or(&[]);
-            if row_of(without_return(line)).is_none() {
-                return None;
-            }
+            row_of(without_return(table.get(start..at).unwrap_or(&[])))?;
             start = at.saturating_add(1);
             count = count.saturating_add(1);
         }
@@ -88,32 +71,20 @@ fn count_lines(text: &[u8]) -> usize {
         }
     }
     match text {
-        [] => count,
-        [.., b'\n'] => count,
+        [] | [.., b'\n'] => count,
         _ => count.saturating_add(1),
     }
 }
 
-// What a table tells of a line of a text, counted from 1.
-fn origin_in<'a>(table: &'a [u8], text: &[u8], line: u32) -> Origin<'a> {
-    match count_rows(table) {
-        Some(count) if count != count_lines(text) => Origin::Other { count },
-        Some(_) => match row_of(numbered_line(table, line)) {
-            Some(row) => Origin::From(row),
-            None => Origin::NoTable,
-        },
-        None => Origin::NoTable,
-    }
-}
-
-// What the table of a name tells of the line of a fault.
+// What the table of a name tells of the line of a fault in a text.
 fn origin_by<'f>(files: &'f [KeptFile], name: &str, told: Told, text: &[u8]) -> Origin<'f> {
-    match find_kept(files, name.as_bytes()) {
-        Some(file) => match &file.content {
-            Content::Bytes(table) => origin_in(table.as_slice(), text, told.line),
-            Content::Missing | Content::Closed => Origin::Unread,
-        },
-        None => Origin::Unread,
+    let Some(table) = kept_bytes(files, name) else {
+        return Origin::Unread;
+    };
+    match (count_rows(table), row_of(numbered_line(table, told.line))) {
+        (Some(count), _) if count != count_lines(text) => Origin::Other { count },
+        (Some(_), Some(row)) => Origin::From(row),
+        _ => Origin::NoTable,
     }
 }
 
@@ -127,56 +98,40 @@ fn is_any_from(files: &[KeptFile], names: &[&str], told: Told, text: &[u8]) -> b
     false
 }
 
-// Adds from where a line comes.
-fn add_row(page: &mut Page, row: Row, name: &str) {
-    page.begin();
-    page.text("From ");
-    page.shown(row.file);
-    page.text(" line ");
-    page.add(row.line);
-    page.text(", by ");
-    page.shown(name.as_bytes());
-    page.end();
+// Adds what the table of a name tells of the line of a fault.
+fn add_origin<'x>(page: &mut Page, name: &'x str, origin: Origin<'x>, told: Told<'x>, text: &[u8]) {
+    let name = Piece::Shown(name.as_bytes());
+    match origin {
+        Origin::Unread => page.sentence(&[name, Piece::Text(" can't be read")]),
+        Origin::NoTable => page.sentence(&[name, Piece::Text(" is no table of lines")]),
+        Origin::Other { count } => page.sentence(&[
+            name,
+            Piece::Text(" is not the table of "),
+            Piece::Shown(told.place.as_bytes()),
+            Piece::Text(": it ends with line "),
+            Piece::Number(count.min(4_294_967_295) as u32),
+            Piece::Text(", and the file with line "),
+            Piece::Number(count_lines(text).min(4_294_967_295) as u32),
+        ]),
+        Origin::From(row) => page.sentence(&[
+            Piece::Text("From "),
+            Piece::Shown(row.file),
+            Piece::Text(" line "),
+            Piece::Shown(row.line),
+            Piece::Text(", by "),
+            name,
+        ]),
+    }
 }
 
-// Adds that a file tells nothing, and why.
-fn add_reason(page: &mut Page, name: &str, reason: &str) {
-    page.begin();
-    page.shown(name.as_bytes());
-    page.text(reason);
-    page.end();
-}
-
-// Adds that a table is that of another text than that of a fault, since it has so many rows.
-fn add_counts(page: &mut Page, name: &str, count: usize, told: Told, text: &[u8]) {
-    page.begin();
-    page.shown(name.as_bytes());
-    page.text(" is not the table of ");
-    page.shown(told.place.as_bytes());
-    page.text(": it ends with line ");
-    page.number(count.min(4_294_967_295) as u32);
-    page.text(", and the file with line ");
-    page.number(count_lines(text).min(4_294_967_295) as u32);
-    page.end();
-}
-
-/// Adds from where the line of a fault comes, as each of the tables tells it that has as many lines as the text of the fault.
+/// Adds from where the line of a fault in a text comes, as each of the tables tells it that has as many lines as the text.
 /// It is said which can't be read, and which are none; where no table has so many lines, that is said too.
-pub(crate) fn add_origins(
-    page: &mut Page,
-    files: &[KeptFile],
-    names: &[&str],
-    told: Told,
-    text: &[u8],
-) {
-    let is_any = is_any_from(files, names, told, text);
-    for name in names {
-        match origin_by(files, name, told, text) {
-            Origin::Unread => add_reason(page, name, " can't be read"),
-            Origin::NoTable => add_reason(page, name, " is no table of lines"),
-            Origin::Other { count } if !is_any => add_counts(page, name, count, told, text),
-            Origin::Other { count: _ } => {}
-            Origin::From(row) => add_row(page, row, name),
+pub(crate) fn add_origins(page: &mut Page, seen: &Seen, told: Told, text: &[u8]) {
+    let is_any = is_any_from(seen.files, seen.tables, told, text);
+    for name in seen.tables {
+        match origin_by(seen.files, name, told, text) {
+            Origin::Other { .. } if is_any => {}
+            origin => add_origin(page, name, origin, told, text),
         }
     }
 }

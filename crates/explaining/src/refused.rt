@@ -1,13 +1,14 @@
 //! Where a source is refused, and why.
 
+use crate::explanation::Seen;
 use crate::hints::{Hint, hint_at};
-use crate::kinds::{as_source, kind_of};
-use crate::left_out::{cure_of, is_number_without_digit};
+use crate::kinds::as_source;
+use crate::left_out::{cure_of, is_number_without_digit, is_same_name};
 use crate::lines::{show_line, show_place};
 use crate::named::{find_named, leaves_procedure};
 use crate::openers::{Opener, openers};
-use crate::page::Page;
-use crate::sentences::meaning_of;
+use crate::origins::add_origins;
+use crate::page::{MARGIN, Page, Piece};
 use crate::told::Told;
 use host::Failure;
 use sources::{LONGEST_SOURCE, Place, ReadFault, read_source};
@@ -28,161 +29,134 @@ fn fault_of(page: &mut Page, alloc: Global, text: &[u8]) -> Option<ReadFault> {
     }
 }
 
-// The words that LITERALLY makes of others; none where these are refused.
-fn expanded<'a>(page: &mut Page, alloc: Global, plain: &[Word<'a>]) -> Vec<Word<'a>> {
-    match literally::expand(alloc, plain) {
-        Ok(words) => words,
-        Err(failure) => {
-            page.note(!matches!(failure, Failure::Memory));
-            Vec::new(alloc)
+/// The words of a text as they stand, and those that LITERALLY makes of them; none where the text is refused for one of them.
+pub(crate) fn words_of<'a>(
+    page: &mut Page,
+    alloc: Global,
+    text: &'a [u8],
+) -> (Vec<Word<'a>>, Vec<Word<'a>>) {
+    let mut plain = Vec::new(alloc);
+    if text.len() <= LONGEST_SOURCE {
+        match words::scan(alloc, text) {
+            Ok(words) => plain = words,
+            Err(failure) => page.note(!matches!(failure, Failure::Memory)),
         }
     }
-}
-
-// The words of a text as they stand; none where it is refused for one of them.
-fn plain_words<'a>(page: &mut Page, alloc: Global, text: &'a [u8]) -> Vec<Word<'a>> {
-    if text.len() > LONGEST_SOURCE {
-        return Vec::new(alloc);
+    let mut words = Vec::new(alloc);
+    match literally::expand(alloc, plain.as_slice()) {
+        Ok(expanded) => words = expanded,
+        Err(failure) => page.note(!matches!(failure, Failure::Memory)),
     }
-    match words::scan(alloc, text) {
-        Ok(words) => words,
-        Err(failure) => {
-            page.note(!matches!(failure, Failure::Memory));
-            Vec::new(alloc)
-        }
-    }
-}
-
-/// The words of a text, with those of its LITERALLY definitions; none where the text is refused for one of them.
-pub(crate) fn words_of<'a>(page: &mut Page, alloc: Global, text: &'a [u8]) -> Vec<Word<'a>> {
-    let plain = plain_words(page, alloc, text);
-    expanded(page, alloc, plain.as_slice())
-}
-
-// How many words stand before the first one that begins at a place.
-fn count_before(words: &[Word], start: u32) -> usize {
-    for (at, word) in words.iter().enumerate() {
-        if word.start == start {
-            return at;
-        }
-    }
-    words.len()
+    (plain, words)
 }
 
 // The words before the first one that begins at a place, and this one with what comes after it.
 fn split_at_place<'w, 'a>(words: &'w [Word<'a>], start: u32) -> (&'w [Word<'a>], &'w [Word<'a>]) {
-    words.split_at(count_before(words, start).min(words.len()))
+    let mut count = words.len();
+    for (at, word) in words.iter().enumerate() {
+        if word.start == start {
+            count = at;
+            break;
+        }
+    }
+    words.split_at(count.min(words.len()))
 }
 
-// A text that is refused, its words as they stand, and with those of its LITERALLY definitions, the place of the word at
-// fault, and what is said below its line of the places from which that comes.
+// A text that is refused: what is told of that, its words as they stand, and with those of its LITERALLY definitions, the
+// place of the word at fault, if there is one, the words before it, and it with those after it.
 #[derive(Clone, Copy)]
-struct Refused<'w, 'a> {
-    alloc: Global,
+struct Refused<'w, 'a, 's, 't> {
+    seen: &'w Seen<'s>,
+    told: Told<'t>,
     text: &'a [u8],
     plain: &'w [Word<'a>],
     words: &'w [Word<'a>],
-    place: Place,
-    origins: &'w Page,
+    place: Option<Place>,
+    before: &'w [Word<'a>],
+    after: &'w [Word<'a>],
 }
 
-impl<'w, 'a> Refused<'w, 'a> {
-    // Shows the line of the word at fault, marks the word, and says from where the line comes.
-    fn show(&self, page: &mut Page) {
-        show_place(page, self.text, self.place.line, self.place.start as usize);
-        page.add_page(self.origins);
+impl<'a> Refused<'_, 'a, '_, '_> {
+    // Shows the line of the word at fault, if there is one, marks the word, and says from where the line comes; and then says
+    // why the text is refused.
+    fn show(&self, page: &mut Page, cause: &str) {
+        if let Some(place) = self.place {
+            show_place(page, self.text, place.line, place.start as usize);
+            add_origins(page, self.seen, self.told, self.text);
+        }
+        page.cause(cause, self.told.number);
     }
 
-    // The words before the one at fault, and this one with those after it.
-    fn split(&self) -> (&'w [Word<'a>], &'w [Word<'a>]) {
-        split_at_place(self.words, self.place.start)
+    // Does the same with what a fault says, without the line, which a colon ends.
+    fn show_said<T: fmt::Display>(&self, page: &mut Page, fault: &T) {
+        let mut said = String::new(self.seen.alloc);
+        let is_written = write!(said, "{fault}").is_ok();
+        page.note(is_written);
+        match said.as_str().split_once(": ") {
+            Some((_, sentence)) => self.show(page, sentence),
+            None => self.show(page, said.as_str()),
+        }
     }
 
     // What is open after words.
     fn open_after(&self, page: &mut Page, words: &[Word<'a>]) -> Vec<Opener<'a>> {
-        match openers(self.alloc, words) {
+        match openers(self.seen.alloc, words) {
             Ok(open) => open,
             Err(_) => {
                 page.note(false);
-                Vec::new(self.alloc)
+                Vec::new(self.seen.alloc)
             }
         }
     }
 
     // Adds what a name stands for by LITERALLY, where the word at fault is one of those.
     fn add_expansion(&self, page: &mut Page) {
-        let (_, words) = self.split();
-        match split_at_place(self.plain, self.place.start) {
-            (_, [plain, ..]) if is_replaced(plain, words) => add_words(page, plain, words),
-            _ => {}
+        let [first, ..] = self.after else {
+            return;
+        };
+        let (_, plain) = split_at_place(self.plain, first.start);
+        if let [plain, ..] = plain
+            && first.text != plain.text
+        {
+            page.pieces(&[
+                Piece::Text(MARGIN),
+                Piece::Shown(plain.text),
+                Piece::Text(" stands for its text by LITERALLY:"),
+            ]);
+            for word in self.after {
+                if word.start == plain.start {
+                    page.pieces(&[Piece::Text(" "), Piece::Shown(word.text)]);
+                }
+            }
+            page.pieces(&[Piece::Text(".\n")]);
         }
     }
 
     // The word at fault, where it stands in the text as it is, or is the only one of the text that it is put in for.
     fn word(&self) -> Option<Word<'a>> {
-        match self.split() {
-            (_, [word, next, ..]) if word.start == next.start => None,
-            (_, [word, ..]) => Some(*word),
-            (_, []) => None,
+        match self.after {
+            [word, next, ..] if word.start == next.start => None,
+            [word, ..] => Some(*word),
+            [] => None,
         }
     }
-}
-
-// Whether a word is replaced by others.
-fn is_replaced(plain: &Word, words: &[Word]) -> bool {
-    match words {
-        [word, ..] => word.text != plain.text,
-        [] => false,
-    }
-}
-
-// Adds what a name stands for.
-fn add_words(page: &mut Page, plain: &Word, words: &[Word]) {
-    page.begin();
-    page.shown(plain.text);
-    page.text(" stands for its text by LITERALLY:");
-    for word in words {
-        if word.start == plain.start {
-            page.text(" ");
-            page.shown(word.text);
-        }
-    }
-    page.end();
-}
-
-// What a fault says without the line, which a colon ends.
-fn without_line(said: &str) -> &str {
-    match said.split_once(": ") {
-        Some((_, sentence)) => sentence,
-        None => said,
-    }
-}
-
-// Adds what a fault says.
-fn add_said<T: fmt::Display>(page: &mut Page, alloc: Global, fault: &T, number: &str) {
-    let mut said = String::new(alloc);
-    let is_written = write!(said, "{fault}").is_ok();
-    page.note(is_written);
-    page.cause(without_line(said.as_str()), number);
 }
 
 // Adds what is likely wrong at a word that cannot stand where it stands, below the line that comes before, if that is at
 // fault, and its own.
 fn explain_word(page: &mut Page, refused: &Refused) {
-    let (before, _) = refused.split();
-    let hint = match (before, refused.word()) {
-        ([earlier @ .., _], Some(word)) => {
-            let open = refused.open_after(page, earlier);
-            hint_at(before, &word, open.as_slice())
+    let hint = match refused.word() {
+        Some(word) => {
+            let count = refused.before.len().saturating_sub(1);
+            let open = refused.open_after(page, refused.before.get(..count).unwrap_or(&[]));
+            hint_at(refused.before, &word, open.as_slice())
         }
-        ([], Some(word)) => hint_at(before, &word, &[]),
-        _ => None,
+        None => None,
     };
     if let Some(Hint::NoSemicolon { line }) = hint {
         show_line(page, refused.text, line);
     }
-    refused.show(page);
-    page.cause(meaning_of("C7"), "C7");
+    refused.show(page, refused.told.meaning);
     if let Some(hint) = hint {
         hint.add(page);
     }
@@ -192,70 +166,54 @@ fn explain_word(page: &mut Page, refused: &Refused) {
 // Adds that a text ends before its module does, and what is still open.
 fn explain_end(page: &mut Page, refused: &Refused) {
     if refused.words.is_empty() {
-        page.add_page(refused.origins);
+        add_origins(page, refused.seen, refused.told, refused.text);
         page.cause("The text has no words, and is no module", "C7");
         return;
     }
     let open = refused.open_after(page, refused.words);
-    refused.show(page);
-    page.cause("The text ends before its module does", "C7");
+    refused.show(page, "The text ends before its module does");
     if let [.., last] = open.as_slice() {
-        page.begin();
-        page.text("An END is missing: ");
-        last.add(page);
-        page.text(" is still open");
-        page.end();
+        page.sentence(&[
+            Piece::Text("An END is missing: "),
+            Piece::Text(last.what()),
+            Piece::Shown(last.name),
+            Piece::Text(" of line "),
+            Piece::Number(last.line),
+            Piece::Text(" is still open"),
+        ]);
         show_line(page, refused.text, last.line);
     }
 }
 
-// Adds what an END ends whose name is not that of this, and whether something around it has that name.
+// Adds what an END ends whose name is not that of this.
 fn explain_end_name(page: &mut Page, refused: &Refused) {
-    refused.show(page);
-    page.cause(meaning_of("C9"), "C9");
-    let (before, after) = refused.split();
-    if let ([earlier @ .., _], [name, ..]) = (before, after) {
+    refused.show(page, refused.told.meaning);
+    if let ([earlier @ .., _], [name, ..]) = (refused.before, refused.after) {
         let open = refused.open_after(page, earlier);
-        add_ended(page, refused.text, open.as_slice(), name);
+        add_ended(page, refused.text, open.as_slice(), name.text);
     }
 }
 
 // Adds what an END ends, and whether something around it has a name.
-fn add_ended(page: &mut Page, text: &[u8], open: &[Opener], name: &Word) {
+fn add_ended(page: &mut Page, text: &[u8], open: &[Opener], name: &[u8]) {
     if let [around @ .., last] = open {
-        page.begin();
-        page.text("This END ends ");
-        last.add(page);
-        page.text(if has_name(around, name.text) {
-            ", so an END may be missing before it"
-        } else {
-            ""
-        });
-        page.end();
+        let mut is_around = false;
+        for opener in around {
+            is_around = is_around || is_same_name(opener.name, name);
+        }
+        page.sentence(&[
+            Piece::Text("This END ends "),
+            Piece::Text(last.what()),
+            Piece::Shown(last.name),
+            Piece::Text(" of line "),
+            Piece::Number(last.line),
+            Piece::Text(if is_around {
+                ", so an END may be missing before it"
+            } else {
+                ""
+            }),
+        ]);
         show_line(page, text, last.line);
-    }
-}
-
-// Whether one of those that are open has a name.
-fn has_name(open: &[Opener], name: &[u8]) -> bool {
-    for opener in open {
-        if opener.has_name(name) {
-            return true;
-        }
-    }
-    false
-}
-
-// Adds where a word cannot stand, or the words end, or an END has another name.
-fn explain_syntax(page: &mut Page, refused: &Refused, fault: &syntax::Fault) {
-    match fault {
-        syntax::Fault::Word { .. } => explain_word(page, refused),
-        syntax::Fault::End { .. } => explain_end(page, refused),
-        syntax::Fault::EndName { .. } => explain_end_name(page, refused),
-        syntax::Fault::Depth { .. } => {
-            refused.show(page);
-            page.cause(meaning_of("C8"), "C8");
-        }
     }
 }
 
@@ -263,11 +221,17 @@ fn explain_syntax(page: &mut Page, refused: &Refused, fault: &syntax::Fault) {
 fn explain_name(page: &mut Page, refused: &Refused) {
     if let Some(word) = refused.word() {
         if is_number_without_digit(word.text) {
-            page.sentence_with("A number begins with a digit: 0", word.text);
+            page.sentence(&[
+                Piece::Text("A number begins with a digit: 0"),
+                Piece::Shown(word.text),
+            ]);
         } else if let Some(cure) = cure_of(word.text) {
-            page.sentence(cure);
+            page.sentence(&[Piece::Text(cure)]);
         } else if let Some(line) = find_named(refused.words, word.text, true) {
-            page.sentence_of_line("The procedure of this name is declared in line ", line, "");
+            page.sentence(&[
+                Piece::Text("The procedure of this name is declared in line "),
+                Piece::Number(line),
+            ]);
             show_line(page, refused.text, line);
         }
     }
@@ -279,30 +243,30 @@ fn explain_label(page: &mut Page, refused: &Refused) {
         && let Some(line) = find_named(refused.words, word.text, false)
     {
         show_line(page, refused.text, line);
-        let (before, _) = refused.split();
-        let is_left = leaves_procedure(refused.alloc, refused.words, before, word.text);
-        page.sentence(if is_left {
+        let is_left = leaves_procedure(
+            refused.seen.alloc,
+            refused.words,
+            refused.before,
+            word.text,
+        );
+        page.sentence(&[Piece::Text(if is_left {
             "A GOTO does not leave its procedure: set a variable, and test it after each call"
         } else {
             "A GOTO reaches labels of its own list of statements, and of those around it"
-        });
+        })]);
     }
 }
 
 // Adds what breaks a rule of names or types.
 fn explain_typing(page: &mut Page, refused: &Refused, fault: &typing::Fault) {
-    refused.show(page);
-    match fault.number() {
-        "C11" => {
-            page.cause(meaning_of("C11"), "C11");
-            explain_name(page, refused);
-        }
-        "C20" => {
-            page.cause(meaning_of("C20"), "C20");
-            explain_label(page, refused);
-        }
-        "C13" | "C14" | "C15" => add_said(page, refused.alloc, &fault.cause, fault.number()),
-        number => page.cause(meaning_of(number), number),
+    match refused.told.number {
+        "C13" | "C14" | "C15" => refused.show_said(page, &fault.cause),
+        _ => refused.show(page, refused.told.meaning),
+    }
+    match refused.told.number {
+        "C11" => explain_name(page, refused),
+        "C20" => explain_label(page, refused),
+        _ => {}
     }
     refused.add_expansion(page);
 }
@@ -323,86 +287,74 @@ fn hint_of_byte(byte: u8) -> Option<&'static str> {
     }
 }
 
-// Adds what is wrong with a word, or with LITERALLY.
-fn explain_spelling(page: &mut Page, refused: &Refused, number: &str) {
-    refused.show(page);
-    page.cause(meaning_of(number), number);
-    if number == "C1"
-        && let Some(byte) = refused.text.get(refused.place.start as usize)
+// Adds what is wrong with the spelling of a word.
+fn explain_spelling(page: &mut Page, refused: &Refused) {
+    refused.show(page, refused.told.meaning);
+    if refused.told.number == "C1"
+        && let Some(place) = refused.place
+        && let Some(byte) = refused.text.get(place.start as usize)
         && let Some(hint) = hint_of_byte(*byte)
     {
-        page.sentence(hint);
+        page.sentence(&[Piece::Text(hint)]);
     }
-}
-
-// Adds what is wrong with LITERALLY.
-fn explain_expansion(page: &mut Page, refused: &Refused, fault: &literally::Fault) {
-    refused.show(page);
-    add_said(page, refused.alloc, fault, fault.number());
 }
 
 // Adds why a text is refused.
 fn explain_fault(page: &mut Page, refused: &Refused, fault: &ReadFault) {
     match fault {
-        ReadFault::Words(fault) => explain_spelling(page, refused, fault.number()),
-        ReadFault::Expansion(fault) => explain_expansion(page, refused, fault),
-        ReadFault::Syntax(fault) => explain_syntax(page, refused, fault),
+        ReadFault::Words(_) => explain_spelling(page, refused),
+        ReadFault::Expansion(fault) => refused.show_said(page, fault),
+        ReadFault::Syntax(syntax::Fault::Word { .. }) => explain_word(page, refused),
+        ReadFault::Syntax(syntax::Fault::End { .. }) => explain_end(page, refused),
+        ReadFault::Syntax(syntax::Fault::EndName { .. }) => explain_end_name(page, refused),
         ReadFault::Typing(fault) => explain_typing(page, refused, fault),
-        ReadFault::Storage(fault) => add_said(page, refused.alloc, fault, fault.number()),
-        ReadFault::TooLong => page.cause(meaning_of("U2"), "U2"),
+        ReadFault::Storage(fault) => refused.show_said(page, fault),
+        ReadFault::Syntax(syntax::Fault::Depth { .. }) | ReadFault::TooLong => {
+            refused.show(page, refused.told.meaning);
+        }
     }
 }
 
 // Adds why a text is refused at a place.
-fn explain_at(page: &mut Page, alloc: Global, text: &[u8], fault: &ReadFault, origins: &Page) {
-    let plain = plain_words(page, alloc, text);
-    let words = expanded(page, alloc, plain.as_slice());
+fn explain_at(page: &mut Page, seen: &Seen, told: Told, text: &[u8], fault: &ReadFault) {
+    let (plain, words) = words_of(page, seen.alloc, text);
+    let place = fault.place();
+    let start = match place {
+        Some(place) => place.start,
+        None => 0,
+    };
+    let (before, after) = split_at_place(words.as_slice(), start);
     let refused = Refused {
-        alloc,
+        seen,
+        told,
         text,
         plain: plain.as_slice(),
         words: words.as_slice(),
-        place: place_of(fault),
-        origins,
+        place,
+        before,
+        after,
     };
     explain_fault(page, &refused, fault);
 }
 
-// The place of a fault, or the start of the text where it has none.
-fn place_of(fault: &ReadFault) -> Place {
-    match fault.place() {
-        Some(place) => place,
-        None => Place { start: 0, line: 0 },
-    }
-}
-
-// Adds what is told of a text without another look at it.
-fn explain_line(page: &mut Page, told: Told, text: &[u8], origins: &Page) {
-    if told.line > 0 {
-        show_line(page, text, told.line);
-        page.add_page(origins);
-    }
-    page.cause(meaning_of(told.number), told.number);
-}
-
 /// Adds why a source is refused, as the line of its fault and another look at it tell, with what is said below that line of
 /// the places from which it comes.
-pub(crate) fn explain_source(
-    page: &mut Page,
-    alloc: Global,
-    told: Told,
-    text: &[u8],
-    origins: &Page,
-) {
-    if let Some(other) = as_source(kind_of(text)) {
-        page.add_page(origins);
+pub(crate) fn explain_source(page: &mut Page, seen: &Seen, told: Told, text: &[u8]) {
+    if let Some(other) = as_source(text) {
+        add_origins(page, seen, told, text);
         page.cause(other, told.number);
         return;
     }
-    match fault_of(page, alloc, text) {
+    match fault_of(page, seen.alloc, text) {
         Some(fault) if fault.number() == told.number && fault.line() == told.line => {
-            explain_at(page, alloc, text, &fault, origins);
+            explain_at(page, seen, told, text, &fault);
         }
-        _ => explain_line(page, told, text, origins),
+        _ => {
+            if told.line > 0 {
+                show_line(page, text, told.line);
+                add_origins(page, seen, told, text);
+            }
+            page.cause(told.meaning, told.number);
+        }
     }
 }

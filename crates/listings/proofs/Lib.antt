@@ -7,6 +7,7 @@ pub mod Adding
 pub mod LinesWritten
 pub mod NamesAdded
 pub mod ViewsMade
+pub mod ProcedureCodes
 pub mod ModuleLists
 pub mod ProgramLists
 pub mod SymbolTexts

@@ -1,7 +1,7 @@
 -- Names that are added.
-use Rattle.listings.proofs.{Prelude.{◌≡◌, inl, inr, ℕ, zero, suc, ◌-◌, ◌≤◌, List, [], ◌∷◌, ◌++◌, Contains, drop, get_or, length, take, map, filter_map, zip, slice_get, Option, Some, None, option_map, refl, ap, sym, subst, ◌∙◌, arith, append-nil, append_assoc, Contains-append_left, Contains-append_right, none-some, same_Some, slice_get-map, AllByRecursion, cons_option, IfSome, option_to_list, ModulePlacement, Symbol, Routine, TypedModule, TypedObject, TypedProcedure, object_view, CodeObject, object_symbol, routine_names, NameText, Named, ModuleView, AddsNames, AreNamesSoFar, HasAmong, IsNameAmong, IsNameIn, names_in, pair_of, typed_of, named_view, named_with, routine_name, text_of_name}, Adding.{split_first}}
+use Rattle.listings.proofs.{Prelude.{◌≡◌, inl, inr, ℕ, zero, suc, ◌-◌, ◌<◌, ◌≤◌, Bool, true, false, cond, List, [], ◌∷◌, ◌++◌, Contains, drop, filter, flat_map, get_or, length, take, map, filter_map, zip, slice_get, Option, Some, None, option_map, refl, ap, sym, subst, ◌∙◌, arith, append-nil, append_assoc, map-append, Contains-append_left, Contains-append_right, none-some, same_Some, slice_get-map, AllByRecursion, cons_option, option_to_list, Symbol, Public, Routine, TypedModule, TypedProcedure, object_view, procedure_view, constant_bytes, CodeObject, CodeProcedure, IsInCode, code_address, is_private, names_in_code, object_symbol, procedure_symbol, public_place, routine_names, symbol_of, NameText, Declared, Named, ModuleView, AddsNames, AddsNamesSoFar, HasNames, IsNameAmong, IsNameIn, code_size, object_names, public_names, typed_of, named_view, named_with, routine_name, text_of_name}, Adding.{split_first}}
+use Rattle.call_graphs.proofs.Elements.{at_head as contains_first, in_tail as contains_later}
 use Rattle.runtime8080.specs.declared.routine.Routine.TheVariants as routines
-pub use Rattle.call_graphs.proofs.Elements.{at_head as contains_first}
 
 -- what stands at a place is an element
 pub contains_at : {A : Type 0} (xs : List A) (n : ℕ) (x : A) → slice_get xs n ≡ Some x → Contains xs x
@@ -16,9 +16,38 @@ name_contained procedures procedure number e =
     contains_at (map (λ (p : TypedProcedure). p.name) procedures) number procedure.name
     (slice_get-map (λ (p : TypedProcedure). p.name) procedures number ∙ ap (option_map (λ (p : TypedProcedure). p.name)) e)
 
-pub procedure_named : (typed : TypedModule) (procedure : TypedProcedure) (number : ℕ) → slice_get typed.procedures number ≡ Some procedure → Contains (names_in typed) procedure.name
-procedure_named typed procedure number e =
-    Contains-append_left (map (λ (p : TypedProcedure). p.name) typed.procedures) routine_names procedure.name (name_contained typed.procedures procedure number e)
+-- that of a private one
+kept_first : (p : TypedProcedure) (others : List TypedProcedure) (t : Bool) → t ≡ true → Contains (cond t (p ∷ others) others) p
+kept_first p others true e = contains_first p others
+kept_first p others false e = cc
+
+kept_later : (first p : TypedProcedure) (others : List TypedProcedure) (t : Bool) → Contains others p → Contains (cond t (first ∷ others) others) p
+kept_later first p others true found = contains_later first others p found
+kept_later first p others false found = found
+
+private_at : (procedures : List TypedProcedure) (procedure : TypedProcedure) (number : ℕ) → slice_get procedures number ≡ Some procedure → is_private procedure.visibility ≡ true
+    → Contains (filter (λ (p : TypedProcedure). is_private p.visibility) procedures) procedure
+private_at [] procedure number e known = absurd (none-some procedure e)
+private_at (first ∷ others) procedure zero e known =
+    let same : first ≡ procedure = same_Some first procedure e in
+    let others_kept : List TypedProcedure = filter (λ (p : TypedProcedure). is_private p.visibility) others in
+    subst (λ (p : TypedProcedure). Contains (cond (is_private first.visibility) (first ∷ others_kept) others_kept) p) same
+    (kept_first first others_kept (is_private first.visibility) (ap (λ (p : TypedProcedure). is_private p.visibility) same ∙ known))
+private_at (first ∷ others) procedure (suc number) e known =
+    kept_later first procedure (filter (λ (p : TypedProcedure). is_private p.visibility) others) (is_private first.visibility) (private_at others procedure number e known)
+
+contains_map : {A B : Type 0} (f : A → B) (xs : List A) (x : A) → Contains xs x → Contains (map f xs) (f x)
+contains_map f [] x (n, within, is) = absurd (omega (arith, within))
+contains_map f (y ∷ xs) x (zero, within, is) = (zero, omega arith, ap f is)
+contains_map f (y ∷ xs) x (suc n, within, is) =
+    let later = contains_map f xs x (n, omega (arith, within), is) in (suc later.0, omega (arith, later.1), later.2)
+
+pub private_named : (typed : TypedModule) (procedure : TypedProcedure) (number : ℕ) (known : Bool) → slice_get typed.procedures number ≡ Some procedure → known ≡ is_private procedure.visibility → known ≡ true
+    → Contains (names_in_code typed) procedure.name
+private_named typed procedure number known e is holds =
+    let kept : List TypedProcedure = filter (λ (p : TypedProcedure). is_private p.visibility) typed.procedures in
+    Contains-append_left (map (λ (p : TypedProcedure). p.name) kept) routine_names procedure.name
+    (contains_map (λ (p : TypedProcedure). p.name) kept procedure (private_at typed.procedures procedure number e (sym is ∙ holds)))
 
 -- the name of a routine
 routine_found : (routine : Routine) → Contains routine_names (routine_name routine)
@@ -32,121 +61,136 @@ routine_found routines.RotateLeft = contains_at routine_names 6 _ refl
 routine_found routines.RotateRight = contains_at routine_names 7 _ refl
 routine_found routines.Move = contains_at routine_names 8 _ refl
 
-pub routine_named : (typed : TypedModule) (routine : Routine) → Contains (names_in typed) (routine_name routine)
+pub routine_named : (typed : TypedModule) (routine : Routine) → Contains (names_in_code typed) (routine_name routine)
 routine_named typed routine =
-    Contains-append_right (map (λ (p : TypedProcedure). p.name) typed.procedures) routine_names (routine_name routine) (routine_found routine)
+    Contains-append_right (map (λ (p : TypedProcedure). p.name) (filter (λ (p : TypedProcedure). is_private p.visibility) typed.procedures)) routine_names (routine_name routine) (routine_found routine)
 
--- names that are added
+-- names that the tables tell
+pub name_pushed : (old new : List Named) (address : ℕ) (name : List ℕ) → new ≡ old ++ named_with address (Declared name) ∷ [] → map named_view new ≡ map named_view old ++ symbol_of name address ∷ []
+name_pushed old new address name added = ap (map named_view) added ∙ map-append named_view old (named_with address (Declared name) ∷ [])
+
+pub nothing_named : (names : List Symbol) (symbol : Option Symbol) → symbol ≡ None → names ≡ names ++ option_to_list symbol
+nothing_named names symbol none = sym (append-nil names) ∙ ap (λ (found : Option Symbol). names ++ option_to_list found) (sym none)
+
+pub procedure_named : (code_base place address : ℕ) (publics : List Public) (procedure : TypedProcedure) (old new : List Symbol) → Some place ≡ public_place publics procedure
+    → address ≡ code_address code_base place → new ≡ old ++ symbol_of procedure.name address ∷ [] → new ≡ old ++ option_to_list (procedure_symbol code_base publics procedure)
+procedure_named code_base place address publics procedure old new found is added =
+    added
+    ∙ ap (λ (a : ℕ). old ++ symbol_of procedure.name a ∷ []) is
+    ∙ ap (λ (p : Option ℕ). old ++ option_to_list (option_map (λ (n : ℕ). symbol_of procedure.name (code_address code_base n)) p)) found
+
+-- one more, in front of others
+symbol_more : (old new others all : List Symbol) (symbol : Option Symbol) → new ≡ old ++ option_to_list symbol → old ++ cons_option symbol others ≡ all → new ++ others ≡ all
+symbol_more old new others all None added so_far = ap (λ (l : List Symbol). l ++ others) (added ∙ append-nil old) ∙ so_far
+symbol_more old new others all (Some symbol) added so_far = ap (λ (l : List Symbol). l ++ others) added ∙ append_assoc old (symbol ∷ []) others ∙ so_far
+
+pub objects_more : (objects : List CodeObject) (addresses : List ℕ) (object d : CodeObject) (address e : ℕ) (old new all : List Symbol) → 1 ≤ length objects → object ≡ get_or objects 0 d
+    → 1 ≤ length addresses → address ≡ get_or addresses 0 e → new ≡ old ++ option_to_list (object_symbol (object_view object, address))
+    → old ++ filter_map object_symbol (zip (map object_view objects) addresses) ≡ all
+    → new ++ filter_map object_symbol (zip (map object_view (take (length objects - 1) (drop 1 objects))) (take (length addresses - 1) (drop 1 addresses))) ≡ all
+objects_more objects addresses object d address e old new all some is some_address address_is added so_far =
+    let more : List CodeObject = take (length objects - 1) (drop 1 objects) in
+    let more_addresses : List ℕ = take (length addresses - 1) (drop 1 addresses) in
+    symbol_more old new (filter_map object_symbol (zip (map object_view more) more_addresses)) all (object_symbol (object_view object, address)) added
+    (subst (λ (left : List ℕ). old ++ filter_map object_symbol (zip (object_view object ∷ map object_view more) left) ≡ all) (split_first addresses address e some_address address_is)
+    (subst (λ (left : List CodeObject). old ++ filter_map object_symbol (zip (map object_view left) addresses) ≡ all) (split_first objects object d some is) so_far))
+
+pub objects_done : (objects : List CodeObject) (addresses : List ℕ) (old all : List Symbol) → length objects < 1 → old ++ filter_map object_symbol (zip (map object_view objects) addresses) ≡ all
+    → old ≡ all
+objects_done [] addresses old all none so_far = sym (append-nil old) ∙ so_far
+objects_done (object ∷ objects) addresses old all none so_far = absurd (omega (arith, none))
+
+pub addresses_done : (objects : List CodeObject) (addresses : List ℕ) (old all : List Symbol) → length addresses < 1 → old ++ filter_map object_symbol (zip (map object_view objects) addresses) ≡ all
+    → old ≡ all
+addresses_done objects (address ∷ addresses) old all none so_far = absurd (omega (arith, none))
+addresses_done [] [] old all none so_far = sym (append-nil old) ∙ so_far
+addresses_done (object ∷ objects) [] old all none so_far = sym (append-nil old) ∙ so_far
+
+pub procedures_more : (code_base : ℕ) (publics : List Public) (left : List CodeProcedure) (procedure d : CodeProcedure) (old new all : List Symbol) → 1 ≤ length left → procedure ≡ get_or left 0 d
+    → new ≡ old ++ option_to_list (procedure_symbol code_base publics (procedure_view procedure))
+    → old ++ filter_map (procedure_symbol code_base publics) (map procedure_view left) ≡ all
+    → new ++ filter_map (procedure_symbol code_base publics) (map procedure_view (take (length left - 1) (drop 1 left))) ≡ all
+procedures_more code_base publics left procedure d old new all some is added so_far =
+    let more : List CodeProcedure = take (length left - 1) (drop 1 left) in
+    symbol_more old new (filter_map (procedure_symbol code_base publics) (map procedure_view more)) all (procedure_symbol code_base publics (procedure_view procedure)) added
+    (subst (λ (procedures : List CodeProcedure). old ++ filter_map (procedure_symbol code_base publics) (map procedure_view procedures) ≡ all) (split_first left procedure d some is) so_far)
+
+pub procedures_done : (code_base : ℕ) (publics : List Public) (left : List CodeProcedure) (old all : List Symbol) → length left < 1
+    → old ++ filter_map (procedure_symbol code_base publics) (map procedure_view left) ≡ all → old ≡ all
+procedures_done code_base publics [] old all none so_far = sym (append-nil old) ∙ so_far
+procedures_done code_base publics (procedure ∷ left) old all none so_far = absurd (omega (arith, none))
+
+-- those of modules, one after another
+pub more_of : (names : ModuleView → List Symbol) (left : List ModuleView) (view d : ModuleView) (old new all : List Symbol) → 1 ≤ length left → view ≡ get_or left 0 d → new ≡ old ++ names view
+    → old ++ flat_map names left ≡ all → new ++ flat_map names (take (length left - 1) (drop 1 left)) ≡ all
+more_of names left view d old new all some is added so_far =
+    let more : List ModuleView = take (length left - 1) (drop 1 left) in
+    ap (λ (l : List Symbol). l ++ flat_map names more) added
+    ∙ append_assoc old (names view) (flat_map names more)
+    ∙ subst (λ (views : List ModuleView). old ++ flat_map names views ≡ all) (split_first left view d some is) so_far
+
+pub none_of : (names : ModuleView → List Symbol) (left : List ModuleView) (old all : List Symbol) → length left < 1 → old ++ flat_map names left ≡ all → old ≡ all
+none_of names [] old all none so_far = sym (append-nil old) ∙ so_far
+none_of names (view ∷ left) old all none so_far = absurd (omega (arith, none))
+
+-- names in code
 all_named : (P : Symbol → Type 0) (xs ys : List Named) → AllByRecursion P (map named_view xs) → AllByRecursion P (map named_view ys) → AllByRecursion P (map named_view (xs ++ ys))
 all_named P [] ys each others = others
 all_named P (x ∷ xs) ys each others = (each.0, all_named P xs ys each.1 others)
 
-if_named : (P : Symbol → Type 0) (found : Option Named) → IfSome found (λ (named : Named). P (named_view named)) → AllByRecursion P (map named_view (option_to_list found))
-if_named P None each = tt
-if_named P (Some named) each = (each, tt)
-
 pub no_names : (P : Symbol → Type 0) (old : List Named) → AddsNames P old old
 no_names P old = record { added = []; new_is = sym (append-nil old); each = tt }
 
-pub names_more : (P : Symbol → Type 0) (old now new : List Named) (found : Option Named) → AddsNames P old now → IfSome found (λ (named : Named). P (named_view named)) → new ≡ now ++ option_to_list found
-    → AddsNames P old new
-names_more P old now new found so_far fits is = record {
-  added = so_far.added ++ option_to_list found;
-  new_is = is ∙ ap (λ (names : List Named). names ++ option_to_list found) so_far.new_is ∙ append_assoc old so_far.added (option_to_list found);
-  each = all_named P so_far.added (option_to_list found) so_far.each (if_named P found fits);
+pub names_joined : (P : Symbol → Type 0) (old now new : List Named) → AddsNames P old now → AddsNames P now new → AddsNames P old new
+names_joined P old now new so_far more = record {
+  added = so_far.added ++ more.added;
+  new_is = more.new_is ∙ ap (λ (names : List Named). names ++ more.added) so_far.new_is ∙ append_assoc old so_far.added more.added;
+  each = all_named P so_far.added more.added so_far.each more.each;
 }
 
-if_code : (view : ModuleView) (address : ℕ) (text : Option NameText) → IfSome text (λ (t : NameText). Contains (names_in (typed_of view)) (text_of_name t))
-    → IfSome (option_map (named_with address) text) (λ (named : Named). IsNameIn view (named_view named))
-if_code view address None fits = tt
-if_code view address (Some text) fits = inr fits
-
-pub code_name_more : (view : ModuleView) (old now new : List Named) (address : ℕ) (text : Option NameText) → AddsNames (IsNameIn view) old now
-    → IfSome text (λ (t : NameText). Contains (names_in (typed_of view)) (text_of_name t)) → new ≡ now ++ option_to_list (option_map (named_with address) text) → AddsNames (IsNameIn view) old new
-code_name_more view old now new address text so_far fits is =
-    names_more (IsNameIn view) old now new (option_map (named_with address) text) so_far (if_code view address text fits) is
-
--- objects of a module, one after another
-pub contains_later : {A : Type 0} (first x : A) (xs : List A) → Contains xs x → Contains (first ∷ xs) x
-contains_later first x xs found = (suc found.0, omega (arith, found.1), found.2)
-
-later_symbol : (first : Option Symbol) (others : List Symbol) (symbol : Symbol) → Contains others symbol → Contains (cons_option first others) symbol
-later_symbol None others symbol found = found
-later_symbol (Some first) others symbol found = contains_later first symbol others found
-
-pub objects_begun : (view : ModuleView) → HasAmong (pair_of view) (map object_view view.typed.now.objects.items) view.placed.now.objects.items
-objects_begun view = record { among = λ (symbol : Symbol) found. found }
-
-objects_next : (placed : TypedModule × ModulePlacement) (object : TypedObject) (objects : List TypedObject) (address : ℕ) (addresses : List ℕ) → HasAmong placed (object ∷ objects) (address ∷ addresses)
-    → HasAmong placed objects addresses
-objects_next placed object objects address addresses has = record {
-  among = λ (symbol : Symbol) found. has.among symbol
-      (later_symbol (object_symbol (object, address)) (filter_map object_symbol (zip objects addresses)) symbol found);
+pub part_named : (view : ModuleView) (text : NameText) (place address : ℕ) (old new : List Named) → Contains (names_in_code (typed_of view)) (text_of_name text)
+    → IsInCode (constant_bytes (typed_of view)) (code_size view) place → address ≡ code_address view.code_base place → new ≡ old ++ named_with address text ∷ [] → AddsNames (IsNameIn view) old new
+part_named view text place address old new name in_code is added = record {
+  added = named_with address text ∷ [];
+  new_is = added;
+  each = (record { name = name; place = place; in_code = in_code; address = is }, tt);
 }
 
-first_symbol : (first : Option Symbol) (others : List Symbol) (symbol : Symbol) → Some symbol ≡ first → Contains (cons_option first others) symbol
-first_symbol None others symbol e = absurd (none-some symbol (sym e))
-first_symbol (Some first) others symbol e =
-    subst (λ (one : Symbol). Contains (first ∷ others) one) (same_Some first symbol (sym e)) (contains_first first others)
-
-object_fits : (view : ModuleView) (object : TypedObject) (objects : List TypedObject) (address : ℕ) (addresses : List ℕ) (found : Option Named)
-    → HasAmong (pair_of view) (object ∷ objects) (address ∷ addresses) → option_map named_view found ≡ object_symbol (object, address)
-    → IfSome found (λ (named : Named). IsNameIn view (named_view named))
-object_fits view object objects address addresses None has is = tt
-object_fits view object objects address addresses (Some named) has is =
-    inl (has.among (named_view named)
-    (first_symbol (object_symbol (object, address)) (filter_map object_symbol (zip objects addresses)) (named_view named) is))
-
--- one object more
-has_first : (placed : TypedModule × ModulePlacement) (objects : List CodeObject) (addresses : List ℕ) (object d : CodeObject) (address e : ℕ) → 1 ≤ length objects → object ≡ get_or objects 0 d
-    → 1 ≤ length addresses → address ≡ get_or addresses 0 e → HasAmong placed (map object_view objects) addresses
-    → HasAmong placed (object_view object ∷ map object_view (take (length objects - 1) (drop 1 objects))) (address ∷ take (length addresses - 1) (drop 1 addresses))
-has_first placed objects addresses object d address e some is some_address address_is has =
-    subst (λ (left : List ℕ). HasAmong placed (object_view object ∷ map object_view (take (length objects - 1) (drop 1 objects))) left) (split_first addresses address e some_address address_is)
-    (subst (λ (left : List CodeObject). HasAmong placed (map object_view left) addresses) (split_first objects object d some is) has)
-
-twice : (address : ℕ) (text : Option NameText) → option_map named_view (option_map (named_with address) text) ≡ option_map (λ (t : NameText). named_view (named_with address t)) text
-twice address None = refl
-twice address (Some text) = refl
-
-pub object_named : (view : ModuleView) (objects : List CodeObject) (addresses : List ℕ) (object d : CodeObject) (address e : ℕ) (old now new : List Named) (text : Option NameText)
-    → 1 ≤ length objects → object ≡ get_or objects 0 d → 1 ≤ length addresses → address ≡ get_or addresses 0 e → HasAmong (pair_of view) (map object_view objects) addresses
-    → AddsNames (IsNameIn view) old now → ((a : ℕ) → option_map (λ (t : NameText). named_view (named_with a t)) text ≡ object_symbol (object_view object, a))
-    → new ≡ now ++ option_to_list (option_map (named_with address) text) → AddsNames (IsNameIn view) old new
-object_named view objects addresses object d address e old now new text some is some_address address_is has so_far text_is added =
-    let found : Option Named = option_map (named_with address) text in
-    let found_is : option_map named_view found ≡ object_symbol (object_view object, address) = twice address text ∙ text_is address in
-    let first = has_first (pair_of view) objects addresses object d address e some is some_address address_is has in
-    names_more (IsNameIn view) old now new found so_far
-    (object_fits view (object_view object) (map object_view (take (length objects - 1) (drop 1 objects))) address (take (length addresses - 1) (drop 1 addresses)) found first found_is) added
-
-pub objects_left : (placed : TypedModule × ModulePlacement) (objects : List CodeObject) (addresses : List ℕ) (object d : CodeObject) → 1 ≤ length objects → object ≡ get_or objects 0 d
-    → 1 ≤ length addresses → HasAmong placed (map object_view objects) addresses
-    → HasAmong placed (map object_view (take (length objects - 1) (drop 1 objects))) (take (length addresses - 1) (drop 1 addresses))
-objects_left placed objects addresses object d some is some_address has =
-    objects_next placed (object_view object) (map object_view (take (length objects - 1) (drop 1 objects))) (get_or addresses 0 0) (take (length addresses - 1) (drop 1 addresses))
-    (has_first placed objects addresses object d (get_or addresses 0 0) 0 some is some_address refl has)
-
--- the names of modules, one after another
-pub names_begun : (views : List ModuleView) → AreNamesSoFar views views []
-names_begun views = record { fits = λ (symbol : Symbol) is. is; each = tt }
-
-pub weaker : (P Q : Symbol → Type 0) (names : List Symbol) → ((symbol : Symbol) → P symbol → Q symbol) → AllByRecursion P names → AllByRecursion Q names
+weaker : (P Q : Symbol → Type 0) (names : List Symbol) → ((symbol : Symbol) → P symbol → Q symbol) → AllByRecursion P names → AllByRecursion Q names
 weaker P Q [] so each = tt
 weaker P Q (name ∷ names) so each = (so name each.0, weaker P Q names so each.1)
 
-pub names_added : (all left : List ModuleView) (view d : ModuleView) (now middle new : List Named) → 1 ≤ length left → view ≡ get_or left 0 d → AreNamesSoFar all left (map named_view now)
-    → AddsNames (IsNameIn view) now middle → AddsNames (IsNameIn view) middle new → AreNamesSoFar all (take (length left - 1) (drop 1 left)) (map named_view new)
-names_added all left view d now middle new some is so_far code objects =
+pub parts_begun : (views : List ModuleView) (names : List Named) → AddsNamesSoFar views views names names
+parts_begun views names = record { fits = λ (symbol : Symbol) is. is; adds = no_names (IsNameAmong views) names }
+
+pub parts_more : (all left : List ModuleView) (view d : ModuleView) (old now new : List Named) → 1 ≤ length left → view ≡ get_or left 0 d → AddsNamesSoFar all left old now
+    → AddsNames (IsNameIn view) now new → AddsNamesSoFar all (take (length left - 1) (drop 1 left)) old new
+parts_more all left view d old now new some is so_far adds =
     let more : List ModuleView = take (length left - 1) (drop 1 left) in
     let among : (symbol : Symbol) → IsNameAmong (view ∷ more) symbol → IsNameAmong all symbol =
     subst (λ (views : List ModuleView). (symbol : Symbol) → IsNameAmong views symbol → IsNameAmong all symbol) (split_first left view d some is) so_far.fits in
     let here : (symbol : Symbol) → IsNameIn view symbol → IsNameAmong all symbol = λ (symbol : Symbol) in_view. among symbol (inl in_view) in
-    let first : AllByRecursion (IsNameAmong all) (map named_view middle) =
-    subst (λ (names : List Named). AllByRecursion (IsNameAmong all) (map named_view names)) (sym code.new_is)
-    (all_named (IsNameAmong all) now code.added so_far.each (weaker (IsNameIn view) (IsNameAmong all) (map named_view code.added) here code.each)) in
     record {
       fits = λ (symbol : Symbol) later. among symbol (inr later);
-      each = subst (λ (names : List Named). AllByRecursion (IsNameAmong all) (map named_view names)) (sym objects.new_is)
-          (all_named (IsNameAmong all) middle objects.added first (weaker (IsNameIn view) (IsNameAmong all) (map named_view objects.added) here objects.each));
+      adds = names_joined (IsNameAmong all) old now new so_far.adds (record {
+        added = adds.added;
+        new_is = adds.new_is;
+        each = weaker (IsNameIn view) (IsNameAmong all) (map named_view adds.added) here adds.each;
+      });
     }
+
+pub parts_done : (all left : List ModuleView) (old new : List Named) → AddsNamesSoFar all left old new → AddsNames (IsNameAmong all) old new
+parts_done all left old new so_far = so_far.adds
+
+-- all names
+pub names_whole : (views : List ModuleView) (none objects procedures new : List Named) → none ≡ [] → map named_view objects ≡ map named_view none ++ object_names views
+    → map named_view procedures ≡ map named_view objects ++ public_names views → AddsNames (IsNameAmong views) procedures new → HasNames views (map named_view new)
+names_whole views none objects procedures new empty first second third = record {
+  others = map named_view third.added;
+  names_are =
+      ap (map named_view) third.new_is
+      ∙ map-append named_view procedures third.added
+      ∙ ap (λ (l : List Symbol). l ++ map named_view third.added)
+      (second ∙ ap (λ (l : List Symbol). l ++ public_names views) (first ∙ ap (λ (l : List Named). map named_view l ++ object_names views) empty));
+  each = third.each;
+}

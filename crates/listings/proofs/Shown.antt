@@ -1,53 +1,56 @@
 -- What parts are shown as.
-use Rattle.listings.proofs.{Prelude.{◌≡◌, inl, inr, ℕ, suc, ◌+◌, ◌-◌, ◌<◌, ◌≤◌, ◌==◌, ◌||◌, nat_lt, min, drop, filter, get_or, length, take, arith, Bool, true, false, cond, List, [], ◌∷◌, ◌++◌, All, flat_map, map, option_and_then, slice_index, codes, Result, OnOk, Option, Some, None, refl, ap, sym, subst, ◌∙◌, append-nil, append_assoc, take_all, All-from_recursion, none-some, AllByRecursion, byte_digits, Instr, part_line, Piece, Symbol, constant_bytes, IsShown, IsTextOf, ShownPart, ShowsByte, cells_in, cells_of, margin, name_line, part_lines, parts_beside, parts_in, parts_text, word_of, CodeSegment, Part, ModuleView, AddsParts, IsCodePart, IsGood, IsGoodBy, IsKindBy, IsLone, IsPartOf, bytes_shown, instr_text, kept_cells, lined, lines_if, part_view, text_by, text_for, IsCodeOf, code_size, typed_of}, Adding.{none_left, on_ok, split_first}}
+use Rattle.listings.proofs.{Prelude.{◌≡◌, inl, inr, ℕ, suc, ◌+◌, ◌-◌, ◌<◌, ◌≤◌, ◌==◌, ◌||◌, nat_lt, min, drop, filter, get_or, length, take, arith, Bool, true, false, cond, List, [], ◌∷◌, ◌++◌, All, flat_map, map, slice_index, codes, Result, OnOk, Option, Some, None, refl, ap, sym, subst, ◌∙◌, append-nil, append_assoc, take_all, All-from_recursion, none-some, AllByRecursion, byte_digits, Instr, part_line, Piece, Symbol, fixes_in, Fix, Code, constant_bytes, IsShown, ShownPart, ShowsByte, cells_in, cells_of, instr_text, margin, name_line, part_lines, parts_beside, parts_in, parts_text, CodeSegment, Part, ModuleView, AddsParts, IsCodePart, IsGood, IsGoodBy, IsKindBy, IsLone, IsNamedBy, IsPartOf, bytes_shown, kept_cells, lined, lines_if, part_view, text_for, IsPartOfCode, code_size, object_of, typed_of}, Adding.{none_left, on_ok, split_first}}
 
 -- the same bytes
 pub cells_lined : (name_at : ℕ → Option Symbol) (parts : List Part) → flat_map (λ (part : ℕ × ShownPart). cells_of part.1) (map (lined name_at) parts) ≡ flat_map kept_cells parts
 cells_lined name_at [] = refl
 cells_lined name_at (part ∷ parts) = ap (λ cells. kept_cells part ++ cells) (cells_lined name_at parts)
 
--- the text of an instruction
-by_name : (name_at : ℕ → Option Symbol) (i : Instr) (word : ℕ) (found : Option Symbol) → word_of i ≡ Some word → name_at word ≡ found → IsTextOf name_at i (text_by i found)
-by_name name_at i word None ends is = inl refl
-by_name name_at i word (Some symbol) ends is = inr (record { word = word; symbol = symbol; ends = ends; named = is; text_is = refl })
-
-by_word : (name_at : ℕ → Option Symbol) (i : Instr) (word : Option ℕ) → word_of i ≡ word → IsTextOf name_at i (text_by i (option_and_then name_at word))
-by_word name_at i None ends = inl refl
-by_word name_at i (Some word) ends = by_name name_at i word (name_at word) ends refl
-
-text_shown : (name_at : ℕ → Option Symbol) (i : Instr) (is_address : Bool) → IsTextOf name_at i (instr_text name_at is_address i)
-text_shown name_at i false = inl refl
-text_shown name_at i true = by_word name_at i (word_of i) refl
-
 -- a part, and a byte
-part_by : (name_at : ℕ → Option Symbol) (pieces : List Piece) (begin end : ℕ) (part : Part) (instr : Option Instr) → IsGoodBy instr part → IsKindBy instr pieces begin end part.address
-    → IsShown name_at pieces begin end (record { address = part.address; bytes = bytes_shown part; text = text_for name_at part instr })
-part_by name_at pieces begin end part None good kind = inr (kind, record { byte = slice_index part.bytes 0; bytes_are = good; text_is = refl })
-part_by name_at pieces begin end part (Some i) good kind = inl (kind, record { i = i; bytes_are = good; text_is = text_shown name_at i part.is_address })
+part_by : (name_at : ℕ → Option Symbol) (pieces : List Piece) (fixes : List Fix) (start begin end : ℕ) (part : Part) (instr : Option Instr) → IsGoodBy instr part
+    → IsKindBy instr pieces begin end part.address → IsNamedBy instr part.is_address fixes (part.address - start)
+    → IsShown name_at pieces fixes start begin end (record { address = part.address; bytes = bytes_shown part; text = text_for name_at part instr })
+part_by name_at pieces fixes start begin end part None good kind named = inr (kind, record { byte = slice_index part.bytes 0; bytes_are = good; text_is = refl })
+part_by name_at pieces fixes start begin end part (Some i) good kind named =
+    inl (kind, record { i = i; bytes_are = good; text_is = ap (λ (t : Bool). instr_text name_at t i) named })
 
 byte_by : (name_at : ℕ → Option Symbol) (part : Part) (instr : Option Instr) → instr ≡ None → IsGoodBy instr part
     → ShowsByte (record { address = part.address; bytes = bytes_shown part; text = text_for name_at part instr })
 byte_by name_at part None none good = record { byte = slice_index part.bytes 0; bytes_are = good; text_is = refl }
 byte_by name_at part (Some i) none good = absurd (none-some i (sym none))
 
-parts_by : (name_at : ℕ → Option Symbol) (pieces : List Piece) (begin end : ℕ) (parts : List Part) → AllByRecursion (IsCodePart pieces begin end) parts
-    → AllByRecursion (λ (part : ℕ × ShownPart). IsShown name_at pieces begin end part.1) (map (lined name_at) parts)
-parts_by name_at pieces begin end [] each = tt
-parts_by name_at pieces begin end (part ∷ parts) each =
-    (part_by name_at pieces begin end part part.instr (each.0).good (each.0).kind, parts_by name_at pieces begin end parts each.1)
+parts_by : (name_at : ℕ → Option Symbol) (pieces : List Piece) (fixes : List Fix) (start begin end : ℕ) (parts : List Part) → AllByRecursion (IsCodePart pieces fixes start begin end) parts
+    → AllByRecursion (λ (part : ℕ × ShownPart). IsShown name_at pieces fixes start begin end part.1) (map (lined name_at) parts)
+parts_by name_at pieces fixes start begin end [] each = tt
+parts_by name_at pieces fixes start begin end (part ∷ parts) each = (
+  part_by name_at pieces fixes start begin end part part.instr (each.0).good (each.0).kind (each.0).named,
+  parts_by name_at pieces fixes start begin end parts each.1,
+)
 
 bytes_by : (name_at : ℕ → Option Symbol) (parts : List Part) → AllByRecursion IsLone parts → AllByRecursion (λ (part : ℕ × ShownPart). ShowsByte part.1) (map (lined name_at) parts)
 bytes_by name_at [] each = tt
 bytes_by name_at (part ∷ parts) each = (byte_by name_at part part.instr (each.0).instr (each.0).good, bytes_by name_at parts each.1)
 
-pub parts_shown : (name_at : ℕ → Option Symbol) (pieces : List Piece) (begin end : ℕ) (parts : List Part) → AllByRecursion (IsCodePart pieces begin end) parts
-    → All (λ (part : ℕ × ShownPart). IsShown name_at pieces begin end part.1) (map (lined name_at) parts)
-parts_shown name_at pieces begin end parts each =
-    All-from_recursion (λ (part : ℕ × ShownPart). IsShown name_at pieces begin end part.1) (map (lined name_at) parts) (parts_by name_at pieces begin end parts each)
+pub parts_shown : (name_at : ℕ → Option Symbol) (pieces : List Piece) (fixes : List Fix) (start begin end : ℕ) (parts : List Part) → AllByRecursion (IsCodePart pieces fixes start begin end) parts
+    → All (λ (part : ℕ × ShownPart). IsShown name_at pieces fixes start begin end part.1) (map (lined name_at) parts)
+parts_shown name_at pieces fixes start begin end parts each =
+    All-from_recursion (λ (part : ℕ × ShownPart). IsShown name_at pieces fixes start begin end part.1) (map (lined name_at) parts)
+    (parts_by name_at pieces fixes start begin end parts each)
 
 pub bytes_are_shown : (name_at : ℕ → Option Symbol) (parts : List Part) → AllByRecursion IsLone parts → All (λ (part : ℕ × ShownPart). ShowsByte part.1) (map (lined name_at) parts)
 bytes_are_shown name_at parts each =
     All-from_recursion (λ (part : ℕ × ShownPart). ShowsByte part.1) (map (lined name_at) parts) (bytes_by name_at parts each)
+
+-- constants stand below no line
+beside_by : (name_at : ℕ → Option Symbol) (pieces : List Piece) (fixes : List Fix) (start begin end : ℕ) (parts : List Part) → AllByRecursion (IsCodePart pieces fixes start begin end) parts
+    → AllByRecursion (λ (part : ℕ × ShownPart). part.1.address < begin → part.0 ≡ 0) (map (lined name_at) parts)
+beside_by name_at pieces fixes start begin end [] each = tt
+beside_by name_at pieces fixes start begin end (part ∷ parts) each = ((each.0).beside, beside_by name_at pieces fixes start begin end parts each.1)
+
+pub parts_beside_lines : (name_at : ℕ → Option Symbol) (pieces : List Piece) (fixes : List Fix) (start begin end : ℕ) (parts : List Part) → AllByRecursion (IsCodePart pieces fixes start begin end) parts
+    → All (λ (part : ℕ × ShownPart). part.1.address < begin → part.0 ≡ 0) (map (lined name_at) parts)
+parts_beside_lines name_at pieces fixes start begin end parts each =
+    All-from_recursion (λ (part : ℕ × ShownPart). part.1.address < begin → part.0 ≡ 0) (map (lined name_at) parts) (beside_by name_at pieces fixes start begin end parts each)
 
 -- bytes that stand alone are below no line
 pub none_left_out : (name_at : ℕ → Option Symbol) (parts : List Part) → AllByRecursion IsLone parts → parts_in 0 (map (lined name_at) parts) ≡ map (lined name_at) parts
@@ -70,13 +73,14 @@ lone_added cells parts adds = good_lone parts (each_added IsLone cells parts add
 pub cells_added : (P : Part → Type 0) (cells : List (ℕ × ℕ)) (parts : List Part) → AddsParts P cells [] parts → flat_map kept_cells parts ≡ cells
 cells_added P cells parts adds = ap (flat_map kept_cells) adds.new_is ∙ adds.cells_are
 
-good_code : (pieces : List Piece) (begin end : ℕ) (parts : List Part) → AllByRecursion (IsCodePart pieces begin end) parts → AllByRecursion IsGood parts
-good_code pieces begin end [] each = tt
-good_code pieces begin end (part ∷ parts) each = ((each.0).good, good_code pieces begin end parts each.1)
+good_code : (pieces : List Piece) (fixes : List Fix) (start begin end : ℕ) (parts : List Part) → AllByRecursion (IsCodePart pieces fixes start begin end) parts → AllByRecursion IsGood parts
+good_code pieces fixes start begin end [] each = tt
+good_code pieces fixes start begin end (part ∷ parts) each = ((each.0).good, good_code pieces fixes start begin end parts each.1)
 
-pub code_added : (pieces : List Piece) (view : ModuleView) (cells : List (ℕ × ℕ)) (parts : List Part) → AddsParts (IsCodeOf pieces view) cells [] parts → AllByRecursion IsGood parts
+pub code_added : (pieces : List Piece) (view : ModuleView) (cells : List (ℕ × ℕ)) (parts : List Part) → AddsParts (IsPartOfCode pieces view) cells [] parts → AllByRecursion IsGood parts
 code_added pieces view cells parts adds =
-    good_code pieces (view.code_base + constant_bytes (typed_of view)) (view.code_base + code_size view) parts (each_added (IsCodeOf pieces view) cells parts adds)
+    good_code pieces (fixes_in (object_of view) Code) view.code_base (view.code_base + constant_bytes (typed_of view)) (view.code_base + code_size view) parts
+    (each_added (IsPartOfCode pieces view) cells parts adds)
 
 -- the same constants, though they are counted up to a limit alone
 kind_by : (pieces : List Piece) (start count kept end address : ℕ) (instr : Option Instr) → kept ≡ min count 4294967295 → address < 65536
@@ -85,24 +89,32 @@ kind_by pieces start count kept end address (Some i) is small kind = omega (arit
 kind_by pieces start count kept end address None is small (inl within) = inl (omega (arith, is, within))
 kind_by pieces start count kept end address None is small (inr none) = inr none
 
-counted : (pieces : List Piece) (start count kept end : ℕ) (parts : List Part) → kept ≡ min count 4294967295 → AllByRecursion (IsCodePart pieces (start + kept) end) parts
-    → AllByRecursion (IsCodePart pieces (start + count) end) parts
-counted pieces start count kept end [] is each = tt
-counted pieces start count kept end (part ∷ parts) is each = (
-  record { good = (each.0).good; word = (each.0).word; kind = kind_by pieces start count kept end part.address part.instr is (each.0).word (each.0).kind },
-  counted pieces start count kept end parts is each.1,
+counted : (pieces : List Piece) (fixes : List Fix) (start count kept end : ℕ) (parts : List Part) → kept ≡ min count 4294967295
+    → AllByRecursion (IsCodePart pieces fixes start (start + kept) end) parts → AllByRecursion (IsCodePart pieces fixes start (start + count) end) parts
+counted pieces fixes start count kept end [] is each = tt
+counted pieces fixes start count kept end (part ∷ parts) is each = (
+  record {
+    good = (each.0).good;
+    word = (each.0).word;
+    kind = kind_by pieces start count kept end part.address part.instr is (each.0).word (each.0).kind;
+    named = (each.0).named;
+    beside = λ within. (each.0).beside (omega (arith, is, (each.0).word, within));
+  },
+  counted pieces fixes start count kept end parts is each.1,
 )
 
 pub code_of_module : (pieces : List Piece) (view : ModuleView) (segment : CodeSegment) (old new : List Part) → old ≡ [] → segment.start ≡ view.code_base
-    → segment.constants ≡ min (constant_bytes (typed_of view)) 4294967295 → segment.length ≡ code_size view → AddsParts (IsPartOf pieces segment) (cells_in pieces segment.start segment.length) old new
-    → AddsParts (IsCodeOf pieces view) (cells_in pieces view.code_base (code_size view)) [] new
-code_of_module pieces view segment old new none start constants size adds = record {
+    → segment.constants ≡ min (constant_bytes (typed_of view)) 4294967295 → segment.length ≡ code_size view → segment.fixes.now ≡ fixes_in (object_of view) Code
+    → AddsParts (IsPartOf pieces segment) (cells_in pieces segment.start segment.length) old new
+    → AddsParts (IsPartOfCode pieces view) (cells_in pieces view.code_base (code_size view)) [] new
+code_of_module pieces view segment old new none start constants size fixes adds = record {
   added = adds.added;
   new_is = adds.new_is ∙ ap (λ (parts : List Part). parts ++ adds.added) none;
   cells_are = adds.cells_are ∙ ap (λ (a : ℕ). cells_in pieces a segment.length) start ∙ ap (cells_in pieces view.code_base) size;
-  each = counted pieces view.code_base (constant_bytes (typed_of view)) segment.constants (view.code_base + code_size view) adds.added constants
-      (subst (λ (a : ℕ). AllByRecursion (IsCodePart pieces (a + segment.constants) (a + code_size view)) adds.added) start
-      (subst (λ (n : ℕ). AllByRecursion (IsCodePart pieces (segment.start + segment.constants) (segment.start + n)) adds.added) size adds.each));
+  each = counted pieces (fixes_in (object_of view) Code) view.code_base (constant_bytes (typed_of view)) segment.constants (view.code_base + code_size view) adds.added constants
+      (subst (λ (a : ℕ). AllByRecursion (IsCodePart pieces (fixes_in (object_of view) Code) a (a + segment.constants) (a + code_size view)) adds.added) start
+      (subst (λ (n : ℕ). AllByRecursion (IsCodePart pieces (fixes_in (object_of view) Code) segment.start (segment.start + segment.constants) (segment.start + n)) adds.added) size
+      (subst (λ (f : List Fix). AllByRecursion (IsCodePart pieces f segment.start (segment.start + segment.constants) (segment.start + segment.length)) adds.added) fixes adds.each)));
 }
 
 -- parts that are shown, one after another

@@ -1,5 +1,5 @@
 -- Places of an image, shown part by part.
-use Rattle.listings.proofs.Prelude.{◌≡◌, ℕ, zero, suc, ◌+◌, ◌-◌, ◌<◌, ◌≤◌, ◌%◌, min, Bool, true, false, nat_lt, if◌then◌else◌, List, [], ◌∷◌, ◌++◌, length, take, slice_index, Option, Some, None, refl, ap, sym, subst, ◌∙◌, arith, ltb-true, append-nil, append_assoc, length-take, flat_map-append, AllByRecursion, IfSome, option_to_list, bytes_of, Instr, MEMORY_SIZE, Piece, AllThere, IsNoCodeAt, byte_among, cell_of, cells_from, cells_in, byte_in, Coded, CodeSegment, Part, AddsParts, IsAdding, IsByteAt, IsCodeIn, IsGoodBy, IsKindBy, IsLone, IsNoCode, IsPartOf, StepsOver, bytes_shown, cells_if, kept_cells, room_of, IsCoded, IsCodedAt}
+use Rattle.listings.proofs.Prelude.{◌≡◌, ℕ, zero, suc, ◌+◌, ◌-◌, ◌<◌, ◌≤◌, ◌%◌, min, Bool, true, false, nat_lt, if◌then◌else◌, List, [], ◌∷◌, ◌++◌, length, take, slice_index, Option, Some, None, refl, ap, sym, subst, ◌∙◌, arith, ltb-true, append-nil, append_assoc, length-take, flat_map-append, AllByRecursion, IfSome, option_to_list, bytes_of, Instr, MEMORY_SIZE, Piece, AllThere, IsNoCodeAt, byte_among, cell_of, cells_from, cells_in, is_address_at, byte_in, Coded, CodeSegment, Part, AddsParts, IsAdding, IsByteAt, IsCodeIn, IsGoodBy, IsKindBy, IsLone, IsNamedBy, IsNoCode, IsPartOf, StepsOver, bytes_shown, cells_if, kept_cells, room_of, IsCoded, IsCodedAt}
 use Rattle.std.specs.Prelude.{flat_map}
 
 -- a byte has an address of the memory
@@ -118,8 +118,9 @@ good_code code part is sized bytes =
 
 -- an instruction of a code segment
 pub code_part : (pieces : List Piece) (segment : CodeSegment) (offset address word : ℕ) (code : Coded) (part : Part) → IsCodeIn pieces segment offset code → address ≡ segment.start + offset
-    → word ≡ address % 65536 → part.address ≡ word → part.size ≡ code.size → part.bytes ≡ code.bytes → part.instr ≡ Some code.instr → IsPartOf pieces segment part
-code_part pieces segment offset address word code part is at_is word_of at sized bytes instr =
+    → word ≡ address % 65536 → part.address ≡ word → part.size ≡ code.size → part.bytes ≡ code.bytes → part.instr ≡ Some code.instr
+    → part.is_address ≡ is_address_at segment.fixes.now (offset + 1) → IsPartOf pieces segment part
+code_part pieces segment offset address word code part is at_is word_of at sized bytes instr named =
     let three : length code.bytes ≡ 3 = ((is.coded).coded).three in
     let few : code.size ≤ 3 = ((is.coded).coded).few in
     let some : 1 ≤ code.size = ((is.coded).coded).some in
@@ -129,28 +130,34 @@ code_part pieces segment offset address word code part is at_is word_of at sized
     let small = in_memory pieces (segment.start + offset) found.0 found.1 in
     let place : part.address ≡ segment.start + offset = omega (arith, at, word_of, at_is, small) in
     let past : segment.start + segment.constants ≤ part.address = omega (arith, place, is.past) in
+    let from_start : offset ≡ part.address - segment.start = omega (arith, place) in
     record {
       good = subst (λ (i : Option Instr). IsGoodBy i part) (sym instr) (good_code code part (is.coded).coded sized bytes);
       word = omega (arith, place, small);
       kind = subst (λ (i : Option Instr). IsKindBy i pieces (segment.start + segment.constants) (segment.start + segment.length) part.address) (sym instr) past;
+      named = subst (λ (i : Option Instr). IsNamedBy i part.is_address segment.fixes.now (part.address - segment.start)) (sym instr)
+          (named ∙ ap (λ (n : ℕ). is_address_at segment.fixes.now (n + 1)) from_start);
+      beside = λ within. absurd (omega (arith, within, past));
     }
 
 -- a byte of a code segment
-byte_part : (pieces : List Piece) (segment : CodeSegment) (offset line address : ℕ) (part : Part) → IsNoCode pieces segment offset → address ≡ segment.start + offset → IsByteAt line address part
-    → IsPartOf pieces segment part
-byte_part pieces segment offset line address part none at_is is =
+byte_part : (pieces : List Piece) (segment : CodeSegment) (offset line address : ℕ) (part : Part) → (offset < segment.constants → line ≡ 0) → IsNoCode pieces segment offset
+    → address ≡ segment.start + offset → IsByteAt line address part → IsPartOf pieces segment part
+byte_part pieces segment offset line address part beside none at_is is =
     let place : segment.start + offset ≡ part.address = sym at_is ∙ sym is.at_is in
     record {
       good = is.good;
       word = is.word;
       kind = subst (λ (i : Option Instr). IsKindBy i pieces (segment.start + segment.constants) (segment.start + segment.length) part.address) (sym is.instr)
           (subst (λ (a : ℕ). IsNoCodeAt pieces (segment.start + segment.constants) (segment.start + segment.length) a) place none);
+      named = subst (λ (i : Option Instr). IsNamedBy i part.is_address segment.fixes.now (part.address - segment.start)) (sym is.instr) tt;
+      beside = λ within. is.line_is ∙ beside (omega (arith, within, place));
     }
 
-pub byte_parts : (pieces : List Piece) (segment : CodeSegment) (offset line address : ℕ) (part : Option Part) → IsNoCode pieces segment offset → address ≡ segment.start + offset
-    → IfSome part (IsByteAt line address) → IfSome part (IsPartOf pieces segment)
-byte_parts pieces segment offset line address None none at_is is = tt
-byte_parts pieces segment offset line address (Some part) none at_is is = byte_part pieces segment offset line address part none at_is is
+pub byte_parts : (pieces : List Piece) (segment : CodeSegment) (offset line address : ℕ) (part : Option Part) → (offset < segment.constants → line ≡ 0) → IsNoCode pieces segment offset
+    → address ≡ segment.start + offset → IfSome part (IsByteAt line address) → IfSome part (IsPartOf pieces segment)
+byte_parts pieces segment offset line address None beside none at_is is = tt
+byte_parts pieces segment offset line address (Some part) beside none at_is is = byte_part pieces segment offset line address part beside none at_is is
 
 -- parts that are being added
 pub flat_more : (added more : List Part) → flat_map kept_cells (added ++ more) ≡ flat_map kept_cells added ++ flat_map kept_cells more

@@ -1,7 +1,7 @@
 -- The listing of a module: the lines of its source, each with the code of what begins there. Which line that is no
 -- definition says.
-use Rattle.std.specs.Prelude.{◌≡◌, ◌⊎◌, ℕ, zero, suc, ◌+◌, ◌-◌, ◌%◌, ◌<◌, ◌≤◌, ◌==◌, ◌||◌, nat_lt, if◌then◌else◌, cond}
-use Rattle.std.specs.Prelude.{List, [], ◌∷◌, ◌++◌, codes, length, replicate, take, slice_get, All, filter, flat_map, Option, Some, None}
+use Rattle.std.specs.Prelude.{◌≡◌, ◌⊎◌, ℕ, zero, suc, ◌+◌, ◌-◌, ◌%◌, ◌<◌, ◌≤◌, ◌==◌, Bool, true, false, ◌&&◌, ◌||◌, nat_lt, if◌then◌else◌, cond}
+use Rattle.std.specs.Prelude.{List, [], ◌∷◌, ◌++◌, codes, length, replicate, take, slice_get, All, filter, flat_map, Option, Some, None, option_and_then}
 use Rattle.std.specs.Option.{option_or}
 use Rattle.std.specs.Fmt.{decimal}
 use Rattle.isa8080.specs.Code.{bytes_of}
@@ -14,6 +14,12 @@ use Rattle.mem80.specs.declared.range.Range.{Range}
 use Rattle.object_commands.specs.Listing.{part_line}
 use Rattle.object_commands.specs.Placing.{range_line}
 use Rattle.object_modules.specs.Image.{Symbol}
+use Rattle.object_modules.specs.Module.{is_both}
+use Rattle.object_modules.specs.declared.segment.Fix.{Fix}
+use Rattle.object_modules.specs.declared.segment.Segment.TheVariants.{Code, Data}
+use Rattle.object_modules.specs.declared.segment.Target.{Target}
+use Rattle.object_modules.specs.declared.segment.Target.TheVariants.{InSegment, External}
+use Rattle.listings.specs.Names.{symbol_at}
 
 -- what is shown of an address: the bytes from there on, and a text
 pub record Part : Type 0 where
@@ -70,22 +76,35 @@ word_of i = None
 abbrev pub named_text : Instr → (name : List ℕ) → List ℕ
 named_text i name = take (length (text_of i) - 4) (text_of i) ++ name
 
--- a text is that of an instruction, with the name of the address that it ends in, where that has one, or without
-pub record NamesWord (name_at : ℕ → Option Symbol) (i : Instr) (text : List ℕ) : Type 0 where
-  pub word : ℕ
-  pub symbol : Symbol
-  pub ends : word_of i ≡ Some word
-  pub named : name_at word ≡ Some symbol
-  pub text_is : text ≡ named_text i symbol.name
+-- the text of an instruction, with the name of its word, if that has one
+abbrev pub text_by : Instr → Option Symbol → List ℕ
+text_by i None = text_of i
+text_by i (Some symbol) = named_text i symbol.name
 
-abbrev pub IsTextOf : (name_at : ℕ → Option Symbol) → Instr → (text : List ℕ) → Type 0
-IsTextOf name_at i text = (text ≡ text_of i) ⊎ NamesWord name_at i text
+-- A number stays a number: the name stands where the word is an address, and only there.
+abbrev pub instr_text : (name_at : ℕ → Option Symbol) → (is_address : Bool) → Instr → List ℕ
+instr_text name_at false i = text_of i
+instr_text name_at true i = text_by i (option_and_then name_at (word_of i))
 
--- a part shows the bytes that encode an instruction, with its text; or one byte, with DB and that byte
-pub record ShowsInstruction (name_at : ℕ → Option Symbol) (part : Part) : Type 0 where
+-- whether what lies at a target may have a name: code, data, or what an EXTERNAL name stands for, and not the stack
+abbrev pub has_names : Target → Bool
+has_names (InSegment Code) = true
+has_names (InSegment Data) = true
+has_names (InSegment segment) = false
+has_names (External number) = true
+
+-- whether the word at a place of a segment with these fixes is an address: a fix of both its bytes begins there
+abbrev pub is_address_at : List Fix → (place : ℕ) → Bool
+is_address_at [] place = false
+is_address_at (fix ∷ fixes) place =
+    if fix.offset == place then is_both fix.kind && has_names fix.target else is_address_at fixes place
+
+-- A part shows the bytes that encode an instruction, with its text, where the first one is at a place of a segment with
+-- these fixes; or one byte, with DB and that byte.
+pub record ShowsInstruction (name_at : ℕ → Option Symbol) (fixes : List Fix) (place : ℕ) (part : Part) : Type 0 where
   pub i : Instr
   pub bytes_are : part.bytes ≡ bytes_of i
-  pub text_is : IsTextOf name_at i part.text
+  pub text_is : part.text ≡ instr_text name_at (is_address_at fixes (place + 1)) i
 
 pub record ShowsByte (part : Part) : Type 0 where
   pub byte : ℕ
@@ -109,10 +128,12 @@ abbrev pub IsNoCodeAt : List Piece → (begin end address : ℕ) → Type 0
 IsNoCodeAt pieces begin end address =
     (address < begin) ⊎ ((i : Instr) → ¬ LiesAt pieces address (end - address) i)
 
--- a part of code shows an instruction if one is shown of its address, and else a byte
-abbrev pub IsShown : (name_at : ℕ → Option Symbol) → List Piece → (begin end : ℕ) → Part → Type 0
-IsShown name_at pieces begin end part =
-    ((begin ≤ part.address) × ShowsInstruction name_at part)
+-- a part of the code of a segment with these fixes, from a start on, shows an instruction if one is shown of its address,
+-- and else a byte
+abbrev pub IsShown :
+    (name_at : ℕ → Option Symbol) → List Piece → List Fix → (start begin end : ℕ) → Part → Type 0
+IsShown name_at pieces fixes start begin end part =
+    ((begin ≤ part.address) × ShowsInstruction name_at fixes (part.address - start) part)
     ⊎ (IsNoCodeAt pieces begin end part.address × ShowsByte part)
 
 -- the room before what is printed below a line: six spaces (32)
@@ -172,27 +193,28 @@ sizes_text name code data_range =
 
 -- A module whose segments lie in these ranges is listed as this text: its lines, each with parts of its code; the
 -- parts of its code that stand below no line; its data, byte by byte; and where its segments lie. The parts are the bytes
--- of the image in these ranges, in order, each once. Of the code so many bytes are constants, which come first and are
--- shown byte by byte; the bytes after them are shown as the instructions that they encode, one after another. A name that
--- is printed stands for the address; which of the names are printed is not said.
-pub record ListsModule (IsName : Symbol → Type 0) (pieces : List Piece) (code : Range) (constants : ℕ)
+-- of the image in these ranges, in order, each once. Of the code so many bytes are constants, which come first, stand below
+-- no line, and are shown byte by byte; the bytes after them are shown as the instructions that they encode, one after another.
+-- The first name of an address stands on a line before what begins there, and in place of each word that is the address.
+pub record ListsModule (names : List Symbol) (pieces : List Piece) (code : Range) (constants : ℕ) (fixes : List Fix)
     (data_range : Range) (name source text : List ℕ) : Type 0 where
-  pub name_at : ℕ → Option Symbol
   pub code_parts : List (ℕ × Part)
   pub data_parts : List (ℕ × Part)
-  pub named : (address : ℕ) (symbol : Symbol) → name_at address ≡ Some symbol
-      → IsName symbol × (symbol.address ≡ address)
   pub code_is :
       flat_map (λ (part : ℕ × Part). cells_of part.1) code_parts ≡ cells_in pieces code.start code.len
   pub data_is :
       flat_map (λ (part : ℕ × Part). cells_of part.1) data_parts
       ≡ cells_in pieces data_range.start data_range.len
   pub code_shown :
-      All (λ (part : ℕ × Part). IsShown name_at pieces (code.start + constants) (code.start + code.len) part.1)
+      All
+      (λ (part : ℕ × Part). IsShown (symbol_at names) pieces fixes code.start (code.start + constants)
+      (code.start + code.len) part.1)
       code_parts
+  pub constants_beside :
+      All (λ (part : ℕ × Part). part.1.address < code.start + constants → part.0 ≡ 0) code_parts
   pub data_shown : All (λ (part : ℕ × Part). ShowsByte part.1) data_parts
   pub text_is : text
-      ≡ listed_from 1 name_at (lines_of source) code_parts
-      ++ parts_text name_at (parts_beside (length (lines_of source)) code_parts)
-      ++ parts_text name_at data_parts
+      ≡ listed_from 1 (symbol_at names) (lines_of source) code_parts
+      ++ parts_text (symbol_at names) (parts_beside (length (lines_of source)) code_parts)
+      ++ parts_text (symbol_at names) data_parts
       ++ sizes_text name code data_range

@@ -1,6 +1,7 @@
 //! What is printed of a program that was built: its sources with their code, and its symbols.
 #![tactic(auto)]
 
+mod code_places;
 mod constants;
 mod image;
 mod lines;
@@ -10,6 +11,7 @@ mod named;
 mod origins;
 mod parts;
 mod places;
+mod procedures;
 mod programs;
 mod symbol_lines;
 mod views;

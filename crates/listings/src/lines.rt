@@ -3,8 +3,8 @@
 ghost use Rattle.std.specs.Prelude.{◌≡◌, ◌-◌, ◌∷◌, ◌++◌, [], None, OnOk, Some, length, map, option_and_then, option_map, replicate, ◌==◌, ◌||◌, nat_lt};
 ghost use Rattle.std.specs.Fmt.{decimal};
 ghost use Rattle.std.specs.List.{AllByRecursion};
-ghost use Rattle.listings.specs.Listing.{margin, name_line, numbered_line, part_lines, parts_beside, parts_in, parts_text, word_of};
-ghost use Rattle.listings.specs.internal.Parts.{IsGood, instr_text, lines_if, lined, part_view, text_by};
+ghost use Rattle.listings.specs.Listing.{instr_text, margin, name_line, numbered_line, part_lines, parts_beside, parts_in, parts_text, text_by, word_of};
+ghost use Rattle.listings.specs.internal.Parts.{IsGood, lines_if, lined, part_view};
 ghost use Rattle.listings.specs.internal.Views.{name_at, named_view};
 
 use crate::named::{Named, name_at};

@@ -9,7 +9,7 @@ ghost use Rattle.listings.specs.Listing.{cells_in, lines_of, listed_from, sizes_
 ghost use Rattle.listings.specs.internal.Adding.{Adds};
 ghost use Rattle.listings.specs.internal.Modules.{code_text, first_length};
 ghost use Rattle.listings.specs.internal.Parts.{AddsParts, IsGood, IsLone, lined};
-ghost use Rattle.listings.specs.internal.Programs.{IsCodeOf, ListsView, code_size, data_size, typed_of};
+ghost use Rattle.listings.specs.internal.Programs.{IsPartOfCode, ListsView, code_size, data_size, typed_of};
 ghost use Rattle.listings.specs.internal.Views.{name_at, named_view};
 
 use crate::constants::constant_size;
@@ -35,7 +35,7 @@ pub(crate) struct Shared<'a> {
 // The parts of the code segment of a module, by rising addresses.
 #[tactic(auto, using(crate::proofs::Shown::code_of_module))]
 fn code_parts(alloc: Global, pieces: &[Piece], view: &ModuleView) -> Result<Vec<Part>, AllocError>
-    ensures { IfOk result (λ parts. AddsParts (IsCodeOf pieces.now view.now)
+    ensures { IfOk result (λ parts. AddsParts (IsPartOfCode pieces.now view.now)
         (cells_in pieces.now view.now.code_base (code_size view.now)) [] parts.items) }
 {
     let segment = CodeSegment {

@@ -1,18 +1,20 @@
 //! Names that stand for addresses.
 
-ghost use Rattle.std.specs.Prelude.{◌≡◌, ℕ, ◌++◌, Contains, IfOk, IfSome, OnOk, Some, slice_get, map, option_map, option_to_list};
-ghost use Rattle.std.specs.List.{AllByRecursion};
+ghost use Rattle.std.specs.Prelude.{◌≡◌, ◌++◌, ◌∷◌, [], Contains, IfOk, IfSome, OnOk, map, option_map, option_to_list};
 ghost use Rattle.typed_trees.specs.Views.{module_view, object_view, procedure_view};
-ghost use Rattle.listings.specs.Names.{object_symbol};
-ghost use Rattle.listings.specs.internal.Programs.{AddsNames, IsNameAmong, IsNameIn, names_in};
-ghost use Rattle.listings.specs.internal.Views.{name_at, named_view, named_with, routine_name, text_of_name};
+ghost use Rattle.listings.specs.Names.{is_private, module_symbols, names_in_code, object_symbol, procedure_symbol, public_symbols, symbol_of};
+ghost use Rattle.listings.specs.internal.Programs.{AddsNames, HasNames, IsNameAmong, IsNameIn, object_names, object_of, pair_of, public_names, typed_of};
+ghost use Rattle.listings.specs.internal.Views.{name_at, named_view, routine_name, text_of_name};
 
+use crate::code_places::{address_of, expect_in_code};
+use crate::procedures::{procedure_at, public_place};
 use crate::views::ModuleView;
 use codegen8080::CodePart;
 use object_modules::Name;
 use runtime8080::Routine;
 use std::alloc::{AllocError, Global};
-use typed_trees::{Home, Typed, TypedObject, TypedProcedure};
+use tool::SourceMark;
+use typed_trees::{Home, Typed, TypedObject, TypedProcedure, Visibility};
 
 /// What a name is written as: a name of the source, or that of a routine, which has small letters.
 #[derive(Clone, Copy)]
@@ -60,72 +62,154 @@ impl Named {
     }
 }
 
-/// The procedure of a number, if there is one.
-pub(crate) fn procedure_at(typed: &Typed, number: u32) -> Option<&TypedProcedure>
-    ensures { IfSome result (λ procedure. slice_get (module_view typed.now).procedures number
-        ≡ Some (procedure_view procedure.now)) }
+// Whether a procedure is neither PUBLIC nor EXTERNAL.
+fn is_private(visibility: Visibility) -> bool
+    ensures { result ≡ is_private visibility }
 {
-    typed.procedures.get(number as usize)
+    match visibility {
+        Visibility::Private => true,
+        Visibility::Public | Visibility::External => false,
+    }
 }
 
-// The name of a part of code, if it has one.
+// The name of the procedure of a number, if it is neither PUBLIC nor EXTERNAL.
+fn private_name(typed: &Typed, number: u32) -> Option<NameText>
+    ensures { IfSome result (λ text. Contains (names_in_code (module_view typed.now)) (text_of_name text)) }
+{
+    let procedure = procedure_at(typed, number)?;
+    if is_private(procedure.visibility) {
+        Some(NameText::Declared(procedure.name))
+    } else {
+        None
+    }
+}
+
+// The name of a part of code: of a procedure that is neither PUBLIC nor EXTERNAL, or of a routine.
 fn name_of_part(typed: &Typed, part: CodePart) -> Option<NameText>
-    ensures { IfSome result (λ text. Contains (names_in (module_view typed.now)) (text_of_name text)) }
+    ensures { IfSome result (λ text. Contains (names_in_code (module_view typed.now)) (text_of_name text)) }
 {
     match part {
-        CodePart::Procedure(number) => {
-            let procedure = procedure_at(typed, number)?;
-            Some(NameText::Declared(procedure.name))
-        }
+        CodePart::Procedure(number) => private_name(typed, number),
         CodePart::Routine(routine) => Some(NameText::Routine(routine)),
         CodePart::Main | CodePart::Statement(_) => None,
     }
 }
 
-// Adds the name of an address, if there is one.
-fn push_if(names: &mut Vec<Named>, address: u16, text: Option<NameText>) -> Result<(), AllocError>
-    ensures { OnOk result (names.new.items
-        ≡ names.old.items ++ option_to_list (option_map (named_with address) text)) }
+// Adds a name that the source declares.
+#[tactic(auto, using(crate::proofs::NamesAdded::name_pushed))]
+fn push_name(names: &mut Vec<Named>, address: u16, name: Name) -> Result<(), AllocError>
+    ensures { OnOk result (map named_view names.new.items
+        ≡ map named_view names.old.items ++ symbol_of name address ∷ []) }
 {
-    if let Some(text) = text {
-        names.push(Named { address, text })?;
-    }
+    let text = NameText::Declared(name);
+    names.push(Named { address, text })?;
     Ok(())
 }
 
-// Adds the names of the procedures and the routines of a module.
-#[tactic(auto, using(crate::proofs::NamesAdded::no_names))]
-fn put_code_names(names: &mut Vec<Named>, view: &ModuleView) -> Result<(), AllocError>
+// Adds the name of a part of the code of a module, if it is such a procedure or a routine.
+#[tactic(auto, using(crate::proofs::NamesAdded::no_names, crate::proofs::NamesAdded::part_named))]
+fn put_part(names: &mut Vec<Named>, view: &ModuleView, mark: SourceMark) -> Result<(), AllocError>
+    ensures { OnOk result (AddsNames (IsNameIn view.now) names.old.items names.new.items) }
+{
+    let Some(text) = name_of_part(view.typed, mark.part) else {
+        return Ok(());
+    };
+    let place = mark.place as u32;
+    expect_in_code(view, place)?;
+    let address = address_of(view.code_base, place);
+    names.push(Named { address, text })?;
+    Ok(())
+}
+
+// Adds the names of such procedures and of the routines of a module.
+#[tactic(auto, using(crate::proofs::NamesAdded::no_names, crate::proofs::NamesAdded::names_joined))]
+fn put_parts(names: &mut Vec<Named>, view: &ModuleView) -> Result<(), AllocError>
     ensures { OnOk result (AddsNames (IsNameIn view.now) names.old.items names.new.items) }
 {
     for mark in view.marks.marks.iter() {
-        let text = name_of_part(view.typed, mark.part);
-        let address = address_of(view.code_base, mark.place as u32);
-        push_if(names, address, text)?;
+        put_part(names, view, *mark)?;
     }
     Ok(())
 }
 
-/// The address of a place of code that begins at an address.
-pub(crate) fn address_of(code_base: u32, place: u32) -> u16 {
-    (code_base.saturating_add(place) % 65_536) as u16
+// Adds the names of such procedures and of the routines of modules.
+#[tactic(auto, using(crate::proofs::NamesAdded::parts_begun, crate::proofs::NamesAdded::parts_done))]
+fn put_all_parts(names: &mut Vec<Named>, views: &[ModuleView]) -> Result<(), AllocError>
+    ensures { OnOk result (AddsNames (IsNameAmong views.now) names.old.items names.new.items) }
+{
+    let mut rest = views;
+    while let [view, more @ ..] = rest {
+        put_parts(names, view)?;
+        rest = more;
+    }
+    Ok(())
 }
 
-// The name of an object that lies in a segment of its module.
-fn name_of_object(object: &TypedObject) -> Option<NameText>
-    ensures { (address : ℕ) → option_map (λ text. named_view (named_with address text)) result
-        ≡ object_symbol (object_view object.now, address) }
+// Adds the name of a procedure, if it is PUBLIC.
+#[tactic(auto, using(crate::proofs::NamesAdded::nothing_named, crate::proofs::NamesAdded::procedure_named))]
+fn put_procedure(
+    names: &mut Vec<Named>,
+    view: &ModuleView,
+    procedure: &TypedProcedure,
+) -> Result<(), AllocError>
+    ensures { OnOk result (map named_view names.new.items ≡ map named_view names.old.items
+        ++ option_to_list
+        (procedure_symbol view.now.code_base (object_of view.now).publics (procedure_view procedure.now))) }
+{
+    match public_place(view.object, procedure) {
+        Some(place) => {
+            let address = address_of(view.code_base, place as u32);
+            push_name(names, address, procedure.name)
+        }
+        None => Ok(()),
+    }
+}
+
+// Adds the names of the PUBLIC procedures of a module.
+#[tactic(auto, using(crate::proofs::NamesAdded::procedures_more, crate::proofs::NamesAdded::procedures_done))]
+fn put_procedures(names: &mut Vec<Named>, view: &ModuleView) -> Result<(), AllocError>
+    ensures { OnOk result (map named_view names.new.items ≡ map named_view names.old.items
+        ++ public_symbols view.now.code_base (typed_of view.now) (object_of view.now)) }
+{
+    let mut rest = view.typed.procedures.as_slice();
+    while let [procedure, more @ ..] = rest {
+        put_procedure(names, view, procedure)?;
+        rest = more;
+    }
+    Ok(())
+}
+
+// Adds the names of the PUBLIC procedures of modules.
+#[tactic(auto, using(crate::proofs::NamesAdded::more_of, crate::proofs::NamesAdded::none_of))]
+fn put_all_procedures(names: &mut Vec<Named>, views: &[ModuleView]) -> Result<(), AllocError>
+    ensures { OnOk result (map named_view names.new.items
+        ≡ map named_view names.old.items ++ public_names views.now) }
+{
+    let mut rest = views;
+    while let [view, more @ ..] = rest {
+        put_procedures(names, view)?;
+        rest = more;
+    }
+    Ok(())
+}
+
+// Adds the name of an object, if that lies in a segment of its module.
+#[tactic(auto, using(crate::proofs::NamesAdded::nothing_named))]
+fn put_object(names: &mut Vec<Named>, object: &TypedObject, address: u16) -> Result<(), AllocError>
+    ensures { OnOk result (map named_view names.new.items ≡ map named_view names.old.items
+        ++ option_to_list (object_symbol (object_view object.now, address))) }
 {
     match object.home {
-        Home::Data(_) | Home::Constant(_) => Some(NameText::Declared(object.name)),
-        Home::At(_) | Home::Based(_) | Home::External | Home::Absent | Home::Frame(_) => None,
+        Home::Data(_) | Home::Constant(_) => push_name(names, address, object.name),
+        Home::At(_) | Home::Based(_) | Home::External | Home::Absent | Home::Frame(_) => Ok(()),
     }
 }
 
 // Adds the names of the objects in the segments of a module.
-#[tactic(auto, using(crate::proofs::NamesAdded::no_names, crate::proofs::NamesAdded::objects_begun))]
+#[tactic(auto, using(crate::proofs::NamesAdded::objects_more, crate::proofs::NamesAdded::objects_done, crate::proofs::NamesAdded::addresses_done))]
 fn put_objects(names: &mut Vec<Named>, view: &ModuleView) -> Result<(), AllocError>
-    ensures { OnOk result (AddsNames (IsNameIn view.now) names.old.items names.new.items) }
+    ensures { OnOk result (map named_view names.new.items
+        ≡ map named_view names.old.items ++ module_symbols (pair_of view.now)) }
 {
     let mut objects = view.typed.objects.as_slice();
     let mut addresses = view.placed.objects.as_slice();
@@ -133,27 +217,37 @@ fn put_objects(names: &mut Vec<Named>, view: &ModuleView) -> Result<(), AllocErr
         let [address, more_addresses @ ..] = addresses else {
             return Ok(());
         };
-        let text = name_of_object(object);
-        push_if(names, *address, text)?;
+        put_object(names, object, *address)?;
         objects = more;
         addresses = more_addresses;
     }
     Ok(())
 }
 
-/// The names of modules: of the procedures, the objects and the routines that lie in their segments. What lies AT an address
-/// is not among them.
-#[tactic(auto, using(crate::proofs::NamesAdded::names_begun, crate::proofs::NamesAdded::names_added))]
-pub(crate) fn names_of(alloc: Global, views: &[ModuleView]) -> Result<Vec<Named>, AllocError>
-    ensures { IfOk result (λ names. AllByRecursion (IsNameAmong views.now) (map named_view names.items)) }
+// Adds the names of the objects in the segments of modules.
+#[tactic(auto, using(crate::proofs::NamesAdded::more_of, crate::proofs::NamesAdded::none_of))]
+fn put_all_objects(names: &mut Vec<Named>, views: &[ModuleView]) -> Result<(), AllocError>
+    ensures { OnOk result (map named_view names.new.items
+        ≡ map named_view names.old.items ++ object_names views.now) }
 {
-    let mut names = Vec::new(alloc);
     let mut rest = views;
     while let [view, more @ ..] = rest {
-        put_code_names(&mut names, view)?;
-        put_objects(&mut names, view)?;
+        put_objects(names, view)?;
         rest = more;
     }
+    Ok(())
+}
+
+/// The names of modules: of the objects and the procedures that lie in their segments, and of the routines. What lies AT an
+/// address is not among them.
+#[tactic(auto, using(crate::proofs::NamesAdded::names_whole))]
+pub(crate) fn names_of(alloc: Global, views: &[ModuleView]) -> Result<Vec<Named>, AllocError>
+    ensures { IfOk result (λ names. HasNames views.now (map named_view names.items)) }
+{
+    let mut names = Vec::new(alloc);
+    put_all_objects(&mut names, views)?;
+    put_all_procedures(&mut names, views)?;
+    put_all_parts(&mut names, views)?;
     Ok(names)
 }
 

@@ -1,7 +1,8 @@
 //! What is shown of the bytes of a module, part by part.
 
 ghost use Rattle.std.specs.Prelude.{◌≡◌, ℕ, ◌∷◌, ◌++◌, [], ◌+◌, ◌-◌, ◌<◌, ◌≤◌, IfSome, None, OnOk, Some, option_to_list, take};
-ghost use Rattle.listings.specs.Listing.{cells_in};
+ghost use Rattle.object_modules.specs.Module.{is_both};
+ghost use Rattle.listings.specs.Listing.{cells_in, has_names, is_address_at};
 ghost use Rattle.listings.specs.internal.Parts.{AddsParts, IsByteAt, IsCodeIn, IsLone, IsNoCode, IsPartOf, StepsOver, room_of};
 
 use crate::image::{Coded, byte_at, instruction_at};
@@ -34,8 +35,10 @@ pub(crate) struct CodeSegment<'a> {
     pub(crate) fixes: &'a [Fix],
 }
 
-// Whether a target is code, data or what has a name, and not the stack.
-fn has_names(target: Target) -> bool {
+// Whether what lies at a target may have a name: code, data or what an EXTERNAL name stands for, and not the stack.
+fn has_names(target: Target) -> bool
+    ensures { result ≡ has_names target }
+{
     match target {
         Target::InSegment(Segment::Code) | Target::InSegment(Segment::Data) => true,
         Target::InSegment(Segment::Absolute) | Target::InSegment(Segment::Stack) => false,
@@ -43,12 +46,23 @@ fn has_names(target: Target) -> bool {
     }
 }
 
-// Whether the word at an offset is an address in code or data, or that of a name.
-fn is_address(fixes: &[Fix], offset: u64) -> bool {
-    for fix in fixes {
-        if fix.offset as u64 == offset && has_names(fix.target) {
-            return matches!(fix.kind, FixKind::Both);
+// Whether a fix is one of both bytes of an address.
+fn is_both(kind: FixKind) -> bool
+    ensures { result ≡ is_both kind }
+{
+    matches!(kind, FixKind::Both)
+}
+
+// Whether the word at a place of a segment with these fixes is an address that may have a name.
+fn is_address_at(fixes: &[Fix], place: u64) -> bool
+    ensures { result ≡ is_address_at fixes.now place }
+{
+    let mut rest = fixes;
+    while let [fix, more @ ..] = rest {
+        if fix.offset as u64 == place {
+            return is_both(fix.kind) && has_names(fix.target);
         }
+        rest = more;
     }
     false
 }
@@ -83,6 +97,7 @@ fn instruction_part(
     ensures size { result.size ≡ code.size }
     ensures bytes { result.bytes ≡ code.bytes }
     ensures instr { result.instr ≡ Some code.instr }
+    ensures named { result.is_address ≡ is_address_at segment.entry.fixes.now (offset + 1) }
 {
     let bytes = code.bytes;
     Part {
@@ -91,7 +106,7 @@ fn instruction_part(
         bytes,
         size: code.size,
         instr: Some(code.instr),
-        is_address: is_address(segment.fixes, offset as u64 + 1),
+        is_address: is_address_at(segment.fixes, offset as u64 + 1),
     }
 }
 
@@ -129,7 +144,8 @@ fn code_in(pieces: &[Piece], segment: CodeSegment<'_>, offset: u32) -> Option<Co
 // What is shown of an offset of a code segment, if a byte is there: an instruction or the byte.
 #[tactic(auto, using(crate::proofs::Stepping::code_steps, crate::proofs::Stepping::code_part, crate::proofs::Stepping::byte_parts))]
 fn part_at(pieces: &[Piece], segment: CodeSegment<'_>, line: u32, offset: u32) -> Option<Part>
-    requires { offset < segment.length }
+    requires within { offset < segment.length }
+    requires beside { offset < segment.constants → line ≡ 0 }
     ensures steps { StepsOver pieces.now (segment.entry.start + offset) (segment.entry.length - offset) result }
     ensures some { 0 < room_of result }
     ensures within { room_of result ≤ segment.entry.length - offset }
@@ -183,7 +199,7 @@ pub(crate) fn push_code(
     };
     let mut offset: u32 = 0;
     while offset < segment.length {
-        known = line_at(known, offset);
+        known = line_at(known, offset, segment.constants);
         let part = part_at(pieces, segment, known.line, offset);
         push_if(parts, part)?;
         offset += room_of(&part);

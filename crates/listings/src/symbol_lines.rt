@@ -1,59 +1,25 @@
 //! The symbols of a program: its procedures, its variables and the lines of its code, with their addresses.
 
-ghost use Rattle.std.specs.Prelude.{◌≡◌, ◌++◌, ◌∷◌, [], IfOk, OnOk, codes, map};
+ghost use Rattle.std.specs.Prelude.{◌≡◌, ◌++◌, ◌∷◌, [], IfOk, None, OnOk, codes, false};
 ghost use Rattle.layout.specs.Placement.{kind_of};
 ghost use Rattle.object_commands.specs.Placing.{range_line};
 ghost use Rattle.typed_trees.specs.Views.{object_view, procedure_view};
-ghost use Rattle.listings.specs.Symbols.{HasSymbols, HaveSymbols, IsOwnerIn, SymbolsOfProgram, is_own, object_line, source_line};
+ghost use Rattle.listings.specs.Symbols.{IsOwnerBy, IsOwnerOf, SymbolsOfProgram, is_own, object_line, source_line};
 ghost use Rattle.listings.specs.internal.Adding.{Adds};
-ghost use Rattle.listings.specs.internal.Programs.{pair_of, typed_of};
-ghost use Rattle.listings.specs.internal.Symbols.{HasObjectLines, HasLine, HasProcedureLines, HasSourceLines, has_kind, owner_text};
+ghost use Rattle.listings.specs.internal.Programs.{typed_of};
+ghost use Rattle.listings.specs.internal.Symbols.{HasLine, HasObjectLines, HasProcedureLines, HasSourceLines, HasSymbolsOf, HaveSymbolsOf, has_kind, owner_text, procedure_names};
 
-use crate::named::{address_of, procedure_at};
+use crate::code_places::{address_of, expect_in_code};
 use crate::places::{put_address, put_range};
+use crate::procedures::{code_of, procedure_at, procedure_with};
 use crate::views::{ModuleView, all_marks, views_of};
-use codegen8080::CodePart;
-use object_modules::{Name, Segment};
+use object_modules::Name;
 use std::alloc::{AllocError, Global};
 use std::io;
 use std::io::Write;
 use tool::{Built, Source, SourceMark};
 use trees::next_number;
 use typed_trees::{Home, TypedObject, TypedProcedure, Visibility};
-
-// Whether a part is the beginning of the procedure of this number.
-fn begins(part: CodePart, number: u32) -> bool {
-    match part {
-        CodePart::Procedure(begun) => begun == number,
-        CodePart::Main | CodePart::Statement(_) | CodePart::Routine(_) => false,
-    }
-}
-
-// Whether a part belongs to what was begun before it.
-fn goes_on(part: CodePart) -> bool {
-    matches!(part, CodePart::Statement(_))
-}
-
-// Where the code of the procedure of this number begins and ends: where another one, or a routine, begins, or where all code
-// ends.
-fn extent_of(marks: &[SourceMark], number: u32, length: u32) -> (u32, u32) {
-    let mut start = None;
-    for mark in marks {
-        match start {
-            Some(start) => {
-                if !goes_on(mark.part) {
-                    return (start, mark.place as u32);
-                }
-            }
-            None => {
-                if begins(mark.part, number) {
-                    start = Some(mark.place as u32);
-                }
-            }
-        }
-    }
-    (start.unwrap_or(length), length)
-}
 
 // Whether a procedure is not EXTERNAL.
 fn is_own(visibility: Visibility) -> bool
@@ -91,30 +57,28 @@ fn put_procedure(
     number: u32,
 ) -> io::Result<()>
     ensures { OnOk result
-        (Adds (HasProcedureLines (typed_of view.now).name (procedure_view procedure.now ∷ []))
+        (Adds (HasProcedureLines view.now (procedure_view procedure.now ∷ []))
         lines.old.items lines.new.items) }
 {
     if !is_own(procedure.visibility) {
         return Ok(());
     }
-    let length = view.object.length(Segment::Code) as u32;
-    let (start, end) = extent_of(view.marks.marks.as_slice(), number, length);
-    let address = address_of(view.code_base, start);
-    let size = end.saturating_sub(start);
+    let code = code_of(view, procedure, number)?;
+    let address = address_of(view.code_base, code.place);
     put_named(
         lines,
         "PROC ",
         &view.typed.name,
         &procedure.name,
         address,
-        size,
+        code.size,
     )
 }
 
 // Adds the lines of the procedures of a module.
 #[tactic(auto, using(crate::proofs::Adding::begun, crate::proofs::SymbolTexts::procedure_next, crate::proofs::SymbolTexts::procedures_ended))]
 fn put_procedures(lines: &mut Vec<u8>, view: &ModuleView) -> io::Result<()>
-    ensures { OnOk result (Adds (HasProcedureLines (typed_of view.now).name (typed_of view.now).procedures)
+    ensures { OnOk result (Adds (HasProcedureLines view.now (typed_of view.now).procedures)
         lines.old.items lines.new.items) }
 {
     let mut number: u32 = 0;
@@ -127,14 +91,29 @@ fn put_procedures(lines: &mut Vec<u8>, view: &ModuleView) -> io::Result<()>
     Ok(())
 }
 
-// The name of the procedure in which an object is declared, if it is in one.
+// The name of the procedure in which the source declares an object, if it is in one.
 #[tactic(auto, using(crate::proofs::SymbolTexts::no_owner, crate::proofs::SymbolTexts::owner_found))]
-fn owner_of(view: &ModuleView, object: usize) -> Option<Name>
-    ensures { IsOwnerIn (typed_of view.now) (owner_text result) }
+fn owner_in_source(view: &ModuleView, object: u32) -> Option<Name>
+    ensures { IsOwnerBy false None (procedure_names (typed_of view.now)) (owner_text result) }
 {
-    let owner = *view.marks.owners.get(object)?;
+    let owner = *view.marks.owners.get(object as usize)?;
     let procedure = procedure_at(view.typed, owner?)?;
     Some(procedure.name)
+}
+
+// The name of the procedure in which an object is declared, if it is in one. A PUBLIC object is in none, and a parameter is in
+// its procedure.
+#[tactic(auto, using(crate::proofs::SymbolTexts::public_unowned, crate::proofs::SymbolTexts::parameter_owned, crate::proofs::SymbolTexts::source_owned))]
+fn owner_of(view: &ModuleView, object: &TypedObject, number: u32) -> Option<Name>
+    ensures { IsOwnerOf (typed_of view.now) number (object_view object.now) (owner_text result) }
+{
+    if object.is_public {
+        return None;
+    }
+    match procedure_with(view.typed, number) {
+        Some(procedure) => Some(procedure.name),
+        None => owner_in_source(view, number),
+    }
 }
 
 // Whether an object has a place of its own.
@@ -186,7 +165,7 @@ fn put_object(
 #[tactic(auto, using(crate::proofs::Adding::begun, crate::proofs::SymbolTexts::object_next, crate::proofs::SymbolTexts::objects_ended, crate::proofs::SymbolTexts::addresses_ended))]
 fn put_objects(lines: &mut Vec<u8>, view: &ModuleView) -> io::Result<()>
     ensures { OnOk result (Adds (HasObjectLines (typed_of view.now)
-        ((typed_of view.now).objects, view.now.placed.now.objects.items))
+        (0, ((typed_of view.now).objects, view.now.placed.now.objects.items)))
         lines.old.items lines.new.items) }
 {
     let mut number: u32 = 0;
@@ -196,7 +175,7 @@ fn put_objects(lines: &mut Vec<u8>, view: &ModuleView) -> io::Result<()>
         let [address, more_addresses @ ..] = addresses else {
             return Ok(());
         };
-        let owner = owner_of(view, number as usize);
+        let owner = owner_of(view, object, number);
         put_object(lines, &view.typed.name, object, owner, *address)?;
         number = next_number(number)?;
         objects = more;
@@ -205,25 +184,24 @@ fn put_objects(lines: &mut Vec<u8>, view: &ModuleView) -> io::Result<()>
     Ok(())
 }
 
-// Notes the address of a mark for its line, unless that has one.
-fn note(first: &mut Vec<Option<u16>>, line: u32, address: u16) -> Result<(), AllocError> {
+// Notes the place of a mark for its line, unless that has one.
+fn note(first: &mut Vec<Option<u32>>, line: u32, place: u32) -> Result<(), AllocError> {
     let index = line as usize;
     if index >= first.len() {
         first.resize(index + 1, None)?;
     }
     if let Some(None) = first.get(index) {
-        first[index] = Some(address);
+        first[index] = Some(place);
     }
     Ok(())
 }
 
-// The address of the first code of each line, by the line's number.
-fn first_code(alloc: Global, view: &ModuleView) -> Result<Vec<Option<u16>>, AllocError> {
+// The place of the first code of each line, by the line's number.
+fn first_code(alloc: Global, marks: &[SourceMark]) -> Result<Vec<Option<u32>>, AllocError> {
     let mut first = Vec::new(alloc);
-    for mark in view.marks.marks.iter() {
+    for mark in marks {
         if mark.line > 0 {
-            let address = address_of(view.code_base, mark.place as u32);
-            note(&mut first, mark.line, address)?;
+            note(&mut first, mark.line, mark.place as u32)?;
         }
     }
     Ok(first)
@@ -233,14 +211,16 @@ fn first_code(alloc: Global, view: &ModuleView) -> Result<Vec<Option<u16>>, Allo
 #[tactic(auto, using(std::proofs::lemmas::List::append_assoc))]
 fn put_source_line(
     lines: &mut Vec<u8>,
-    of_module: &Name,
+    view: &ModuleView,
     number: usize,
-    address: u16,
+    place: u32,
 ) -> io::Result<()>
-    ensures { OnOk result (lines.new.items ≡ lines.old.items ++ source_line of_module.now (number, address)) }
+    ensures { OnOk result (lines.new.items
+        ≡ lines.old.items ++ source_line (typed_of view.now).name view.now.code_base (number, place)) }
 {
+    let of_module = &view.typed.name;
     write!(lines, "LINE {of_module} {number}")?;
-    put_address(lines, address)?;
+    put_address(lines, address_of(view.code_base, place))?;
     writeln!(lines)
 }
 
@@ -248,25 +228,28 @@ fn put_source_line(
 #[tactic(auto, using(crate::proofs::SymbolTexts::line_added, crate::proofs::SymbolTexts::no_line_added))]
 fn put_line_if(
     lines: &mut Vec<u8>,
-    of_module: &Name,
+    view: &ModuleView,
     number: usize,
-    address: Option<u16>,
+    place: Option<u32>,
 ) -> io::Result<()>
-    ensures { OnOk result (Adds (HasLine of_module.now number) lines.old.items lines.new.items) }
+    ensures { OnOk result (Adds (HasLine view.now number) lines.old.items lines.new.items) }
 {
-    match address {
-        Some(address) => put_source_line(lines, of_module, number, address),
+    match place {
+        Some(place) => {
+            expect_in_code(view, place)?;
+            put_source_line(lines, view, number, place)
+        }
         None => Ok(()),
     }
 }
 
 // Adds the lines of the lines of a module in which code begins.
 #[tactic(auto, using(crate::proofs::Adding::begun, crate::proofs::SymbolTexts::line_next, crate::proofs::SymbolTexts::lines_ended))]
-fn put_lines(lines: &mut Vec<u8>, of_module: &Name, first: &[Option<u16>]) -> io::Result<()>
-    ensures { OnOk result (Adds (HasSourceLines of_module.now 0) lines.old.items lines.new.items) }
+fn put_lines(lines: &mut Vec<u8>, view: &ModuleView, first: &[Option<u32>]) -> io::Result<()>
+    ensures { OnOk result (Adds (HasSourceLines view.now 1) lines.old.items lines.new.items) }
 {
-    for number in 0..first.len() {
-        put_line_if(lines, of_module, number, first[number])?;
+    for number in 1..first.len() {
+        put_line_if(lines, view, number, first[number])?;
     }
     Ok(())
 }
@@ -274,18 +257,18 @@ fn put_lines(lines: &mut Vec<u8>, of_module: &Name, first: &[Option<u16>]) -> io
 // Adds the symbols of a module.
 #[tactic(auto, using(crate::proofs::SymbolTexts::symbols_joined))]
 fn put_module(alloc: Global, lines: &mut Vec<u8>, view: &ModuleView) -> io::Result<()>
-    ensures { OnOk result (Adds (HasSymbols (pair_of view.now)) lines.old.items lines.new.items) }
+    ensures { OnOk result (Adds (HasSymbolsOf view.now) lines.old.items lines.new.items) }
 {
     put_procedures(lines, view)?;
     put_objects(lines, view)?;
-    let first = first_code(alloc, view)?;
-    put_lines(lines, &view.typed.name, first.as_slice())
+    let first = first_code(alloc, view.marks.marks.as_slice())?;
+    put_lines(lines, view, first.as_slice())
 }
 
 // The symbols of modules.
 #[tactic(auto, using(crate::proofs::Adding::begun, crate::proofs::SymbolTexts::module_next, crate::proofs::SymbolTexts::modules_ended))]
 fn symbols_in(alloc: Global, views: &[ModuleView]) -> Result<Vec<u8>, AllocError>
-    ensures { IfOk result (λ lines. HaveSymbols (map pair_of views.now) lines.items) }
+    ensures { IfOk result (λ lines. HaveSymbolsOf views.now lines.items) }
 {
     let mut lines = Vec::new(alloc);
     let mut rest = views;

@@ -10,9 +10,8 @@
 use crate::events::word_of;
 use crate::page::Page;
 use crate::runs::machine_with;
-use cpu8080::Machine;
 use isa8080::Registers;
-use ports::{Event, Script};
+use ports::Event;
 
 // Where programs start.
 const START: u16 = 0x100;
@@ -75,41 +74,33 @@ fn print_table(page: &mut Page, events: &[Event]) {
     }
 }
 
-// Runs DAA for every byte, with the carries of a flag byte.
-fn adjust_all(page: &mut Page, machine: &mut Machine<Script>, flags: u8) {
-    let end = word_of(machine.run(10_000));
-    page.byte("DAA of 00 to FF, flags ", flags);
-    page.line(" before: ", end);
-    print_table(page, machine.ports().events());
-}
-
-// Prints the registers that a row sets.
-fn print_registers(page: &mut Page, what: &str, registers: Registers, end: &str) {
-    let Registers { a, h, flags, .. } = registers;
-    page.text(what);
-    page.byte(": A=", a);
-    page.byte(" H=", h);
-    page.byte(" flags=", flags.byte());
-    page.line(", ", end);
-}
-
-// Runs a row's program, and prints what it set.
+// Runs a row's program, and prints the registers that it set.
 fn print_row(page: &mut Page, row: &Row) {
-    match machine_with(page.alloc(), START, &row.bytes) {
+    match machine_with(page.alloc(), START, &row.bytes, false) {
         Ok(mut machine) => {
             let end = word_of(machine.run(10));
-            print_registers(page, row.what, machine.registers(), end);
+            let Registers { a, h, flags, .. } = machine.registers();
+            page.text(row.what);
+            page.byte(": A=", a);
+            page.byte(" H=", h);
+            page.byte(" flags=", flags.byte());
+            page.line(", ", end);
         }
         Err(_) => page.note(false),
     }
 }
 
-// Prints the table for the carries of a flag byte.
+// Runs DAA for every byte, with the carries of a flag byte, and prints the table.
 fn print_flags(page: &mut Page, flags: u8) {
     let mut program = DAA;
     program[FLAGS] = flags;
-    match machine_with(page.alloc(), START, &program) {
-        Ok(mut machine) => adjust_all(page, &mut machine, flags),
+    match machine_with(page.alloc(), START, &program, false) {
+        Ok(mut machine) => {
+            let end = word_of(machine.run(10_000));
+            page.byte("DAA of 00 to FF, flags ", flags);
+            page.line(" before: ", end);
+            print_table(page, machine.ports().events());
+        }
         Err(_) => page.note(false),
     }
 }

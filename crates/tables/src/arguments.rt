@@ -2,23 +2,6 @@
 
 use runtime8080::Routine;
 
-/// The words that a call takes and leaves: HL, DE, and either BC or A above the flags.
-#[derive(Clone, Copy)]
-pub struct Words {
-    pub hl: u16,
-    pub de: u16,
-    pub last: u16,
-}
-
-/// Which arguments.
-#[derive(Clone, Copy, PartialEq, Eq)]
-pub enum Kind {
-    /// Each word of a table with each.
-    Edges,
-    /// Random words.
-    Random,
-}
-
 const EDGES: [u16; 20] = [
     0, 1, 2, 3, 7, 8, 9, 15, 16, 17, 127, 128, 255, 256, 257, 0x7FFF, 0x8000, 0xAAAA, 0xFF00,
     0xFFFF,
@@ -27,16 +10,14 @@ const EDGES: [u16; 20] = [
 // Where the blocks begin that MOVE is tried on: from here over 65535 to 4FFH.
 const BLOCKS: u16 = 0xF500;
 
-// A word with its bytes in the other order.
-fn swapped(word: u16) -> u16 {
-    word.wrapping_mul(256) | word / 256
-}
-
-/// Arguments, one after another.
-#[derive(Clone, Copy)]
+/// Arguments, one after another: each word of a table with each, or random words.
+#[derive(Drop)]
 pub struct Arguments {
-    routine: Routine,
-    kind: Kind,
+    /// The routine that takes them.
+    pub routine: Routine,
+    /// How many there are.
+    pub count: u64,
+    is_random: bool,
     // The bits of a random second word that are not 0.
     mask: u16,
     number: usize,
@@ -45,21 +26,14 @@ pub struct Arguments {
 
 impl Arguments {
     /// The arguments from the first on.
-    pub fn of(routine: Routine, kind: Kind, mask: u16) -> Arguments {
+    pub fn new(routine: Routine, is_random: bool, mask: u16) -> Arguments {
         Arguments {
             routine,
-            kind,
+            count: if is_random { 10_000 } else { 400 },
+            is_random,
             mask,
             number: 0,
             seed: 1,
-        }
-    }
-
-    /// How many there are.
-    pub fn count(&self) -> u64 {
-        match self.kind {
-            Kind::Edges => 400,
-            Kind::Random => 10_000,
         }
     }
 
@@ -72,63 +46,41 @@ impl Arguments {
         (self.seed / 65_536) as u16
     }
 
-    // The next two words of the table.
-    fn edges(&mut self) -> (u16, u16) {
-        let number = self.number % 400;
-        self.number = number.wrapping_add(1);
-        (EDGES[number / 20], EDGES[number % 20])
-    }
-
-    // The next two random words.
-    fn randoms(&mut self) -> (u16, u16) {
-        let first = self.random();
-        let second = self.random();
-        (first, second & self.mask)
-    }
-
     // The next two words.
     fn pair(&mut self) -> (u16, u16) {
-        match self.kind {
-            Kind::Edges => self.edges(),
-            Kind::Random => self.randoms(),
+        if self.is_random {
+            let first = self.random();
+            let second = self.random();
+            (first, second & self.mask)
+        } else {
+            let number = self.number % 400;
+            self.number = number.wrapping_add(1);
+            (EDGES[number / 20], EDGES[number % 20])
         }
     }
 
-    // The count of a block.
-    fn count_of(&self, word: u16) -> u16 {
-        match self.kind {
-            Kind::Edges => word % 512,
-            Kind::Random => word % 64,
-        }
-    }
-
-    // The words of a block: the first one is where it lies, and the second one its count and, by its higher bits, how far
-    // it goes, 256 bytes down to 255 up.
-    fn block(&self, first: u16, second: u16) -> Words {
+    // What MOVE takes: the first word is where the block lies, and the second one its count and, by its higher bits, how far it goes, 256
+    // bytes down to 255 up.
+    fn block(&self, first: u16, second: u16) -> [u16; 3] {
         let from = BLOCKS.wrapping_add(first % 4096);
-        Words {
-            hl: from.wrapping_add(second / 128).wrapping_sub(256),
-            de: from,
-            last: self.count_of(second),
-        }
+        let to = from.wrapping_add(second / 128).wrapping_sub(256);
+        let count = if self.is_random {
+            second % 64
+        } else {
+            second % 512
+        };
+        [from, to, count]
     }
 
-    /// The words of the next call. A takes the lower byte of the first word, and the flags the higher one; for the shifts
-    /// of an ADDRESS those of the second word, which is their count.
-    pub fn next_words(&mut self) -> Words {
+    /// What the next call takes in DE, in HL, and in BC or in A above the flags. A takes the lower byte of the first word, and the flags the
+    /// higher one; for the shifts of an ADDRESS those of the second word, which is their count.
+    pub fn next_words(&mut self) -> [u16; 3] {
         let (first, second) = self.pair();
-        match self.routine {
-            Routine::Move => self.block(first, second),
-            Routine::ShiftLeftAddress | Routine::ShiftRightAddress => Words {
-                hl: first,
-                de: first,
-                last: swapped(second),
-            },
-            _ => Words {
-                hl: first,
-                de: second,
-                last: swapped(first),
-            },
-        }
+        let (de, in_a) = match self.routine {
+            Routine::Move => return self.block(first, second),
+            Routine::ShiftLeftAddress | Routine::ShiftRightAddress => (first, second),
+            _ => (second, first),
+        };
+        [de, first, in_a.wrapping_mul(256) | in_a / 256]
     }
 }

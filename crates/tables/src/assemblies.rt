@@ -9,8 +9,9 @@ use isa8080::{Instr, Pair};
 use objmod::{Segment, Target};
 use std::alloc::Global;
 
-// Adds so many instructions of a byte, and a jump to the end, which is bound or not.
-fn add_long(code: &mut Code, count: usize, is_bound: bool) -> Result<(), Failure<Fault>> {
+// Code of so many instructions of a byte and a jump to the end, which is bound or not.
+fn long_code(alloc: Global, count: usize, is_bound: bool) -> Result<CodeBytes, Failure<Fault>> {
+    let mut code = Code::new(alloc);
     for _ in 0..count {
         code.emit(Instr::Nop)?;
     }
@@ -19,13 +20,6 @@ fn add_long(code: &mut Code, count: usize, is_bound: bool) -> Result<(), Failure
     if is_bound && !code.is_bound(end) {
         code.bind(end)?;
     }
-    Ok(())
-}
-
-// Code of so many instructions of a byte and a jump.
-fn long_code(alloc: Global, count: usize, is_bound: bool) -> Result<CodeBytes, Failure<Fault>> {
-    let mut code = Code::new(alloc);
-    add_long(&mut code, count, is_bound)?;
     code.finish()
 }
 
@@ -48,56 +42,38 @@ fn code_with_labels(alloc: Global, count: usize) -> Result<CodeBytes, Failure<Fa
     code.finish()
 }
 
-// Prints that there is no code, and why.
-fn print_failure(page: &mut Page, what: &str, failure: Failure<Fault>) {
+// Prints what code is: how many bytes it has, and the last one, or why there is none.
+fn print_code(page: &mut Page, what: &str, made: &Result<CodeBytes, Failure<Fault>>) {
     page.text(what);
-    page.line(
-        ": ",
-        match failure {
-            Failure::Fault(fault) => fault.number(),
-            Failure::Memory => "MEMORY",
-        },
-    );
-}
-
-// Prints how many bytes code has, and the last one.
-fn print_bytes(page: &mut Page, what: &str, bytes: &[u8]) {
-    page.text(what);
-    page.number(": ", bytes.len() as u64);
-    page.byte(" bytes, the last ", bytes.last().copied().unwrap_or(0));
-    page.text("\n");
-}
-
-// Prints what code of so many instructions of a byte and a jump is.
-fn print_long_code(page: &mut Page, what: &str, count: usize, is_bound: bool) {
-    match long_code(page.alloc(), count, is_bound) {
-        Ok(code) => print_bytes(page, what, code.bytes()),
-        Err(failure) => print_failure(page, what, failure),
+    match made {
+        Ok(code) => {
+            page.number(": ", code.bytes().len() as u64);
+            page.byte(
+                " bytes, the last ",
+                code.bytes().last().copied().unwrap_or(0),
+            );
+            page.text("\n");
+        }
+        Err(Failure::Fault(fault)) => page.line(": ", fault.number()),
+        Err(Failure::Memory) => page.line(": ", "MEMORY"),
     }
 }
 
-// Prints where the machine comes to that carries out code.
-fn print_run(page: &mut Page, bytes: &[u8], steps: u64) {
-    page.number("after ", steps);
-    match machine_with(page.alloc(), 0, bytes) {
+// Prints what code with 10,000 labels is, and where the machine comes to that carries it out for as many steps.
+fn print_labels(page: &mut Page) {
+    let made = code_with_labels(page.alloc(), 10_000);
+    print_code(page, "10000 labels", &made);
+    let Ok(code) = made else {
+        return;
+    };
+    match machine_with(page.alloc(), 0, code.bytes(), false) {
         Ok(mut machine) => {
-            page.text(" steps: ");
-            page.text(word_of(machine.run(steps)));
+            page.text("after 10000 steps: ");
+            page.text(word_of(machine.run(10_000)));
             page.word(", ", machine.registers().pc);
             page.text("\n");
         }
-        Err(_) => page.text(" steps: MEMORY\n"),
-    }
-}
-
-// Prints what code with many labels is, and where the machine comes to that carries it out for as many steps.
-fn print_labels(page: &mut Page, what: &str, count: usize) {
-    match code_with_labels(page.alloc(), count) {
-        Ok(code) => {
-            print_bytes(page, what, code.bytes());
-            print_run(page, code.bytes(), count as u64);
-        }
-        Err(failure) => print_failure(page, what, failure),
+        Err(_) => page.line("after 10000 steps: ", "MEMORY"),
     }
 }
 
@@ -118,10 +94,14 @@ fn add_parts(code: &mut Code) -> Result<Label, Failure<Fault>> {
     Ok(label)
 }
 
-// Prints the bytes of code, and two points for each that is not set.
-fn print_set_bytes(page: &mut Page, bytes: &[u8], are_set: &[bool]) {
+// Prints what is made of code with a label: its parts, and two points for each byte that is not set.
+fn print_made(page: &mut Page, labels: usize, label: Label, made: CodeBytes) {
+    page.number("parts: labels ", labels as u64);
+    page.number(", the last at ", made.place(label) as u64);
+    let (bytes, are_set, fixes) = made.into_parts();
+    page.number(", fixes ", fixes.len() as u64);
     page.text(", bytes");
-    for (byte, is_set) in bytes.iter().zip(are_set) {
+    for (byte, is_set) in bytes.iter().zip(&are_set) {
         if *is_set {
             page.byte(" ", *byte);
         } else {
@@ -131,24 +111,12 @@ fn print_set_bytes(page: &mut Page, bytes: &[u8], are_set: &[bool]) {
     page.text("\n");
 }
 
-// Prints the parts of what was made of code.
-fn print_made(page: &mut Page, labels: usize, place: u16, code: CodeBytes) {
-    let (bytes, are_set, fixes) = code.into_parts();
-    page.number("parts: labels ", labels as u64);
-    page.number(", the last at ", place as u64);
-    page.number(", fixes ", fixes.len() as u64);
-    print_set_bytes(page, bytes.as_slice(), are_set.as_slice());
-}
-
 // Prints what is made of code with a label.
 fn print_labelled(page: &mut Page, code: Code, label: Label) {
     let labels = code.label_count();
     match code.finish() {
-        Ok(made) => {
-            let place = made.place(label);
-            print_made(page, labels, place, made);
-        }
-        Err(failure) => print_failure(page, "parts", failure),
+        Ok(made) => print_made(page, labels, label, made),
+        Err(failure) => print_code(page, "parts", &Err(failure)),
     }
 }
 
@@ -157,17 +125,23 @@ fn print_parts(page: &mut Page) {
     let mut code = Code::new(page.alloc());
     match add_parts(&mut code) {
         Ok(label) => print_labelled(page, code, label),
-        Err(failure) => print_failure(page, "parts", failure),
+        Err(failure) => print_code(page, "parts", &Err(failure)),
     }
 }
 
 /// Prints what code of these kinds is. With one allocation refused, one of the lines is another, and says so.
 pub fn print_assemblies(page: &mut Page) {
-    print_long_code(page, "65535 bytes", 65_532, true);
-    print_long_code(page, "65536 bytes", 65_533, true);
-    print_long_code(page, "65535 bytes, not bound", 65_532, false);
-    print_long_code(page, "65536 bytes, not bound", 65_533, false);
-    print_labels(page, "10000 labels", 10_000);
-    print_long_code(page, "65535 bytes again", 65_532, true);
+    for (what, count, is_bound) in [
+        ("65535 bytes", 65_532, true),
+        ("65536 bytes", 65_533, true),
+        ("65535 bytes, not bound", 65_532, false),
+        ("65536 bytes, not bound", 65_533, false),
+    ] {
+        let made = long_code(page.alloc(), count, is_bound);
+        print_code(page, what, &made);
+    }
+    print_labels(page);
+    let again = long_code(page.alloc(), 65_532, true);
+    print_code(page, "65535 bytes again", &again);
     print_parts(page);
 }

@@ -10,9 +10,11 @@ use std::alloc::Global;
 /// A command line as far as it was read, with the line of standard input on which it stands.
 #[derive(Drop)]
 pub struct Block<'a> {
-    place: u64,
+    /// The line of standard input on which its command line stands.
+    pub place: u64,
     words: &'a str,
-    files: Vec<File>,
+    /// Its files, before it is carried out.
+    pub files: Vec<File>,
     written: Vec<File>,
     out: Said,
     err: Said,
@@ -49,16 +51,6 @@ impl<'a> Block<'a> {
                 .all(|(file, said)| file.is_same(said))
     }
 
-    /// Its files, before it is carried out.
-    pub fn files(&self) -> &[File] {
-        self.files.as_slice()
-    }
-
-    /// The line of standard input on which its command line stands.
-    pub fn place(&self) -> u64 {
-        self.place
-    }
-
     /// Takes the next line in, and answers whether there was memory for it.
     pub fn read(&mut self, alloc: Global, place: u64, line: &'a str) -> bool {
         if let Some(words) = line.strip_prefix("$ ") {
@@ -69,14 +61,7 @@ impl<'a> Block<'a> {
             self.out.read(printed)
         } else if let Some(told) = line.strip_prefix("!") {
             self.err.read(told)
-        } else {
-            self.read_end(alloc, line)
-        }
-    }
-
-    // Takes in how it ends, or a line of its files.
-    fn read_end(&mut self, alloc: Global, line: &'a str) -> bool {
-        if let Some(failed) = line.strip_prefix("% ") {
+        } else if let Some(failed) = line.strip_prefix("% ") {
             self.failed = failed;
             true
         } else if let Some(status) = line.strip_prefix("= ") {
@@ -135,7 +120,7 @@ impl Said {
         } else if let Some(line) = said.strip_prefix(" ") {
             self.text.add_text(line, "\n");
         }
-        self.text.is_whole()
+        self.text.is_whole
     }
 
     // Whether it is said of these bytes.
@@ -151,7 +136,8 @@ impl Said {
 /// What a command line answers: its exit status, its calls of files, the files that it writes, and what it prints, also as faults.
 #[derive(Drop)]
 pub struct Answer {
-    status: u8,
+    /// Its exit status.
+    pub status: u8,
     /// How many calls of files there were.
     pub calls: u64,
     failed: u64,
@@ -172,9 +158,9 @@ impl Answer {
         let files = files.into_inner();
         Answer {
             status,
-            calls: files.calls(),
-            failed: files.failed(),
-            written: files.into_written(),
+            calls: files.calls,
+            failed: files.failed,
+            written: files.written,
             out,
             err: err.into_inner(),
         }
@@ -189,19 +175,8 @@ impl Answer {
             && block.err.is_of(self.err.as_slice())
     }
 
-    /// Whether nothing was run.
-    pub fn is_refused(&self) -> bool {
-        self.status == 1 || self.status == 2
-    }
-
-    /// Whether this is the answer where a call of files fails: that of a command that stops there, or of one to whose
-    /// explanation a table of lines is missing.
-    pub fn is_stopped(&self, block: &Block) -> bool {
-        self.is_refused_for_file(block) || self.lacks_table(block)
-    }
-
-    // Whether it is refused for a file, prints nothing, and of what is said to be written has written at most beginnings.
-    fn is_refused_for_file(&self, block: &Block) -> bool {
+    /// Whether it is refused for a file, prints nothing, and of what is said to be written has written at most beginnings.
+    pub fn is_refused_for_file(&self, block: &Block) -> bool {
         self.status == 1
             && self.failed == 1
             && self.out.is_empty()
@@ -214,15 +189,15 @@ impl Answer {
                 .all(|(file, said)| file.begins(said))
     }
 
-    // Whether it is what is said, with the same first line told, but for an explanation that tells of a table of
-    // `--explain=TABLE` that it can't be read.
-    fn lacks_table(&self, block: &Block) -> bool {
+    /// Whether it is what is said, with the same first line told, but for an explanation that tells of a table of
+    /// `--explain=TABLE` that it can't be read.
+    pub fn lacks_table(&self, block: &Block) -> bool {
         block.words.contains("--explain=")
             && block.status.parse::<u8>() == Ok(self.status)
             && self.failed == 1
             && block.are_written(self.written.as_slice())
             && block.out.is_of(self.out.as_slice())
-            && first_line(self.err.as_slice()) == first_line(block.err.text.as_slice())
+            && first_line(self.err.as_slice()) == first_line(block.err.text.items.as_slice())
             && text(self.err.as_slice()).contains(" can't be read.\n")
     }
 

@@ -1,7 +1,7 @@
 //! Instructions as texts, from the manual's examples.
 
 use crate::page::Page;
-use isa8080::{Instr, decode, encode};
+use isa8080::{decode, encode};
 
 // The bytes of instructions, with zeros after those that have less than three, and at last a code that is none.
 const CODES: [[u8; 3]; 38] = [
@@ -45,23 +45,19 @@ const CODES: [[u8; 3]; 38] = [
     [0x08, 0x00, 0x00],
 ];
 
-// Prints the text of an instruction, how many bytes it takes, and the bytes that it is written as again.
-fn print_code(page: &mut Page, instr: Instr, size: u8) {
-    let ([first, second, third], count) = encode(instr);
-    page.value(&instr);
-    page.number(": ", u64::from(size));
-    page.byte(", ", first);
-    page.byte(" ", second);
-    page.byte(" ", third);
-    page.number(" ", u64::from(count));
-    page.text("\n");
-}
-
-/// Prints each instruction.
+/// Prints the text of each instruction, how many bytes it takes, and the bytes that it is written as again.
 pub fn print_codes(page: &mut Page) {
     for bytes in CODES {
         match decode(bytes) {
-            Some((instr, size)) => print_code(page, instr, size),
+            Some((instr, size)) => {
+                let (again, count) = encode(instr);
+                page.value(&instr);
+                page.number(": ", u64::from(size));
+                page.text(",");
+                page.bytes(&again);
+                page.number(" ", u64::from(count));
+                page.text("\n");
+            }
             None => page.text("none\n"),
         }
     }

@@ -26,38 +26,32 @@ fn memory_with_variable(alloc: Global) -> Result<Memory, Memory80Fault> {
     Ok(memory)
 }
 
-// What the program does from a memory, over a script whose port 1 gives 9 and then 4.
-fn print_from(page: &mut Page, built: &Built, memory: Memory) {
-    let mut script = Script::new(page.alloc());
-    let is_pushed = script.push_input(1, 9).is_ok() && script.push_input(1, 4).is_ok();
-    page.note(is_pushed);
-    let (end, machine) = execute(built, memory, script, LIMIT);
-    page.line("executed: ", word_of(end));
-    print_events(page, machine.ports().events());
-}
-
-// What the program does from a memory.
+// What the program does from that memory, over a script whose port 1 gives 9 and then 4.
 fn print_executed(page: &mut Page, built: &Built) {
+    let mut script = Script::new(page.alloc());
+    page.note(script.push_input(1, 9).is_ok());
+    page.note(script.push_input(1, 4).is_ok());
     match memory_with_variable(page.alloc()) {
-        Ok(memory) => print_from(page, built, memory),
+        Ok(memory) => {
+            let (end, machine) = execute(built, memory, script, LIMIT);
+            page.line("executed: ", word_of(end));
+            print_events(page, machine.ports().events());
+        }
         Err(_) => page.note(false),
     }
 }
 
-// What it does from a memory over the same bytes where the second read fails, on a machine with a table.
-fn print_from_with(page: &mut Page, built: &Built, memory: Memory, table: DecodeTable) {
-    let ports = FaultyPorts::with_two_inputs(page.alloc());
-    let (end, machine) = execute_with(built, memory, ports, table, LIMIT);
-    page.line("executed with a table: ", word_of(end));
-    print_events(page, machine.ports().script.events());
-    page.number("failures: ", machine.ports().failed);
-    page.text("\n");
-}
-
-// What the program does on a machine with a table.
+// What it does from that memory over the same bytes where the second read fails, on a machine with a table.
 fn print_executed_with(page: &mut Page, built: &Built, table: DecodeTable) {
+    let ports = FaultyPorts::with_two_inputs(page.alloc());
     match memory_with_variable(page.alloc()) {
-        Ok(memory) => print_from_with(page, built, memory, table),
+        Ok(memory) => {
+            let (end, machine) = execute_with(built, memory, ports, table, LIMIT);
+            page.line("executed with a table: ", word_of(end));
+            print_events(page, machine.ports().script.events());
+            page.number("failures: ", machine.ports().failed);
+            page.text("\n");
+        }
         Err(_) => page.note(false),
     }
 }
@@ -97,22 +91,17 @@ const ADDRESSES: [u16; 8] = [
     0x00FF, 0x0100, 0x011F, 0x0120, 0xEFFF, 0xF000, 0xF3FF, 0xF400,
 ];
 
-// What the program does, and where its variable may lie.
-fn print_built(page: &mut Page, built: &Built) {
-    print_executed(page, built);
+/// Prints what the program does, and where its variable may lie.
+pub fn print_execution(page: &mut Page) {
+    let Ok(built) = build(page.alloc(), &[SOURCE], &Plan::usual()) else {
+        return page.note(false);
+    };
+    print_executed(page, &built);
     match DecodeTable::new(page.alloc()) {
-        Ok(table) => print_executed_with(page, built, table),
+        Ok(table) => print_executed_with(page, &built, table),
         Err(_) => page.note(false),
     }
     for address in ADDRESSES {
-        print_lawful(page, built, address);
-    }
-}
-
-/// Prints what the program does, and where its variable may lie.
-pub fn print_execution(page: &mut Page) {
-    match build(page.alloc(), &[SOURCE], &Plan::usual()) {
-        Ok(built) => print_built(page, &built),
-        Err(_) => page.note(false),
+        print_lawful(page, &built, address);
     }
 }

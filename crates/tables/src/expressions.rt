@@ -45,40 +45,15 @@ fn code_of(alloc: Global, tree: &TreeModule, task: Task) -> Option<CodeBytes> {
     Some(finished.into_bytes())
 }
 
-// The registers after code, which stands at 0100H. It has 20 instructions at most, and after it stand NOPs.
-fn registers_after(alloc: Global, code: &CodeBytes) -> Option<Registers> {
+// The registers after the code of a task, which stands at 0100H. It has 20 instructions at most, and after it stand NOPs.
+fn task_done(alloc: Global, tree: &TreeModule, task: Task) -> Option<Registers> {
+    let code = code_of(alloc, tree, task)?;
     let mut memory = Memory::new(alloc).ok()?;
     put_bytes(&mut memory, 0, &DATA);
     put_bytes(&mut memory, 0x100, code.bytes());
     let mut machine = Machine::new(memory, Script::new(alloc), 0x100);
     machine.run(20);
     Some(machine.registers())
-}
-
-// The registers after the code of a task.
-fn task_done(alloc: Global, tree: &TreeModule, task: Task) -> Option<Registers> {
-    let code = code_of(alloc, tree, task)?;
-    registers_after(alloc, &code)
-}
-
-// The registers after the code of both expressions: the first one comes into A, the second into HL.
-fn both_done(alloc: Global, tree: &TreeModule) -> Option<(Registers, Registers)> {
-    let byte = task_done(alloc, tree, Task::Byte(assigned(tree, 0)?))?;
-    let word = task_done(alloc, tree, Task::Word(assigned(tree, 1)?))?;
-    Some((byte, word))
-}
-
-// Prints what the code of both expressions computes.
-fn print_both(page: &mut Page, tree: &TreeModule) {
-    match both_done(page.alloc(), tree) {
-        Some((byte, word)) => {
-            page.byte("A + B - 1: ", byte.a);
-            page.byte(", C + A: ", word.h);
-            page.byte("", word.l);
-            page.text("\n");
-        }
-        None => page.note(false),
-    }
 }
 
 // The tree code of the source.
@@ -89,10 +64,23 @@ fn tree_of(alloc: Global) -> Option<TreeModule> {
     }
 }
 
+// The registers after the code of both expressions: the first one comes into A, the second into HL.
+fn both_done(alloc: Global) -> Option<(Registers, Registers)> {
+    let tree = tree_of(alloc)?;
+    let byte = task_done(alloc, &tree, Task::Byte(assigned(&tree, 0)?))?;
+    let word = task_done(alloc, &tree, Task::Word(assigned(&tree, 1)?))?;
+    Some((byte, word))
+}
+
 /// Prints what the code of two expressions computes.
 pub fn print_expressions(page: &mut Page) {
-    match tree_of(page.alloc()) {
-        Some(tree) => print_both(page, &tree),
+    match both_done(page.alloc()) {
+        Some((byte, word)) => {
+            page.byte("A + B - 1: ", byte.a);
+            page.byte(", C + A: ", word.h);
+            page.byte("", word.l);
+            page.text("\n");
+        }
         None => page.note(false),
     }
 }

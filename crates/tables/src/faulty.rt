@@ -17,23 +17,15 @@ pub struct FaultyPorts {
 }
 
 impl FaultyPorts {
-    /// The ports of a script, of which the read after so many good ones fails.
-    pub fn new(script: Script, good_reads: u64) -> FaultyPorts
-        ensures script { result.script ≡ script }
-        ensures failed { result.failed ≡ 0 }
-    {
-        FaultyPorts {
-            script,
-            good_reads,
-            failed: 0,
-        }
-    }
-
     /// Ports of which the second read fails, whose port 1 gives 9 and then 4, where there is memory for them.
     pub fn with_two_inputs(alloc: Global) -> FaultyPorts {
         let mut script = Script::new(alloc);
         let is_pushed = script.push_input(1, 9).is_ok() && script.push_input(1, 4).is_ok();
-        FaultyPorts::new(script, if is_pushed { 1 } else { 0 })
+        FaultyPorts {
+            script,
+            good_reads: if is_pushed { 1 } else { 0 },
+            failed: 0,
+        }
     }
 
     // Counts a failure.

@@ -8,7 +8,7 @@ use interpreter::{RunFault, SourceEnd, interpret};
 use mem80::Memory;
 use ports::Ports;
 use std::alloc::Global;
-use tool::{Built, Plan, Source, ToolFault, build};
+use tool::{Plan, Source, ToolFault, build};
 
 // How a source ends that is interpreted over these ports, or why it is no program.
 fn interpreted<P: Ports>(
@@ -50,24 +50,6 @@ pub fn word_of_end<P: Ports>(alloc: Global, text: &[u8], ports: &mut P) -> &'sta
     }
 }
 
-const READS_TWICE: &[u8] = b"M: DO; OUTPUT(5) = INPUT(1) - INPUT(1); END M;";
-
-// Prints how the program ends on ports of which a read may fail.
-fn print_faulty_run(page: &mut Page, ports: &mut FaultyPorts) {
-    let end = word_of_end(page.alloc(), READS_TWICE, ports);
-    page.text(end);
-    page.number(", failures: ", ports.failed);
-    page.text("\n");
-    print_events(page, ports.script.events());
-}
-
-// A program on ports whose second read fails, and then once more from its beginning on.
-fn print_port_fault(page: &mut Page) {
-    let mut ports = FaultyPorts::with_two_inputs(page.alloc());
-    print_faulty_run(page, &mut ports);
-    print_faulty_run(page, &mut ports);
-}
-
 /// A program with statements of each kind.
 pub const CALLS: &[u8] =
     b"M: DO; DECLARE A(2) BYTE PUBLIC INITIAL (1, 'X'), K BYTE DATA (3), R STRUCTURE (B BYTE, C(2) ADDRESS), S LITERALLY 'A(0) + 1', \
@@ -76,23 +58,28 @@ G: PROCEDURE (Q) PUBLIC; DECLARE Q ADDRESS; P = Q; IF X THEN RETURN; HALT; END G
 DO WHILE S < 3; A(0), R.C(1) = -(A(0) := S) * 2; CALL G(.(7, 'AB')); END; OUTPUT(0) = X; OUTPUT(0) = F(3) + HIGH(R.C(1)); GOTO L; HALT; \
 L: DO CASE K - 3; OUTPUT(0) = A(0); HALT; END; END M;";
 
-// How a build ends, in a word.
-fn word_of_build(answer: &Result<Built, Failure<ToolFault>>) -> &'static str {
-    match answer {
-        Ok(_) => "built",
-        Err(Failure::Fault(fault)) => fault.number(),
-        Err(Failure::Memory) => "MEMORY",
+const READS_TWICE: &[u8] = b"M: DO; OUTPUT(5) = INPUT(1) - INPUT(1); END M;";
+
+// Prints how this program ends on ports whose second read fails, and then once more from its beginning on.
+fn print_port_fault(page: &mut Page) {
+    let mut ports = FaultyPorts::with_two_inputs(page.alloc());
+    for _ in 0..2 {
+        let end = word_of_end(page.alloc(), READS_TWICE, &mut ports);
+        page.text(end);
+        page.number(", failures: ", ports.failed);
+        page.text("\n");
+        print_events(page, ports.script.events());
     }
 }
 
-// What is said of a program of no sources.
-fn print_no_sources(page: &mut Page) {
-    let answer = build(page.alloc(), &[], &Plan::usual());
-    page.line("no sources: ", word_of_build(&answer));
-}
-
-/// Prints how these programs end.
+/// Prints how the program ends, and what is said of a program of no sources.
 pub fn print_programs(page: &mut Page) {
     print_port_fault(page);
-    print_no_sources(page);
+    let answer = build(page.alloc(), &[], &Plan::usual());
+    let word = match &answer {
+        Ok(_) => "built",
+        Err(Failure::Fault(fault)) => fault.number(),
+        Err(Failure::Memory) => "MEMORY",
+    };
+    page.line("no sources: ", word);
 }

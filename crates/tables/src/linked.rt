@@ -15,17 +15,6 @@ use tool::{Built, Plan, Source, build};
 // The file that has the merge.
 const MERGE: &str = "merge.obj";
 
-/// The image of a program by way of object files.
-#[derive(Clone, Copy)]
-pub enum Linked {
-    /// The command line runs nothing, or there is no image of its sources.
-    Missing,
-    /// As it is built of the sources.
-    Same,
-    /// Otherwise.
-    Other,
-}
-
 // What a command line prints over these files, where it is carried out.
 fn printed(alloc: Global, words: &[&str], files: &mut MemoryFiles) -> Option<Vec<u8>> {
     let mut out: Vec<u8> = Vec::new(alloc);
@@ -58,31 +47,20 @@ fn compiled_all(alloc: Global, sources: &[&str], files: &mut MemoryFiles) -> Opt
     Some(names)
 }
 
-// The words that merge object files.
-fn merge_words(alloc: Global, names: &[String]) -> Option<Vec<&str>> {
-    let mut words = Vec::new(alloc);
-    for word in ["plm", "link", "--out", MERGE] {
-        if words.push(word).is_err() {
-            return None;
-        }
-    }
-    for name in names {
-        if words.push(name.as_str()).is_err() {
-            return None;
-        }
-    }
-    Some(words)
-}
-
 // Compiles and merges sources, and answers whether there is a merge.
 fn is_merged(alloc: Global, sources: &[&str], files: &mut MemoryFiles) -> bool {
     let Some(names) = compiled_all(alloc, sources, files) else {
         return false;
     };
-    match merge_words(alloc, names.as_slice()) {
-        Some(words) => printed(alloc, words.as_slice(), files).is_some(),
-        None => false,
+    let Ok(mut words) = vec![in alloc; "plm", "link", "--out", MERGE] else {
+        return false;
+    };
+    for name in &names {
+        if words.push(name.as_str()).is_err() {
+            return false;
+        }
     }
+    printed(alloc, words.as_slice(), files).is_some()
 }
 
 // The bytes of the merge as Intel HEX, placed by a plan.
@@ -130,15 +108,6 @@ fn built_of(alloc: Global, names: &[&str], texts: &[Vec<u8>], plan: &Plan) -> Op
     }
 }
 
-// The bytes of an image as Intel HEX.
-fn image_text(alloc: Global, built: &Built) -> Option<Vec<u8>> {
-    let mut text: Vec<u8> = Vec::new(alloc);
-    match write_hex(alloc, built.image().pieces(), &mut text) {
-        Ok(()) => Some(text),
-        Err(_) => None,
-    }
-}
-
 // The bytes of the image that is built of the sources of an order, as Intel HEX.
 fn built_text(alloc: Global, order: &ProgramOrder, files: &mut MemoryFiles) -> Option<Vec<u8>> {
     let Ok(settings) = order.settings(alloc) else {
@@ -153,31 +122,34 @@ fn built_text(alloc: Global, order: &ProgramOrder, files: &mut MemoryFiles) -> O
         texts.as_slice(),
         &settings.plan,
     )?;
-    image_text(alloc, &built)
+    let mut text: Vec<u8> = Vec::new(alloc);
+    match write_hex(alloc, built.image().pieces(), &mut text) {
+        Ok(()) => Some(text),
+        Err(_) => None,
+    }
 }
 
-// Compares the image of an order with that by way of object files.
-fn linked_order(alloc: Global, order: &ProgramOrder, files: &mut MemoryFiles) -> Linked {
-    let Some(text) = built_text(alloc, order, files) else {
-        return Linked::Missing;
-    };
+// Whether the image of an order is the same by way of object files, where there is one.
+fn is_order_alike(alloc: Global, order: &ProgramOrder, files: &mut MemoryFiles) -> Option<bool> {
+    let text = built_text(alloc, order, files)?;
     if !is_merged(alloc, order.files.as_slice(), files) {
-        return Linked::Other;
+        return Some(false);
     }
     match merge_text(alloc, order.plan, files) {
-        Some(merged) if merged.as_slice() == text.as_slice() => Linked::Same,
-        _ => Linked::Other,
+        Some(merged) => Some(merged.as_slice() == text.as_slice()),
+        None => Some(false),
     }
 }
 
-/// Compares the image of the program that a command line runs with that by way of object files.
-pub fn linked_image(alloc: Global, block: &Block, words: &[&str]) -> Linked {
-    let mut files = MemoryFiles::new(alloc, block.files());
+/// Whether the image of the program that a command line runs is the same by way of object files. None where it runs nothing, or there is no
+/// image of its sources.
+pub fn is_linked_alike(alloc: Global, block: &Block, words: &[&str]) -> Option<bool> {
+    let mut files = MemoryFiles::new(alloc, block.files.as_slice());
     match command(alloc, words) {
         Ok(Order::Program(order)) => match order.action {
-            Action::Run => linked_order(alloc, &order, &mut files),
-            Action::Interpret => Linked::Missing,
+            Action::Run => is_order_alike(alloc, &order, &mut files),
+            Action::Interpret => None,
         },
-        _ => Linked::Missing,
+        _ => None,
     }
 }

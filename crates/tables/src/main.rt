@@ -16,12 +16,11 @@
 //! a record's length or sum, as a plain walk over the records finds it, and how many have which of these faults.
 //! Each program that a command line runs is also compiled to object files, which are merged and printed as Intel HEX: it is
 //! counted how often these are other bytes than those of the image that is built of the sources.
-//! Then it prints what the machine, its parts and the interpreter do, as the manuals say it; what a program does that is executed, where it may
-//! lie, and what the code of expressions computes; what merges of object files are,
-//! made of modules and of files; objects that are read, walked over, placed, loaded and run, texts of Intel HEX that are read, and how
-//! commands end whose output fails part way; whether help has each number with the words of its fault; what long code and code
-//! with many labels is; what calls answer that are made twice; what words, names and trees sources have; and at last whether the document of the routines, the file `runtime.md` where the program runs, is as
-//! it is made here, or else that document.
+//! Then it prints what the machine, its parts and the interpreter do, as the manuals say it; what a program does that is executed,
+//! where it may lie, and what the code of expressions computes; objects that are read, walked over, placed, loaded and run, texts of
+//! Intel HEX that are read, and how commands end whose output fails part way; whether help has each number with the words of its fault;
+//! what long code and code with many labels is; what calls answer that are made twice; what words, names and trees sources have; and at
+//! last whether the document of the routines, the file `runtime.md` where the program runs, is as it is made here, or else that document.
 //! With the word `code` or `twice` it reads no standard input, and prints what code is alone, or the answers to calls that are made twice,
 //! for a test that refuses its allocations.
 //!
@@ -44,7 +43,6 @@ mod faulty;
 mod interpreting;
 mod linked;
 mod memory_files;
-mod merging;
 mod names_of_sources;
 mod objects;
 mod operations;
@@ -71,8 +69,7 @@ use executed::print_execution;
 use expressions::print_expressions;
 use host::HostFiles;
 use interpreting::print_programs;
-use linked::{Linked, linked_image};
-use merging::print_merges;
+use linked::is_linked_alike;
 use names_of_sources::print_names;
 use objects::print_objects;
 use operations::print_operations;
@@ -91,13 +88,18 @@ use twice::print_twice;
 const END_OF_BLOCK: &str = "====";
 
 // How many there were, and how many of them are others than they are to be.
-#[derive(Clone, Copy)]
+#[derive(Drop)]
 struct Count {
     all: u64,
     others: u64,
 }
 
 impl Count {
+    // Before anything is counted.
+    fn new() -> Count {
+        Count { all: 0, others: 0 }
+    }
+
     // Counts one.
     fn add(&mut self, is_right: bool) {
         self.all = self.all.saturating_add(1);
@@ -116,7 +118,7 @@ impl Count {
 
 // How many lines were read; the answers to command lines, those where a call of files failed, and the images that were compared with
 // those by way of object files.
-#[derive(Clone, Copy)]
+#[derive(Drop)]
 struct Counts {
     lines: u64,
     answers: Count,
@@ -134,56 +136,47 @@ fn count_answer(
 ) {
     count.add(is_right);
     if !is_right {
-        page.number("line ", block.place());
+        page.number("line ", block.place);
         page.text(": ");
         answer.print(page);
         page.text("\n");
     }
 }
 
-// Carries out a command line once more for each of its calls of files, with that one failing.
+// Carries out a command line once more for each of its calls of files, with that one failing: it is to stop there, or to be
+// without the table of its explanation.
 fn fail_each(page: &mut Page, count: &mut Count, block: &Block, words: &[&str], calls: u64) {
     for call in 0..calls {
         let answer = Answer::of(page.alloc(), block, words, call);
-        count_answer(page, count, block, &answer, answer.is_stopped(block));
+        let is_right = answer.is_refused_for_file(block) || answer.lacks_table(block);
+        count_answer(page, count, block, &answer, is_right);
     }
 }
 
-// Compares the image of a command line with that by way of object files; where it is another, prints the line.
-fn compare_images(page: &mut Page, counts: &mut Counts, block: &Block, words: &[&str]) {
-    let linked = linked_image(page.alloc(), block, words);
-    match linked {
-        Linked::Missing => {}
-        Linked::Same => counts.images.add(true),
-        Linked::Other => {
-            counts.images.add(false);
-            page.number("line ", block.place());
-            page.text(": another image by way of object files\n");
-        }
+// Compares the image of a command line with that by way of object files, where there is one; where it is another, prints the line.
+fn compare_images(page: &mut Page, count: &mut Count, block: &Block, words: &[&str]) {
+    let Some(is_same) = is_linked_alike(page.alloc(), block, words) else {
+        return;
+    };
+    count.add(is_same);
+    if !is_same {
+        page.number("line ", block.place);
+        page.text(": another image by way of object files\n");
     }
 }
 
-// Carries out a command line, with no call of files failing and with each. Where it is refused there is no image to compare.
-fn answer_words(page: &mut Page, counts: &mut Counts, block: &Block, words: &[&str]) {
-    let answer = Answer::of(page.alloc(), block, words, u64::MAX);
-    count_answer(
-        page,
-        &mut counts.answers,
-        block,
-        &answer,
-        answer.is_as_said(block),
-    );
-    fail_each(page, &mut counts.stopped, block, words, answer.calls);
-    if !answer.is_refused() {
-        compare_images(page, counts, block, words);
-    }
-}
-
-// Carries out a block.
+// Carries out a block, with no call of files failing and with each. Where it is refused there is no image to compare.
 fn run_block(page: &mut Page, counts: &mut Counts, block: &Block) {
-    match block.words(page.alloc()) {
-        Ok(words) => answer_words(page, counts, block, words.as_slice()),
-        Err(_) => page.note(false),
+    let Ok(words) = block.words(page.alloc()) else {
+        return page.note(false);
+    };
+    let words = words.as_slice();
+    let answer = Answer::of(page.alloc(), block, words, u64::MAX);
+    let is_right = answer.is_as_said(block);
+    count_answer(page, &mut counts.answers, block, &answer, is_right);
+    fail_each(page, &mut counts.stopped, block, words, answer.calls);
+    if answer.status != 1 && answer.status != 2 {
+        compare_images(page, &mut counts.images, block, words);
     }
 }
 
@@ -203,12 +196,11 @@ fn read_line<'a>(page: &mut Page, counts: &mut Counts, block: &mut Block<'a>, li
 
 // Carries out the command lines of rows.
 fn print_blocks(page: &mut Page, rows: &str) {
-    let none = Count { all: 0, others: 0 };
     let mut counts = Counts {
         lines: 0,
-        answers: none,
-        stopped: none,
-        images: none,
+        answers: Count::new(),
+        stopped: Count::new(),
+        images: Count::new(),
     };
     let mut block = Block::new(page.alloc());
     for line in rows.lines() {
@@ -232,7 +224,6 @@ fn print_parts(page: &mut Page) {
     print_programs(page);
     print_execution(page);
     print_expressions(page);
-    print_merges(page);
     print_adjusting(page);
     print_objects(page);
     print_shorter(page);
@@ -243,21 +234,18 @@ fn print_parts(page: &mut Page) {
     print_trees(page);
 }
 
-// Prints the answers to the command lines of standard input, what the parts do, what code is, and the routines.
-fn print_all(rt: &HostRuntime, page: &mut Page) -> Result<()> {
-    let rows = read_to_string(rt.alloc(), rt.reader())?;
-    print_blocks(page, rows.as_str());
-    print_parts(page);
-    print_routines(&mut HostFiles::new(rt), page);
-    Ok(())
-}
-
-// Prints what words order, which begin with the program's own name.
+// Prints what words order, which begin with the program's own name: what code is, the answers to calls that are made twice, or else the
+// answers to the command lines of standard input, what the parts do, what code is, and the routines.
 fn print_ordered(rt: &HostRuntime, page: &mut Page, words: &[String]) -> Result<()> {
     match words.get(1).map_or("", |word| word.as_str()) {
         "code" => print_assemblies(page),
         "twice" => print_twice(page),
-        _ => print_all(rt, page)?,
+        _ => {
+            let rows = read_to_string(rt.alloc(), rt.reader())?;
+            print_blocks(page, rows.as_str());
+            print_parts(page);
+            print_routines(&mut HostFiles::new(rt), page);
+        }
     }
     Ok(())
 }

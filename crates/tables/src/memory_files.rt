@@ -45,42 +45,36 @@ impl File {
         } else {
             self.bytes.add_text(line, "\n");
         }
-        self.name.is_whole() && self.bytes.is_whole()
+        self.name.is_whole && self.bytes.is_whole
     }
 
     /// Whether it has this name and these bytes.
     pub fn is_same(&self, other: &File) -> bool {
-        self.name.has(other.name.as_slice())
-            && other.bytes.is_whole()
-            && self.bytes.has(other.bytes.as_slice())
+        self.name.has(other.name.items.as_slice())
+            && other.bytes.is_whole
+            && self.bytes.has(other.bytes.items.as_slice())
     }
 
     /// Whether it has this name, and as its bytes a beginning of these.
     pub fn begins(&self, other: &File) -> bool {
-        let bytes = self.bytes.as_slice();
-        self.name.has(other.name.as_slice())
-            && self.bytes.is_whole()
-            && other.bytes.as_slice().get(..bytes.len()) == Some(bytes)
+        let bytes = self.bytes.items.as_slice();
+        self.name.has(other.name.items.as_slice())
+            && self.bytes.is_whole
+            && other.bytes.items.as_slice().get(..bytes.len()) == Some(bytes)
     }
 
-    // How many bytes of these it takes: the greater half, so that long texts take several calls.
-    fn count_of(&self, bytes: &[u8]) -> usize
-        ensures { result ≤ length bytes.now }
-    {
-        if !self.name.has(BROKEN) {
-            (bytes.len() / 2).saturating_add(1).min(bytes.len())
-        } else if self.bytes.as_slice().len() < BROKEN_LENGTH {
-            bytes.len().min(1)
-        } else {
-            0
-        }
-    }
-
-    // Adds as many bytes as it takes, and answers how many.
+    // Adds as many bytes as it takes, and answers how many: the greater half, so that long texts take several calls.
     fn grow(&mut self, bytes: &[u8]) -> usize
         ensures { result ≤ length bytes.now }
     {
-        let count = self.count_of(bytes);
+        let room = if !self.name.has(BROKEN) {
+            (bytes.len() / 2).saturating_add(1)
+        } else if self.bytes.items.len() < BROKEN_LENGTH {
+            1
+        } else {
+            0
+        };
+        let count = room.min(bytes.len());
         self.bytes.add(&bytes[..count]);
         count
     }
@@ -101,9 +95,12 @@ fn number_of(files: &[File], name: &str) -> usize {
 pub struct MemoryFiles<'a> {
     alloc: Global,
     files: &'a [File],
-    written: Vec<File>,
-    calls: u64,
-    failed: u64,
+    /// The files that were written, in the order in which they were begun.
+    pub written: Vec<File>,
+    /// How many calls there were.
+    pub calls: u64,
+    /// How many calls failed.
+    pub failed: u64,
     /// The call that fails, counted from 0, where there are so many.
     pub failing_call: u64,
 }
@@ -121,21 +118,6 @@ impl<'a> MemoryFiles<'a> {
             failed: 0,
             failing_call: u64::MAX,
         }
-    }
-
-    /// How many calls there were.
-    pub fn calls(&self) -> u64 {
-        self.calls
-    }
-
-    /// How many calls failed.
-    pub fn failed(&self) -> u64 {
-        self.failed
-    }
-
-    /// The files that were written, in the order in which they were begun.
-    pub fn into_written(self) -> Vec<File> {
-        self.written
     }
 
     // Counts a call, and answers whether it is another one than that which fails.
@@ -174,7 +156,9 @@ impl<'a> MemoryFiles<'a> {
     {
         let number = number_of(self.written.as_slice(), name);
         if number < self.written.len() {
-            self.written[number].bytes.clear();
+            let bytes = &mut self.written[number].bytes;
+            bytes.items.clear();
+            bytes.is_whole = true;
             true
         } else {
             self.written.push(File::new(self.alloc, name)).is_ok()
@@ -205,7 +189,7 @@ impl Files for MemoryFiles<'_> {
         let Some(file) = self.file(name) else {
             return Err(Failure::Fault(self.fail()));
         };
-        match Vec::from_slice(self.alloc, file.bytes.as_slice()) {
+        match Vec::from_slice(self.alloc, file.bytes.items.as_slice()) {
             Ok(bytes) => Ok(bytes),
             Err(_) => Err(Failure::Memory),
         }
@@ -218,7 +202,7 @@ impl Files for MemoryFiles<'_> {
         let Some(file) = self.file(name) else {
             return Ok(None);
         };
-        match Vec::from_slice(self.alloc, file.bytes.as_slice()) {
+        match Vec::from_slice(self.alloc, file.bytes.items.as_slice()) {
             Ok(bytes) => Ok(Some(bytes)),
             Err(_) => Err(Failure::Memory),
         }

@@ -34,7 +34,7 @@ fn is_word(word: &Word, wanted: (Kind, &[u8], u32, u32)) -> bool {
 
 // Prints how many words of a text are others than they are to be.
 fn print_words(page: &mut Page) {
-    let mut count = Count { all: 0, others: 0 };
+    let mut count = Count::new();
     if let Some(words) = scanned(page.alloc(), b"M: DO;\nA = 0AH;\nEND M;") {
         for (word, wanted) in words.iter().zip(WORDS.iter()) {
             count.add(is_word(word, *wanted));
@@ -47,15 +47,12 @@ fn print_words(page: &mut Page) {
 const DEFINITIONS: &[u8] =
     b"M: DO; DECLARE ONE LITERALLY 'TWO', TWO LITERALLY '2';\nOUTPUT(0) = ONE; END M;";
 
-// The words of the definitions, each name replaced by what it stands for.
-fn replaced(alloc: Global) -> Option<Vec<Word<'static>>> {
-    let words = scanned(alloc, DEFINITIONS)?;
-    expand(alloc, words.as_slice()).ok()
-}
-
-// Prints how many words there are after LITERALLY, and whether the number is in the place of its name.
+// Prints how many words there are after LITERALLY has replaced each name, and whether the number is in the place of its name.
 fn print_replaced(page: &mut Page) {
-    let Some(words) = replaced(page.alloc()) else {
+    let Some(words) = scanned(page.alloc(), DEFINITIONS) else {
+        return page.note(false);
+    };
+    let Ok(words) = expand(page.alloc(), words.as_slice()) else {
         return page.note(false);
     };
     page.number("after LITERALLY: ", words.len() as u64);
@@ -72,15 +69,6 @@ fn print_replaced(page: &mut Page) {
 
 // Texts that are not names. The first has 32 characters.
 static NO_NAMES: [&[u8]; 5] = [b"ABCDEFGHIJKLMNOPQRSTUVWXYZ012345", b"1A", b"$", b"", b"A+"];
-
-// Prints how many texts are names that are not to be.
-fn print_no_names(page: &mut Page) {
-    let mut count = Count { all: 0, others: 0 };
-    for text in NO_NAMES.iter() {
-        count.add(Name::from_text(text).is_none());
-    }
-    count.print(page, " texts that are no names, ", " differ\n");
-}
 
 // A procedure and its module have labels of one name, and the procedure calls itself.
 const NAMES: &[u8] =
@@ -104,23 +92,18 @@ fn parsed(alloc: Global, source: &[u8]) -> Option<Module> {
     parse(alloc, words.as_slice()).ok()
 }
 
-// Prints how many names of a module are bound otherwise than they are to be.
-fn compare_bindings(page: &mut Page, module: Module) {
-    let mut count = Count { all: 0, others: 0 };
+// Prints how many names of a source are bound otherwise than they are to be.
+fn print_bindings(page: &mut Page) {
+    let Some(module) = parsed(page.alloc(), NAMES) else {
+        return page.note(false);
+    };
+    let mut count = Count::new();
     if let Ok(bound) = bind(page.alloc(), module) {
         for (binding, wanted) in bound.bindings.iter().zip(BINDINGS.iter()) {
             count.add(binding == wanted);
         }
     }
     count.print(page, " names bound, ", " differ\n");
-}
-
-// Prints how many names of a source are bound otherwise than they are to be.
-fn print_bindings(page: &mut Page) {
-    match parsed(page.alloc(), NAMES) {
-        Some(module) => compare_bindings(page, module),
-        None => page.note(false),
-    }
 }
 
 // A parameter is not declared by its heading. The typing of a module finds that first, with another number.
@@ -142,11 +125,15 @@ fn print_unbound(page: &mut Page) {
     }
 }
 
-/// Prints what words a text has, what LITERALLY makes of them, and what names are bound to.
+/// Prints what words a text has, what LITERALLY makes of them, how many texts are names that are not to be, and what names are bound to.
 pub fn print_names(page: &mut Page) {
     print_words(page);
     print_replaced(page);
-    print_no_names(page);
+    let mut count = Count::new();
+    for text in NO_NAMES.iter() {
+        count.add(Name::from_text(text).is_none());
+    }
+    count.print(page, " texts that are no names, ", " differ\n");
     print_bindings(page);
     print_unbound(page);
 }

@@ -10,7 +10,7 @@ use hex80::{read_hex, write_hex};
 use host::Failure;
 use locate::{Plan, locate};
 use mem80::{Memory, Piece};
-use objmod::{ObjectModule, Segment, Walk, read, read_from, walk};
+use objmod::{ObjectModule, Segment, read, read_from, walk};
 use ports::Script;
 use std::alloc::Global;
 use std::io::Read;
@@ -82,40 +82,6 @@ const TEXTS: [Row; 8] = [
     },
 ];
 
-// Prints bytes on a line.
-fn print_bytes(page: &mut Page, bytes: &[u8]) {
-    for byte in bytes {
-        page.byte(" ", *byte);
-    }
-    page.text("\n");
-}
-
-// Prints the bytes of the code of an object.
-fn print_code(page: &mut Page, object: &ObjectModule) {
-    for run in object.runs(Segment::Code) {
-        page.word("", run.offset());
-        page.text(":");
-        print_bytes(page, run.bytes());
-    }
-}
-
-// Prints where words of the code of an object are fixed.
-fn print_fixes(page: &mut Page, object: &ObjectModule) {
-    for fix in object.fixes(Segment::Code) {
-        page.word("fixed at ", fix.offset);
-        page.text("\n");
-    }
-}
-
-// Prints the external names of an object.
-fn print_externals(page: &mut Page, object: &ObjectModule) {
-    for name in object.externals() {
-        page.text("external ");
-        page.value(name);
-        page.text("\n");
-    }
-}
-
 // Prints the lengths of an object, and where it starts.
 fn print_lengths(page: &mut Page, object: &ObjectModule) {
     page.number("code ", u64::from(object.length(Segment::Code)));
@@ -128,12 +94,24 @@ fn print_lengths(page: &mut Page, object: &ObjectModule) {
     }
 }
 
-// Prints an object.
+// Prints an object with one external name, and one run and one fix in its code.
 fn print_object(page: &mut Page, object: &ObjectModule) {
     print_lengths(page, object);
-    print_externals(page, object);
-    print_code(page, object);
-    print_fixes(page, object);
+    if let [name] = object.externals() {
+        page.text("external ");
+        page.value(name);
+        page.text("\n");
+    }
+    if let [run] = object.runs(Segment::Code) {
+        page.word("", run.offset());
+        page.text(":");
+        page.bytes(run.bytes());
+        page.text("\n");
+    }
+    if let [fix] = object.fixes(Segment::Code) {
+        page.word("fixed at ", fix.offset);
+        page.text("\n");
+    }
 }
 
 // Prints what a reader gives.
@@ -157,83 +135,53 @@ fn print_readers(page: &mut Page) {
     print_read(page, &mut broken);
 }
 
-// Prints the next of each kind of part that a walk hands out: an external name, a content, and a fix of it.
-fn print_next(page: &mut Page, walk: &mut Walk) {
-    page.text("walk:");
-    if let Some(name) = walk.next_external() {
-        page.text(" external ");
-        page.text(std::str::from_utf8(name).unwrap_or(""));
-    }
-    if let Some(content) = walk.next_content() {
-        page.word(" content at ", content.offset);
-        page.number(" of ", content.bytes.len() as u64);
-    }
-    if let Some(fix) = walk.next_fix() {
-        page.word(" fix at ", fix.offset);
-    }
-    page.text("\n");
-}
-
-// Prints the parts of an object that is walked over, and that there are no more.
+// Prints the parts of an object that is walked over, an external name, a content, and a fix of it, and that there are no more.
 fn print_walk(page: &mut Page) {
-    match walk(page.alloc(), &CALLING) {
-        Ok(mut walk) => {
-            print_next(page, &mut walk);
-            print_next(page, &mut walk);
+    let Ok(mut walk) = walk(page.alloc(), &CALLING) else {
+        return page.note(false);
+    };
+    for _ in 0..2 {
+        page.text("walk:");
+        if let Some(name) = walk.next_external() {
+            page.text(" external ");
+            page.text(std::str::from_utf8(name).unwrap_or(""));
         }
-        Err(_) => page.note(false),
+        if let Some(content) = walk.next_content() {
+            page.word(" content at ", content.offset);
+            page.number(" of ", content.bytes.len() as u64);
+        }
+        if let Some(fix) = walk.next_fix() {
+            page.word(" fix at ", fix.offset);
+        }
+        page.text("\n");
     }
 }
 
-// Places an object as usual, and loads it: whether it could be placed.
-fn is_loaded(alloc: Global, memory: &mut Memory, object: &ObjectModule) -> bool {
-    match locate(alloc, object, &Plan::usual()) {
-        Ok(absolute) => {
-            absolute.load(memory);
-            true
-        }
-        Err(_) => false,
-    }
-}
-
-// Loads an object over other bytes.
-fn load_over(page: &mut Page, bytes: &[u8], memory: &mut Memory) {
+// Places an object as usual, and loads it over other bytes.
+fn loaded(alloc: Global, bytes: &[u8]) -> Option<Memory> {
+    let object = read(alloc, bytes).ok()?;
+    let absolute = locate(alloc, &object, &Plan::usual()).ok()?;
+    let mut memory = Memory::new(alloc).ok()?;
     for address in 0xFF..0x10A_u16 {
         memory.set(address, 0x11);
     }
-    match read(page.alloc(), bytes) {
-        Ok(object) => {
-            let is_loaded = is_loaded(page.alloc(), memory, &object);
-            page.note(is_loaded);
-        }
-        Err(_) => page.note(false),
-    }
+    absolute.load(&mut memory);
+    Some(memory)
 }
 
-// Prints the bytes of a memory from 0FFH to 109H.
-fn print_memory(page: &mut Page, memory: &Memory) {
+// Prints the bytes from 0FFH to 109H of an object that is loaded, how its run from 100H on ends, and its events.
+fn print_loaded(page: &mut Page, bytes: &[u8]) {
+    let Some(memory) = loaded(page.alloc(), bytes) else {
+        return page.note(false);
+    };
     page.text("loaded:");
     for address in 0xFF..0x10A_u16 {
         page.byte(" ", memory.get(address));
     }
-    page.text("\n");
-}
-
-// Prints how a run from 100H on ends, and its events.
-fn print_run(page: &mut Page, memory: Memory) {
     let mut machine = Machine::new(memory, Script::new(page.alloc()), 0x100);
     let end = word_of(machine.run(100));
-    page.line("run: ", end);
+    page.line("\nrun: ", end);
     print_events(page, machine.ports().events());
-}
-
-// Prints pieces of memory.
-fn print_pieces(page: &mut Page, pieces: &[Piece]) {
-    for piece in pieces {
-        page.word("", piece.start);
-        page.text(":");
-        print_bytes(page, piece.bytes.as_slice());
-    }
 }
 
 // Prints the text that is written for the pieces of another.
@@ -249,6 +197,16 @@ fn print_text(page: &mut Page, pieces: &[Piece])
     }
 }
 
+// Prints pieces of memory.
+fn print_pieces(page: &mut Page, pieces: &[Piece]) {
+    for piece in pieces {
+        page.word("", piece.start);
+        page.text(":");
+        page.bytes(piece.bytes.as_slice());
+        page.text("\n");
+    }
+}
+
 // Prints the pieces of a text and what is written for them, or its fault.
 fn print_row(page: &mut Page, row: &Row) {
     page.text(row.what);
@@ -260,18 +218,6 @@ fn print_row(page: &mut Page, row: &Row) {
         }
         Err(Failure::Fault(fault)) => page.line("", fault.number()),
         Err(Failure::Memory) => page.line("", "MEMORY"),
-    }
-}
-
-// Prints what an object is that is loaded, and what it does.
-fn print_loaded(page: &mut Page, bytes: &[u8]) {
-    match Memory::new(page.alloc()) {
-        Ok(mut memory) => {
-            load_over(page, bytes, &mut memory);
-            print_memory(page, &memory);
-            print_run(page, memory);
-        }
-        Err(_) => page.note(false),
     }
 }
 

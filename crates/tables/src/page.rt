@@ -66,6 +66,13 @@ impl Page {
         self.note(is_added);
     }
 
+    /// Adds bytes, each as a blank and two hexadecimal digits.
+    pub fn bytes(&mut self, bytes: &[u8]) {
+        for byte in bytes {
+            self.byte(" ", *byte);
+        }
+    }
+
     /// Adds a text and four hexadecimal digits after it.
     pub fn word(&mut self, before: &str, word: u16) {
         let [high, low] = word.to_be_bytes();
@@ -82,11 +89,6 @@ impl Page {
     /// Whether these bytes are what was added, and nothing is missing.
     pub fn has(&self, bytes: &[u8]) -> bool {
         self.is_whole && self.text.as_bytes() == bytes
-    }
-
-    /// Whether another page has the same, and nothing is missing in either.
-    pub fn is_same(&self, other: &Page) -> bool {
-        other.is_whole && self.has(other.text.as_bytes())
     }
 
     /// Writes what was added, and fails where something is missing.

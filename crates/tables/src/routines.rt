@@ -1,11 +1,11 @@
 //! The document of the routines: their registers, what they take and their listings.
 
-use crate::arguments::{Arguments, Kind};
+use crate::arguments::Arguments;
 use crate::calls::{Tally, tally_of};
 use crate::page::Page;
 use asm8080::{Code, CodeBytes, Fault};
 use host::{Failure, Files};
-use isa8080::{Instr, decode};
+use isa8080::decode;
 use runtime8080::{Routine, emit_routine};
 use std::alloc::Global;
 
@@ -131,11 +131,11 @@ Each routine is called at its first byte. It pushes nothing: its stack is the re
 after the call what it was before. These two bytes lie outside the routine and, for Move, outside both blocks, and Move's
 destination does not overlap the routine. Registers that are not named as changed stay as they were.
 
-Steps are instructions executed, with the CALL and the return, and not clock states. Those that are promised are proved of
-every call (`most_steps` in `crates/runtime8080/specs/Routines.antt`). The others were counted: of 400 calls with each pair
-of 20 words, the edges; of 10,000 calls with random arguments; and, by bytes, of 10,000 more whose DE is below 256. `Wrong`
-counts values, and bytes of memory, that are others than plain arithmetic gives. Addresses in the listings count from the
-first byte: where a routine lies elsewhere, its address is added to the word of each jump.
+Steps are instructions executed, with the CALL and the return, and not clock states. What a routine gives and changes, and the
+steps that are promised, are proved of every call (`Returns` in `crates/runtime8080/specs/Routines.antt`). The other steps were
+counted: of 400 calls with each pair of 20 words, the edges; of 10,000 calls with random arguments; and, by bytes, of 10,000
+more whose DE is below 256. Addresses in the listings count from the first byte: where a routine lies elsewhere, its address is
+added to the word of each jump.
 ";
 
 // Prints a fact of a routine.
@@ -145,21 +145,12 @@ fn print_fact(page: &mut Page, name: &str, fact: &str) {
     page.line(": ", fact);
 }
 
-// Prints a number of a routine.
-fn print_number(page: &mut Page, name: &str, number: u64) {
+// Prints a number of a routine, where its name has two parts.
+fn print_number(page: &mut Page, name: &str, more: &str, number: u64) {
     page.text("- ");
     page.text(name);
+    page.text(more);
     page.number(": ", number);
-    page.text("\n");
-}
-
-// Prints a number of hundredths.
-fn print_hundredths(page: &mut Page, name: &str, number: u64) {
-    page.text("- ");
-    page.text(name);
-    page.number(": ", number / 100);
-    page.number(".", number / 10 % 10);
-    page.number("", number % 10);
     page.text("\n");
 }
 
@@ -173,21 +164,16 @@ fn byte_at(bytes: &[u8], offset: usize) -> u8 {
     bytes.get(offset).copied().unwrap_or(0)
 }
 
-// Prints an instruction.
-fn print_instruction(page: &mut Page, offset: usize, instr: Instr) {
-    page.word("    ", (offset % 65_536) as u16);
-    page.text("  ");
-    page.value(&instr);
-    page.text("\n");
-}
-
 // Prints the instruction at an offset, and answers its length.
 fn print_at(page: &mut Page, bytes: &[u8], offset: usize) -> usize {
     let second = byte_at(bytes, offset.saturating_add(1));
     let third = byte_at(bytes, offset.saturating_add(2));
     match decode([byte_at(bytes, offset), second, third]) {
         Some((instr, size)) => {
-            print_instruction(page, offset, instr);
+            page.word("    ", (offset % 65_536) as u16);
+            page.text("  ");
+            page.value(&instr);
+            page.text("\n");
             size as usize
         }
         None => {
@@ -207,48 +193,33 @@ fn print_listing(page: &mut Page, bytes: &[u8]) {
     }
 }
 
-// The hundredths of a step that a call takes in the mean.
-fn mean_of(tally: &Tally) -> u64 {
-    tally.total / (tally.calls / 100).max(1)
+// Prints the steps of calls with random arguments, the mean with two digits after the point.
+fn print_steps(page: &mut Page, more: &str, tally: &Tally) {
+    let mean = tally.total / (tally.calls / 100).max(1);
+    print_number(page, "Least steps", more, tally.least);
+    page.text("- Mean steps");
+    page.text(more);
+    page.number(": ", mean / 100);
+    page.number(".", mean / 10 % 10);
+    page.number("", mean % 10);
+    page.text("\n");
+    print_number(page, "Greatest steps", more, tally.greatest);
 }
 
-// Prints the steps of calls with random arguments.
-fn print_steps(page: &mut Page, tally: &Tally) {
-    print_number(page, "Wrong of random ones", tally.wrong);
-    print_number(page, "Least steps", tally.least);
-    print_hundredths(page, "Mean steps", mean_of(tally));
-    print_number(page, "Greatest steps", tally.greatest);
-}
-
-// Prints the steps of calls with random arguments of which DE is a byte.
-fn print_steps_by_bytes(page: &mut Page, tally: &Tally) {
-    print_number(page, "Wrong by bytes", tally.wrong);
-    print_number(page, "Least steps by bytes", tally.least);
-    print_hundredths(page, "Mean steps by bytes", mean_of(tally));
-    print_number(page, "Greatest steps by bytes", tally.greatest);
-}
-
-// What calls with some arguments give.
-fn tally_with(page: &mut Page, row: &Row, code: &CodeBytes, kind: Kind, mask: u16) -> Tally {
-    tally_of(
-        page,
-        row.routine,
-        code,
-        Arguments::of(row.routine, kind, mask),
-    )
-}
-
-// Prints what calls give.
+// Prints the steps of calls: at the edges, with random arguments, and with those of which DE is a byte, where that tells.
 fn print_tallies(page: &mut Page, row: &Row, code: &CodeBytes) {
-    let edges = tally_with(page, row, code, Kind::Edges, row.mask);
-    print_number(page, "Wrong at edges", edges.wrong);
-    print_number(page, "Greatest steps at edges", edges.greatest);
-    let random = tally_with(page, row, code, Kind::Random, row.mask);
+    let edges = tally_of(
+        page,
+        code,
+        &mut Arguments::new(row.routine, false, row.mask),
+    );
+    print_number(page, "Greatest steps at edges", "", edges.greatest);
     print_fact(page, "Random arguments", row.random);
-    print_steps(page, &random);
+    let random = tally_of(page, code, &mut Arguments::new(row.routine, true, row.mask));
+    print_steps(page, "", &random);
     if row.routine == Routine::Multiply || row.routine == Routine::Divide {
-        let narrow = tally_with(page, row, code, Kind::Random, 0xFF);
-        print_steps_by_bytes(page, &narrow);
+        let narrow = tally_of(page, code, &mut Arguments::new(row.routine, true, 0xFF));
+        print_steps(page, " by bytes", &narrow);
     }
 }
 
@@ -263,46 +234,29 @@ fn print_facts(page: &mut Page, row: &Row) {
     print_fact(page, "Promised steps, at most", row.promised);
 }
 
-// Prints what is said of a routine, and its code.
-fn print_code(page: &mut Page, row: &Row, code: &CodeBytes) {
+// Prints the section of a routine: what is said of it, and its code.
+fn print_routine(page: &mut Page, row: &Row) {
+    let Ok(code) = code_of(page.alloc(), row.routine) else {
+        return page.note(false);
+    };
     print_facts(page, row);
-    print_number(page, "Bytes", code.bytes().len() as u64);
-    print_tallies(page, row, code);
+    print_number(page, "Bytes", "", code.bytes().len() as u64);
+    print_tallies(page, row, &code);
     page.text("\n");
     print_listing(page, code.bytes());
-}
-
-// Prints the section of a routine.
-fn print_routine(page: &mut Page, row: &Row) {
-    match code_of(page.alloc(), row.routine) {
-        Ok(code) => print_code(page, row, &code),
-        Err(_) => page.note(false),
-    }
-}
-
-// Prints the document.
-fn print_document(page: &mut Page) {
-    page.text(HEAD);
-    for row in &ROWS {
-        print_routine(page, row);
-    }
-}
-
-// Whether a file has what is on a page.
-fn is_kept<F: Files>(files: &mut F, document: &Page) -> bool {
-    match files.read_file(DOCUMENT) {
-        Ok(kept) => document.has(kept.as_slice()),
-        Err(_) => false,
-    }
 }
 
 /// Prints that the document is kept as a file, or else the document.
 pub fn print_routines<F: Files>(files: &mut F, page: &mut Page) {
     let mut document = Page::new(page.alloc());
-    print_document(&mut document);
-    if is_kept(files, &document) {
-        page.text("the routines are as runtime.md has them\n");
-    } else {
-        page.page(&document);
+    document.text(HEAD);
+    for row in &ROWS {
+        print_routine(&mut document, row);
+    }
+    match files.read_file(DOCUMENT) {
+        Ok(kept) if document.has(kept.as_slice()) => {
+            page.text("the routines are as runtime.md has them\n");
+        }
+        _ => page.page(&document),
     }
 }

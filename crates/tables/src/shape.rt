@@ -3,63 +3,39 @@
 //!
 //! Lists are passed as vectors, since `as_slice` makes proofs longer.
 
-use std::alloc::Global;
-use std::io::Write;
+use crate::page::Page;
 use trees::{
     Assignment, BinaryOperator, Block, Constant, Declaration, Dimension, Element, Expression,
-    Heading, Identifier, IfThen, Item, ItemType, Iteration, Linkage, Member, Module, Number,
-    Offset, Origin, Procedure, Reference, Restricted, ScalarType, Selector, Sign, Statement,
-    StatementKind, Storage, Subject, UnaryOperator, ValueList,
+    Heading, Identifier, IfThen, Item, ItemType, Iteration, Linkage, Member, Module, Origin,
+    Reference, Restricted, ScalarType, Selector, Sign, Statement, StatementKind, Storage, Subject,
+    UnaryOperator, ValueList,
 };
 
-/// The shape of a tree, as far as it is written. If memory runs out, a part is left out.
+/// The shape of a tree, as far as it is written.
 #[derive(Drop)]
 pub struct Shape {
-    text: Vec<u8>,
-    // Whether the place of a name is shown.
-    shows_places: bool,
+    /// The text that is written.
+    pub page: Page,
+    /// Whether the place of a name is shown.
+    pub shows_places: bool,
 }
 
 impl Shape {
-    /// A shape without anything written, with or without the places of names.
-    pub fn new(alloc: Global, shows_places: bool) -> Shape {
-        Shape {
-            text: Vec::new(alloc),
-            shows_places,
-        }
-    }
-
-    /// The text that is written.
-    pub fn as_slice(&self) -> &[u8] {
-        self.text.as_slice()
-    }
-
     // A text.
-    fn bytes(&mut self, bytes: &[u8]) {
-        let _ = self.text.extend_from_slice(bytes);
-    }
-
-    // A character.
-    fn byte(&mut self, byte: u8) {
-        let _ = self.text.push(byte);
-    }
-
-    // The printed form of a number.
-    fn number(&mut self, value: u32) {
-        let _ = write!(self.text, "{value}");
+    fn text(&mut self, text: &str) {
+        self.page.text(text);
     }
 
     fn name(&mut self, name: &Identifier) {
-        self.bytes(name.name.as_slice());
+        self.page.value(&name.name);
         if self.shows_places {
-            self.byte(b'@');
-            self.number(name.place.start);
+            self.page.number("@", u64::from(name.place.start));
         }
     }
 
     /// A module.
     pub fn module(&mut self, module: &Module) {
-        self.byte(b'(');
+        self.text("(");
         self.name(&module.name);
         self.block(&module.body);
         self.ending(&module.end_name);
@@ -67,18 +43,17 @@ impl Shape {
 
     // END, the name after it, if there is one, and the parenthesis that closes what ends.
     fn ending(&mut self, name: &Option<Identifier>) {
-        self.bytes(b" END");
+        self.text(" END");
         if let Some(name) = name {
-            self.byte(b' ');
+            self.text(" ");
             self.name(name);
         }
-        self.byte(b')');
+        self.text(")");
     }
 
     #[cycle(statement)]
     fn block(&mut self, block: &Block) {
         for declaration in &block.declarations {
-            self.byte(b' ');
             self.declaration(declaration);
         }
         self.statements(&block.statements);
@@ -87,7 +62,7 @@ impl Shape {
     #[cycle(statement)]
     fn statements(&mut self, statements: &Vec<Statement>) {
         for statement in statements {
-            self.byte(b' ');
+            self.text(" ");
             self.statement(statement);
         }
     }
@@ -96,12 +71,12 @@ impl Shape {
     fn statement(&mut self, statement: &Statement) {
         for label in &statement.labels {
             self.name(label);
-            self.bytes(b": ");
+            self.text(": ");
         }
-        self.bytes(opening_of_statement(&statement.kind));
+        self.text(opening_of_statement(&statement.kind));
         self.parts(&statement.kind);
         if !matches!(statement.kind, StatementKind::Null(_)) {
-            self.byte(b')');
+            self.text(")");
         }
     }
 
@@ -138,26 +113,24 @@ impl Shape {
     #[cycle(statement)]
     fn branches(&mut self, conditional: &IfThen) {
         self.expression(&conditional.condition);
-        self.byte(b' ');
+        self.text(" ");
         self.statement(&conditional.body);
         if let Some(otherwise) = &conditional.otherwise {
-            self.byte(b' ');
+            self.text(" ");
             self.statement(otherwise);
         }
     }
 
-    #[cycle(statement)]
-    fn declaration_of_procedure(&mut self, procedure: &Procedure) {
-        self.heading(&procedure.heading);
-        self.block(&procedure.body);
-        self.ending(&procedure.end_name);
-    }
-
+    // A declaration after another part.
     #[cycle(statement)]
     fn declaration(&mut self, declaration: &Declaration) {
         match declaration {
             Declaration::Declare(elements) => self.elements(elements),
-            Declaration::Procedure(procedure) => self.declaration_of_procedure(procedure),
+            Declaration::Procedure(procedure) => {
+                self.heading(&procedure.heading);
+                self.block(&procedure.body);
+                self.ending(&procedure.end_name);
+            }
         }
     }
 }
@@ -168,7 +141,7 @@ impl Shape {
         self.operand(&iteration.first);
         self.operand(&iteration.last);
         if let Some(step) = &iteration.step {
-            self.bytes(b" BY");
+            self.text(" BY");
             self.operand(step);
         }
     }
@@ -176,7 +149,7 @@ impl Shape {
     fn assignment(&mut self, assignment: &Assignment) {
         self.reference(&assignment.target);
         for target in &assignment.others {
-            self.byte(b' ');
+            self.text(" ");
             self.reference(target);
         }
         self.operand(&assignment.value);
@@ -184,13 +157,13 @@ impl Shape {
 
     // An expression after another part.
     fn operand(&mut self, expression: &Expression) {
-        self.byte(b' ');
+        self.text(" ");
         self.expression(expression);
     }
 
     #[cycle(expression)]
     fn expression(&mut self, expression: &Expression) {
-        self.bytes(opening_of_expression(expression));
+        self.text(opening_of_expression(expression));
         match expression {
             Expression::Constant(value) => self.constant(value),
             Expression::Reference(reference) | Expression::Location(reference) => {
@@ -202,16 +175,16 @@ impl Shape {
             }
             Expression::Assignment { target, value } => {
                 self.reference(target);
-                self.byte(b' ');
+                self.text(" ");
                 self.expression(value);
             }
             Expression::Binary(_, left, right) => {
                 self.expression(left);
-                self.byte(b' ');
+                self.text(" ");
                 self.expression(right);
             }
         }
-        self.bytes(closing_of_expression(expression));
+        self.text(closing_of_expression(expression));
     }
 
     #[cycle(expression)]
@@ -222,14 +195,18 @@ impl Shape {
 
     #[cycle(expression)]
     fn arguments(&mut self, arguments: &Vec<Expression>) {
-        let mut before = b'(';
+        let mut is_first = true;
         for argument in arguments {
-            self.byte(before);
+            if is_first {
+                self.text("(");
+            } else {
+                self.text(" ");
+            }
             self.expression(argument);
-            before = b' ';
+            is_first = false;
         }
         if !arguments.is_empty() {
-            self.byte(b')');
+            self.text(")");
         }
     }
 
@@ -238,31 +215,31 @@ impl Shape {
         self.name(&reference.name);
         self.arguments(&reference.arguments);
         if let Some(member) = &reference.member {
-            self.byte(b'.');
+            self.text(".");
             self.selector(member);
         }
     }
 
     fn constant(&mut self, constant: &Constant) {
         match constant {
-            Constant::Number(number) => self.number(u32::from(number.value)),
+            Constant::Number(number) => self.page.value(&number.value),
             Constant::String(literal) => self.string(literal.characters.as_slice()),
         }
     }
 
     fn string(&mut self, characters: &[u8]) {
-        self.byte(b'\'');
-        self.bytes(characters);
-        self.byte(b'\'');
+        self.text("'");
+        self.text(std::str::from_utf8(characters).unwrap_or("?"));
+        self.text("'");
     }
 
     // Constants after an opening parenthesis. The closing one is not written.
     fn constants(&mut self, values: &Vec<Constant>) {
-        let mut before = b'(';
+        let mut before = "(";
         for value in values {
-            self.byte(before);
+            self.text(before);
             self.constant(value);
-            before = b' ';
+            before = " ";
         }
     }
 }
@@ -270,60 +247,66 @@ impl Shape {
 impl Shape {
     // Names in parentheses, or nothing if there is no name.
     fn names(&mut self, names: &Vec<Identifier>) {
-        let mut before = b'(';
+        let mut before = "(";
         for name in names {
-            self.byte(before);
+            self.text(before);
             self.name(name);
-            before = b' ';
+            before = " ";
         }
         if !names.is_empty() {
-            self.byte(b')');
+            self.text(")");
         }
     }
 
     fn heading(&mut self, heading: &Heading) {
-        self.bytes(b"(PROCEDURE ");
+        self.text(" (PROCEDURE ");
         self.name(&heading.name);
         self.names(&heading.parameters);
         if let Some(result) = heading.result {
-            self.byte(b' ');
-            self.bytes(scalar_word(result));
+            self.text(" ");
+            self.text(scalar_word(result));
         }
-        self.bytes(linkage_word(heading.linkage));
+        self.text(linkage_word(heading.linkage));
         if heading.reentrant.is_some() {
-            self.bytes(b" REENTRANT");
+            self.text(" REENTRANT");
         }
     }
 
     fn elements(&mut self, elements: &Vec<Element>) {
-        self.bytes(b"(DECLARE");
+        self.text(" (DECLARE");
         for element in elements {
-            self.byte(b' ');
-            self.element(element);
-        }
-        self.byte(b')');
-    }
-
-    fn element(&mut self, element: &Element) {
-        self.byte(b'(');
-        match element {
-            Element::Literally(definition) => {
-                self.name(&definition.name);
-                self.bytes(b" LITERALLY ");
-                self.string(definition.text.characters.as_slice());
+            self.text(" (");
+            match element {
+                Element::Literally(definition) => {
+                    self.name(&definition.name);
+                    self.text(" LITERALLY ");
+                    self.string(definition.text.characters.as_slice());
+                }
+                Element::Item(item) => self.item(item),
             }
-            Element::Item(item) => self.item(item),
+            self.text(")");
         }
-        self.byte(b')');
+        self.text(")");
     }
 
     fn item(&mut self, item: &Item) {
         self.subject(&item.subject);
-        self.dimension(item.dimension);
-        self.item_type(&item.item_type);
-        self.bytes(linkage_word(item.linkage));
+        match item.dimension {
+            Some(Dimension::Count(number)) => {
+                self.page.number(" (", u64::from(number.value));
+                self.text(")");
+            }
+            Some(Dimension::Implied) => self.text(" (*)"),
+            None => {}
+        }
+        self.text(" ");
+        match &item.item_type {
+            ItemType::Scalar(scalar) => self.text(scalar_word(*scalar)),
+            ItemType::Structure(members) => self.members(members),
+        }
+        self.text(linkage_word(item.linkage));
         if let Some(at) = &item.at {
-            self.bytes(b" AT ");
+            self.text(" AT ");
             self.restricted(&at.address);
         }
         if let Some(list) = &item.value_list {
@@ -336,7 +319,7 @@ impl Shape {
             Subject::Single { name, base } => {
                 self.name(name);
                 if let Some(base) = base {
-                    self.bytes(b" BASED ");
+                    self.text(" BASED ");
                     self.name(base);
                 }
             }
@@ -344,160 +327,126 @@ impl Shape {
         }
     }
 
-    fn dimension(&mut self, dimension: Option<Dimension>) {
-        match dimension {
-            Some(Dimension::Count(number)) => {
-                self.byte(b' ');
-                self.count(number);
-            }
-            Some(Dimension::Implied) => self.bytes(b" (*)"),
-            None => {}
-        }
-    }
-
-    fn count(&mut self, number: Number) {
-        self.byte(b'(');
-        self.number(u32::from(number.value));
-        self.byte(b')');
-    }
-
-    fn item_type(&mut self, item_type: &ItemType) {
-        self.byte(b' ');
-        match item_type {
-            ItemType::Scalar(scalar) => self.bytes(scalar_word(*scalar)),
-            ItemType::Structure(members) => self.members(members),
-        }
-    }
-
     fn members(&mut self, members: &Vec<Member>) {
-        self.bytes(b"STRUCTURE");
-        let mut before = b'(';
+        let mut before = "STRUCTURE(";
         for member in members {
-            self.byte(before);
-            self.member(*member);
-            before = b' ';
+            self.text(before);
+            self.name(&member.name);
+            if let Some(number) = member.dimension {
+                self.page.number("(", u64::from(number.value));
+                self.text(")");
+            }
+            self.text(":");
+            self.text(scalar_word(member.scalar));
+            before = " ";
         }
-        self.byte(b')');
-    }
-
-    fn member(&mut self, member: Member) {
-        self.name(&member.name);
-        if let Some(number) = member.dimension {
-            self.count(number);
-        }
-        self.byte(b':');
-        self.bytes(scalar_word(member.scalar));
+        self.text(")");
     }
 
     fn value_list(&mut self, list: &ValueList) {
-        self.bytes(match list.storage {
-            Storage::Initial(_) => b" INITIAL",
-            Storage::Data(_) => b" DATA",
-        });
-        let mut before = b'(';
+        let mut before = match list.storage {
+            Storage::Initial(_) => " INITIAL(",
+            Storage::Data(_) => " DATA(",
+        };
         for value in &list.values {
-            self.byte(before);
+            self.text(before);
             self.restricted(value);
-            before = b' ';
+            before = " ";
         }
-        self.byte(b')');
+        self.text(")");
     }
 
     fn restricted(&mut self, restricted: &Restricted) {
         match &restricted.origin {
             Origin::Constant(value) => self.constant(value),
             Origin::Location(name) => {
-                self.byte(b'.');
+                self.text(".");
                 self.name(name);
             }
         }
         for offset in &restricted.offsets {
-            self.offset(offset);
+            self.text(match offset.sign {
+                Sign::Plus => "+",
+                Sign::Minus => "-",
+            });
+            self.constant(&offset.constant);
         }
     }
-
-    fn offset(&mut self, offset: &Offset) {
-        self.byte(match offset.sign {
-            Sign::Plus => b'+',
-            Sign::Minus => b'-',
-        });
-        self.constant(&offset.constant);
-    }
 }
 
-fn scalar_word(scalar: ScalarType) -> &'static [u8] {
+fn scalar_word(scalar: ScalarType) -> &'static str {
     match scalar {
-        ScalarType::Byte => b"BYTE",
-        ScalarType::Address => b"ADDRESS",
+        ScalarType::Byte => "BYTE",
+        ScalarType::Address => "ADDRESS",
     }
 }
 
-fn linkage_word(linkage: Option<Linkage>) -> &'static [u8] {
+fn linkage_word(linkage: Option<Linkage>) -> &'static str {
     match linkage {
-        Some(Linkage::Public(_)) => b" PUBLIC",
-        Some(Linkage::External(_)) => b" EXTERNAL",
-        None => b"",
+        Some(Linkage::Public(_)) => " PUBLIC",
+        Some(Linkage::External(_)) => " EXTERNAL",
+        None => "",
     }
 }
 
 // The beginning of an operator between its operands.
-fn binary_word(operator: BinaryOperator) -> &'static [u8] {
+fn binary_word(operator: BinaryOperator) -> &'static str {
     match operator {
-        BinaryOperator::Or => b"(OR ",
-        BinaryOperator::Xor => b"(XOR ",
-        BinaryOperator::And => b"(AND ",
-        BinaryOperator::Equal => b"(= ",
-        BinaryOperator::Less => b"(< ",
-        BinaryOperator::Greater => b"(> ",
-        BinaryOperator::LessOrEqual => b"(<= ",
-        BinaryOperator::GreaterOrEqual => b"(>= ",
-        BinaryOperator::Unequal => b"(<> ",
-        BinaryOperator::Add => b"(+ ",
-        BinaryOperator::Subtract => b"(- ",
-        BinaryOperator::Multiply => b"(* ",
-        BinaryOperator::Divide => b"(/ ",
-        BinaryOperator::Modulo => b"(MOD ",
+        BinaryOperator::Or => "(OR ",
+        BinaryOperator::Xor => "(XOR ",
+        BinaryOperator::And => "(AND ",
+        BinaryOperator::Equal => "(= ",
+        BinaryOperator::Less => "(< ",
+        BinaryOperator::Greater => "(> ",
+        BinaryOperator::LessOrEqual => "(<= ",
+        BinaryOperator::GreaterOrEqual => "(>= ",
+        BinaryOperator::Unequal => "(<> ",
+        BinaryOperator::Add => "(+ ",
+        BinaryOperator::Subtract => "(- ",
+        BinaryOperator::Multiply => "(* ",
+        BinaryOperator::Divide => "(/ ",
+        BinaryOperator::Modulo => "(MOD ",
     }
 }
 
 // The beginning of a statement, as far as its kind gives it.
-fn opening_of_statement(kind: &StatementKind) -> &'static [u8] {
+fn opening_of_statement(kind: &StatementKind) -> &'static str {
     match kind {
-        StatementKind::Null(_) => b";",
-        StatementKind::Assignment(_) => b"(= ",
-        StatementKind::Call { .. } => b"(CALL ",
-        StatementKind::Return { .. } => b"(RETURN",
-        StatementKind::Halt(_) => b"(HALT",
-        StatementKind::Goto { .. } => b"(GOTO ",
-        StatementKind::If(_) => b"(IF ",
-        StatementKind::Do { .. } => b"(DO",
-        StatementKind::While(_) => b"(WHILE ",
-        StatementKind::Iterate(_) => b"(FROM ",
-        StatementKind::Case(_) => b"(CASE ",
+        StatementKind::Null(_) => ";",
+        StatementKind::Assignment(_) => "(= ",
+        StatementKind::Call { .. } => "(CALL ",
+        StatementKind::Return { .. } => "(RETURN",
+        StatementKind::Halt(_) => "(HALT",
+        StatementKind::Goto { .. } => "(GOTO ",
+        StatementKind::If(_) => "(IF ",
+        StatementKind::Do { .. } => "(DO",
+        StatementKind::While(_) => "(WHILE ",
+        StatementKind::Iterate(_) => "(FROM ",
+        StatementKind::Case(_) => "(CASE ",
     }
 }
 
 // The beginning of an expression, as far as its kind gives it.
-fn opening_of_expression(expression: &Expression) -> &'static [u8] {
+fn opening_of_expression(expression: &Expression) -> &'static str {
     match expression {
-        Expression::Constant(_) | Expression::Reference(_) => b"",
-        Expression::Location(_) | Expression::List(_) => b".",
-        Expression::Parenthesized(_) => b"<",
-        Expression::Assignment { .. } => b"(:= ",
-        Expression::Unary(UnaryOperator::Not, _) => b"(NOT ",
-        Expression::Unary(UnaryOperator::Negate, _) => b"(- ",
+        Expression::Constant(_) | Expression::Reference(_) => "",
+        Expression::Location(_) | Expression::List(_) => ".",
+        Expression::Parenthesized(_) => "<",
+        Expression::Assignment { .. } => "(:= ",
+        Expression::Unary(UnaryOperator::Not, _) => "(NOT ",
+        Expression::Unary(UnaryOperator::Negate, _) => "(- ",
         Expression::Binary(operator, _, _) => binary_word(*operator),
     }
 }
 
 // The end of an expression, as far as its kind gives it.
-fn closing_of_expression(expression: &Expression) -> &'static [u8] {
+fn closing_of_expression(expression: &Expression) -> &'static str {
     match expression {
-        Expression::Constant(_) | Expression::Reference(_) | Expression::Location(_) => b"",
-        Expression::Parenthesized(_) => b">",
+        Expression::Constant(_) | Expression::Reference(_) | Expression::Location(_) => "",
+        Expression::Parenthesized(_) => ">",
         Expression::List(_)
         | Expression::Assignment { .. }
         | Expression::Unary(_, _)
-        | Expression::Binary(_, _, _) => b")",
+        | Expression::Binary(_, _, _) => ")",
     }
 }

@@ -7,8 +7,9 @@ use crate::readers::ShortWriter;
 use explaining::run_command;
 use std::alloc::Global;
 
-// The words of a command, the name of its file and the bytes of that, and what is printed.
+// A command, its words, the name of its file and the bytes of that, and what is printed.
 struct Row {
+    what: &'static str,
     words: &'static [&'static str],
     file: &'static str,
     bytes: &'static [u8],
@@ -20,48 +21,56 @@ const PROGRAM: &[u8] = b"M: DO; DECLARE A BYTE; A = 1; OUTPUT(0) = A; END M;";
 // What is printed of the merge stands in `docs/commands.md`.
 const ROWS: [Row; 8] = [
     Row {
+        what: "plm --version",
         words: &["plm", "--version"],
         file: "",
         bytes: b"",
         printed: "plm 1.0\n",
     },
     Row {
+        what: "plm locate m.obj",
         words: &["plm", "locate", "m.obj"],
         file: "m.obj",
         bytes: &MERGED,
         printed: "CODE 0100 9\nDATA 4000 0\nSTACK F000 1024\nSTART 0100\nPUBLIC S 0104\n",
     },
     Row {
+        what: "plm locate --need m.plm",
         words: &["plm", "locate", "--need", "m.plm"],
         file: "m.plm",
         bytes: PROGRAM,
         printed: "NEED 12\n",
     },
     Row {
+        what: "plm hex m.obj",
         words: &["plm", "hex", "m.obj"],
         file: "m.obj",
         bytes: &MERGED,
         printed: ":09010000CD0401763E08D304C9C8\n:00000001FF\n",
     },
     Row {
+        what: "plm run m.plm",
         words: &["plm", "run", "m.plm"],
         file: "m.plm",
         bytes: PROGRAM,
         printed: "OUT 00 01\nHALT\n",
     },
     Row {
+        what: "plm interpret m.plm",
         words: &["plm", "interpret", "m.plm"],
         file: "m.plm",
         bytes: PROGRAM,
         printed: "OUT 00 01\nHALT\n",
     },
     Row {
+        what: "plm run --map m.plm",
         words: &["plm", "run", "--map", "m.plm"],
         file: "m.plm",
         bytes: PROGRAM,
         printed: "MAP M A 4000 1\nOUT 00 01\nHALT\n",
     },
     Row {
+        what: "plm interpret --map m.plm",
         words: &["plm", "interpret", "--map", "m.plm"],
         file: "m.plm",
         bytes: PROGRAM,
@@ -76,15 +85,6 @@ const FAULTY: [&[&str]; 3] = [
     &["plm", "hex", "--code", "none", "none.obj"],
 ];
 
-// The file of a command, where there is memory for it.
-fn files_of(page: &mut Page, row: &Row) -> Vec<File> {
-    let mut files = Vec::new(page.alloc());
-    let mut file = File::new(page.alloc(), row.file);
-    file.bytes.add(row.bytes);
-    page.note(files.push(file).is_ok());
-    files
-}
-
 // Whether a command is refused with U3 where its output takes so many bytes, and has printed these.
 fn is_refused(alloc: Global, row: &Row, files: &[File], room: usize) -> bool {
     let mut files = MemoryFiles::new(alloc, files);
@@ -97,45 +97,33 @@ fn is_refused(alloc: Global, row: &Row, files: &[File], room: usize) -> bool {
         && row.printed.as_bytes().get(..room) == Some(out.taken.as_slice())
 }
 
-// How often a command is refused, with each output that is too short.
-fn refusals(alloc: Global, row: &Row, files: &[File]) -> u64 {
+// Prints how often a command is refused, with each output that is too short.
+fn print_row(page: &mut Page, row: &Row) {
+    let mut file = File::new(page.alloc(), row.file);
+    file.bytes.add(row.bytes);
+    let files = [file];
     let mut refused = 0_u64;
     for room in 0..row.printed.len() {
-        if is_refused(alloc, row, files, room) {
+        if is_refused(page.alloc(), row, &files, room) {
             refused = refused.saturating_add(1);
         }
     }
-    refused
-}
-
-// Prints how often a command is refused.
-fn print_row(page: &mut Page, row: &Row) {
-    let files = files_of(page, row);
-    page.text("output of");
-    for word in row.words {
-        page.text(" ");
-        page.text(word);
-    }
-    let refused = refusals(page.alloc(), row, files.as_slice());
+    page.text("output of ");
+    page.text(row.what);
     page.number(": ", refused);
     page.number(" of ", row.printed.len() as u64);
     page.text(" shorter ones are refused\n");
-}
-
-// The status of a command whose faults can't be told.
-fn untold_status(alloc: Global, words: &[&str]) -> u8 {
-    let mut files = MemoryFiles::new(alloc, &[]);
-    let mut out: Vec<u8> = Vec::new(alloc);
-    let taken = Vec::new(alloc);
-    let mut err = ShortWriter { room: 0, taken };
-    run_command(alloc, words, &mut files, &mut out, &mut err)
 }
 
 // Prints the statuses of commands whose faults can't be told.
 fn print_untold(page: &mut Page) {
     page.text("statuses of faults that can't be told:");
     for words in &FAULTY {
-        let status = untold_status(page.alloc(), words);
+        let mut files = MemoryFiles::new(page.alloc(), &[]);
+        let mut out: Vec<u8> = Vec::new(page.alloc());
+        let taken = Vec::new(page.alloc());
+        let mut err = ShortWriter { room: 0, taken };
+        let status = run_command(page.alloc(), words, &mut files, &mut out, &mut err);
         page.number(" ", u64::from(status));
     }
     page.text("\n");

@@ -6,8 +6,10 @@ use std::alloc::Global;
 /// whole.
 #[derive(Drop)]
 pub struct Bytes {
-    items: Vec<u8>,
-    is_whole: bool,
+    /// What was added.
+    pub items: Vec<u8>,
+    /// Whether nothing is missing.
+    pub is_whole: bool,
 }
 
 impl Bytes {
@@ -19,30 +21,9 @@ impl Bytes {
         }
     }
 
-    /// What was added.
-    pub fn as_slice(&self) -> &[u8] {
-        self.items.as_slice()
-    }
-
-    /// What was added, to be changed.
-    pub fn as_mut_slice(&mut self) -> &mut [u8] {
-        self.items.as_mut_slice()
-    }
-
-    /// Whether nothing is missing.
-    pub fn is_whole(&self) -> bool {
-        self.is_whole
-    }
-
     /// Whether these bytes are what was added, and nothing is missing.
     pub fn has(&self, bytes: &[u8]) -> bool {
         self.is_whole && self.items.as_slice() == bytes
-    }
-
-    /// Takes all away.
-    pub fn clear(&mut self) {
-        self.items.clear();
-        self.is_whole = true;
     }
 
     /// Adds bytes.
@@ -65,18 +46,13 @@ impl Bytes {
         }
     }
 
-    // Adds the byte that two hexadecimal digits write.
-    fn add_byte(&mut self, digits: &str) {
-        match u8::from_str_radix(digits, 16) {
-            Ok(byte) => self.add(&[byte]),
-            Err(_) => self.is_whole = false,
-        }
-    }
-
     /// Adds the bytes that hexadecimal digits write, two for each, with a blank between them.
     pub fn add_digits(&mut self, line: &str) {
         for digits in line.split(' ') {
-            self.add_byte(digits);
+            match u8::from_str_radix(digits, 16) {
+                Ok(byte) => self.add(&[byte]),
+                Err(_) => self.is_whole = false,
+            }
         }
     }
 }

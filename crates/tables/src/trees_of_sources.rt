@@ -245,28 +245,25 @@ static PLACES: [(&[u8], &[u8]); 9] = [
     ),
 ];
 
-// The shape of the module that a source is, if it is one.
-fn shape_of(alloc: Global, source: &[u8], shows_places: bool) -> Option<Shape> {
-    let words = scanned(alloc, source)?;
-    let Ok(module) = parse(alloc, words.as_slice()) else {
-        return None;
-    };
-    let mut shape = Shape::new(alloc, shows_places);
-    shape.module(&module);
-    Some(shape)
-}
-
 // Whether the tree of a source has this shape.
 fn has_shape(alloc: Global, source: &[u8], wanted: &[u8], shows_places: bool) -> bool {
-    match shape_of(alloc, source, shows_places) {
-        Some(shape) => shape.as_slice() == wanted,
-        None => false,
-    }
+    let Some(words) = scanned(alloc, source) else {
+        return false;
+    };
+    let Ok(module) = parse(alloc, words.as_slice()) else {
+        return false;
+    };
+    let mut shape = Shape {
+        page: Page::new(alloc),
+        shows_places,
+    };
+    shape.module(&module);
+    shape.page.has(wanted)
 }
 
 // Prints how many sources have other trees than they are to have.
 fn print_shapes(page: &mut Page, rows: &[(&[u8], &[u8])], shows_places: bool, what: &str) {
-    let mut count = Count { all: 0, others: 0 };
+    let mut count = Count::new();
     for (source, wanted) in rows {
         count.add(has_shape(page.alloc(), source, wanted, shows_places));
     }

@@ -8,7 +8,7 @@ use cpu8080::DecodeTable;
 use host::Failure;
 use link::{StreamFault, link_records};
 use mem80::Memory;
-use ports::{Event, Script};
+use ports::Script;
 use std::alloc::Global;
 use tool::{Built, Plan, Source, ToolFault, build, print_run};
 
@@ -113,43 +113,35 @@ fn printed(alloc: Global, sources: &[Source]) -> Result<Vec<u8>, Failure<ToolFau
     printed_of(alloc, &built)
 }
 
-// Prints lines on one, each with a semicolon in place of its end.
-fn print_lines(page: &mut Page, lines: &[u8]) {
-    for line in std::str::from_utf8(lines).unwrap_or("").lines() {
-        page.text(" ");
-        page.text(line);
-        page.text(";");
-    }
-    page.text("\n");
-}
-
-// Prints what a program prints that is run.
+// Prints what a program prints that is run, on one line with a semicolon in place of each end.
 fn print_program(page: &mut Page, program: &Program) {
     page.text(program.what);
     page.text(":");
     match printed(page.alloc(), program.sources) {
-        Ok(text) => print_lines(page, text.as_slice()),
+        Ok(text) => {
+            for line in std::str::from_utf8(text.as_slice()).unwrap_or("").lines() {
+                page.text(" ");
+                page.text(line);
+                page.text(";");
+            }
+            page.text("\n");
+        }
         Err(Failure::Fault(fault)) => page.line(" ", fault.number()),
         Err(Failure::Memory) => page.line(" ", "MEMORY"),
     }
 }
 
-// Prints events, each as a line with a semicolon in place of its end.
-fn print_events(page: &mut Page, events: &[Event]) {
-    for event in events {
-        page.byte(if event.write { " OUT " } else { " IN " }, event.port);
-        page.byte(" ", event.value);
-        page.text(";");
-    }
-}
-
-// Prints what a program does that is interpreted.
+// Prints what a program does that is interpreted: its events, each with a semicolon after it.
 fn print_meaning(page: &mut Page, what: &str, text: &[u8]) {
     let mut script = Script::new(page.alloc());
     let end = word_of_end(page.alloc(), text, &mut script);
     page.text(what);
     page.text(":");
-    print_events(page, script.events());
+    for event in script.events() {
+        page.byte(if event.write { " OUT " } else { " IN " }, event.port);
+        page.byte(" ", event.value);
+        page.text(";");
+    }
     page.line(" ", end);
 }
 
@@ -162,19 +154,14 @@ fn merged(alloc: Global) -> Result<Vec<u8>, Failure<StreamFault>> {
     Ok(text)
 }
 
-// Prints bytes.
-fn print_bytes(page: &mut Page, bytes: &[u8]) {
-    for byte in bytes {
-        page.byte(" ", *byte);
-    }
-    page.text("\n");
-}
-
 // Prints that merge.
 fn print_merge(page: &mut Page) {
     page.text("the merge of A and B:");
     match merged(page.alloc()) {
-        Ok(text) => print_bytes(page, text.as_slice()),
+        Ok(text) => {
+            page.bytes(text.as_slice());
+            page.text("\n");
+        }
         Err(Failure::Fault(_)) => page.line(" ", "refused"),
         Err(Failure::Memory) => page.line(" ", "MEMORY"),
     }
@@ -188,8 +175,9 @@ fn print_programs(page: &mut Page) {
     }
 }
 
-// Prints what the programs do that are interpreted, twice.
-fn print_meanings(page: &mut Page) {
+/// Prints what each call answers, twice.
+pub fn print_twice(page: &mut Page) {
+    print_programs(page);
     for (what, text) in [
         ("a division by 0", DIVIDES),
         ("statements of each kind", CALLS),
@@ -197,12 +185,6 @@ fn print_meanings(page: &mut Page) {
         print_meaning(page, what, text);
         print_meaning(page, what, text);
     }
-}
-
-/// Prints what each call answers, twice.
-pub fn print_twice(page: &mut Page) {
-    print_programs(page);
-    print_meanings(page);
     print_merge(page);
     print_merge(page);
 }

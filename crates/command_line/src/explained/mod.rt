@@ -1,7 +1,8 @@
 //! What is printed of the number of a fault.
 
 ghost use Rattle.std.specs.Prelude.{◌≡◌, IfOk, find, map, option_map};
-ghost use Rattle.command_line.specs.Explained.{is_page_of, or_page, page_in, page_of, pages_in};
+ghost use Rattle.command_line.specs.Explained.{is_page_of, page_in, page_of, pages_in};
+ghost use Rattle.command_line.specs.internal.Pages.{page_among};
 
 mod files;
 mod programs;
@@ -57,30 +58,28 @@ fn page_in<'a>(alloc: Global, text: &'a [u8], number: &[u8]) -> Result<Option<&'
     Ok(found)
 }
 
-// The page of a number in one of two texts.
-fn page_in_either<'a>(
+// The page of a number in the first of several texts that has one.
+fn page_among<'a>(
     alloc: Global,
-    first: &'a [u8],
-    second: &'a [u8],
+    texts: &[&'a [u8]],
     number: &[u8],
 ) -> Result<Option<&'a [u8]>, AllocError>
     ensures { IfOk result (λ found. option_map (λ page. page.now) found
-        ≡ or_page (page_in first.entry.now number.now) (page_in second.entry.now number.now)) }
+        ≡ page_among (map (λ text. text.now) texts.now) number.now) }
 {
-    match page_in(alloc, first, number)? {
-        Some(page) => Ok(Some(page)),
-        None => page_in(alloc, second, number),
+    let mut rest = texts;
+    while let [text, more @ ..] = rest {
+        if let Some(page) = page_in(alloc, *text, number)? {
+            return Ok(Some(page));
+        }
+        rest = more;
     }
+    Ok(None)
 }
 
 /// What is printed of the number of a fault, in which the case of letters does not count, where there is such a number.
-#[tactic(auto, unfolding(crate::specs::Explained::page_of))]
 pub(crate) fn page(alloc: Global, number: &str) -> Result<Option<&'static [u8]>, AllocError>
     ensures { IfOk result (λ found. option_map (λ page. page.now) found ≡ page_of number.now) }
 {
-    let number = number.as_bytes();
-    match page_in(alloc, &SOURCES, number)? {
-        Some(page) => Ok(Some(page)),
-        None => page_in_either(alloc, &PROGRAMS, &FILES, number),
-    }
+    page_among(alloc, &[&SOURCES, &PROGRAMS, &FILES], number.as_bytes())
 }

@@ -39,17 +39,15 @@ pub fn need_of_sources(alloc: Global, sources: &[Source]) -> Result<Option<u32>,
 
 /// The line that tells how much of the stack the program of sources needs.
 #[tactic(auto, using(crate::proofs::NeedLemmas::is_need_text))]
-pub fn need_text(alloc: Global, sources: &[Source]) -> Result<Vec<u8>, Failure<NeedFault>>
-    ensures text { IfOk result (λ line. IsNeedText (texts_of sources.now) line.items) }
+pub fn need_text(alloc: Global, sources: &[Source]) -> Result<String, Failure<NeedFault>>
+    ensures text { IfOk result (λ line. IsNeedText (texts_of sources.now) line.bytes.items) }
     ensures refused { IfFault result (λ fault. HasCause fault (texts_of sources.now)) }
     ensures too_many { MOST_SOURCES < length sources.now
         → result ≡ Err (Failure.Fault NeedFault.TooManySources) }
 {
     let need = need_of_sources(alloc, sources)?;
-    match line_of(alloc, need) {
-        Ok(line) => Ok(line),
-        Err(_) => Err(Failure::Memory),
-    }
+    let line = line_of(alloc, need)?;
+    Ok(line)
 }
 
 // The typed modules of sources, in the order given.

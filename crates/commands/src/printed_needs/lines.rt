@@ -39,7 +39,7 @@ pub fn print_need<O: Write, E: Write>(
         Err(Failure::Fault(fault)) => return refuse_need(&fault, names, err),
         Err(Failure::Memory) => return refuse_memory(err),
     };
-    match write_bytes(out, line.as_slice()) {
+    match write_bytes(out, line.as_bytes()) {
         Ok(()) => Ending::Done,
         Err(Failure::Fault(_)) => refuse_output(err),
         Err(Failure::Memory) => refuse_memory(err),

@@ -12,14 +12,15 @@ ghost use Rattle.commands.specs.Refusing.{RefusesFiles, RefusesFor, RefusesRead,
 ghost use Rattle.commands.specs.Running.{PrintsFiles, PrintsRead, PrintsTexts};
 
 use crate::port_inputs::read_input;
-use crate::programs::interpreting::interpret_sources;
 use crate::programs::loading::sources_of;
-use crate::programs::running::run_sources;
-use command_line::{Action, ProgramOrder, Settings};
+use crate::programs::refusals::refuse_sources;
+use crate::programs::running::print_built;
+use crate::reports::end_run;
+use command_line::{ProgramOrder, Settings};
 use host::{Ending, Failure, Files, read_files, refuse_file, refuse_memory};
 use std::alloc::Global;
 use std::io::Write;
-use tool::Source;
+use tool::{Source, build};
 
 /// Reads the files of an order, and then those of its input, builds the program of the texts with these values, and runs or
 /// interprets it. Where the order is refused, the line is told of the first file that can't be read, or that memory ran out,
@@ -132,7 +133,8 @@ fn act_on<O: Write, E: Write>(
     }
 }
 
-// Does with the sources what was ordered.
+// Builds the program of sources, and does with it what was ordered.
+#[tactic(auto, using(crate::proofs::Untold::tells_memory))]
 fn act<O: Write, E: Write>(
     alloc: Global,
     order: &ProgramOrder,
@@ -153,8 +155,12 @@ fn act<O: Write, E: Write>(
         (values_in values.now) (texts_of sources.now) (status_of result)
         (map (λ output. output.items) outputs.new.items) (O.contents out.old) (O.contents out.new) }
 {
-    match order.action {
-        Action::Run => run_sources(alloc, order, values, sources, outputs, out, err),
-        Action::Interpret => interpret_sources(alloc, order, values, sources, outputs, out, err),
+    match build(alloc, sources, &values.plan) {
+        Ok(built) => {
+            let printing = print_built(alloc, order, values, &built, sources, outputs, out);
+            end_run(printing, err)
+        }
+        Err(Failure::Fault(fault)) => refuse_sources(&fault, order.files.as_slice(), err),
+        Err(Failure::Memory) => refuse_memory(err),
     }
 }

@@ -3,7 +3,6 @@
 
 mod carrying;
 mod compiling;
-mod delivering;
 mod interpreting;
 mod loading;
 mod map;
@@ -13,7 +12,6 @@ mod standing;
 
 pub use carrying::carry_out_sources;
 pub use compiling::compile_file;
-pub use delivering::carry_out_to_files;
 pub use loading::sources_of;
 pub(crate) use loading::{name_at, script_of, start_memory};
 pub(crate) use refusals::refuse_sources;

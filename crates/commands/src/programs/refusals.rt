@@ -1,12 +1,12 @@
 //! What commands print where sources are refused.
 
 ghost use Rattle.std.specs.Prelude.{◌≡◌, map};
-ghost use Rattle.host.specs.Refusals.{Tells, TellsOther, refusal_line};
-ghost use Rattle.tool.specs.Faults.{file_of, line_of, number_of};
+ghost use Rattle.host.specs.Refusals.{Tells, TellsOther};
+ghost use Rattle.tool.specs.Faults.{file_of};
 ghost use Rattle.commands.specs.ProgramFaults.{fault_line, file_place};
 
 use crate::programs::loading::name_at;
-use host::{Ending, refuse_name};
+use host::{Ending, refuse, refuse_name};
 use std::io::Write;
 use tool::ToolFault;
 
@@ -19,19 +19,14 @@ pub(crate) fn refuse_sources<E: Write>(fault: &ToolFault, files: &[&str], err: &
     ensures told { TellsOther (E.contents err.old) (E.contents err.new) }
 {
     match fault.name() {
-        Some(name) => refuse_sources_at(fault, name.as_slice(), err),
-        None => refuse_sources_at(fault, place_of_file(fault, files).as_bytes(), err),
+        Some(name) => refuse_name(fault.number(), name.as_slice(), fault.line(), err),
+        None => refuse(
+            fault.number(),
+            place_of_file(fault, files),
+            fault.line(),
+            err,
+        ),
     }
-}
-
-// Prints why sources are refused, with the name that is told of.
-fn refuse_sources_at<E: Write>(fault: &ToolFault, name: &[u8], err: &mut E) -> Ending
-    ensures ending { result ≡ Ending.Refused }
-    ensures line { Tells (refusal_line (number_of fault.now) name.now (line_of fault.now))
-        (E.contents err.old) (E.contents err.new) }
-    ensures told { TellsOther (E.contents err.old) (E.contents err.new) }
-{
-    refuse_name(fault.number(), name, fault.line(), err)
 }
 
 // The name of the file that a fault is in, or a dash.

@@ -1,48 +1,15 @@
-//! Runs of programs of which it is told where they stood at their end.
+//! The lines at which programs stand that are interpreted.
 
-ghost use Rattle.std.specs.Prelude.{◌≡◌, [], IfOk, OnErr, map, true};
-ghost use Rattle.command_line.specs.Settings.{values_in};
-ghost use Rattle.command_line.specs.declared.orders.Action.TheVariants.{Run};
-ghost use Rattle.commands.specs.Ends.{machine_status};
-ghost use Rattle.commands.specs.Running.{PrintsBuilt, StopsBuilt};
+ghost use Rattle.std.specs.Prelude.{◌≡◌, IfOk, true};
 ghost use Rattle.commands.specs.Standing.{NamesLine, module_names};
 
-use crate::image_runs::print_image;
-use crate::places::{Places, line_text};
+use crate::places::line_text;
 use command_line::Settings;
-use cpu8080::End;
-use host::{Failure, WriteFault};
 use interpreter::{StackMark, StackPart, stack_marks};
-use listings::{SourceLine, code_lines};
+use listings::SourceLine;
 use sources::{SourceLines, source_lines};
 use std::alloc::{AllocError, Global};
-use std::io::Write;
 use tool::{Built, Source};
-
-/// Prints what the image of a program did on a memory as values start it, and at which line it stood then, and gathers the
-/// bytes for the files of ports. After a failure a beginning of that was printed.
-#[tactic(auto, using(crate::proofs::Printed::nothing_stops))]
-pub(crate) fn print_with_line<O: Write>(
-    alloc: Global,
-    settings: &Settings,
-    built: &Built,
-    sources: &[Source],
-    outputs: &mut Vec<Vec<u8>>,
-    out: &mut O,
-) -> Result<Option<End>, Failure<WriteFault>>
-    ensures ok { IfOk result (λ end. PrintsBuilt Run [] (values_in settings.now) built.now
-        (machine_status end) (map (λ output. output.items) outputs.new.items)
-        (O.contents out.old) (O.contents out.new)) }
-    ensures err { OnErr result (StopsBuilt Run [] (values_in settings.now) built.now
-        (O.contents out.old) (O.contents out.new)) }
-{
-    let Ok(lines) = code_lines(alloc, built, sources) else {
-        return Err(Failure::Memory);
-    };
-    let places = Places::Lines(built.program(), &lines);
-    let end = print_image(alloc, built.image(), settings, &places, outputs, out)?;
-    Ok(end)
-}
 
 // The part of the code to which an instruction belongs: the last one that does not begin after it.
 fn part_at(marks: &[StackMark], at: usize) -> Option<StackMark> {
@@ -56,19 +23,11 @@ fn part_at(marks: &[StackMark], at: usize) -> Option<StackMark> {
     last
 }
 
-// An entry of a table of lines.
-fn entry(lines: &[u32], number: usize) -> Option<u32> {
-    match lines.get(number) {
-        Some(line) => Some(*line),
-        None => None,
-    }
-}
-
 // The line at which a part of code begins, if there is such a part.
 fn line_of(lines: &SourceLines, part: StackPart) -> Option<u32> {
     match part {
-        StackPart::Procedure(number) => entry(lines.procedures.as_slice(), number),
-        StackPart::Statement(number) => entry(lines.statements.as_slice(), number),
+        StackPart::Procedure(number) => lines.procedures.get(number).copied(),
+        StackPart::Statement(number) => lines.statements.get(number).copied(),
     }
 }
 

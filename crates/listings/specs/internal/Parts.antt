@@ -1,12 +1,13 @@
 -- Parts as the code keeps them, and what they are shown as.
-use Rattle.std.specs.Prelude.{◌≡◌, ℕ, ◌+◌, ◌-◌, ◌<◌, ◌≤◌, min, Bool, true, false, cond, List, [], ◌∷◌, ◌++◌, codes, flat_map, take, slice_index, Option, Some, None, option_and_then}
+use Rattle.std.specs.Prelude.{◌≡◌, ℕ, ◌+◌, ◌-◌, ◌<◌, ◌≤◌, min, Bool, cond, List, [], ◌∷◌, ◌++◌, codes, flat_map, take, slice_index, Option, Some, None}
 use Rattle.std.specs.List.{AllByRecursion}
 use Rattle.isa8080.specs.Code.{bytes_of}
-use Rattle.isa8080.specs.Text.{byte_digits, text_of}
+use Rattle.isa8080.specs.Text.{byte_digits}
 use Rattle.isa8080.specs.declared.instr.Instr.{Instr}
 use Rattle.mem80.specs.declared.range.Piece.{Piece}
 use Rattle.object_modules.specs.Image.{Symbol}
-use Rattle.listings.specs.Listing.{IsNoCodeAt, Part as ShownPart, cells_from, cells_in, named_text, part_lines, word_of}
+use Rattle.object_modules.specs.declared.segment.Fix.{Fix}
+use Rattle.listings.specs.Listing.{IsNoCodeAt, Part as ShownPart, cells_from, cells_in, instr_text, is_address_at, part_lines}
 use Rattle.listings.specs.declared.image.Coded.{Coded}
 use Rattle.listings.specs.declared.parts.CodeSegment.{CodeSegment}
 use Rattle.listings.specs.declared.parts.Part.{Part}
@@ -18,15 +19,6 @@ bytes_shown part = take (min part.size 3) part.bytes
 
 abbrev pub kept_cells : Part → List (ℕ × ℕ)
 kept_cells part = cells_from part.address (bytes_shown part)
-
--- the text of an instruction, with the name of the address that it ends in, if it is one and has one
-abbrev pub text_by : Instr → Option Symbol → List ℕ
-text_by i None = text_of i
-text_by i (Some symbol) = named_text i symbol.name
-
-abbrev pub instr_text : (name_at : ℕ → Option Symbol) → (is_address : Bool) → Instr → List ℕ
-instr_text name_at false i = text_of i
-instr_text name_at true i = text_by i (option_and_then name_at (word_of i))
 
 -- the text of a part
 abbrev pub text_for : (name_at : ℕ → Option Symbol) → Part → Option Instr → List ℕ
@@ -80,15 +72,23 @@ abbrev pub IsKindBy : Option Instr → List Piece → (begin end address : ℕ) 
 IsKindBy (Some i) pieces begin end address = begin ≤ address
 IsKindBy None pieces begin end address = IsNoCodeAt pieces begin end address
 
-pub record IsCodePart (pieces : List Piece) (begin end : ℕ) (part : Part) : Type 0 where
+-- The word of an instruction is shown with its name, if it has one, just where a fix of these says that it is an address.
+abbrev pub IsNamedBy : Option Instr → (is_address : Bool) → List Fix → (place : ℕ) → Type 0
+IsNamedBy (Some i) is_address fixes place = is_address ≡ is_address_at fixes (place + 1)
+IsNamedBy None is_address fixes place = Unit {0}
+
+pub record IsCodePart (pieces : List Piece) (fixes : List Fix) (start begin end : ℕ) (part : Part) : Type 0 where
   pub good : IsGood part
   pub word : part.address < 65536
   pub kind : IsKindBy part.instr pieces begin end part.address
+  pub named : IsNamedBy part.instr part.is_address fixes (part.address - start)
+  pub beside : part.address < begin → part.line ≡ 0
 
 -- a part of the code of a segment
 abbrev pub IsPartOf : List Piece → CodeSegment → Part → Type 0
 IsPartOf pieces segment part =
-    IsCodePart pieces (segment.start + segment.constants) (segment.start + segment.length) part
+    IsCodePart pieces segment.fixes.now segment.start (segment.start + segment.constants)
+    (segment.start + segment.length) part
 
 -- how many places a part takes, if there is one, and its cells
 abbrev pub room_of : Option Part → ℕ

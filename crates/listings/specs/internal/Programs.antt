@@ -1,19 +1,20 @@
 -- Modules of a program as the code keeps them.
-use Rattle.std.specs.Prelude.{◌≡◌, ◌⊎◌, ℕ, ◌+◌, ◌++◌, List, [], ◌∷◌, Contains, filter_map, map, slice_get, take, zip, Some}
+use Rattle.std.specs.Prelude.{◌≡◌, ◌⊎◌, ℕ, ◌+◌, ◌++◌, List, [], ◌∷◌, flat_map, map, slice_get, take, Some}
 use Rattle.std.specs.List.{AllByRecursion}
 use Rattle.layout.specs.Placement.{ModulePlacement}
 use Rattle.mem80.specs.declared.range.Piece.{Piece}
 use Rattle.object_modules.specs.Image.{Symbol, range_at}
 use Rattle.object_modules.specs.Module.{ObjectModule, length_of}
+use Rattle.object_modules.specs.Runs.{fixes_in}
 use Rattle.object_modules.specs.declared.segment.Segment.TheVariants.{Code, Data}
 use Rattle.placing.specs.Views.{module_placement_view}
 use Rattle.sources.specs.Programs.{program_modules}
 use Rattle.tool.specs.Construction.{Construction}
-use Rattle.typed_trees.specs.TypedTrees.{TypedModule, TypedObject, TypedProcedure}
+use Rattle.typed_trees.specs.TypedTrees.{TypedModule}
 use Rattle.typed_trees.specs.Views.{module_view}
 use Rattle.typed_trees.specs.Weight.{constant_bytes}
 use Rattle.listings.specs.Listing.{ListsModule}
-use Rattle.listings.specs.Names.{module_symbols, object_symbol, routine_names}
+use Rattle.listings.specs.Names.{IsCodeName, module_symbols, public_symbols}
 use Rattle.listings.specs.declared.named.Named.{Named}
 use Rattle.listings.specs.declared.parts.Part.{Part}
 use Rattle.listings.specs.internal.Parts.{IsCodePart}
@@ -44,9 +45,10 @@ abbrev pub data_size : ModuleView → ℕ
 data_size view = length_of (object_of view) Data
 
 -- a part of the code of a module
-abbrev pub IsCodeOf : List Piece → ModuleView → Part → Type 0
-IsCodeOf pieces view part =
-    IsCodePart pieces (view.code_base + constant_bytes (typed_of view)) (view.code_base + code_size view) part
+abbrev pub IsPartOfCode : List Piece → ModuleView → Part → Type 0
+IsPartOfCode pieces view part =
+    IsCodePart pieces (fixes_in (object_of view) Code) view.code_base
+    (view.code_base + constant_bytes (typed_of view)) (view.code_base + code_size view) part
 
 -- modules whose segments follow one another, from these addresses on up to others
 abbrev pub Follow : (code_base data_base : ℕ) → List ModuleView → (code_end data_end : ℕ) → Type 0
@@ -84,14 +86,17 @@ pub record AreViews (texts : List (List ℕ)) (built : Construction) (views : Li
   pub placed_of_each : map placed_of views ≡ built.placement.modules
   pub follow : Follow built.plan.code built.plan.data_base views code_end data_end
 
--- the names of the procedures of a module, and of the routines
-abbrev pub names_in : TypedModule → List (List ℕ)
-names_in typed = map (λ (procedure : TypedProcedure). procedure.name) typed.procedures ++ routine_names
+-- the names of the objects of modules, and of their PUBLIC procedures
+abbrev pub object_names : List ModuleView → List Symbol
+object_names views = flat_map (λ (view : ModuleView). module_symbols (pair_of view)) views
 
--- what may be a name in a module, and in one of these
+abbrev pub public_names : List ModuleView → List Symbol
+public_names views =
+    flat_map (λ (view : ModuleView). public_symbols view.code_base (typed_of view) (object_of view)) views
+
+-- what is another name in the code of a module, and of one of these
 abbrev pub IsNameIn : ModuleView → Symbol → Type 0
-IsNameIn view symbol =
-    Contains (module_symbols (pair_of view)) symbol ⊎ Contains (names_in (typed_of view)) symbol.name
+IsNameIn view symbol = IsCodeName view.code_base (typed_of view) (object_of view) symbol
 
 abbrev pub IsNameAmong : List ModuleView → Symbol → Type 0
 IsNameAmong [] symbol = ⊥
@@ -103,22 +108,22 @@ pub record AddsNames (P : Symbol → Type 0) (old new : List Named) : Type 0 whe
   pub new_is : new ≡ old ++ added
   pub each : AllByRecursion P (map named_view added)
 
--- objects with their addresses that are among those of a module
-pub record HasAmong (placed : TypedModule × ModulePlacement) (objects : List TypedObject)
-    (addresses : List ℕ) : Type 0 where
-  pub among : (symbol : Symbol) → Contains (filter_map object_symbol (zip objects addresses)) symbol
-      → Contains (module_symbols placed) symbol
-
--- names of all modules but those that are left
-pub record AreNamesSoFar (all left : List ModuleView) (names : List Symbol) : Type 0 where
+-- such names were added of all modules but those that are left
+pub record AddsNamesSoFar (all left : List ModuleView) (old new : List Named) : Type 0 where
   pub fits : (symbol : Symbol) → IsNameAmong left symbol → IsNameAmong all symbol
-  pub each : AllByRecursion (IsNameAmong all) names
+  pub adds : AddsNames (IsNameAmong all) old new
+
+-- all names of modules
+pub record HasNames (views : List ModuleView) (names : List Symbol) : Type 0 where
+  pub others : List Symbol
+  pub names_are : names ≡ object_names views ++ public_names views ++ others
+  pub each : AllByRecursion (IsNameAmong views) others
 
 -- the listing of a module, with these names
 abbrev pub ListsView : (names : List Symbol) → List Piece → ModuleView → (text : List ℕ) → Type 0
 ListsView names pieces view text =
-    ListsModule (Contains names) pieces (range_at view.code_base (code_size view)) (constant_bytes (typed_of view))
-    (range_at view.data_base (data_size view)) (typed_of view).name (text_of view) text
+    ListsModule names pieces (range_at view.code_base (code_size view)) (constant_bytes (typed_of view))
+    (fixes_in (object_of view) Code) (range_at view.data_base (data_size view)) (typed_of view).name (text_of view) text
 
 -- the listings of modules, one after another
 pub data ListsViews (names : List Symbol) (pieces : List Piece) :
@@ -129,8 +134,8 @@ pub data ListsViews (names : List Symbol) (pieces : List Piece) :
       → ListsViews names pieces views more
       → ListsViews names pieces (view ∷ views) (first ++ more)
 
--- the listing of modules, with names that may be names in them
+-- the listing of modules, with their names
 pub record IsListingOf (pieces : List Piece) (views : List ModuleView) (text : List ℕ) : Type 0 where
   pub names : List Symbol
-  pub each : AllByRecursion (IsNameAmong views) names
+  pub each : HasNames views names
   pub listed : ListsViews names pieces views text

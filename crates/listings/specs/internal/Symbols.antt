@@ -1,31 +1,39 @@
 -- Lines of symbols that are added to others.
-use Rattle.std.specs.Prelude.{◌≡◌, ℕ, ◌+◌, ◌≤◌, Bool, true, false, List, [], ◌∷◌, codes, filter, flat_map, zip, length, Option, Some, None}
+use Rattle.std.specs.Prelude.{◌≡◌, ℕ, ◌+◌, ◌≤◌, Bool, true, false, List, [], ◌∷◌, ◌++◌, codes, filter, flat_map, map, zip, Option, Some, None, IfSome}
 use Rattle.std.specs.List.{AllByRecursion}
 use Rattle.layout.specs.Placement.{PieceKind}
 use Rattle.typed_trees.specs.TypedTrees.{TypedModule, TypedObject, TypedProcedure}
-use Rattle.listings.specs.Symbols.{IsOwnerIn, is_own, object_line, procedure_line, source_line}
+use Rattle.typed_trees.specs.Weight.{constant_bytes}
+use Rattle.listings.specs.Names.{IsInCode}
+use Rattle.listings.specs.Symbols.{AreCodeOf, AreOwnersOf, HasSymbols, is_own, object_line, procedure_line, source_line}
+use Rattle.listings.specs.declared.views.ModuleView.{ModuleView}
+use Rattle.listings.specs.internal.Programs.{code_size, object_of, placed_of, typed_of}
 
 -- the procedures that are not EXTERNAL
 abbrev pub own_of : List TypedProcedure → List TypedProcedure
 own_of procedures = filter (λ (procedure : TypedProcedure). is_own procedure.visibility) procedures
 
 -- the lines of procedures
-pub record HasProcedureLines (of_module : List ℕ) (procedures : List TypedProcedure) (text : List ℕ) : Type 0 where
+pub record HasProcedureLines (view : ModuleView) (procedures : List TypedProcedure) (text : List ℕ) : Type 0 where
   pub places : List (ℕ × ℕ)
-  pub each : length places ≡ length (own_of procedures)
-  pub text_is : text ≡ flat_map (procedure_line of_module) (zip (own_of procedures) places)
+  pub each : AreCodeOf (constant_bytes (typed_of view)) (object_of view) (own_of procedures) places
+  pub text_is : text
+      ≡ flat_map (procedure_line (typed_of view).name view.code_base) (zip (own_of procedures) places)
+
+-- the names of the procedures of a module
+abbrev pub procedure_names : TypedModule → List (List ℕ)
+procedure_names typed = map (λ (procedure : TypedProcedure). procedure.name) typed.procedures
 
 -- the name of an owner, or a dash
 abbrev pub owner_text : Option (List ℕ) → List ℕ
 owner_text None = codes "-"
 owner_text (Some name) = name
 
--- the lines of objects with their addresses
-pub record HasObjectLines (typed : TypedModule) (placed : List TypedObject × List ℕ) (text : List ℕ) : Type 0 where
+-- the lines of objects, numbered from a number on, with their addresses
+pub record HasObjectLines (typed : TypedModule) (placed : ℕ × (List TypedObject × List ℕ)) (text : List ℕ) : Type 0 where
   pub owners : List (List ℕ)
-  pub each : length owners ≡ length placed.0
-  pub owned : AllByRecursion (IsOwnerIn typed) owners
-  pub text_is : text ≡ flat_map (object_line typed.name) (zip (zip placed.0 placed.1) owners)
+  pub each : AreOwnersOf typed placed.0 (placed.1).0 owners
+  pub text_is : text ≡ flat_map (object_line typed.name) (zip (zip (placed.1).0 (placed.1).1) owners)
 
 -- something lies somewhere
 abbrev pub has_kind : Option PieceKind → Bool
@@ -37,18 +45,35 @@ abbrev pub Rises : (number : ℕ) → List (ℕ × ℕ) → Type 0
 Rises number [] = Unit {0}
 Rises number (line ∷ lines) = (number ≤ line.0) × Rises (line.0 + 1) lines
 
--- the line of a line of the source, if it has an address
-abbrev pub line_of : (of_module : List ℕ) → (number : ℕ) → (address : Option ℕ) → List ℕ
-line_of of_module number None = []
-line_of of_module number (Some address) = source_line of_module (number, address)
+-- a place is one of the code of a module
+abbrev pub IsPlaceIn : ModuleView → (place : ℕ) → Type 0
+IsPlaceIn view place = IsInCode (constant_bytes (typed_of view)) (code_size view) place
+
+-- the line of a line of the source of a module, if it has a place
+abbrev pub line_of : ModuleView → (number : ℕ) → (place : Option ℕ) → List ℕ
+line_of view number None = []
+line_of view number (Some place) = source_line (typed_of view).name view.code_base (number, place)
 
 -- the lines of source lines, from a number on
-pub record HasSourceLines (of_module : List ℕ) (number : ℕ) (text : List ℕ) : Type 0 where
+pub record HasSourceLines (view : ModuleView) (number : ℕ) (text : List ℕ) : Type 0 where
   pub lines : List (ℕ × ℕ)
   pub rising : Rises number lines
-  pub text_is : text ≡ flat_map (source_line of_module) lines
+  pub each : AllByRecursion (λ (line : ℕ × ℕ). IsPlaceIn view line.1) lines
+  pub text_is : text ≡ flat_map (source_line (typed_of view).name view.code_base) lines
 
 -- the line of the line of a number, or none
-pub record HasLine (of_module : List ℕ) (number : ℕ) (text : List ℕ) : Type 0 where
-  pub address : Option ℕ
-  pub text_is : text ≡ line_of of_module number address
+pub record HasLine (view : ModuleView) (number : ℕ) (text : List ℕ) : Type 0 where
+  pub place : Option ℕ
+  pub in_code : IfSome place (IsPlaceIn view)
+  pub text_is : text ≡ line_of view number place
+
+-- the symbols of a module, and of modules, one after another
+abbrev pub HasSymbolsOf : ModuleView → (text : List ℕ) → Type 0
+HasSymbolsOf view text = HasSymbols view.code_base (typed_of view) (object_of view) (placed_of view) text
+
+pub data HaveSymbolsOf : List ModuleView → (text : List ℕ) → Type 0 where
+  no_view : HaveSymbolsOf [] []
+  next_view : (view : ModuleView) (views : List ModuleView) (first more : List ℕ)
+      → HasSymbolsOf view first
+      → HaveSymbolsOf views more
+      → HaveSymbolsOf (view ∷ views) (first ++ more)

@@ -1,8 +1,9 @@
 -- Names as the code keeps them.
-use Rattle.std.specs.Prelude.{ℕ, ◌==◌, if◌then◌else◌, List, [], ◌∷◌, codes, map, Option, Some, None}
+use Rattle.std.specs.Prelude.{ℕ, List, codes, map, Option}
 use Rattle.object_modules.specs.Image.{Symbol}
 use Rattle.runtime8080.specs.declared.routine.Routine.{Routine as TheRoutine}
 use Rattle.runtime8080.specs.declared.routine.Routine.TheVariants as routines
+use Rattle.listings.specs.Names.{symbol_at}
 use Rattle.listings.specs.declared.named.Named.{Named}
 use Rattle.listings.specs.declared.named.NameText.{NameText}
 use Rattle.listings.specs.declared.named.NameText.TheVariants.{Declared, Routine}
@@ -32,9 +33,5 @@ abbrev pub named_view : Named → Symbol
 named_view named = record { name = text_of_name named.text; address = named.address }
 
 -- the first name of an address, if it has one
-abbrev pub symbol_at : List Symbol → (address : ℕ) → Option Symbol
-symbol_at [] address = None
-symbol_at (symbol ∷ symbols) address = if symbol.address == address then Some symbol else symbol_at symbols address
-
 abbrev pub name_at : List Named → (address : ℕ) → Option Symbol
 name_at names address = symbol_at (map named_view names) address

@@ -1,34 +1,28 @@
-use Rattle.commands.proofs.{Prelude.{◌∙◌, sym}, Delivered.{but_changes, kept_changes, no_words, with_words, without_words}}
+use Rattle.commands.proofs.{Prelude.{◌∙◌, stays_on, values_in, execute_in}, InputFiles.{told_before}, Executed.{not_placed, not_run, runs_merge, told_later}}
 use Rattle.commands.proofs.executing.execute_objects.Goals as goal
 
-pub returns-then-is_empty-clause-unchanged : goal.returns-then-is_empty-clause-unchanged
-returns-then-is_empty-clause-unchanged g c = kept_changes _ _ _ c.execute_plainly.ensures.unchanged
+pub returns-in-Err-clause-told : goal.returns-in-Err-clause-told
+returns-in-Err-clause-told g c = λ refused. told_before _ _ _ _ _ _ _ (rw c.as_slice.ensures.value at c.in-Err.ensures.told)
 
-pub returns-then-is_empty-clause-told : goal.returns-then-is_empty-clause-told
-returns-then-is_empty-clause-told g c = λ refused. without_words _ c.args.order.now.output_files.items _ _ c.as_slice.ensures.value (sym c.is_empty.ensures ∙ c.if-is_empty.true) (c.execute_plainly.ensures.told refused)
+pub returns-in-Err-clause-refused : goal.returns-in-Err-clause-refused
+returns-in-Err-clause-refused g c = λ refused. not_placed _ _ _ _ _ _ _ _ (rw c.as_slice.ensures.value at c.in-Err.ensures.cause)
 
-pub returns-then-is_empty-clause-refused : goal.returns-then-is_empty-clause-refused
-returns-then-is_empty-clause-refused g c = λ refused. without_words _ c.args.order.now.output_files.items _ _ c.as_slice.ensures.value (sym c.is_empty.ensures ∙ c.if-is_empty.true) (c.execute_plainly.ensures.refused refused)
+pub returns-clause-unchanged : goal.returns-clause-unchanged
+returns-clause-unchanged g c = stays_on _ _ _ c.place_merge.ensures.kept c.run_image-ending.ensures.unchanged
 
-pub returns-then-is_empty-clause-quiet : goal.returns-then-is_empty-clause-quiet
-returns-then-is_empty-clause-quiet g c = λ refused wrong. without_words _ c.args.order.now.output_files.items _ _ c.as_slice.ensures.value (sym c.is_empty.ensures ∙ c.if-is_empty.true) (c.execute_plainly.ensures.quiet refused wrong)
+pub returns-clause-told : goal.returns-clause-told
+returns-clause-told g c = λ refused. told_later (execute_in c.args.order.now) (values_in c.args.values.now) _ _ _ c.place_merge.ensures.kept (rw c.as_slice.ensures.value at c.in-Ok.ensures.placed) _ _ _ _ _ c.in-Ok.ensures.count
+    (rw c.in-Ok.ensures.silent at (c.run_image-ending.ensures.told refused))
 
-pub returns-then-is_empty-clause-ran : goal.returns-then-is_empty-clause-ran
-returns-then-is_empty-clause-ran g c = λ refused wrong.
-    let none = no_words _ c.args.order.now.output_files.items c.as_slice.ensures.value (sym c.is_empty.ensures ∙ c.if-is_empty.true) in
-    without_words _ c.args.order.now.output_files.items _ _ c.as_slice.ensures.value (sym c.is_empty.ensures ∙ c.if-is_empty.true) (c.execute_plainly.ensures.ran none refused wrong)
+pub returns-clause-refused : goal.returns-clause-refused
+returns-clause-refused g c = λ refused. not_run _ _ _ _ _ c.place_merge.ensures.kept (rw c.as_slice.ensures.value at c.in-Ok.ensures.placed) _ _ _ _ _ _ _ c.in-Ok.ensures.count
+    (rw c.in-Ok.ensures.silent at (c.run_image-ending.ensures.refused refused))
 
-pub returns-else-is_empty-clause-unchanged : goal.returns-else-is_empty-clause-unchanged
-returns-else-is_empty-clause-unchanged g c = but_changes _ _ _ c.execute_to_files.ensures.unchanged
+pub returns-clause-count : goal.returns-clause-count
+returns-clause-count g c = λ other. c.run_image-ending.ensures.count other ∙ c.in-Ok.ensures.count
 
-pub returns-else-is_empty-clause-told : goal.returns-else-is_empty-clause-told
-returns-else-is_empty-clause-told g c = λ refused. with_words _ c.args.order.now.output_files.items _ _ c.as_slice.ensures.value (sym c.is_empty.ensures ∙ c.if-is_empty.false) (c.execute_to_files.ensures.told refused)
+pub returns-clause-quiet : goal.returns-clause-quiet
+returns-clause-quiet g c = λ other. c.run_image-ending.ensures.quiet other ∙ c.in-Ok.ensures.silent
 
-pub returns-else-is_empty-clause-refused : goal.returns-else-is_empty-clause-refused
-returns-else-is_empty-clause-refused g c = λ refused. with_words _ c.args.order.now.output_files.items _ _ c.as_slice.ensures.value (sym c.is_empty.ensures ∙ c.if-is_empty.false) (c.execute_to_files.ensures.refused refused)
-
-pub returns-else-is_empty-clause-quiet : goal.returns-else-is_empty-clause-quiet
-returns-else-is_empty-clause-quiet g c = λ refused wrong. with_words _ c.args.order.now.output_files.items _ _ c.as_slice.ensures.value (sym c.is_empty.ensures ∙ c.if-is_empty.false) tt
-
-pub returns-else-is_empty-clause-ran : goal.returns-else-is_empty-clause-ran
-returns-else-is_empty-clause-ran g c = λ refused wrong. with_words _ c.args.order.now.output_files.items _ _ c.as_slice.ensures.value (sym c.is_empty.ensures ∙ c.if-is_empty.false) (c.execute_to_files.ensures.ran refused wrong)
+pub returns-clause-ran : goal.returns-clause-ran
+returns-clause-ran g c = λ other. runs_merge _ _ _ _ _ c.place_merge.ensures.kept (rw c.as_slice.ensures.value at c.in-Ok.ensures.placed) _ _ _ _ (c.run_image-ending.ensures.ran other)

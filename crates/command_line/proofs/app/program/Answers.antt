@@ -1,4 +1,0 @@
-use Rattle.command_line.proofs.app.program.Goals as goal
-
-pub returns : goal.returns
-returns c = c.add.ensures _ _ (c.add_run-limited.ensures _ (c.add_plan-planned.ensures _ c.named.ensures)) c.files.ensures.rule

@@ -1,8 +1,0 @@
-use Rattle.std.proofs.Common.{rules}
-use Rattle.commands.proofs.{Prelude.{Interpret, values_in}, Printed.{alone, with_map}}
-use Rattle.commands.proofs.programs.interpreting.print_program.Goals as goal
-use Rattle.commands.proofs.programs.interpreting.print_program.Goals.{then-with_map+in_ok-print_map, else-with_map}
-
-pub returns-clause-ok : goal.returns-clause-ok
-returns-clause-ok g c =
-    elim c.if-with_map.branch [ then-with_map+in_ok-print_map w ↦ with_map Interpret c.args.with_map (values_in c.args.settings.now) c.args.built.now _ (g.O.Write.contents c.args.out.now) (g.O.Write.contents w.print_map.new.out) (g.O.Write.contents c.print_meaning.new.out) _ (search rules) (search rules) (search rules) | else-with_map w ↦ alone Interpret c.args.with_map (values_in c.args.settings.now) c.args.built.now _ (g.O.Write.contents c.args.out.now) (g.O.Write.contents c.args.out.now) (g.O.Write.contents c.print_meaning.new.out) _ (search rules) (search rules) ]
