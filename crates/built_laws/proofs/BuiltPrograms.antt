@@ -1,27 +1,17 @@
 -- What is true of each program that is built, and of each whose sources are read.
-use Rattle.built_laws.proofs.Prelude.{ℕ, List, [], ◌∷◌, All, All-cons, All-nil, ObjectModule, TypedModule, IsSourceOf, AreSourcesOf, IsProgramOf, program_modules, AreSoundlyMade, Construction, IsConstruction}
-use Rattle.layout.specs.Sound.{IsSoundlyTyped}
+use Rattle.built_laws.proofs.Prelude.{ℕ, List, [], ◌∷◌, All, All-cons, All-nil, TypedModule, IsSourceOf, AreSourcesOf, IsProgramOf, program_modules, Construction, IsConstruction}
 use Rattle.typed_laws.specs.Limits.{ChargesFit}
 use Rattle.typed_laws.proofs.Charges.{derived_charges_fit}
 use Rattle.meaning_laws.specs.{Defaults.{TakesNoDefault}, Meant.{IsWhole}, Places.{IsPlaceable}, Publics.{HasTree}}
 use Rattle.meaning_laws.proofs.{Defaults.{takes_no_default}, Publics.{all_placeable}}
 use Rattle.built_laws.specs.BuiltPrograms.{program_of}
 
--- modules of which object modules are made are soundly typed
-all_sound : (modules : List TypedModule) (objects : List ObjectModule) → AreSoundlyMade modules objects
-    → All IsSoundlyTyped modules
-all_sound [] [] made = All-nil IsSoundlyTyped
-all_sound (typed ∷ modules) (object ∷ objects) made =
-    All-cons IsSoundlyTyped typed modules made.0.facts (all_sound modules objects made.1)
-all_sound [] (object ∷ objects) made = absurd made
-all_sound (typed ∷ modules) [] made = absurd made
-
 -- A program that is built is joined of soundly typed modules and lies lawfully, as the laws of `meaning_laws` ask.
 pub built_is_whole : (built : Construction) (script : List (List ℕ)) → IsConstruction built
     → IsWhole (program_of built script)
 built_is_whole built script is = record {
   joined = is.joined;
-  sound = all_sound (program_modules built.program) built.objects is.made;
+  sound = is.sound;
   lawful = is.lawful;
 }
 

@@ -1,15 +1,16 @@
 -- Activations, that is, calls of procedures and the main program on the machine, and the relation between the
 -- memory of the machine and that of the source.
-use Rattle.std.specs.Prelude.{◌≡◌, ◌≢◌, ℕ, ◌+◌, ◌%◌, ◌<◌, ◌≤◌, ◌⊎◌, Bool, true, false, List, length}
+use Rattle.std.specs.Prelude.{◌≡◌, ◌≢◌, ℕ, ◌+◌, ◌%◌, ◌<◌, ◌≤◌, ◌⊎◌, true, List, length}
 use Rattle.mem80.specs.declared.memory.TheConstants.{MEMORY_SIZE}
-use Rattle.mem80.specs.Memory.{IsMemory, byte_at}
+use Rattle.mem80.specs.Memory.{byte_at}
 use Rattle.meaning.specs.Outcomes.{Program, State as SourceState}
-use Rattle.meaning.specs.Access.{Surroundings, is_declared, is_constant, frame_bytes}
+use Rattle.meaning.specs.Access.{Surroundings, is_declared, frame_bytes}
 use Rattle.isa8080.specs.State.{HoldBytes, Registers, State, wrap}
 use Rattle.asm8080.specs.declared.item.Item.{Item}
 use Rattle.asm8080.specs.Items.{Layout, Stands}
-use Rattle.asm8080.specs.Standing.{AgreesIn, Keeps}
+use Rattle.asm8080.specs.Standing.{Keeps}
 use Rattle.code_meaning.specs.Landing.{at_place}
+pub use Rattle.code_meaning.specs.Sharing.{IsVariable, Shares}
 
 -- An activation: its surroundings; the labels and targets of its module's code; the memory as it was loaded,
 -- with which all code is compared; the lowest byte of the stack that it may change; the stack pointer when
@@ -26,10 +27,6 @@ pub record Activation : Type 0 where
   pub back : ℕ
   pub whole : ℕ
 
--- a byte that the program may change
-abbrev pub IsVariable : Program → (address : ℕ) → Type 0
-IsVariable program address = (is_declared program address ≡ true) × (is_constant program address ≡ false)
-
 -- a byte of the stack that an activation may change when the stack pointer is at a level: one from its floor
 -- up to there, or one below the caller's stack that is neither pushed nor part of the return address
 abbrev pub IsMine : Activation → (top address : ℕ) → Type 0
@@ -42,14 +39,6 @@ IsMine activation top address =
 abbrev pub Owns : Activation → (top address : ℕ) → Type 0
 Owns activation top address =
     IsVariable activation.around.program address ⊎ IsMine activation top address
-
--- a memory with the bytes of the source's memory at declared addresses, and with the code as it was loaded
-pub record Shares (program : Program) (image source memory : List ℕ) : Type 0 where
-  pub is_memory : IsMemory memory
-  pub size : length source ≡ MEMORY_SIZE
-  pub declared : (address : ℕ) → is_declared program address ≡ true
-      → byte_at memory address ≡ byte_at source address
-  pub code : AgreesIn program.placement.code image memory
 
 -- the bytes of a frame are at their places
 pub record FrameLies (activation : Activation) (frame : List (List ℕ)) (memory : List ℕ) : Type 0 where

@@ -1,4 +1,5 @@
 pub mod Landing
+pub mod Sharing
 pub mod Activations
 pub mod Computing
 pub mod Holding

@@ -1,9 +1,9 @@
 -- Items with labels counted in their order are the code that the function gives, so that the code is unique.
 use Rattle.codegen8080.proofs.Prelude.{◌≡◌, ℕ, suc, ◌+◌, Bool, List, [], ◌∷◌, Option, Some, None, option_and_then, option_map, refl, sym, ap, subst, ◌∙◌, true, false, ◌++◌, Hlt, Sp, Item, LoadPair, Range, TreeModule, TreeProcedure, Statement, StatementNumber, Facts, no_facts, label_after, stack_end_item, IsFoundDeep, code_of_part, code_of_steps, knowing, found_deeper, found_map, found_then, steps_are_code, Body, Planned, Here, AreAllCarriedOut, AreCarriedOut, HoldsNoStatement, IsCarriedOut, IsListCarriedOut, ListCarriedOut, ListPlanned, MoreStatements, NoneCarriedOut, NoStatements, StatementCarriedOut, StatementPlanned, StepCarriedOut, arriving, carried_steps, here_after, site_of, waiting_after, AreAllLabelled, AreStepsLabelled, IsListLabelled, IsStatementLabelled, IsEndCode, IsEndLabelled, IsMainCode, IsMainLabelled, IsProcedureCode, IsProcedureLabelled, entry_labels, entry_steps, statement_labels, statement_steps}
 use Rattle.asm8080.specs.declared.item.Item.TheVariants as its
-use Rattle.exprgen8080.specs.Code.{Code}
+use Rattle.exprgen8080.specs.internal.Code.{Code}
 use Rattle.statements8080.specs.declared.plan.Planned.TheVariants as planned
-use Rattle.codegen8080.specs.Code.{IsCodeOfMainProgram, IsCodeOfPlanned, IsCodeOfProcedure, IsCodeOfStatement, IsCodeOfStatements, StatementCode, before_code, code_of_end, code_of_list, code_of_list_of, code_of_main, code_of_planned, code_of_procedure, code_of_statement, code_of_statements, code_of_steps_of}
+use Rattle.codegen8080.specs.internal.Code.{IsCodeOfMainProgram, IsCodeOfPlanned, IsCodeOfProcedure, IsCodeOfStatement, IsCodeOfStatements, StatementCode, before_code, code_of_end, code_of_list, code_of_list_of, code_of_main, code_of_planned, code_of_procedure, code_of_statement, code_of_statements, code_of_steps_of}
 
 -- the code of a step that is neither a statement nor a list is that of its steps, before that of others
 alone_is :

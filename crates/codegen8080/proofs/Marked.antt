@@ -1,7 +1,7 @@
 -- The marks of a module, from those before its routines and those of its routines.
 use Rattle.codegen8080.proofs.Prelude.{◌≡◌, ℕ, List, ◌++◌, Option, ap, ◌∙◌, Assembled, TreeModule, Finishes, Written, IsCodeWritten, all_routines}
 use Rattle.std.proofs.Math.Path.{fun_ext}
-use Rattle.codegen8080.specs.Marking.{AreMarksOf, routine_marks}
+use Rattle.codegen8080.specs.internal.Marking.{AreMarksOf, routine_marks}
 use Rattle.codegen8080.specs.declared.marking.Mark.{Mark}
 use Rattle.codegen8080.specs.internal.Marks.{marks_from}
 use Rattle.codegen8080.proofs.ObjectParts.{known_by}

@@ -14,17 +14,17 @@ pub use Rattle.frames.specs.{Frames.{HasFrame, HasNothing, IsPlanOf, LiesApart},
 pub use Rattle.steps8080.proofs.Numbered.{items_stay, use_either, writes_nothing, writes_then}
 pub use Rattle.steps8080.specs.{Externals.{Extends, entry}, Facts.{no_facts}, Step.{label_after, label_of}, Writer.{Finishes, NumbersNames, Writes, Written, in_front, known_label, numbered, numbered_item, numbered_reference, place_of_known, place_of_label, stack_end_item}, declared.facts.Facts.{Facts}, declared.sites.site.Site.{Site}, declared.step.LabelNumber.{LabelNumber}, declared.step.Step.{Step}, declared.step.Step.TheVariants.{Holds}}
 pub use Rattle.exprgen8080.proofs.{CodeLaws.{found_deeper, found_map, found_then, steps_are_code}, Emitting.{are_kept, are_labels_kept, emits_then, has_itself, none_is, none_noted, notes_then}}
-pub use Rattle.exprgen8080.specs.{Code.{IsFoundDeep}, Emission.{AreWritten, MarkWritten, NoneWritten, PlainWritten, call_routine, has_routine, index_of_routine, knowing, module_label_of_routine, module_routine_label}, Emitted.{EmitsSteps, HasAll, IsEmpty, NotesCalled}, Labelled.{AreLabelled}, declared.emission.Emission.{Emission}}
-unfoldable pub use Rattle.exprgen8080.specs.Code.{code_of_part, code_of_steps}
+pub use Rattle.exprgen8080.specs.{internal.Code.{IsFoundDeep}, internal.Emission.{AreWritten, MarkWritten, NoneWritten, PlainWritten, call_routine, has_routine, index_of_routine, knowing, module_label_of_routine, module_routine_label}, internal.Emitted.{EmitsSteps, HasAll, IsEmpty, NotesCalled}, internal.Labelled.{AreLabelled}, declared.emission.Emission.{Emission}}
+unfoldable pub use Rattle.exprgen8080.specs.internal.Code.{code_of_part, code_of_steps}
 pub use Rattle.statements8080.specs.{Plans.{PlanAdds, PlanAddsWithLabels}, declared.body.Body.{Body}, declared.plan.Plan.{Plan}, declared.plan.Planned.{Planned}, internal.Adding.{IsAdding}}
-pub use Rattle.codegen8080.specs.Driven.{AddsCode, AddsList, AddsPlanned, AddsStatement, AddsStep, here_of}
-pub use Rattle.codegen8080.specs.Generated.{AreAllCarriedOut, AreCarriedOut, HoldsNoStatement, IsCarriedOut, IsListCarriedOut, ListCarriedOut, ListPlanned, MoreStatements, NoStatements, NoneCarriedOut, StatementCarriedOut, StatementPlanned, StepCarriedOut, arriving, site_of}
-unfoldable pub use Rattle.codegen8080.specs.Generated.{carried_steps, here_after, waiting_after}
-pub use Rattle.codegen8080.specs.Labelled.{AreAllLabelled, AreStepsLabelled, IsListLabelled, IsStatementLabelled, LabelledList, LabelledStatement, LabelledStatements, LabelledSteps}
-pub use Rattle.codegen8080.specs.Modules.{ArePublicsOf, AreRoutines, AreTargets, IsCodeOfRoutine, IsCodeWritten, IsEndCode, IsEndLabelled, IsFrameOf, IsGenerated, IsMainCode, IsMainLabelled, IsOwnCode, IsProcedureCode, IsProcedureLabelled, IsPublicOf, all_routines, content_items, contents_items, has_main, used_names}
-pub use Rattle.codegen8080.specs.Procedures.{entry_labels, entry_steps}
-unfoldable pub use Rattle.codegen8080.specs.Procedures.{end_steps, known_at, known_from, popped_at, popped_from}
-unfoldable pub use Rattle.codegen8080.specs.Statements.{statement_labels, statement_steps}
+pub use Rattle.codegen8080.specs.internal.Driven.{AddsCode, AddsList, AddsPlanned, AddsStatement, AddsStep, here_of}
+pub use Rattle.codegen8080.specs.internal.Generated.{AreAllCarriedOut, AreCarriedOut, HoldsNoStatement, IsCarriedOut, IsListCarriedOut, ListCarriedOut, ListPlanned, MoreStatements, NoStatements, NoneCarriedOut, StatementCarriedOut, StatementPlanned, StepCarriedOut, arriving, site_of}
+unfoldable pub use Rattle.codegen8080.specs.internal.Generated.{carried_steps, here_after, waiting_after}
+pub use Rattle.codegen8080.specs.internal.Labelled.{AreAllLabelled, AreStepsLabelled, IsListLabelled, IsStatementLabelled, LabelledList, LabelledStatement, LabelledStatements, LabelledSteps}
+pub use Rattle.codegen8080.specs.internal.Modules.{ArePublicsOf, AreRoutines, AreTargets, IsCodeOfRoutine, IsCodeWritten, IsEndCode, IsEndLabelled, IsFrameOf, IsGenerated, IsMainCode, IsMainLabelled, IsOwnCode, IsProcedureCode, IsProcedureLabelled, IsPublicOf, all_routines, content_items, contents_items, has_main, used_names}
+pub use Rattle.codegen8080.specs.internal.Procedures.{entry_labels, entry_steps}
+unfoldable pub use Rattle.codegen8080.specs.internal.Procedures.{end_steps, known_at, known_from, popped_at, popped_from}
+unfoldable pub use Rattle.codegen8080.specs.internal.Statements.{statement_labels, statement_steps}
 pub use Rattle.codegen8080.specs.Targets.{retargeted, with_targets}
 pub use Rattle.codegen8080.specs.declared.generator.Generator.{Generator}
 pub use Rattle.codegen8080.specs.declared.meeting.Here.{Here}

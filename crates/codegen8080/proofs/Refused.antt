@@ -5,7 +5,7 @@ use Rattle.failure.specs.declared.Failure.TheVariants as failures
 use Rattle.asm8080.specs.declared.fault.Fault.TheVariants as code_faults
 use Rattle.codegen8080.specs.declared.fault.Fault.{Fault}
 use Rattle.codegen8080.specs.declared.fault.Fault.TheVariants as faults
-use Rattle.codegen8080.specs.Refusals.{CodeIsNone, DataAreNone, IsNoSegment, MayRefuse}
+use Rattle.codegen8080.specs.internal.Refusals.{CodeIsNone, DataAreNone, IsNoSegment, MayRefuse}
 
 -- code cannot be finished, since it is too long
 pub too_long :

@@ -1,12 +1,3 @@
 pub mod Faults
-pub mod Procedures
-pub mod Statements
-pub mod Generated
-pub mod Labelled
-pub mod Code
-pub mod Driven
 pub mod Targets
-pub mod Modules
-pub mod Refusals
-pub mod Marking
 pub mod internal

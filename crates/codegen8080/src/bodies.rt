@@ -2,8 +2,8 @@
 
 ghost use Rattle.std.specs.Prelude.{◌≡◌, ◌++◌, IfOk, OnOk};
 ghost use Rattle.steps8080.specs.Step.{label_after, label_of};
-ghost use Rattle.codegen8080.specs.Modules.{IsFrameOf};
-ghost use Rattle.codegen8080.specs.Procedures.{entry_labels, entry_steps};
+ghost use Rattle.codegen8080.specs.internal.Modules.{IsFrameOf};
+ghost use Rattle.codegen8080.specs.internal.Procedures.{entry_labels, entry_steps};
 ghost use Rattle.codegen8080.specs.internal.Bodies.{AddsEnd, AddsEntry, AddsMain, AddsOwn, AddsProcedure};
 
 use crate::carrying::site_of;

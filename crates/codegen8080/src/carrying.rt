@@ -4,9 +4,9 @@ ghost use Rattle.std.specs.Prelude.{◌≡◌, ◌∷◌, ◌++◌, [], OnOk};
 ghost use Rattle.steps8080.specs.declared.step.Step.TheVariants.{Holds, Mark};
 ghost use Rattle.steps8080.specs.declared.step.Task.TheVariants as tasks;
 ghost use Rattle.steps8080.specs.Step.{part};
-ghost use Rattle.exprgen8080.specs.Emission.{knowing};
-ghost use Rattle.exprgen8080.specs.Emitted.{EmitsSteps};
-ghost use Rattle.codegen8080.specs.Generated.{HoldsNoStatement, byte_at_address_steps, byte_at_steps, byte_in_a, carried_steps, frame_word_steps, jump_on_steps, load_byte_steps, load_word_steps, site_of, word_at_steps, word_in_hl};
+ghost use Rattle.exprgen8080.specs.internal.Emission.{knowing};
+ghost use Rattle.exprgen8080.specs.internal.Emitted.{EmitsSteps};
+ghost use Rattle.codegen8080.specs.internal.Generated.{HoldsNoStatement, byte_at_address_steps, byte_at_steps, byte_in_a, carried_steps, frame_word_steps, jump_on_steps, load_byte_steps, load_word_steps, site_of, word_at_steps, word_in_hl};
 
 use asm8080::WordForm;
 use exprgen8080::{Emission, Facts, LabelNumber, Part, Site, Step, Task};
@@ -106,7 +106,7 @@ fn known_byte_at(
 }
 
 // Puts a BYTE at a location into A, unless A holds it.
-#[tactic(auto, unfolding(crate::specs::Generated::load_byte_steps), using(exprgen8080::proofs::Emitting::emits_nothing))]
+#[tactic(auto, unfolding(crate::specs::internal::Generated::load_byte_steps), using(exprgen8080::proofs::Emitting::emits_nothing))]
 fn load_byte(
     emission: &mut Emission,
     body: &Body<'_>,
@@ -196,7 +196,7 @@ fn known_word_at(
 }
 
 // Puts an ADDRESS at a location into HL, unless HL holds it.
-#[tactic(auto, unfolding(crate::specs::Generated::load_word_steps), using(exprgen8080::proofs::Emitting::emits_nothing))]
+#[tactic(auto, unfolding(crate::specs::internal::Generated::load_word_steps), using(exprgen8080::proofs::Emitting::emits_nothing))]
 fn load_word(
     emission: &mut Emission,
     body: &Body<'_>,
@@ -253,7 +253,7 @@ fn turn(
 }
 
 /// Adds the code of a step that holds no statement, at the given end of the code. Any other step is refused.
-#[tactic(auto, unfolding(crate::specs::Generated::carried_steps), using(exprgen8080::proofs::Emitting::emits_nothing))]
+#[tactic(auto, unfolding(crate::specs::internal::Generated::carried_steps), using(exprgen8080::proofs::Emitting::emits_nothing))]
 pub(crate) fn carry(
     emission: &mut Emission,
     body: &Body<'_>,

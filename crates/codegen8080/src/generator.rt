@@ -3,11 +3,11 @@
 ghost use Rattle.std.specs.Prelude.{◌≡◌, ◌<◌, ◌+◌, [], ◌++◌, drop, take, length, slice_get, Some, IfOk, OnOk};
 ghost use Rattle.treecode.specs.Nodes.{item_of};
 ghost use Rattle.steps8080.specs.Step.{label_after};
-ghost use Rattle.exprgen8080.specs.Emitted.{IsEmpty};
-ghost use Rattle.exprgen8080.specs.Emission.{knowing};
-ghost use Rattle.codegen8080.specs.Driven.{AddsList, AddsPlanned, AddsStatement, AddsStep, here_of};
-ghost use Rattle.codegen8080.specs.Generated.{HoldsNoStatement, site_of};
-ghost use Rattle.codegen8080.specs.Statements.{statement_labels, statement_steps};
+ghost use Rattle.exprgen8080.specs.internal.Emitted.{IsEmpty};
+ghost use Rattle.exprgen8080.specs.internal.Emission.{knowing};
+ghost use Rattle.codegen8080.specs.internal.Driven.{AddsList, AddsPlanned, AddsStatement, AddsStep, here_of};
+ghost use Rattle.codegen8080.specs.internal.Generated.{HoldsNoStatement, site_of};
+ghost use Rattle.codegen8080.specs.internal.Statements.{statement_labels, statement_steps};
 ghost use Rattle.codegen8080.specs.internal.Carrying.{CarriesOut};
 
 use crate::carrying::{carry, site_of};

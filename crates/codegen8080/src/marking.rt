@@ -2,8 +2,8 @@
 
 ghost use Rattle.std.specs.Prelude.{◌≡◌, ◌+◌, [], ◌++◌, min, IfOk, OnOk};
 ghost use Rattle.failure.specs.Failure.{IfFault};
-ghost use Rattle.codegen8080.specs.Marking.{AreMarksOf, routine_mark};
-ghost use Rattle.codegen8080.specs.Refusals.{MayRefuse};
+ghost use Rattle.codegen8080.specs.internal.Marking.{AreMarksOf, routine_mark};
+ghost use Rattle.codegen8080.specs.internal.Refusals.{MayRefuse};
 ghost use Rattle.codegen8080.specs.internal.Marks.{PutsMark, marks_from};
 
 use crate::fault::Fault;

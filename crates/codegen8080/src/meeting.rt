@@ -1,7 +1,7 @@
 //! Facts at points that several paths reach.
 
 ghost use Rattle.std.specs.Prelude.{◌≡◌};
-ghost use Rattle.codegen8080.specs.Generated.{arriving, common, common_location, here_after, known_here, met, waiting_after};
+ghost use Rattle.codegen8080.specs.internal.Generated.{arriving, common, common_location, here_after, known_here, met, waiting_after};
 
 use exprgen8080::Facts;
 use statements8080::Planned;
@@ -72,7 +72,7 @@ pub(crate) fn arriving(facts: Option<Facts>) -> Here
 
 /// The end of the code after a step that holds no statement, from the end before it and the facts after the code of the
 /// step. `waiting` are the facts at the label to which the code before `Jumped` jumps.
-#[tactic(auto, unfolding(crate::specs::Generated::here_after))]
+#[tactic(auto, unfolding(crate::specs::internal::Generated::here_after))]
 pub(crate) fn here_after(here: Here, waiting: Option<Facts>, known: Facts, step: Planned) -> Here
     ensures { result ≡ here_after here waiting known step }
 {
@@ -105,7 +105,7 @@ pub(crate) fn here_after(here: Here, waiting: Option<Facts>, known: Facts, step:
 }
 
 /// The waiting facts after a step that holds no statement.
-#[tactic(auto, unfolding(crate::specs::Generated::waiting_after))]
+#[tactic(auto, unfolding(crate::specs::internal::Generated::waiting_after))]
 pub(crate) fn waiting_after(here: Here, waiting: Option<Facts>, step: Planned) -> Option<Facts>
     ensures { result ≡ waiting_after here waiting step }
 {

@@ -2,8 +2,8 @@
 
 ghost use Rattle.std.specs.Prelude.{◌≡◌, false, slice_index_or, Some, IfOk, OnOk};
 ghost use Rattle.failure.specs.Failure.{IfFault};
-ghost use Rattle.codegen8080.specs.Modules.{IsCodeWritten, IsGenerated, all_routines, content_items, contents_items, has_main};
-ghost use Rattle.codegen8080.specs.Refusals.{IsNoSegment, MayRefuse};
+ghost use Rattle.codegen8080.specs.internal.Modules.{IsCodeWritten, IsGenerated, all_routines, content_items, contents_items, has_main};
+ghost use Rattle.codegen8080.specs.internal.Refusals.{IsNoSegment, MayRefuse};
 ghost use Rattle.codegen8080.specs.internal.Bodies.{AddsCalled, AddsCodeOfMain, AddsOwnCode, AddsProcedures, AddsRoutines, first_routines, last_routines, next_routines};
 ghost use Rattle.codegen8080.specs.internal.Segments.{KeepsFixes};
 ghost use Rattle.codegen8080.specs.internal.Listing.{AreNamesOf, start_in};

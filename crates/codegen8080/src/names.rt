@@ -3,7 +3,7 @@
 ghost use Rattle.std.specs.Prelude.{◌≡◌, ◌+◌, [], ◌++◌, true, Some, slice_get, IfOk, IsTrue};
 ghost use Rattle.object_modules.specs.Module.{may_have_publics};
 ghost use Rattle.object_modules.specs.Views.{owned_public_view};
-ghost use Rattle.codegen8080.specs.Modules.{IsAtPlace};
+ghost use Rattle.codegen8080.specs.internal.Modules.{IsAtPlace};
 ghost use Rattle.codegen8080.specs.internal.Listing.{AreListed, ArePublicsIn, IsPlaceAfter, IsPublicIn, used_name};
 
 use crate::linkage::LinkageNames;

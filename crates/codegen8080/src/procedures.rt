@@ -2,7 +2,7 @@
 
 ghost use Rattle.std.specs.Prelude.{◌≡◌, ◌∷◌, [], length, IfOk, OnOk};
 ghost use Rattle.statements8080.specs.Plans.{PlanAdds, PlanAddsWithLabels};
-ghost use Rattle.codegen8080.specs.Procedures.{argument_step, below_return_steps, drop_steps, end_steps, entry_labels, entry_steps, exchanged_steps, frame_entry_steps, kept_steps, known_at, known_from, last_argument_facts, last_argument_steps, odd_byte_steps, pair_of, place_in_memory, popped_argument_steps, popped_at, popped_from, pops_steps, push_loop_steps, pushed_arguments_steps, pushes_labels, pushes_steps, return_of_frame_steps, return_over_any_steps, return_over_steps, return_steps, static_entry_steps, stores_steps, with_argument, zero_result_steps, zeros_labels, zeros_steps};
+ghost use Rattle.codegen8080.specs.internal.Procedures.{argument_step, below_return_steps, drop_steps, end_steps, entry_labels, entry_steps, exchanged_steps, frame_entry_steps, kept_steps, known_at, known_from, last_argument_facts, last_argument_steps, odd_byte_steps, pair_of, place_in_memory, popped_argument_steps, popped_at, popped_from, pops_steps, push_loop_steps, pushed_arguments_steps, pushes_labels, pushes_steps, return_of_frame_steps, return_over_any_steps, return_over_steps, return_steps, static_entry_steps, stores_steps, with_argument, zero_result_steps, zeros_labels, zeros_steps};
 
 use asm8080::WordForm;
 use exprgen8080::{Facts, LabelNumber};
@@ -19,7 +19,7 @@ const POPPED_BYTES: u16 = 12;
 const PUSHED_WORDS: u16 = 12;
 
 // Drops `words` words from the stack. BC is overwritten.
-#[tactic(auto, unfolding(crate::specs::Procedures::pops_steps))]
+#[tactic(auto, unfolding(crate::specs::internal::Procedures::pops_steps))]
 fn plan_pops(plan: &mut Plan, words: u16) -> Result<(), AllocError>
     ensures { OnOk result (PlanAdds plan.old plan.new (pops_steps words)) }
 {
@@ -27,7 +27,7 @@ fn plan_pops(plan: &mut Plan, words: u16) -> Result<(), AllocError>
 }
 
 // Instructions that keep a result in place: HL is in DE meanwhile.
-#[tactic(auto, unfolding(crate::specs::Procedures::kept_steps))]
+#[tactic(auto, unfolding(crate::specs::internal::Procedures::kept_steps))]
 fn plan_kept(
     plan: &mut Plan,
     result_type: Option<ScalarType>,
@@ -46,7 +46,7 @@ fn plan_kept(
 }
 
 // Drops `bytes` bytes from the stack. The result stays in its register.
-#[tactic(auto, unfolding(crate::specs::Procedures::drop_steps))]
+#[tactic(auto, unfolding(crate::specs::internal::Procedures::drop_steps))]
 fn plan_drop(plan: &mut Plan, bytes: u16, result_type: Option<ScalarType>) -> Result<(), AllocError>
     ensures { OnOk result (PlanAdds plan.old plan.new (drop_steps bytes result_type)) }
 {
@@ -66,7 +66,7 @@ fn plan_drop(plan: &mut Plan, bytes: u16, result_type: Option<ScalarType>) -> Re
 }
 
 // Returns, with this many words of arguments (at least one) above the return address. The result stays in its register.
-#[tactic(auto, unfolding(crate::specs::Procedures::return_over_steps))]
+#[tactic(auto, unfolding(crate::specs::internal::Procedures::return_over_steps))]
 fn plan_return_over(
     plan: &mut Plan,
     words: u16,
@@ -90,7 +90,7 @@ fn plan_return_over(
 }
 
 // The same for any number of words, including 0.
-#[tactic(auto, unfolding(crate::specs::Procedures::return_over_any_steps))]
+#[tactic(auto, unfolding(crate::specs::internal::Procedures::return_over_any_steps))]
 fn plan_return_over_any(
     plan: &mut Plan,
     words: u16,
@@ -105,7 +105,7 @@ fn plan_return_over_any(
 }
 
 // Drops the frame of a REENTRANT procedure with the arguments, and returns.
-#[tactic(auto, unfolding(crate::specs::Procedures::return_of_frame_steps))]
+#[tactic(auto, unfolding(crate::specs::internal::Procedures::return_of_frame_steps))]
 fn plan_return_of_frame(body: &Body<'_>, plan: &mut Plan) -> Result<(), AllocError>
     ensures { OnOk result (PlanAdds plan.old plan.new (return_of_frame_steps body.now)) }
 {
@@ -117,7 +117,7 @@ fn plan_return_of_frame(body: &Body<'_>, plan: &mut Plan) -> Result<(), AllocErr
 }
 
 /// The steps of a return, with the result in its register.
-#[tactic(auto, unfolding(crate::specs::Procedures::return_steps_by))]
+#[tactic(auto, unfolding(crate::specs::internal::Procedures::return_steps_by))]
 pub(crate) fn plan_return(body: &Body<'_>, plan: &mut Plan) -> Result<(), AllocError>
     ensures { OnOk result (PlanAdds plan.old plan.new (return_steps body.now)) }
 {
@@ -183,7 +183,7 @@ fn plan_popped_argument(plan: &mut Plan, parameter: Parameter) -> Result<(), All
 }
 
 // Pops the argument of the parameter at an index.
-#[tactic(auto, unfolding(crate::specs::Procedures::popped_at))]
+#[tactic(auto, unfolding(crate::specs::internal::Procedures::popped_at))]
 fn plan_popped_at(plan: &mut Plan, parameters: &[Parameter], index: usize) -> Result<(), AllocError>
     ensures { OnOk result (PlanAdds plan.old plan.new (popped_at parameters.now index)) }
 {
@@ -207,7 +207,7 @@ fn plan_popped_arguments(plan: &mut Plan, parameters: &[Parameter]) -> Result<()
 }
 
 // The facts after the argument of the parameter at an index is stored.
-#[tactic(auto, unfolding(crate::specs::Procedures::known_at))]
+#[tactic(auto, unfolding(crate::specs::internal::Procedures::known_at))]
 fn known_at(facts: Facts, parameters: &[Parameter], index: usize) -> Facts
     ensures { result ≡ known_at facts parameters.now index }
 {
@@ -232,7 +232,7 @@ fn known_from(facts: Facts, parameters: &[Parameter]) -> Facts
 }
 
 // Stores the arguments below the return address in the first parameters, the last one first.
-#[tactic(auto, unfolding(crate::specs::Procedures::pushed_arguments_steps))]
+#[tactic(auto, unfolding(crate::specs::internal::Procedures::pushed_arguments_steps))]
 fn plan_pushed_arguments(plan: &mut Plan, parameters: &[Parameter]) -> Result<(), AllocError>
     ensures { OnOk result (PlanAdds plan.old plan.new (pushed_arguments_steps parameters.now)) }
 {
@@ -242,7 +242,7 @@ fn plan_pushed_arguments(plan: &mut Plan, parameters: &[Parameter]) -> Result<()
 }
 
 // Stores the argument below the return address in a parameter that is an ADDRESS.
-#[tactic(auto, unfolding(crate::specs::Procedures::exchanged_steps))]
+#[tactic(auto, unfolding(crate::specs::internal::Procedures::exchanged_steps))]
 fn plan_exchanged_argument(plan: &mut Plan, parameter: Parameter) -> Result<(), AllocError>
     ensures { OnOk result (PlanAdds plan.old plan.new (exchanged_steps parameter)) }
 {
@@ -252,7 +252,7 @@ fn plan_exchanged_argument(plan: &mut Plan, parameter: Parameter) -> Result<(), 
 }
 
 // Stores the arguments below the return address in the first parameters, if there are any.
-#[tactic(auto, unfolding(crate::specs::Procedures::below_return_steps))]
+#[tactic(auto, unfolding(crate::specs::internal::Procedures::below_return_steps))]
 fn plan_below_return(plan: &mut Plan, parameters: &[Parameter]) -> Result<(), AllocError>
     ensures { OnOk result (PlanAdds plan.old plan.new (below_return_steps parameters.now)) }
 {
@@ -268,7 +268,7 @@ fn plan_below_return(plan: &mut Plan, parameters: &[Parameter]) -> Result<(), Al
 
 // Stores the arguments in the parameters of a procedure that is not REENTRANT: the last one from A or HL, the others
 // from the stack. The last one for a BYTE stays in A, and the last one for an ADDRESS in HL.
-#[tactic(auto, unfolding(crate::specs::Procedures::stores_steps))]
+#[tactic(auto, unfolding(crate::specs::internal::Procedures::stores_steps))]
 fn plan_stores(plan: &mut Plan, last: Parameter, others: &[Parameter]) -> Result<(), AllocError>
     ensures { OnOk result (PlanAdds plan.old plan.new (stores_steps last others.now)) }
 {
@@ -278,7 +278,7 @@ fn plan_stores(plan: &mut Plan, last: Parameter, others: &[Parameter]) -> Result
 }
 
 // The entry of a procedure that is not REENTRANT.
-#[tactic(auto, unfolding(crate::specs::Procedures::static_entry_steps))]
+#[tactic(auto, unfolding(crate::specs::internal::Procedures::static_entry_steps))]
 fn plan_static_entry(plan: &mut Plan, parameters: &[Parameter]) -> Result<(), AllocError>
     ensures { OnOk result (PlanAdds plan.old plan.new (static_entry_steps parameters.now)) }
 {
@@ -290,7 +290,7 @@ fn plan_static_entry(plan: &mut Plan, parameters: &[Parameter]) -> Result<(), Al
 }
 
 // Pushes DE four times per turn, in a loop of `turns` turns.
-#[tactic(auto, unfolding(crate::specs::Procedures::push_loop_steps))]
+#[tactic(auto, unfolding(crate::specs::internal::Procedures::push_loop_steps))]
 fn plan_push_loop(plan: &mut Plan, turns: u8, again: LabelNumber) -> Result<(), AllocError>
     ensures { OnOk result (PlanAdds plan.old plan.new (push_loop_steps turns again)) }
 {
@@ -302,7 +302,7 @@ fn plan_push_loop(plan: &mut Plan, turns: u8, again: LabelNumber) -> Result<(), 
 }
 
 // Pushes DE `words` times. A frame has at most 1024 bytes of variables.
-#[tactic(auto, unfolding(crate::specs::Procedures::pushes_steps, crate::specs::Procedures::pushes_labels))]
+#[tactic(auto, unfolding(crate::specs::internal::Procedures::pushes_steps, crate::specs::internal::Procedures::pushes_labels))]
 fn plan_pushes(plan: &mut Plan, words: u16) -> Result<(), AllocError>
     ensures { OnOk result (PlanAddsWithLabels plan.old plan.new (pushes_labels words) (pushes_steps words)) }
 {
@@ -316,7 +316,7 @@ fn plan_pushes(plan: &mut Plan, words: u16) -> Result<(), AllocError>
 }
 
 // Pushes a last odd byte.
-#[tactic(auto, unfolding(crate::specs::Procedures::odd_byte_steps))]
+#[tactic(auto, unfolding(crate::specs::internal::Procedures::odd_byte_steps))]
 fn plan_odd_byte(plan: &mut Plan, bytes: u16) -> Result<(), AllocError>
     ensures { OnOk result (PlanAdds plan.old plan.new (odd_byte_steps bytes)) }
 {
@@ -328,7 +328,7 @@ fn plan_odd_byte(plan: &mut Plan, bytes: u16) -> Result<(), AllocError>
 }
 
 // Pushes `bytes` bytes of zeros. A and HL are kept.
-#[tactic(auto, unfolding(crate::specs::Procedures::zeros_steps, crate::specs::Procedures::zeros_labels))]
+#[tactic(auto, unfolding(crate::specs::internal::Procedures::zeros_steps, crate::specs::internal::Procedures::zeros_labels))]
 fn plan_zeros(plan: &mut Plan, bytes: u16) -> Result<(), AllocError>
     ensures { OnOk result (PlanAddsWithLabels plan.old plan.new (zeros_labels bytes) (zeros_steps bytes)) }
 {
@@ -341,7 +341,7 @@ fn plan_zeros(plan: &mut Plan, bytes: u16) -> Result<(), AllocError>
 }
 
 // Pushes the last argument of a REENTRANT procedure, which stays in A or HL.
-#[tactic(auto, unfolding(crate::specs::Procedures::last_argument_steps, crate::specs::Procedures::last_argument_facts))]
+#[tactic(auto, unfolding(crate::specs::internal::Procedures::last_argument_steps, crate::specs::internal::Procedures::last_argument_facts))]
 fn plan_last_argument(plan: &mut Plan, parameters: &[Parameter]) -> Result<Facts, AllocError>
     ensures steps { OnOk result (PlanAdds plan.old plan.new (last_argument_steps parameters.now)) }
     ensures facts { IfOk result (λ facts. facts ≡ last_argument_facts parameters.now) }
@@ -356,7 +356,7 @@ fn plan_last_argument(plan: &mut Plan, parameters: &[Parameter]) -> Result<Facts
 }
 
 // Makes the frame of a REENTRANT procedure: its last argument, and zeros for its variables.
-#[tactic(auto, unfolding(crate::specs::Procedures::frame_entry_steps))]
+#[tactic(auto, unfolding(crate::specs::internal::Procedures::frame_entry_steps))]
 fn plan_frame_entry(plan: &mut Plan, parameters: &[Parameter], bytes: u16) -> Result<(), AllocError>
     ensures { OnOk result (PlanAddsWithLabels plan.old plan.new
         (zeros_labels bytes) (frame_entry_steps parameters.now bytes)) }
@@ -367,7 +367,7 @@ fn plan_frame_entry(plan: &mut Plan, parameters: &[Parameter], bytes: u16) -> Re
 }
 
 /// The entry of a procedure.
-#[tactic(auto, unfolding(crate::specs::Procedures::entry_steps_by, crate::specs::Procedures::entry_labels_by))]
+#[tactic(auto, unfolding(crate::specs::internal::Procedures::entry_steps_by, crate::specs::internal::Procedures::entry_labels_by))]
 pub(crate) fn plan_entry(body: &Body<'_>, plan: &mut Plan) -> Result<(), AllocError>
     ensures { OnOk result
         (PlanAddsWithLabels plan.old plan.new (entry_labels body.now) (entry_steps body.now)) }
@@ -382,7 +382,7 @@ pub(crate) fn plan_entry(body: &Body<'_>, plan: &mut Plan) -> Result<(), AllocEr
 }
 
 // A result of 0.
-#[tactic(auto, unfolding(crate::specs::Procedures::zero_result_steps))]
+#[tactic(auto, unfolding(crate::specs::internal::Procedures::zero_result_steps))]
 fn plan_zero_result(plan: &mut Plan, result_type: Option<ScalarType>) -> Result<(), AllocError>
     ensures { OnOk result (PlanAdds plan.old plan.new (zero_result_steps result_type)) }
 {
@@ -397,7 +397,7 @@ fn plan_zero_result(plan: &mut Plan, result_type: Option<ScalarType>) -> Result<
 }
 
 /// The end of a procedure, if it can be reached: the result is 0.
-#[tactic(auto, unfolding(crate::specs::Procedures::end_steps))]
+#[tactic(auto, unfolding(crate::specs::internal::Procedures::end_steps))]
 pub(crate) fn plan_end(body: &Body<'_>, plan: &mut Plan) -> Result<(), AllocError>
     ensures { OnOk result (PlanAdds plan.old plan.new (end_steps body.now)) }
 {

@@ -3,7 +3,7 @@
 ghost use Rattle.std.specs.Prelude.{◌∷◌, [], OnOk};
 ghost use Rattle.steps8080.specs.declared.step.Task.TheVariants.{Call};
 ghost use Rattle.statements8080.specs.Plans.{PlanAdds, PlanAddsWithLabels, part};
-ghost use Rattle.codegen8080.specs.Statements.{goto_steps, halt_steps, return_of_steps, returned_value_steps, statement_labels, statement_steps};
+ghost use Rattle.codegen8080.specs.internal.Statements.{goto_steps, halt_steps, return_of_steps, returned_value_steps, statement_labels, statement_steps};
 
 use crate::procedures::plan_return;
 use asm8080::WordForm;
@@ -48,7 +48,7 @@ fn plan_returned_value(
 }
 
 // A return, with a value if there is one.
-#[tactic(auto, unfolding(crate::specs::Statements::return_of_steps))]
+#[tactic(auto, unfolding(crate::specs::internal::Statements::return_of_steps))]
 fn plan_return_of(
     body: &Body<'_>,
     plan: &mut Plan,
@@ -75,7 +75,7 @@ fn plan_call(plan: &mut Plan, procedure: u32, arguments: Range) -> Result<(), Al
 }
 
 /// The steps of a statement.
-#[tactic(auto, unfolding(crate::specs::Statements::statement_steps, crate::specs::Statements::statement_labels), using(crate::proofs::Planning::none_taken))]
+#[tactic(auto, unfolding(crate::specs::internal::Statements::statement_steps, crate::specs::internal::Statements::statement_labels), using(crate::proofs::Planning::none_taken))]
 pub(crate) fn plan_statement(
     body: &Body<'_>,
     site: &Site<'_>,

@@ -1,6 +1,6 @@
 -- The arguments of a call one by one.
 use Rattle.exprgen8080.proofs.Prelude.{◌≡◌, ℕ, suc, ◌+◌, ◌-◌, ◌%◌, ◌<◌, ◌≤◌, List, [], ◌∷◌, ◌++◌, Option, Some, None, Result, Ok, Err, OnOk, arith, ap, sym, ◌∙◌, append_assoc, refl, append-nil, ExpressionNumber, Range, argument, Step, CallProcedure, Steps, Adds, Site}
-use Rattle.exprgen8080.specs.Calls.{argument_steps, arguments_steps, call_steps, last_argument_steps, pushed_argument_steps}
+use Rattle.exprgen8080.specs.internal.Calls.{argument_steps, arguments_steps, call_steps, last_argument_steps, pushed_argument_steps}
 
 -- the steps of a call up to the arguments from this index on are planned, and no label is taken
 pub record IsBefore

@@ -1,7 +1,7 @@
 -- Items with labels counted in their order are the code that the function gives, so that the code is unique.
 use Rattle.exprgen8080.proofs.Prelude.{◌≡◌, ℕ, suc, ◌+◌, Bool, List, [], ◌++◌, Option, Some, option_and_then, option_map, sym, ap, subst, ◌∙◌, arith, Item, Facts, Part, Step, label_after, Site, AreWritten, IsWritten, NoneWritten, PlainWritten, WordWritten, JumpWritten, MarkWritten, RoutineWritten, CallWritten, TestWritten, HoldsWritten, ChangeWritten, PartWritten, Planned, knowing, after_step, step_items, task_labels, task_steps, AreLabelled, IsLabelled, same_Some}
 use Rattle.steps8080.specs.declared.step.Step.TheVariants as steps
-use Rattle.exprgen8080.specs.Code.{Code, IsCodeOfPart, IsCodeOfSteps, IsFoundDeep, code_of_part, code_of_steps, in_front}
+use Rattle.exprgen8080.specs.internal.Code.{Code, IsCodeOfPart, IsCodeOfSteps, IsFoundDeep, code_of_part, code_of_steps, in_front}
 
 -- A value found by a function of another found value, looked up one level deeper.
 pub found_then : {A B : Type 0} (first_at : (depth : ℕ) → Option A) (then_at : (depth : ℕ) → A → Option B)

@@ -2,7 +2,7 @@
 
 ghost use Rattle.std.specs.Prelude.{OnOk, ◌≡◌};
 ghost use Rattle.steps8080.specs.Step.{Adds};
-ghost use Rattle.exprgen8080.specs.ByteOperators.{added_steps, byte_binary_steps, byte_operation_steps, commutes, form_from_register, form_of, from_number_steps, immediate_steps, product_byte_steps, quotient_byte_steps, remainder_byte_steps, with_e_steps, with_memory_steps, with_number_steps, with_stack_steps};
+ghost use Rattle.exprgen8080.specs.internal.ByteOperators.{added_steps, byte_binary_steps, byte_operation_steps, commutes, form_from_register, form_of, from_number_steps, immediate_steps, product_byte_steps, quotient_byte_steps, remainder_byte_steps, with_e_steps, with_memory_steps, with_number_steps, with_stack_steps};
 
 use crate::byte_shifts::plan_low_byte_shifted_right;
 use crate::halves::{plan_byte_number, plan_low_of_word};
@@ -37,7 +37,7 @@ pub enum ByteForm {
 }
 
 // Whether the operands of an operation may be exchanged.
-#[tactic(auto, unfolding(crate::specs::ByteOperators::commutes))]
+#[tactic(auto, unfolding(crate::specs::internal::ByteOperators::commutes))]
 fn commutes(operation: Operation) -> bool
     ensures { result ≡ commutes operation }
 {
@@ -51,7 +51,7 @@ fn commutes(operation: Operation) -> bool
 }
 
 // Adds a number to A.
-#[tactic(auto, unfolding(crate::specs::ByteOperators::added_steps))]
+#[tactic(auto, unfolding(crate::specs::internal::ByteOperators::added_steps))]
 fn plan_added(number: u8, steps: &mut Steps) -> Result<(), AllocError>
     ensures { OnOk result (Adds steps.old steps.new (added_steps number)) }
 {
@@ -64,7 +64,7 @@ fn plan_added(number: u8, steps: &mut Steps) -> Result<(), AllocError>
 }
 
 // Carries out an operation on A with a number that has no shorter form.
-#[tactic(auto, unfolding(crate::specs::ByteOperators::immediate_steps))]
+#[tactic(auto, unfolding(crate::specs::internal::ByteOperators::immediate_steps))]
 fn plan_immediate(operation: Operation, number: u8, steps: &mut Steps) -> Result<(), AllocError>
     ensures { OnOk result (Adds steps.old steps.new (immediate_steps operation number)) }
 {
@@ -78,7 +78,7 @@ fn plan_immediate(operation: Operation, number: u8, steps: &mut Steps) -> Result
 }
 
 /// Puts the result of an operation with a byte on the left and a number on the right into A.
-#[tactic(auto, unfolding(crate::specs::ByteOperators::with_number_steps))]
+#[tactic(auto, unfolding(crate::specs::internal::ByteOperators::with_number_steps))]
 pub(crate) fn plan_with_number(
     operation: Operation,
     value: ExpressionNumber,
@@ -106,7 +106,7 @@ pub(crate) fn plan_with_number(
 
 // Puts the result of an operation with a number on the left and a byte on the right into A. A difference is a sum with
 // the complement.
-#[tactic(auto, unfolding(crate::specs::ByteOperators::from_number_steps))]
+#[tactic(auto, unfolding(crate::specs::internal::ByteOperators::from_number_steps))]
 fn plan_from_number(
     operation: Operation,
     number: u8,
@@ -125,7 +125,7 @@ fn plan_from_number(
 }
 
 // The form for a right operand that is in a register already, if that makes the code shorter.
-#[tactic(auto, unfolding(crate::specs::ByteOperators::form_from_register, crate::specs::ByteOperators::form_after_right))]
+#[tactic(auto, unfolding(crate::specs::internal::ByteOperators::form_from_register, crate::specs::internal::ByteOperators::form_after_right))]
 fn form_from_register(site: &Site<'_>, operation: Operation, operands: Operands) -> Option<ByteForm>
     ensures { result ≡ form_from_register site.now operation operands }
 {
@@ -148,7 +148,7 @@ fn form_from_register(site: &Site<'_>, operation: Operation, operands: Operands)
 }
 
 // The form of an operation on two operands that are not numbers.
-#[tactic(auto, unfolding(crate::specs::ByteOperators::form_of, crate::specs::ByteOperators::form_with_left, crate::specs::ByteOperators::form_without_memory))]
+#[tactic(auto, unfolding(crate::specs::internal::ByteOperators::form_of, crate::specs::internal::ByteOperators::form_with_left, crate::specs::internal::ByteOperators::form_without_memory))]
 fn form_of(site: &Site<'_>, operation: Operation, operands: Operands) -> ByteForm
     ensures { result ≡ form_of site.now operation operands }
 {
@@ -174,7 +174,7 @@ fn form_of(site: &Site<'_>, operation: Operation, operands: Operands) -> ByteFor
 }
 
 // Puts one operand into A, and does the operation with the other one in memory.
-#[tactic(auto, unfolding(crate::specs::ByteOperators::with_memory_steps))]
+#[tactic(auto, unfolding(crate::specs::internal::ByteOperators::with_memory_steps))]
 fn plan_with_memory(
     operation: Operation,
     value: ExpressionNumber,
@@ -190,7 +190,7 @@ fn plan_with_memory(
 }
 
 // Puts one operand into E, then the other one, with code that changes only A, into A, and does the operation with E.
-#[tactic(auto, unfolding(crate::specs::ByteOperators::with_e_steps))]
+#[tactic(auto, unfolding(crate::specs::internal::ByteOperators::with_e_steps))]
 fn plan_with_e(
     operation: Operation,
     first: ExpressionNumber,
@@ -207,7 +207,7 @@ fn plan_with_e(
 }
 
 // Pushes the left operand, evaluates the right one, and does the operation with both.
-#[tactic(auto, unfolding(crate::specs::ByteOperators::with_stack_steps))]
+#[tactic(auto, unfolding(crate::specs::internal::ByteOperators::with_stack_steps))]
 fn plan_with_stack(
     operation: Operation,
     operands: Operands,
@@ -228,7 +228,7 @@ fn plan_with_stack(
 }
 
 /// Puts the result of an operation with the low bytes of two operands into A.
-#[tactic(auto, unfolding(crate::specs::ByteOperators::byte_operation_steps, crate::specs::ByteOperators::in_form_steps))]
+#[tactic(auto, unfolding(crate::specs::internal::ByteOperators::byte_operation_steps, crate::specs::internal::ByteOperators::in_form_steps))]
 pub(crate) fn plan_byte_operation(
     site: &Site<'_>,
     operation: Operation,
@@ -260,7 +260,7 @@ pub(crate) fn plan_byte_operation(
 }
 
 // Puts the low byte of a product into A.
-#[tactic(auto, unfolding(crate::specs::ByteOperators::product_byte_steps))]
+#[tactic(auto, unfolding(crate::specs::internal::ByteOperators::product_byte_steps))]
 fn plan_product_byte(
     site: &Site<'_>,
     number: ExpressionNumber,
@@ -280,7 +280,7 @@ fn plan_product_byte(
 }
 
 // Puts the low byte of a quotient into A.
-#[tactic(auto, unfolding(crate::specs::ByteOperators::quotient_byte_steps))]
+#[tactic(auto, unfolding(crate::specs::internal::ByteOperators::quotient_byte_steps))]
 fn plan_quotient_byte(
     site: &Site<'_>,
     number: ExpressionNumber,
@@ -297,7 +297,7 @@ fn plan_quotient_byte(
 }
 
 // Puts the low byte of a remainder into A.
-#[tactic(auto, unfolding(crate::specs::ByteOperators::remainder_byte_steps, crate::specs::ByteOperators::number_of_two))]
+#[tactic(auto, unfolding(crate::specs::internal::ByteOperators::remainder_byte_steps, crate::specs::internal::ByteOperators::number_of_two))]
 fn plan_remainder_byte(
     site: &Site<'_>,
     operands: Operands,
@@ -317,7 +317,7 @@ fn plan_remainder_byte(
 }
 
 /// Puts the low byte of the result of an operator with two operands into A.
-#[tactic(auto, unfolding(crate::specs::ByteOperators::byte_binary_steps))]
+#[tactic(auto, unfolding(crate::specs::internal::ByteOperators::byte_binary_steps))]
 pub(crate) fn plan_byte_binary(
     site: &Site<'_>,
     number: ExpressionNumber,

@@ -2,7 +2,7 @@
 
 ghost use Rattle.std.specs.Prelude.{OnOk, ◌≡◌};
 ghost use Rattle.steps8080.specs.Step.{Adds};
-ghost use Rattle.exprgen8080.specs.ByteShifts.{by_number_steps, byte_routine, byte_shift_steps, byte_shifted_right_steps, count_in_memory_steps, kept_bits, low_byte_shifted_right_steps, middle_byte_steps, operands_steps, right_shift_steps, rotation_steps, shifted_left_steps, zero_steps};
+ghost use Rattle.exprgen8080.specs.internal.ByteShifts.{by_number_steps, byte_routine, byte_shift_steps, byte_shifted_right_steps, count_in_memory_steps, kept_bits, low_byte_shifted_right_steps, middle_byte_steps, operands_steps, right_shift_steps, rotation_steps, shifted_left_steps, zero_steps};
 
 use crate::halves::{plan_high_byte, plan_low_of_word};
 use isa8080::{Instr, Operation, Pair, Register, StackPair};
@@ -22,7 +22,7 @@ pub struct Shifted {
 }
 
 // The mask of the bits that a right shift of a byte by a count below 8 keeps.
-#[tactic(auto, unfolding(crate::specs::ByteShifts::kept_bits))]
+#[tactic(auto, unfolding(crate::specs::internal::ByteShifts::kept_bits))]
 fn kept_bits(count: u16) -> u8
     ensures { result ≡ kept_bits count }
 {
@@ -30,7 +30,7 @@ fn kept_bits(count: u16) -> u8
 }
 
 /// Shifts A right by a count below 8.
-#[tactic(auto, unfolding(crate::specs::ByteShifts::right_shift_steps, crate::specs::ByteShifts::turned_right_steps))]
+#[tactic(auto, unfolding(crate::specs::internal::ByteShifts::right_shift_steps, crate::specs::internal::ByteShifts::turned_right_steps))]
 pub(crate) fn plan_right_shift(count: u16, steps: &mut Steps) -> Result<(), AllocError>
     ensures { OnOk result (Adds steps.old steps.new (right_shift_steps count)) }
 {
@@ -49,7 +49,7 @@ pub(crate) fn plan_right_shift(count: u16, steps: &mut Steps) -> Result<(), Allo
 }
 
 // Rotates A left by a count below 8.
-#[tactic(auto, unfolding(crate::specs::ByteShifts::rotation_steps))]
+#[tactic(auto, unfolding(crate::specs::internal::ByteShifts::rotation_steps))]
 fn plan_rotation(count: u16, steps: &mut Steps) -> Result<(), AllocError>
     ensures { OnOk result (Adds steps.old steps.new (rotation_steps count)) }
 {
@@ -61,7 +61,7 @@ fn plan_rotation(count: u16, steps: &mut Steps) -> Result<(), AllocError>
 }
 
 // Evaluates an expression for its effects, and puts 0 into A.
-#[tactic(auto, unfolding(crate::specs::ByteShifts::zero_steps))]
+#[tactic(auto, unfolding(crate::specs::internal::ByteShifts::zero_steps))]
 fn plan_zero(value: ExpressionNumber, pushed: u16, steps: &mut Steps) -> Result<(), AllocError>
     ensures { OnOk result (Adds steps.old steps.new (zero_steps value pushed)) }
 {
@@ -70,7 +70,7 @@ fn plan_zero(value: ExpressionNumber, pushed: u16, steps: &mut Steps) -> Result<
 }
 
 // Puts the low byte of a value shifted left by a count into A.
-#[tactic(auto, unfolding(crate::specs::ByteShifts::shifted_left_steps))]
+#[tactic(auto, unfolding(crate::specs::internal::ByteShifts::shifted_left_steps))]
 fn plan_shifted_left(
     value: ExpressionNumber,
     count: u16,
@@ -87,7 +87,7 @@ fn plan_shifted_left(
 }
 
 /// Puts a value below 256 shifted right by a count into A.
-#[tactic(auto, unfolding(crate::specs::ByteShifts::byte_shifted_right_steps))]
+#[tactic(auto, unfolding(crate::specs::internal::ByteShifts::byte_shifted_right_steps))]
 pub(crate) fn plan_byte_shifted_right(
     value: ExpressionNumber,
     count: u16,
@@ -104,7 +104,7 @@ pub(crate) fn plan_byte_shifted_right(
 }
 
 // Puts the low byte of a word shifted right by a count from 1 to 7 into A.
-#[tactic(auto, unfolding(crate::specs::ByteShifts::middle_byte_steps))]
+#[tactic(auto, unfolding(crate::specs::internal::ByteShifts::middle_byte_steps))]
 fn plan_middle_byte(
     value: ExpressionNumber,
     count: u16,
@@ -128,7 +128,7 @@ fn plan_middle_byte(
 }
 
 /// Puts the low byte of a value shifted right by a count into A.
-#[tactic(auto, unfolding(crate::specs::ByteShifts::low_byte_shifted_right_steps))]
+#[tactic(auto, unfolding(crate::specs::internal::ByteShifts::low_byte_shifted_right_steps))]
 pub(crate) fn plan_low_byte_shifted_right(
     site: &Site<'_>,
     value: ExpressionNumber,
@@ -156,7 +156,7 @@ pub(crate) fn plan_low_byte_shifted_right(
 }
 
 // Puts the low byte of a value shifted or rotated by a number into A.
-#[tactic(auto, unfolding(crate::specs::ByteShifts::by_number_steps))]
+#[tactic(auto, unfolding(crate::specs::internal::ByteShifts::by_number_steps))]
 fn plan_by_number(
     site: &Site<'_>,
     shifted: Shifted,
@@ -184,7 +184,7 @@ fn plan_by_number(
 }
 
 // The routine that shifts or rotates A by the count in E.
-#[tactic(auto, unfolding(crate::specs::ByteShifts::byte_routine))]
+#[tactic(auto, unfolding(crate::specs::internal::ByteShifts::byte_routine))]
 fn byte_routine(function: ShiftFunction) -> Routine
     ensures { result ≡ byte_routine function }
 {
@@ -197,7 +197,7 @@ fn byte_routine(function: ShiftFunction) -> Routine
 }
 
 // Puts a BYTE into A, and a count in memory into E; the code for the address of the count keeps A.
-#[tactic(auto, unfolding(crate::specs::ByteShifts::count_in_memory_steps))]
+#[tactic(auto, unfolding(crate::specs::internal::ByteShifts::count_in_memory_steps))]
 fn plan_count_in_memory(
     value: ExpressionNumber,
     count: Reference,
@@ -212,7 +212,7 @@ fn plan_count_in_memory(
 }
 
 // Puts a BYTE into A, and a count into E.
-#[tactic(auto, unfolding(crate::specs::ByteShifts::operands_steps))]
+#[tactic(auto, unfolding(crate::specs::internal::ByteShifts::operands_steps))]
 fn plan_operands(
     site: &Site<'_>,
     shifted: Shifted,
@@ -238,7 +238,7 @@ fn plan_operands(
 }
 
 /// Puts the low byte of a shift or a rotation into A.
-#[tactic(auto, unfolding(crate::specs::ByteShifts::byte_shift_steps))]
+#[tactic(auto, unfolding(crate::specs::internal::ByteShifts::byte_shift_steps))]
 pub(crate) fn plan_byte_shift(
     site: &Site<'_>,
     number: ExpressionNumber,

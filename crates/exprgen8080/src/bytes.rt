@@ -2,7 +2,7 @@
 
 ghost use Rattle.std.specs.Prelude.{OnOk};
 ghost use Rattle.steps8080.specs.Step.{Adds};
-ghost use Rattle.exprgen8080.specs.Bytes.{byte_form_steps, byte_function_steps, byte_of_two_steps, byte_steps, byte_unary_steps, called_byte_steps, embedded_steps, known_byte_steps, low_of_value_steps};
+ghost use Rattle.exprgen8080.specs.internal.Bytes.{byte_form_steps, byte_function_steps, byte_of_two_steps, byte_steps, byte_unary_steps, called_byte_steps, embedded_steps, known_byte_steps, low_of_value_steps};
 
 use crate::byte_operators::{Operands, plan_byte_binary};
 use crate::byte_shifts::{Shifted, plan_byte_shift};
@@ -18,7 +18,7 @@ use trees::{ScalarType, UnaryOperator};
 use typed_trees::UnaryFunction;
 
 // Puts the low byte of a known value into A.
-#[tactic(auto, unfolding(crate::specs::Bytes::known_byte_steps))]
+#[tactic(auto, unfolding(crate::specs::internal::Bytes::known_byte_steps))]
 fn plan_known_byte(place: Place, steps: &mut Steps) -> Result<(), AllocError>
     ensures { OnOk result (Adds steps.old steps.new (known_byte_steps place)) }
 {
@@ -32,7 +32,7 @@ fn plan_known_byte(place: Place, steps: &mut Steps) -> Result<(), AllocError>
 }
 
 // Puts NOT or `-` of a byte into A.
-#[tactic(auto, unfolding(crate::specs::Bytes::byte_unary_steps))]
+#[tactic(auto, unfolding(crate::specs::internal::Bytes::byte_unary_steps))]
 fn plan_byte_unary(
     operator: UnaryOperator,
     operand: ExpressionNumber,
@@ -50,7 +50,7 @@ fn plan_byte_unary(
 }
 
 /// Puts the value of an assignment into A or HL, by its type, and stores it in the target.
-#[tactic(auto, unfolding(crate::specs::Bytes::embedded_steps, crate::specs::Calls::value_task))]
+#[tactic(auto, unfolding(crate::specs::internal::Bytes::embedded_steps, crate::specs::internal::Calls::value_task))]
 pub(crate) fn plan_embedded(
     target: Target,
     value: ExpressionNumber,
@@ -69,7 +69,7 @@ pub(crate) fn plan_embedded(
 }
 
 // Puts the low byte of a value that is in A or HL, by its type, into A.
-#[tactic(auto, unfolding(crate::specs::Bytes::low_of_value_steps))]
+#[tactic(auto, unfolding(crate::specs::internal::Bytes::low_of_value_steps))]
 fn plan_low_of_value(scalar: ScalarType, steps: &mut Steps) -> Result<(), AllocError>
     ensures { OnOk result (Adds steps.old steps.new (low_of_value_steps scalar)) }
 {
@@ -80,7 +80,7 @@ fn plan_low_of_value(scalar: ScalarType, steps: &mut Steps) -> Result<(), AllocE
 }
 
 // Puts the low byte of the result of a call into A.
-#[tactic(auto, unfolding(crate::specs::Bytes::called_byte_steps))]
+#[tactic(auto, unfolding(crate::specs::internal::Bytes::called_byte_steps))]
 fn plan_called_byte(
     site: &Site<'_>,
     number: ExpressionNumber,
@@ -97,7 +97,7 @@ fn plan_called_byte(
 }
 
 // Puts the low byte of LOW, HIGH or DOUBLE of a value into A.
-#[tactic(auto, unfolding(crate::specs::Bytes::byte_function_steps))]
+#[tactic(auto, unfolding(crate::specs::internal::Bytes::byte_function_steps))]
 fn plan_byte_function(
     site: &Site<'_>,
     function: UnaryFunction,
@@ -115,7 +115,7 @@ fn plan_byte_function(
 
 // Puts the low byte of the result of an operator with two operands, a shift or a rotation into A. It is not called with
 // other forms.
-#[tactic(auto, unfolding(crate::specs::Bytes::byte_of_two_steps))]
+#[tactic(auto, unfolding(crate::specs::internal::Bytes::byte_of_two_steps))]
 fn plan_byte_of_two(
     site: &Site<'_>,
     number: ExpressionNumber,
@@ -152,7 +152,7 @@ fn plan_byte_of_two(
 }
 
 // Puts the low byte of an expression that is neither known nor in memory into A.
-#[tactic(auto, unfolding(crate::specs::Bytes::byte_form_steps))]
+#[tactic(auto, unfolding(crate::specs::internal::Bytes::byte_form_steps))]
 fn plan_byte_form(
     site: &Site<'_>,
     number: ExpressionNumber,
@@ -190,7 +190,7 @@ fn plan_byte_form(
 }
 
 /// Puts the low byte of the value of an expression into A, whatever its type.
-#[tactic(auto, unfolding(crate::specs::Bytes::byte_steps))]
+#[tactic(auto, unfolding(crate::specs::internal::Bytes::byte_steps))]
 pub(crate) fn plan_byte(
     site: &Site<'_>,
     number: ExpressionNumber,

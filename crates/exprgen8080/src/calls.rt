@@ -2,7 +2,7 @@
 
 ghost use Rattle.std.specs.Prelude.{OnOk};
 ghost use Rattle.steps8080.specs.Step.{Adds};
-ghost use Rattle.exprgen8080.specs.Calls.{call_steps, last_argument_steps, pushed_argument_steps};
+ghost use Rattle.exprgen8080.specs.internal.Calls.{call_steps, last_argument_steps, pushed_argument_steps};
 
 use isa8080::{Instr, StackPair};
 use std::alloc::AllocError;
@@ -11,7 +11,7 @@ use treecode::{ExpressionNumber, Range};
 use trees::ScalarType;
 
 // Puts an argument into A or HL, by its type.
-#[tactic(auto, unfolding(crate::specs::Calls::last_argument_steps, crate::specs::Calls::value_task))]
+#[tactic(auto, unfolding(crate::specs::internal::Calls::last_argument_steps, crate::specs::internal::Calls::value_task))]
 fn plan_last_argument(
     site: &Site<'_>,
     argument: ExpressionNumber,
@@ -27,7 +27,7 @@ fn plan_last_argument(
 }
 
 // Pushes an argument.
-#[tactic(auto, unfolding(crate::specs::Calls::pushed_argument_steps, crate::specs::Calls::push_of))]
+#[tactic(auto, unfolding(crate::specs::internal::Calls::pushed_argument_steps, crate::specs::internal::Calls::push_of))]
 fn plan_pushed_argument(
     site: &Site<'_>,
     argument: ExpressionNumber,
@@ -45,7 +45,7 @@ fn plan_pushed_argument(
 
 /// Calls a procedure by its number in the module. All arguments but the last are pushed; the last is in A or HL, and so
 /// is the result.
-#[tactic(auto, unfolding(crate::specs::Calls::call_steps))]
+#[tactic(auto, unfolding(crate::specs::internal::Calls::call_steps))]
 pub(crate) fn plan_call(
     site: &Site<'_>,
     procedure: u32,

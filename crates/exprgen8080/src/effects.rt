@@ -2,7 +2,7 @@
 
 ghost use Rattle.std.specs.Prelude.{OnOk};
 ghost use Rattle.steps8080.specs.Step.{Adds};
-ghost use Rattle.exprgen8080.specs.Effects.{both_effects_steps, effects_steps, form_effects_steps, reference_effects_steps, subscript_effects_steps};
+ghost use Rattle.exprgen8080.specs.internal.Effects.{both_effects_steps, effects_steps, form_effects_steps, reference_effects_steps, subscript_effects_steps};
 
 use crate::bytes::plan_embedded;
 use crate::calls::plan_call;
@@ -12,7 +12,7 @@ use steps8080::{Site, Steps, Task};
 use treecode::{ExpressionForm, ExpressionNumber, Reference, Subscript};
 
 // The effects of a subscript, if there is one.
-#[tactic(auto, unfolding(crate::specs::Effects::subscript_effects_steps))]
+#[tactic(auto, unfolding(crate::specs::internal::Effects::subscript_effects_steps))]
 fn plan_subscript_effects(
     subscript: Option<Subscript>,
     pushed: u16,
@@ -27,7 +27,7 @@ fn plan_subscript_effects(
 }
 
 // The effects of the subscripts of an object or a part of it.
-#[tactic(auto, unfolding(crate::specs::Effects::reference_effects_steps))]
+#[tactic(auto, unfolding(crate::specs::internal::Effects::reference_effects_steps))]
 fn plan_reference_effects(
     reference: &Reference,
     pushed: u16,
@@ -40,7 +40,7 @@ fn plan_reference_effects(
 }
 
 // The effects of two expressions.
-#[tactic(auto, unfolding(crate::specs::Effects::both_effects_steps))]
+#[tactic(auto, unfolding(crate::specs::internal::Effects::both_effects_steps))]
 fn plan_both_effects(
     first: ExpressionNumber,
     second: ExpressionNumber,
@@ -54,7 +54,7 @@ fn plan_both_effects(
 }
 
 // The effects of an expression of this form.
-#[tactic(auto, unfolding(crate::specs::Effects::form_effects_steps))]
+#[tactic(auto, unfolding(crate::specs::internal::Effects::form_effects_steps))]
 fn plan_form_effects(
     site: &Site<'_>,
     form: ExpressionForm,
@@ -89,7 +89,7 @@ fn plan_form_effects(
 }
 
 /// The effects of an expression, without its value.
-#[tactic(auto, unfolding(crate::specs::Effects::effects_steps))]
+#[tactic(auto, unfolding(crate::specs::internal::Effects::effects_steps))]
 pub(crate) fn plan_effects(
     site: &Site<'_>,
     number: ExpressionNumber,

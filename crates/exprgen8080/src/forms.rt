@@ -2,7 +2,7 @@
 
 ghost use Rattle.std.specs.Prelude.{OnOk};
 ghost use Rattle.steps8080.specs.Step.{AddsWithLabels};
-ghost use Rattle.exprgen8080.specs.Forms.{task_labels, task_steps};
+ghost use Rattle.exprgen8080.specs.internal.Forms.{task_labels, task_steps};
 
 use crate::bytes::plan_byte;
 use crate::calls::plan_call;
@@ -13,7 +13,7 @@ use std::alloc::AllocError;
 use steps8080::{Part, Site, Steps, Task};
 
 /// The steps of a task. Only the first step uses the facts of the site.
-#[tactic(auto, unfolding(crate::specs::Forms::task_steps, crate::specs::Forms::task_labels, crate::specs::Forms::steps_of, crate::specs::Forms::labels_of), using(crate::proofs::PlansWithoutLabels::none_taken))]
+#[tactic(auto, unfolding(crate::specs::internal::Forms::task_steps, crate::specs::internal::Forms::task_labels, crate::specs::internal::Forms::steps_of, crate::specs::internal::Forms::labels_of), using(crate::proofs::PlansWithoutLabels::none_taken))]
 pub fn plan_task(site: &Site<'_>, part: Part, steps: &mut Steps) -> Result<(), AllocError>
     ensures { OnOk result (AddsWithLabels steps.old steps.new
         (task_labels site.now part) (task_steps site.now part)) }

@@ -2,7 +2,7 @@
 
 ghost use Rattle.std.specs.Prelude.{OnOk};
 ghost use Rattle.steps8080.specs.Step.{Adds};
-ghost use Rattle.exprgen8080.specs.Halves.{byte_number_steps, high_byte_steps, low_of_word_steps};
+ghost use Rattle.exprgen8080.specs.internal.Halves.{byte_number_steps, high_byte_steps, low_of_word_steps};
 
 use isa8080::Register;
 use operands8080::plan_byte_in_memory;
@@ -11,7 +11,7 @@ use steps8080::{Site, Steps, Task, clear_a, copy, high, set};
 use treecode::ExpressionNumber;
 
 /// Puts a number into A.
-#[tactic(auto, unfolding(crate::specs::Halves::byte_number_steps))]
+#[tactic(auto, unfolding(crate::specs::internal::Halves::byte_number_steps))]
 pub(crate) fn plan_byte_number(number: u8, steps: &mut Steps) -> Result<(), AllocError>
     ensures { OnOk result (Adds steps.old steps.new (byte_number_steps number)) }
 {
@@ -23,7 +23,7 @@ pub(crate) fn plan_byte_number(number: u8, steps: &mut Steps) -> Result<(), Allo
 }
 
 /// Puts the low byte of the value of an ADDRESS expression into A, through HL.
-#[tactic(auto, unfolding(crate::specs::Halves::low_of_word_steps))]
+#[tactic(auto, unfolding(crate::specs::internal::Halves::low_of_word_steps))]
 pub(crate) fn plan_low_of_word(
     number: ExpressionNumber,
     pushed: u16,
@@ -36,7 +36,7 @@ pub(crate) fn plan_low_of_word(
 }
 
 /// Puts the high byte of the value of an expression into A; it is 0 for a BYTE.
-#[tactic(auto, unfolding(crate::specs::Halves::high_byte_steps))]
+#[tactic(auto, unfolding(crate::specs::internal::Halves::high_byte_steps))]
 pub(crate) fn plan_high_byte(
     site: &Site<'_>,
     number: ExpressionNumber,

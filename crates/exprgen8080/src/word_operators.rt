@@ -2,7 +2,7 @@
 
 ghost use Rattle.std.specs.Prelude.{OnOk, ◌≡◌};
 ghost use Rattle.steps8080.specs.Step.{Adds};
-ghost use Rattle.exprgen8080.specs.WordOperators.{difference_steps, division_steps, half_steps, high_half_steps, logic_steps, logic_with_byte_steps, logic_with_number_steps, logic_with_simple_steps, product_word_steps, quotient_steps, remainder_steps, simple_operand, sum_steps, taken_from_number_steps, with_pair_steps, with_simple, with_word_steps, word_binary_steps};
+ghost use Rattle.exprgen8080.specs.internal.WordOperators.{difference_steps, division_steps, half_steps, high_half_steps, logic_steps, logic_with_byte_steps, logic_with_number_steps, logic_with_simple_steps, product_word_steps, quotient_steps, remainder_steps, simple_operand, sum_steps, taken_from_number_steps, with_pair_steps, with_simple, with_word_steps, word_binary_steps};
 
 use crate::byte_operators::{Operands, plan_byte_operation, plan_with_number};
 use crate::halves::plan_high_byte;
@@ -19,7 +19,7 @@ use treecode::{ExpressionNumber, Place};
 use trees::BinaryOperator;
 
 // Puts a sum into HL.
-#[tactic(auto, unfolding(crate::specs::WordOperators::sum_steps))]
+#[tactic(auto, unfolding(crate::specs::internal::WordOperators::sum_steps))]
 fn plan_sum(
     site: &Site<'_>,
     operands: Operands,
@@ -42,7 +42,7 @@ fn plan_sum(
 }
 
 // Subtracts HL from a number, with the result in HL.
-#[tactic(auto, unfolding(crate::specs::WordOperators::taken_from_number_steps))]
+#[tactic(auto, unfolding(crate::specs::internal::WordOperators::taken_from_number_steps))]
 fn plan_taken_from_number(number: u16, steps: &mut Steps) -> Result<(), AllocError>
     ensures { OnOk result (Adds steps.old steps.new (taken_from_number_steps number)) }
 {
@@ -61,7 +61,7 @@ fn plan_taken_from_number(number: u16, steps: &mut Steps) -> Result<(), AllocErr
 }
 
 // Puts the result of an operation with a word in memory on the left and HL on the right into HL.
-#[tactic(auto, unfolding(crate::specs::WordOperators::with_word_steps))]
+#[tactic(auto, unfolding(crate::specs::internal::WordOperators::with_word_steps))]
 fn plan_with_word(
     place: Place,
     on_low: Operation,
@@ -83,7 +83,7 @@ fn plan_with_word(
 }
 
 // Puts the result of an operation with HL and DE into HL. `order` is the operand that is in HL.
-#[tactic(auto, unfolding(crate::specs::WordOperators::with_pair_steps))]
+#[tactic(auto, unfolding(crate::specs::internal::WordOperators::with_pair_steps))]
 fn plan_with_pair(
     order: PairOrder,
     on_low: Operation,
@@ -113,7 +113,7 @@ fn plan_with_pair(
 }
 
 // Puts a difference into HL.
-#[tactic(auto, unfolding(crate::specs::WordOperators::difference_steps, crate::specs::WordOperators::left_word, crate::specs::WordOperators::paired_steps))]
+#[tactic(auto, unfolding(crate::specs::internal::WordOperators::difference_steps, crate::specs::internal::WordOperators::left_word, crate::specs::internal::WordOperators::paired_steps))]
 fn plan_difference(
     site: &Site<'_>,
     operands: Operands,
@@ -142,7 +142,7 @@ fn plan_difference(
 }
 
 // Carries out an operation with a byte of HL and a number.
-#[tactic(auto, unfolding(crate::specs::WordOperators::half_steps, crate::specs::WordOperators::half_through_a_steps))]
+#[tactic(auto, unfolding(crate::specs::internal::WordOperators::half_steps, crate::specs::internal::WordOperators::half_through_a_steps))]
 fn plan_half(
     operation: Operation,
     register: Register,
@@ -169,7 +169,7 @@ fn plan_half(
 
 // ANDs the high byte of a value with a number, and puts the result into HL as the high byte of a word with the low byte
 // 0.
-#[tactic(auto, unfolding(crate::specs::WordOperators::high_half_steps))]
+#[tactic(auto, unfolding(crate::specs::internal::WordOperators::high_half_steps))]
 fn plan_high_half(
     site: &Site<'_>,
     value: ExpressionNumber,
@@ -187,7 +187,7 @@ fn plan_high_half(
 }
 
 // Puts AND, OR or XOR of a value and a number into HL.
-#[tactic(auto, unfolding(crate::specs::WordOperators::logic_with_number_steps, crate::specs::WordOperators::and_with_number_steps, crate::specs::WordOperators::both_halves_steps))]
+#[tactic(auto, unfolding(crate::specs::internal::WordOperators::logic_with_number_steps, crate::specs::internal::WordOperators::and_with_number_steps, crate::specs::internal::WordOperators::both_halves_steps))]
 fn plan_logic_with_number(
     site: &Site<'_>,
     operation: Operation,
@@ -212,7 +212,7 @@ fn plan_logic_with_number(
 }
 
 // Puts OR or XOR of a value and a byte, with code that changes only A, into HL.
-#[tactic(auto, unfolding(crate::specs::WordOperators::logic_with_byte_steps))]
+#[tactic(auto, unfolding(crate::specs::internal::WordOperators::logic_with_byte_steps))]
 fn plan_logic_with_byte(
     operation: Operation,
     value: ExpressionNumber,
@@ -240,7 +240,7 @@ pub enum Simple {
 }
 
 // The operand as one with code that does not change HL, if it is.
-#[tactic(auto, unfolding(crate::specs::WordOperators::simple_operand))]
+#[tactic(auto, unfolding(crate::specs::internal::WordOperators::simple_operand))]
 fn simple_operand(site: &Site<'_>, number: ExpressionNumber) -> Option<Simple>
     ensures { result ≡ simple_operand site.now number }
 {
@@ -254,7 +254,7 @@ fn simple_operand(site: &Site<'_>, number: ExpressionNumber) -> Option<Simple>
 }
 
 // Puts AND, OR or XOR of a value and a simple operand into HL.
-#[tactic(auto, unfolding(crate::specs::WordOperators::logic_with_simple_steps))]
+#[tactic(auto, unfolding(crate::specs::internal::WordOperators::logic_with_simple_steps))]
 fn plan_logic_with_simple(
     operation: Operation,
     value: ExpressionNumber,
@@ -275,7 +275,7 @@ fn plan_logic_with_simple(
 }
 
 // The operand of AND, OR or XOR that is evaluated first, and the other one, which is simple.
-#[tactic(auto, unfolding(crate::specs::WordOperators::with_simple, crate::specs::WordOperators::first_and_simple, crate::specs::WordOperators::exchanged_operand))]
+#[tactic(auto, unfolding(crate::specs::internal::WordOperators::with_simple, crate::specs::internal::WordOperators::first_and_simple, crate::specs::internal::WordOperators::exchanged_operand))]
 fn with_simple(site: &Site<'_>, operands: Operands) -> Option<(ExpressionNumber, Simple)>
     ensures { result ≡ with_simple site.now operands }
 {
@@ -295,7 +295,7 @@ fn with_simple(site: &Site<'_>, operands: Operands) -> Option<(ExpressionNumber,
 }
 
 // Puts AND, OR or XOR into HL.
-#[tactic(auto, unfolding(crate::specs::WordOperators::logic_steps, crate::specs::WordOperators::computed_logic_steps, crate::specs::WordOperators::is_of_bytes, crate::specs::WordOperators::paired_steps))]
+#[tactic(auto, unfolding(crate::specs::internal::WordOperators::logic_steps, crate::specs::internal::WordOperators::computed_logic_steps, crate::specs::internal::WordOperators::is_of_bytes, crate::specs::internal::WordOperators::paired_steps))]
 fn plan_logic(
     site: &Site<'_>,
     operation: Operation,
@@ -324,7 +324,7 @@ fn plan_logic(
 }
 
 // Puts a product into HL. The routine is faster if DE is below 256.
-#[tactic(auto, unfolding(crate::specs::WordOperators::product_word_steps, crate::specs::WordOperators::product_order))]
+#[tactic(auto, unfolding(crate::specs::internal::WordOperators::product_word_steps, crate::specs::internal::WordOperators::product_order))]
 fn plan_product_word(
     site: &Site<'_>,
     operands: Operands,
@@ -350,7 +350,7 @@ fn plan_product_word(
 }
 
 // Divides one operand by the other one: puts the quotient into HL, and the remainder into DE.
-#[tactic(auto, unfolding(crate::specs::WordOperators::division_steps))]
+#[tactic(auto, unfolding(crate::specs::internal::WordOperators::division_steps))]
 fn plan_division(
     site: &Site<'_>,
     operands: Operands,
@@ -365,7 +365,7 @@ fn plan_division(
 }
 
 // Puts a quotient into HL.
-#[tactic(auto, unfolding(crate::specs::WordOperators::quotient_steps))]
+#[tactic(auto, unfolding(crate::specs::internal::WordOperators::quotient_steps))]
 fn plan_quotient(
     site: &Site<'_>,
     operands: Operands,
@@ -381,7 +381,7 @@ fn plan_quotient(
 }
 
 // Puts a remainder into HL.
-#[tactic(auto, unfolding(crate::specs::WordOperators::remainder_steps, crate::specs::ByteOperators::number_of_two))]
+#[tactic(auto, unfolding(crate::specs::internal::WordOperators::remainder_steps, crate::specs::internal::ByteOperators::number_of_two))]
 fn plan_remainder(
     site: &Site<'_>,
     operands: Operands,
@@ -400,7 +400,7 @@ fn plan_remainder(
 }
 
 /// Puts the result of an operator with two ADDRESS operands into HL.
-#[tactic(auto, unfolding(crate::specs::WordOperators::word_binary_steps))]
+#[tactic(auto, unfolding(crate::specs::internal::WordOperators::word_binary_steps))]
 pub(crate) fn plan_word_binary(
     site: &Site<'_>,
     operator: BinaryOperator,

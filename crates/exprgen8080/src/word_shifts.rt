@@ -2,7 +2,7 @@
 
 ghost use Rattle.std.specs.Prelude.{OnOk, ◌≡◌};
 ghost use Rattle.steps8080.specs.Step.{Adds};
-ghost use Rattle.exprgen8080.specs.WordShifts.{computed_count_steps, half_steps, quarter_steps, shifted_left_steps, shifted_right_little_steps, word_routine, word_shift_steps, word_shifted_right_steps, zero_steps};
+ghost use Rattle.exprgen8080.specs.internal.WordShifts.{computed_count_steps, half_steps, quarter_steps, shifted_left_steps, shifted_right_little_steps, word_routine, word_shift_steps, word_shifted_right_steps, zero_steps};
 
 use crate::byte_shifts::{Shifted, plan_byte_shifted_right, plan_right_shift};
 use crate::halves::plan_high_byte;
@@ -15,7 +15,7 @@ use treecode::{ExpressionNumber, Place};
 use typed_trees::ShiftFunction;
 
 // Evaluates an expression for its effects, and puts 0 into HL.
-#[tactic(auto, unfolding(crate::specs::WordShifts::zero_steps))]
+#[tactic(auto, unfolding(crate::specs::internal::WordShifts::zero_steps))]
 fn plan_zero(value: ExpressionNumber, pushed: u16, steps: &mut Steps) -> Result<(), AllocError>
     ensures { OnOk result (Adds steps.old steps.new (zero_steps value pushed)) }
 {
@@ -24,7 +24,7 @@ fn plan_zero(value: ExpressionNumber, pushed: u16, steps: &mut Steps) -> Result<
 }
 
 // Puts a word shifted left by a number into HL.
-#[tactic(auto, unfolding(crate::specs::WordShifts::shifted_left_steps))]
+#[tactic(auto, unfolding(crate::specs::internal::WordShifts::shifted_left_steps))]
 fn plan_shifted_left(
     value: ExpressionNumber,
     count: u16,
@@ -47,7 +47,7 @@ fn plan_shifted_left(
 }
 
 // Shifts HL right by 1, through A.
-#[tactic(auto, unfolding(crate::specs::WordShifts::half_steps))]
+#[tactic(auto, unfolding(crate::specs::internal::WordShifts::half_steps))]
 fn plan_half(steps: &mut Steps) -> Result<(), AllocError>
     ensures { OnOk result (Adds steps.old steps.new half_steps) }
 {
@@ -64,7 +64,7 @@ fn plan_half(steps: &mut Steps) -> Result<(), AllocError>
 
 // Shifts HL right by 2, through A: puts the two low bits of H beside the six high bits of L, and rotates them to the
 // top.
-#[tactic(auto, unfolding(crate::specs::WordShifts::quarter_steps))]
+#[tactic(auto, unfolding(crate::specs::internal::WordShifts::quarter_steps))]
 fn plan_quarter(steps: &mut Steps) -> Result<(), AllocError>
     ensures { OnOk result (Adds steps.old steps.new quarter_steps) }
 {
@@ -86,7 +86,7 @@ fn plan_quarter(steps: &mut Steps) -> Result<(), AllocError>
 }
 
 // Puts a word shifted right by a count below 8 into HL.
-#[tactic(auto, unfolding(crate::specs::WordShifts::shifted_right_little_steps))]
+#[tactic(auto, unfolding(crate::specs::internal::WordShifts::shifted_right_little_steps))]
 fn plan_shifted_right_little(
     value: ExpressionNumber,
     count: u16,
@@ -108,7 +108,7 @@ fn plan_shifted_right_little(
 }
 
 /// Puts the value of an expression, as an ADDRESS, shifted right by a number into HL.
-#[tactic(auto, unfolding(crate::specs::WordShifts::word_shifted_right_steps))]
+#[tactic(auto, unfolding(crate::specs::internal::WordShifts::word_shifted_right_steps))]
 pub(crate) fn plan_word_shifted_right(
     site: &Site<'_>,
     value: ExpressionNumber,
@@ -137,7 +137,7 @@ pub(crate) fn plan_word_shifted_right(
 }
 
 // The routine that shifts HL by the count in A. Only BYTE values are rotated.
-#[tactic(auto, unfolding(crate::specs::WordShifts::word_routine))]
+#[tactic(auto, unfolding(crate::specs::internal::WordShifts::word_routine))]
 fn word_routine(function: ShiftFunction) -> Routine
     ensures { result ≡ word_routine function }
 {
@@ -148,7 +148,7 @@ fn word_routine(function: ShiftFunction) -> Routine
 }
 
 // Puts a word shifted by a count that is not known into HL.
-#[tactic(auto, unfolding(crate::specs::WordShifts::computed_count_steps, crate::specs::WordShifts::count_beside_word_steps))]
+#[tactic(auto, unfolding(crate::specs::internal::WordShifts::computed_count_steps, crate::specs::internal::WordShifts::count_beside_word_steps))]
 fn plan_computed_count(
     site: &Site<'_>,
     shifted: Shifted,
@@ -169,7 +169,7 @@ fn plan_computed_count(
 }
 
 /// Puts a shift of an ADDRESS into HL.
-#[tactic(auto, unfolding(crate::specs::WordShifts::word_shift_steps, crate::specs::WordShifts::word_by_number_steps))]
+#[tactic(auto, unfolding(crate::specs::internal::WordShifts::word_shift_steps, crate::specs::internal::WordShifts::word_by_number_steps))]
 pub(crate) fn plan_word_shift(
     site: &Site<'_>,
     shifted: Shifted,

@@ -2,7 +2,7 @@
 
 ghost use Rattle.std.specs.Prelude.{OnOk};
 ghost use Rattle.steps8080.specs.Step.{Adds};
-ghost use Rattle.exprgen8080.specs.Words.{extended_byte_steps, word_form_steps, word_function_steps, word_of_two_steps, word_steps, word_unary_steps};
+ghost use Rattle.exprgen8080.specs.internal.Words.{extended_byte_steps, word_form_steps, word_function_steps, word_of_two_steps, word_steps, word_unary_steps};
 
 use crate::byte_operators::Operands;
 use crate::byte_shifts::Shifted;
@@ -19,7 +19,7 @@ use trees::{ScalarType, UnaryOperator};
 use typed_trees::UnaryFunction;
 
 // Replaces the word in HL by NOT or `-` of it.
-#[tactic(auto, unfolding(crate::specs::Words::word_unary_steps))]
+#[tactic(auto, unfolding(crate::specs::internal::Words::word_unary_steps))]
 fn plan_word_unary(operator: UnaryOperator, steps: &mut Steps) -> Result<(), AllocError>
     ensures { OnOk result (Adds steps.old steps.new (word_unary_steps operator)) }
 {
@@ -44,7 +44,7 @@ fn plan_word_unary(operator: UnaryOperator, steps: &mut Steps) -> Result<(), All
 }
 
 // Puts the value of a BYTE expression into HL.
-#[tactic(auto, unfolding(crate::specs::Words::extended_byte_steps))]
+#[tactic(auto, unfolding(crate::specs::internal::Words::extended_byte_steps))]
 fn plan_extended_byte(
     site: &Site<'_>,
     number: ExpressionNumber,
@@ -61,7 +61,7 @@ fn plan_extended_byte(
 }
 
 // Puts LOW, HIGH or DOUBLE of a value, as an ADDRESS, into HL.
-#[tactic(auto, unfolding(crate::specs::Words::word_function_steps))]
+#[tactic(auto, unfolding(crate::specs::internal::Words::word_function_steps))]
 fn plan_word_function(
     function: UnaryFunction,
     operand: ExpressionNumber,
@@ -79,7 +79,7 @@ fn plan_word_function(
 
 // Puts the result of an operator with two ADDRESS operands, or of a shift of an ADDRESS, into HL. It is not called with
 // other forms.
-#[tactic(auto, unfolding(crate::specs::Words::word_of_two_steps))]
+#[tactic(auto, unfolding(crate::specs::internal::Words::word_of_two_steps))]
 fn plan_word_of_two(
     site: &Site<'_>,
     form: ExpressionForm,
@@ -112,7 +112,7 @@ fn plan_word_of_two(
 }
 
 // Puts the value of an ADDRESS expression that is not known into HL.
-#[tactic(auto, unfolding(crate::specs::Words::word_form_steps))]
+#[tactic(auto, unfolding(crate::specs::internal::Words::word_form_steps))]
 fn plan_word_form(
     site: &Site<'_>,
     form: ExpressionForm,
@@ -147,7 +147,7 @@ fn plan_word_form(
 }
 
 /// Puts the value of an expression into HL; a BYTE is zero-extended.
-#[tactic(auto, unfolding(crate::specs::Words::word_steps, crate::specs::Words::computed_word_steps))]
+#[tactic(auto, unfolding(crate::specs::internal::Words::word_steps, crate::specs::internal::Words::computed_word_steps))]
 pub(crate) fn plan_word(
     site: &Site<'_>,
     number: ExpressionNumber,

@@ -4,7 +4,7 @@ use Rattle.layout.specs.{Storage.{Storage}, Sound.{IsSoundlyTyped}}
 use Rattle.treecode.specs.declared.module.Content.{Content}
 use Rattle.asm8080.specs.declared.item.Item.{Item}
 use Rattle.treecode.specs.declared.procedure.ProcedureKind.TheVariants as kinds
-use Rattle.generation.specs.CodeItems.{BodiesPushWithinCharges, HasItems, MainPushes, ProcedurePushes, ProceduresPush}
+use Rattle.generation.specs.internal.CodeItems.{BodiesPushWithinCharges, HasItems, MainPushes, ProcedurePushes, ProceduresPush}
 use Rattle.generation.proofs.Bounding.{sound_for_bounds}
 
 -- procedures and headings stand in the tables of a module from a number on
@@ -112,7 +112,7 @@ tree_bound_is typed storage tree sound is lowered =
     omega (arith, constants, weight_is typed storage tree sound.parameters lowered)
 
 -- what is counted of the object module that is made of tree code
-pub is_counted :
+is_counted :
     (typed : TypedModule) (storage : Storage) (tree : TreeModule) (object : ObjectModule)
     → IsSoundlyTyped typed
     → IsStored typed storage

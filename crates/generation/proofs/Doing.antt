@@ -1,10 +1,10 @@
 -- Code that is added for one expression or location does what that means.
 use Rattle.generation.proofs.Prelude.{sym, subst}
 use Rattle.steps8080.specs.{declared.step.Part.{Part}, declared.sites.site.Site.{Site}}
-use Rattle.exprgen8080.specs.{declared.emission.Emission.{Emission}, Emission.{IsWritten}, Emitted.{Emits, NotesCalled}, Labelled.{IsLabelled}}
+use Rattle.exprgen8080.specs.{declared.emission.Emission.{Emission}, internal.Emission.{IsWritten}, internal.Emitted.{Emits, NotesCalled}, internal.Labelled.{IsLabelled}}
 use Rattle.exprgen8080.proofs.CodeLaws.{part_is_code}
 use Rattle.program_laws.proofs.CarriedOut.{emitted_does}
-use Rattle.generation.specs.Doing.{CodeDoes}
+use Rattle.generation.specs.internal.Doing.{CodeDoes}
 
 -- in each body with the site of the code
 pub code_does :

@@ -1,23 +1,16 @@
 -- Object modules that are soundly made of the modules of a program make the program.
-use Rattle.generation.proofs.Prelude.{List, [], ◌∷◌, ObjectModule, TypedModule, segment_is_within_its_bound, are_storable, as_many_lengths, each_holds_constants, have_image, hold_constants, is_in_memory, has_names, has_segments, is_object_of, NumbersFitInModule, AreSoundlyMade, IsSoundlyMade, are_made, made_program_does, generated_does, AllZip, AreWithinBounds, KeepsContract}
+use Rattle.generation.proofs.Prelude.{List, [], ◌∷◌, ObjectModule, TypedModule, segment_is_within_its_bound, are_storable, as_many_lengths, each_holds_constants, have_image, hold_constants, is_in_memory, has_names, has_segments, is_object_of, NumbersFitInModule, AreSoundlyMade, IsSoundlyMade, are_made, made_program_does, generated_does, AllZip, KeepsBound, KeepsContract}
 use Rattle.image_laws.proofs.Memory.Starting.{starts_as_its_source}
 use Rattle.generation.specs.internal.Programs.{MakeTheProgram}
 use Rattle.generation.proofs.Bounding.{sound_for_bounds}
-use Rattle.generation.proofs.Counting.{is_counted}
 
-within_bounds :
-    (modules : List TypedModule) (objects : List ObjectModule)
-    → AreSoundlyMade modules objects
-    → AreWithinBounds modules objects
-within_bounds [] [] made = tt
-within_bounds [] (object ∷ objects) made = absurd made
-within_bounds (typed ∷ modules) [] made = absurd made
-within_bounds (typed ∷ modules) (object ∷ objects) made =
-    let is = made.0.made in (
-      (hold_constants (typed ∷ modules) (object ∷ objects) (are_made (typed ∷ modules) (object ∷ objects) made)).0,
-      segment_is_within_its_bound typed is.storage is.tree object (sound_for_bounds typed made.0.facts) is.lowered
+-- the code segment of an object module that is soundly made of a module is within the code bound of the module
+keeps_bound : (typed : TypedModule) (object : ObjectModule) → IsSoundlyMade typed object → KeepsBound typed object
+keeps_bound typed object made =
+    let is = made.made in (
+      (hold_constants (typed ∷ []) (object ∷ []) (is, tt)).0,
+      segment_is_within_its_bound typed is.storage is.tree object (sound_for_bounds typed made.facts) is.lowered
           is.generated,
-      within_bounds modules objects made.1,
     )
 
 -- the numbers of a module have the width of a word
@@ -26,17 +19,17 @@ pub numbers_fit :
 numbers_fit typed object made = (generated_does typed object made).numbers
 
 -- an object module that is soundly made of a module keeps what `generate` promises
-keeps_contract :
+pub keeps_contract :
     (typed : TypedModule) (object : ObjectModule) → IsSoundlyMade typed object → KeepsContract typed object
 keeps_contract typed object made =
     let is = made.made in
     record {
       does = generated_does typed object made;
+      valid = is.valid;
       is_object = is_object_of typed is.storage is.tree object is.laid is.lowered is.valid is.generated;
       segments = has_segments typed is.storage is.tree object is.laid is.lowered is.valid is.generated;
       names = has_names typed is.storage is.tree object is.laid is.lowered is.generated;
-      made = made;
-      counted = is_counted typed is.storage is.tree object made.facts is.laid.stored is.lowered is.generated;
+      bound = keeps_bound typed object made;
     }
 
 keep_contracts :
@@ -57,7 +50,6 @@ make_the_program modules objects made =
     let are = are_made modules objects made in
     record {
       lengths = as_many_lengths modules objects are;
-      bounds = within_bounds modules objects made;
       constants = each_holds_constants modules objects are;
       storable = are_storable modules objects are;
       contracts = keep_contracts modules objects made;

@@ -6,7 +6,7 @@ use Rattle.layout.specs.{Storage.{Storage}, Sound.{IsSoundlyTyped}}
 use Rattle.treecode.specs.{Homes.{parameter_at}, declared.procedure.Parameter.{Parameter}}
 use Rattle.frames.specs.Charges.{IsChargedAs}
 use Rattle.frames.proofs.{Frames.{parameter_count}, Parameters.{has_parameters}}
-use Rattle.generation.specs.TreeCode.{KeepsModule}
+use Rattle.generation.specs.internal.TreeCode.{KeepsModule}
 use Rattle.generation.proofs.{Contract.{code_does}, Counting.{tree_bound_is}}
 
 module _

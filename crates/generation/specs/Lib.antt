@@ -1,9 +1,4 @@
 pub use Rattle.program_laws.specs.Agreement
-pub use Rattle.program_laws.specs.Typed
 pub mod Bounded
-pub mod CodeItems
-pub mod Modules
 pub mod Kept
-pub mod TreeCode
 pub mod internal
-pub mod Doing

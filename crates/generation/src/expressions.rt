@@ -2,7 +2,7 @@
 #![tactic(auto)]
 
 ghost use Rattle.std.specs.Prelude.{IfOk};
-ghost use Rattle.generation.specs.Doing.{CodeDoes};
+ghost use Rattle.generation.specs.internal.Doing.{CodeDoes};
 
 use exprgen8080::Emission;
 use std::alloc::AllocError;

@@ -6,7 +6,7 @@ ghost use Rattle.typed_trees.specs.Jumps.{JumpsAreSound};
 ghost use Rattle.typed_trees.specs.Views.{module_view};
 ghost use Rattle.layout.specs.Views.{layout_view};
 ghost use Rattle.treecode.specs.Lowered.{IsLowered};
-ghost use Rattle.generation.specs.TreeCode.{KeepsModule};
+ghost use Rattle.generation.specs.internal.TreeCode.{KeepsModule};
 
 use layout::Layout;
 use std::alloc::{AllocError, Global};

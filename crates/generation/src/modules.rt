@@ -3,15 +3,15 @@
 
 ghost use Rattle.std.specs.Prelude.{IfOk};
 ghost use Rattle.failure.specs.Failure.{IfFault};
-ghost use Rattle.codegen8080.specs.Modules.{IsGenerated};
-ghost use Rattle.codegen8080.specs.Refusals.{MayRefuse};
+ghost use Rattle.codegen8080.specs.internal.Modules.{IsGenerated};
+ghost use Rattle.codegen8080.specs.internal.Refusals.{MayRefuse};
 ghost use Rattle.image_laws.specs.Objects.{IsObjectOf};
 ghost use Rattle.image_laws.specs.Segments.{HasSegments};
 ghost use Rattle.image_laws.specs.Names.{HasNames};
 ghost use Rattle.program_laws.specs.OneModule.{DoesWhereItLies};
-ghost use Rattle.program_laws.specs.Typed.{IsSoundlyMade};
-ghost use Rattle.generation.specs.Bounded.{IsPastBound, IsWithinBound};
-ghost use Rattle.generation.specs.Modules.{IsCounted, MakesNone, OfItsModule};
+ghost use Rattle.program_laws.specs.internal.Typed.{IsSoundlyMade};
+ghost use Rattle.generation.specs.internal.Measured.{IsPastBound, IsWithinBound};
+ghost use Rattle.generation.specs.internal.Modules.{IsCounted, MakesNone, OfItsModule};
 
 use codegen8080::Fault;
 use failure::Failure;

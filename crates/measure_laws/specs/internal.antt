@@ -1,4 +1,5 @@
 -- Definitions that only proofs cite.
+pub mod Heights
 pub mod Sizes
 pub mod TaskWeights
 pub mod Going

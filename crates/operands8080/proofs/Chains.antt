@@ -3,7 +3,7 @@ use Rattle.std.proofs.Common.{◌≡◌, ℕ, suc, ◌+◌, ◌-◌, ◌<◌, �
 use Rattle.std.proofs.lemmas.List.{append-nil}
 use Rattle.isa8080.specs.declared.instr.Instr.{Instr}
 use Rattle.steps8080.specs.declared.step.Step.{Step}
-use Rattle.operands8080.specs.Products.{bit_steps, chain_from, has_bit}
+use Rattle.operands8080.specs.internal.Products.{bit_steps, chain_from, has_bit}
 
 -- one more bit
 pub bit_added :

@@ -2,7 +2,7 @@
 
 ghost use Rattle.std.specs.Prelude.{◌≡◌, [], ◌∷◌, OnOk};
 ghost use Rattle.steps8080.specs.Step.{Adds, AddsWithLabels};
-ghost use Rattle.operands8080.specs.Branches.{branch_labels, branch_part, branch_steps, by_bit_steps, equality_labels, equality_steps, is_odd, joined_labels, joined_steps, known_branch_steps, opposite, opposite_condition, other_labels, other_steps, shape_of, shape_of_binary, shape_of_form, shape_of_junction, shape_with_number, where_flags_steps};
+ghost use Rattle.operands8080.specs.internal.Branches.{branch_labels, branch_part, branch_steps, by_bit_steps, equality_labels, equality_steps, is_odd, joined_labels, joined_steps, known_branch_steps, opposite, opposite_condition, other_labels, other_steps, shape_of, shape_of_binary, shape_of_form, shape_of_junction, shape_with_number, where_flags_steps};
 
 use crate::answers::{Purpose, Setting};
 use crate::relations::{Outcome, plan_relation};
@@ -211,7 +211,7 @@ fn shape_of_form(site: &Site<'_>, form: ExpressionForm) -> Shape
 }
 
 // The lowest bit of an expression.
-#[tactic(auto, unfolding(crate::specs::Branches::shape_of))]
+#[tactic(auto, unfolding(crate::specs::internal::Branches::shape_of))]
 fn shape_of(site: &Site<'_>, condition: ExpressionNumber) -> Shape
     ensures { result ≡ shape_of site.now condition }
 {

@@ -2,7 +2,7 @@
 
 ghost use Rattle.std.specs.Prelude.{◌≡◌, IfOk, OnOk};
 ghost use Rattle.steps8080.specs.Step.{Adds};
-ghost use Rattle.operands8080.specs.ByteRelations.{answer_to, better_form, byte_is_steps, byte_number_answer, byte_number_steps, byte_relation_steps, comparing, exchanged, form_of, form_of_equality, in_order, is_better_exchanged, is_zero_steps, known_answer, may_begin_with, memory_form, number_in_a_answer, number_in_a_steps, pushed_steps, register_form, with_e_steps, with_memory_steps, without_push};
+ghost use Rattle.operands8080.specs.internal.ByteRelations.{answer_to, better_form, byte_is_steps, byte_number_answer, byte_number_steps, byte_relation_steps, comparing, exchanged, form_of, form_of_equality, in_order, is_better_exchanged, is_zero_steps, known_answer, may_begin_with, memory_form, number_in_a_answer, number_in_a_steps, pushed_steps, register_form, with_e_steps, with_memory_steps, without_push};
 
 use crate::answers::{Answer, Purpose, Setting, plan_known};
 use isa8080::{Instr, Operand, Operation, Register, StackPair};
@@ -194,7 +194,7 @@ fn register_form(site: &Site<'_>, comparison: &Comparison, sides: Sides) -> Opti
 }
 
 // The better one of the two comparisons without a push, if any is possible.
-#[tactic(auto, unfolding(crate::specs::ByteRelations::without_push))]
+#[tactic(auto, unfolding(crate::specs::internal::ByteRelations::without_push))]
 fn without_push(site: &Site<'_>, comparison: &Comparison, sides: Sides) -> Option<Form>
     ensures { result ≡ without_push site.now comparison.now sides }
 {
@@ -210,7 +210,7 @@ fn without_push(site: &Site<'_>, comparison: &Comparison, sides: Sides) -> Optio
 
 // Whether the comparison with the right operand in A is better: a register holds it, or HL holds the address of the
 // left one and the code of the right one changes only A.
-#[tactic(auto, unfolding(crate::specs::ByteRelations::is_better_exchanged))]
+#[tactic(auto, unfolding(crate::specs::internal::ByteRelations::is_better_exchanged))]
 fn is_better_exchanged(site: &Site<'_>, comparison: &Comparison) -> bool
     ensures { result ≡ is_better_exchanged site.now comparison.now }
 {
@@ -247,7 +247,7 @@ fn form_of_equality(site: &Site<'_>, comparison: &Comparison) -> Form
 }
 
 // The form of a comparison of two operands.
-#[tactic(auto, unfolding(crate::specs::ByteRelations::form_of))]
+#[tactic(auto, unfolding(crate::specs::internal::ByteRelations::form_of))]
 fn form_of(site: &Site<'_>, comparison: &Comparison) -> Form
     ensures { result ≡ form_of site.now comparison.now }
 {

@@ -2,7 +2,7 @@
 
 ghost use Rattle.std.specs.Prelude.{◌≡◌, OnOk};
 ghost use Rattle.steps8080.specs.Step.{Adds};
-ghost use Rattle.operands8080.specs.Products.{bit_steps, byte_product_steps, chain_steps, has_bit, multiple_steps, product_steps, small_multiple_steps};
+ghost use Rattle.operands8080.specs.internal.Products.{bit_steps, byte_product_steps, chain_steps, has_bit, multiple_steps, product_steps, small_multiple_steps};
 
 use asm8080::WordForm;
 use isa8080::{Instr, Operation, Pair, Register};
@@ -11,7 +11,7 @@ use steps8080::{Steps, Task, clear_a, copy, power_of_two, repeat, set, with_regi
 use treecode::{ExpressionNumber, Place};
 
 // Whether a bit of a number is 1.
-#[tactic(auto, unfolding(crate::specs::Products::has_bit))]
+#[tactic(auto, unfolding(crate::specs::internal::Products::has_bit))]
 fn has_bit(number: u16, bit: u16) -> bool
     ensures { result ≡ has_bit number bit }
 {

@@ -2,8 +2,8 @@
 
 ghost use Rattle.std.specs.Prelude.{◌≡◌, IfOk, OnOk};
 ghost use Rattle.steps8080.specs.Step.{Adds};
-ghost use Rattle.operands8080.specs.ByteRelations.{answer_to};
-ghost use Rattle.operands8080.specs.Relations.{carry_steps, comparison_steps, number_answer, number_steps, outcome_of, outcome_value_steps, relation_outcome, relation_steps, relation_value_steps};
+ghost use Rattle.operands8080.specs.internal.ByteRelations.{answer_to};
+ghost use Rattle.operands8080.specs.internal.Relations.{carry_steps, comparison_steps, number_answer, number_steps, outcome_of, outcome_value_steps, relation_outcome, relation_steps, relation_value_steps};
 
 use crate::answers::{Answer, Purpose, Setting};
 use crate::byte_relations::{plan_byte_number, plan_byte_relation};

@@ -3,8 +3,8 @@
 ghost use Rattle.std.specs.Prelude.{◌≡◌, IfOk, OnOk};
 ghost use Rattle.operands8080.specs.declared.answers.Answer.TheVariants.{Carry, Zero};
 ghost use Rattle.steps8080.specs.Step.{Adds};
-ghost use Rattle.operands8080.specs.ByteRelations.{answer_to};
-ghost use Rattle.operands8080.specs.WordRelations.{below_steps, difference_steps, equality_of_words, high_byte_steps, high_difference_steps, high_steps, left_apart, load_a_steps, low_difference_steps, low_steps, masked, masked_steps, operand_apart, other_word, place_apart, right_apart, with_pair_steps, with_place_steps, word_below_answer, word_below_steps, word_is_steps, word_is_zero_steps, word_number_answer, word_number_steps, word_relation_steps, word_taken_from, words_of, words_steps};
+ghost use Rattle.operands8080.specs.internal.ByteRelations.{answer_to};
+ghost use Rattle.operands8080.specs.internal.WordRelations.{below_steps, difference_steps, equality_of_words, high_byte_steps, high_difference_steps, high_steps, left_apart, load_a_steps, low_difference_steps, low_steps, masked, masked_steps, operand_apart, other_word, place_apart, right_apart, with_pair_steps, with_place_steps, word_below_answer, word_below_steps, word_is_steps, word_is_zero_steps, word_number_answer, word_number_steps, word_relation_steps, word_taken_from, words_of, words_steps};
 
 use crate::answers::{Answer, Setting, plan_known};
 use crate::byte_relations::{plan_byte_number, plan_byte_relation, plan_number_in_a};
@@ -53,7 +53,7 @@ pub enum Words {
 }
 
 // The ADDRESS and the number, if an expression is the AND of both.
-#[tactic(auto, unfolding(crate::specs::WordRelations::masked))]
+#[tactic(auto, unfolding(crate::specs::internal::WordRelations::masked))]
 fn masked(site: &Site<'_>, number: ExpressionNumber) -> Option<(ExpressionNumber, u16)>
     ensures { result ≡ masked site.now number }
 {
@@ -84,7 +84,7 @@ fn load_a(place: Place, steps: &mut Steps) -> Result<(), AllocError>
 }
 
 // The steps that put the high byte of an ADDRESS into A.
-#[tactic(auto, using(std::proofs::lemmas::List::append_assoc), unfolding(crate::specs::WordRelations::high_byte_steps))]
+#[tactic(auto, using(std::proofs::lemmas::List::append_assoc), unfolding(crate::specs::internal::WordRelations::high_byte_steps))]
 fn plan_high_byte(
     site: &Site<'_>,
     number: ExpressionNumber,
@@ -170,7 +170,7 @@ fn plan_masked(
 }
 
 // The steps that test whether an ADDRESS is 0.
-#[tactic(auto, using(std::proofs::lemmas::List::append_assoc), unfolding(crate::specs::WordRelations::word_is_zero_steps))]
+#[tactic(auto, using(std::proofs::lemmas::List::append_assoc), unfolding(crate::specs::internal::WordRelations::word_is_zero_steps))]
 fn plan_word_is_zero(
     site: &Site<'_>,
     operand: ExpressionNumber,
@@ -279,7 +279,7 @@ fn right_apart(site: &Site<'_>, comparison: &Comparison) -> Option<Apart>
 }
 
 // The operand that stays in memory, from which the other one is subtracted, if any.
-#[tactic(auto, unfolding(crate::specs::WordRelations::operand_apart))]
+#[tactic(auto, unfolding(crate::specs::internal::WordRelations::operand_apart))]
 fn operand_apart(site: &Site<'_>, comparison: &Comparison) -> Option<Apart>
     ensures { result ≡ operand_apart site.now comparison.now }
 {
@@ -387,7 +387,7 @@ fn plan_with_pair(
 }
 
 /// The two ADDRESSes that a relation tests for equality, if that takes both their bytes.
-#[tactic(auto, unfolding(crate::specs::WordRelations::equality_of_words))]
+#[tactic(auto, unfolding(crate::specs::internal::WordRelations::equality_of_words))]
 pub(crate) fn equality_of_words(site: &Site<'_>, relation: &Relation) -> Option<Comparison>
     ensures { result ≡ equality_of_words site.now relation.now }
 {

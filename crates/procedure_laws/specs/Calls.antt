@@ -10,9 +10,9 @@ use Rattle.meaning.specs.Meaning.{Later, entered, procedure_at}
 use Rattle.meaning.specs.Outcomes.{Program, State as SourceState}
 use Rattle.isa8080.specs.State.{HoldBytes, Registers, State, wrap}
 use Rattle.asm8080.specs.Standing.{Keeps}
-use Rattle.code_meaning.specs.Activations.{IsVariable, Shares}
+use Rattle.code_meaning.specs.Sharing.{IsVariable, Shares}
 use Rattle.code_meaning.specs.Landing.{Does, at_place}
-use Rattle.statement_laws.specs.CodeContexts.{ArgumentsLie, ResultLies, bytes_pushed}
+use Rattle.statement_laws.specs.CallingConvention.{ArgumentsLie, ResultLies, bytes_pushed}
 
 -- a return address lies at an address
 pub record ReturnLies (address back : ℕ) (memory : List ℕ) : Type 0 where

@@ -1,12 +1,6 @@
-pub use Rattle.statement_laws.specs.GeneratedModules
 pub use Rattle.statement_laws.specs.Targets
-pub use Rattle.statement_laws.specs.CodeContexts
 pub use Rattle.statement_laws.specs.ProgramTypes
-pub use Rattle.statement_laws.specs.Tasks
 pub mod Calls
-pub mod Modules
-pub mod Contexts
-pub mod Procedures
-pub mod Premises
 pub mod Main
 pub mod OneModule
+pub mod internal

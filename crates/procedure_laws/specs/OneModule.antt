@@ -8,7 +8,7 @@ use Rattle.meaning.specs.Meaning.{Later, later_by, procedure_at}
 use Rattle.meaning.specs.Outcomes.{Program, State as SourceState}
 use Rattle.meaning.specs.Run.{main_done, run_of}
 use Rattle.isa8080.specs.State.{HoldBytes, Registers}
-use Rattle.code_meaning.specs.Activations.{Shares}
+use Rattle.code_meaning.specs.Sharing.{Shares}
 use Rattle.code_meaning.specs.Landing.{at_place}
 use Rattle.procedure_laws.specs.Calls.{CallsAreKnown, Entries, EntryDoes}
 use Rattle.procedure_laws.specs.Main.{EndsAs}

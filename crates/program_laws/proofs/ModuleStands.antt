@@ -5,7 +5,7 @@ use Rattle.asm8080.specs.declared.item.Item.TheVariants as items
 use Rattle.runtime8080.specs.{declared.routine.Routine.{Routine}, Routines.{size_of_routine}}
 use Rattle.runtime8080.specs.declared.routine.Routine.TheVariants as routines
 use Rattle.treecode.specs.declared.procedure.ProcedureKind.TheVariants as kinds
-use Rattle.exprgen8080.specs.Emission.{has_routine, index_of_routine, module_label_of_routine}
+use Rattle.exprgen8080.specs.internal.Emission.{has_routine, index_of_routine, module_label_of_routine}
 use Rattle.program_laws.proofs.CodeLies.{all_stand, lays_out, lies_within}
 use Rattle.program_laws.proofs.Renumbered.{LaysOut, stands_so}
 

@@ -26,17 +26,17 @@ pub use Rattle.treecode_laws.specs.{Laid.{IsLaidOut, IsStored}, internal.Places.
 pub use Rattle.frames.proofs.Homes.{earlier_kept}
 pub use Rattle.frames.specs.Frames.{HasFrame}
 pub use Rattle.steps8080.specs.{Externals.{Extends, entry}, Instructions.{high, low}, Writer.{Written, in_front, known_label, numbered, numbered_reference, place_of_known, place_of_label, stack_end_item}}
-pub use Rattle.procedure_laws.specs.{GeneratedModules.{AreCodeOf, ArePublicsOf, AreRoutines, AreTargets, IsAtPlace, IsCodeOf, IsCodeOfMain, IsCodeOfRoutine, IsGenerated, IsMainCode, IsNamed, IsOwnCode, IsProcedureCode, IsPublicOf, IsRoutineCode, IsSegmentOf, all_routines, contents_items, has_main, used_names}, Targets.{retargeted}}
+pub use Rattle.procedure_laws.specs.{internal.GeneratedModules.{AreCodeOf, ArePublicsOf, AreRoutines, AreTargets, IsAtPlace, IsCodeOf, IsCodeOfMain, IsCodeOfRoutine, IsGenerated, IsMainCode, IsNamed, IsOwnCode, IsProcedureCode, IsPublicOf, IsRoutineCode, IsSegmentOf, all_routines, contents_items, has_main, used_names}, Targets.{retargeted}}
 pub use Rattle.code_meaning.proofs.{Lawful.{placement_lies}, Sequences.{both_there}}
 pub use Rattle.code_meaning.specs.{Activations.{Activation, IsThere, Shares}, Holding.{place_at}, Landing.{IsLeft, at_place}}
 pub use Rattle.procedure_laws.proofs.{SiteNodes.{have_operands}, NumbersOfTrees.{IsTypedCode, has_types, numbers_of_lowered}}
-pub use Rattle.procedure_laws.specs.{CodeContexts.{RoutineIsAt}, ProgramTypes.{HasTypes}}
+pub use Rattle.procedure_laws.specs.{internal.CodeContexts.{RoutineIsAt}, ProgramTypes.{HasTypes}}
 pub use Rattle.procedure_laws.proofs.{KnownCalls.{calls_known}, OneModule.{does_by_others, module_does}}
-pub use Rattle.procedure_laws.specs.{Calls.{Entries}, Main.{ComesTo as Arrived, EndsAs}, Modules.{MainStands, ModuleCode, ModuleLies, ProcedureStands, VariablesAreApart, bare}, OneModule.{AllCallsAreKnown, CallsFollow, ModuleDoes, OtherCallsAreKnown, around_in, in_module}}
+pub use Rattle.procedure_laws.specs.{Calls.{Entries}, Main.{ComesTo as Arrived, EndsAs}, internal.Modules.{MainStands, ModuleCode, ModuleLies, ProcedureStands, VariablesAreApart, bare}, OneModule.{AllCallsAreKnown, CallsFollow, ModuleDoes, OtherCallsAreKnown, around_in, in_module}}
 pub use Rattle.program_laws.specs.Agreement.{Agrees}
-pub use Rattle.program_laws.specs.Made.{AreMadeOf, IsMadeOf}
+pub use Rattle.program_laws.specs.internal.Made.{AreMadeOf, IsMadeOf}
 pub use Rattle.program_laws.specs.OneModule.{AreEntered, DoesWhereItLies, LiesInMemory, ShowsProcedures, bases_at, start_place}
-pub use Rattle.program_laws.specs.Typed.{AreSoundlyMade, IsSoundlyMade}
+pub use Rattle.program_laws.specs.internal.Typed.{AreSoundlyMade, IsSoundlyMade}
 pub use Rattle.program_laws.specs.internal.Entering.{ModulesAre, entries_of}
 pub use Rattle.program_laws.specs.internal.Layouts.{address_for, module_layout, written_layout}
 pub use Rattle.program_laws.specs.internal.Linked.{ModuleIs, layout_of, made_of, public_address, targets_of}

@@ -1,8 +1,8 @@
 -- Items that are written for statements and stand in the code do what the statements say, where the steps of each do.
 use Rattle.statement_laws.proofs.Prelude.{◌≡◌, ℕ, List, slice_get, Option, Some, refl, ap, ◌∙◌, Item, Range, Statement, StatementNumber, nodes_of, IsThere, both_there, Facts, Site, Planned, Here, AreAllCarriedOut, AreCarriedOut, IsCarriedOut, IsListCarriedOut, ListCarriedOut, NoneCarriedOut, StatementCarriedOut, StepCarriedOut, carried_steps, site_of, statement_steps, nodes_in, CarryOut, steps_stand, BodyContext, IsSoundBody, ListDoes, ListPlanned, NonePlanned, StatementDoes, StatementPlanned, StatementStands, StatementsDo, StepPlanned}
 use Rattle.treecode.specs.declared.statement.Statement.TheVariants as statements
-use Rattle.codegen8080.specs.Generated as generated
-use Rattle.codegen8080.specs.Generated.{MoreStatements, NoStatements}
+use Rattle.codegen8080.specs.internal.Generated as generated
+use Rattle.codegen8080.specs.internal.Generated.{MoreStatements, NoStatements}
 use Rattle.statement_laws.proofs.FirstSteps.{Stand, ended, mark_first}
 use Rattle.statement_laws.proofs.Lists.{AllDo, IsMarked, MoreDo, NoneDo, list_does}
 

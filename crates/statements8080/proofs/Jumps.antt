@@ -1,7 +1,7 @@
 -- The number of jumps in the code of a condition.
 use Rattle.statements8080.proofs.Prelude.{◌≡◌, ℕ, zero, suc, ◌-◌, ◌<◌, Bool, true, false, not, nat_lt, Option, Some, None, refl, sym, ◌∙◌, ap, arith, lt-ltb, ExpressionNumber}
 use Rattle.steps8080.specs.declared.sites.site.Site.{Site}
-use Rattle.statements8080.specs.Branches.{has_one_jump, has_one_jump_within, inner, may_jump_twice}
+use Rattle.statements8080.specs.internal.Branches.{has_one_jump, has_one_jump_within, inner, may_jump_twice}
 
 -- the answer for a condition, from the expression inside it
 inside_or_not : (left : ℕ) → Site → ExpressionNumber → Option ExpressionNumber → Bool

@@ -1,11 +1,5 @@
 pub mod Plans
 pub mod Bodies
 pub mod SamePlaces
-pub mod Assignments
 pub mod Counters
-pub mod Tests
-pub mod Iterations
-pub mod Branches
-pub mod Cases
-pub mod Moves
 pub mod internal

@@ -2,7 +2,7 @@
 
 ghost use Rattle.std.specs.Prelude.{◌≡◌, OnOk};
 ghost use Rattle.statements8080.specs.Plans.{PlanAdds};
-ghost use Rattle.statements8080.specs.Tests.{byte_below_steps, byte_below_word_steps, facts_of_test, frame_word_below_steps, known_test, place_below_steps, test_of, test_steps, word_at, word_below_steps, word_test};
+ghost use Rattle.statements8080.specs.internal.Tests.{byte_below_steps, byte_below_word_steps, facts_of_test, frame_word_below_steps, known_test, place_below_steps, test_of, test_steps, word_at, word_below_steps, word_test};
 
 use crate::iteration::{Counter, plan_less};
 use crate::plan::{Plan, Planned};
@@ -78,7 +78,7 @@ fn word_test(site: &Site<'_>, counter: &Counter, last: ExpressionNumber) -> Test
 }
 
 /// The way to test whether the variable is at most the bound.
-#[tactic(auto, unfolding(crate::specs::Tests::test_of))]
+#[tactic(auto, unfolding(crate::specs::internal::Tests::test_of))]
 pub fn test_of(site: &Site<'_>, counter: &Counter, last: ExpressionNumber) -> Test
     ensures { result ≡ test_of site.now counter.now last }
 {
@@ -189,7 +189,7 @@ fn plan_byte_below(
 }
 
 /// A jump to a label if the variable is at most the bound.
-#[tactic(auto, unfolding(crate::specs::Tests::test_steps))]
+#[tactic(auto, unfolding(crate::specs::internal::Tests::test_steps))]
 pub fn plan_test(
     plan: &mut Plan,
     counter: &Counter,

@@ -2,7 +2,7 @@
 
 ghost use Rattle.std.specs.Prelude.{◌≡◌, OnOk};
 ghost use Rattle.statements8080.specs.Plans.{PlanAdds, PlanAddsWithLabels};
-ghost use Rattle.statements8080.specs.Cases.{byte_choice_steps, case_labels, case_steps, cases_end_steps, choice_at_steps, choice_labels, choice_steps, entry_of, into_table_steps, number_in_de_steps, statement_at, statements_steps, table_at, table_steps, word_choice_steps};
+ghost use Rattle.statements8080.specs.internal.Cases.{byte_choice_steps, case_labels, case_steps, cases_end_steps, choice_at_steps, choice_labels, choice_steps, entry_of, into_table_steps, number_in_de_steps, statement_at, statements_steps, table_at, table_steps, word_choice_steps};
 
 use crate::body::Body;
 use crate::iteration::plan_less;
@@ -50,7 +50,7 @@ fn plan_word_choice(
 }
 
 // Puts the number of the choice into DE, by its type.
-#[tactic(auto, unfolding(crate::specs::Cases::number_in_de_steps))]
+#[tactic(auto, unfolding(crate::specs::internal::Cases::number_in_de_steps))]
 fn plan_number_in_de(
     plan: &mut Plan,
     scalar: ScalarType,
@@ -89,7 +89,7 @@ fn entry_of(
 }
 
 // The jump to the statement at an index.
-#[tactic(auto, unfolding(crate::specs::Cases::table_at))]
+#[tactic(auto, unfolding(crate::specs::internal::Cases::table_at))]
 fn plan_table_entry(
     body: &Body<'_>,
     plan: &mut Plan,
@@ -105,7 +105,7 @@ fn plan_table_entry(
 }
 
 // The jumps to the statements, one after another.
-#[tactic(auto, using(crate::proofs::Adding::adding_begins, crate::proofs::Adding::adding_goes_on, crate::proofs::Adding::adding_ends, crate::proofs::Adding::steps_from_here), unfolding(crate::specs::Cases::table_steps))]
+#[tactic(auto, using(crate::proofs::Adding::adding_begins, crate::proofs::Adding::adding_goes_on, crate::proofs::Adding::adding_ends, crate::proofs::Adding::steps_from_here), unfolding(crate::specs::internal::Cases::table_steps))]
 fn plan_table(
     body: &Body<'_>,
     plan: &mut Plan,
@@ -148,7 +148,7 @@ fn plan_statement_at(
 }
 
 // The statements with their labels. Each but the last jumps to the end. A null statement or a GOTO has no code here.
-#[tactic(auto, using(crate::proofs::Adding::adding_begins, crate::proofs::Adding::adding_goes_on, crate::proofs::Adding::adding_ends, crate::proofs::Adding::steps_from_here), unfolding(crate::specs::Cases::statements_steps))]
+#[tactic(auto, using(crate::proofs::Adding::adding_begins, crate::proofs::Adding::adding_goes_on, crate::proofs::Adding::adding_ends, crate::proofs::Adding::steps_from_here), unfolding(crate::specs::internal::Cases::statements_steps))]
 fn plan_statements(
     body: &Body<'_>,
     plan: &mut Plan,
@@ -165,7 +165,7 @@ fn plan_statements(
 }
 
 // Jumps into the table, to the entry with the number in DE. The table begins here.
-#[tactic(auto, unfolding(crate::specs::Cases::into_table_steps))]
+#[tactic(auto, unfolding(crate::specs::internal::Cases::into_table_steps))]
 fn plan_into_table(plan: &mut Plan, table: LabelNumber) -> Result<(), AllocError>
     ensures { OnOk result (PlanAdds plan.old plan.new (into_table_steps table)) }
 {
@@ -180,7 +180,7 @@ fn plan_into_table(plan: &mut Plan, table: LabelNumber) -> Result<(), AllocError
 }
 
 // The end, which all statements reach.
-#[tactic(auto, unfolding(crate::specs::Cases::cases_end_steps))]
+#[tactic(auto, unfolding(crate::specs::internal::Cases::cases_end_steps))]
 fn plan_cases_end(plan: &mut Plan, end: LabelNumber) -> Result<(), AllocError>
     ensures { OnOk result (PlanAdds plan.old plan.new (cases_end_steps end)) }
 {
@@ -189,7 +189,7 @@ fn plan_cases_end(plan: &mut Plan, end: LabelNumber) -> Result<(), AllocError>
 }
 
 // DO CASE with a choice that is not known, with these labels of the table, the end and the first statement.
-#[tactic(auto, unfolding(crate::specs::Cases::choice_at_steps))]
+#[tactic(auto, unfolding(crate::specs::internal::Cases::choice_at_steps))]
 fn plan_choice_at(
     body: &Body<'_>,
     site: &Site<'_>,

@@ -3,8 +3,8 @@
 ghost use Rattle.std.specs.Prelude.{◌≡◌, OnOk};
 ghost use Rattle.statements8080.specs.Plans.{PlanAdds, PlanAddsWithLabels, TakesLabels, free_label};
 ghost use Rattle.statements8080.specs.Counters.{address_fact, counter_place, counts_by_one, first_value, has_a_turn, word_fact};
-ghost use Rattle.statements8080.specs.Tests.{less_steps};
-ghost use Rattle.statements8080.specs.Iterations.{add_byte_steps, add_de_in_frame_steps, add_de_steps, add_word_steps, add_word_to_byte_steps, asked_jump, asked_mark, asked_test_steps, count_steps, facts_of_turn, first_steps, first_test_steps, general_begin_steps, general_end_steps, general_steps, is_byte, is_byte_type, iteration_labels, iteration_steps, loop_labels, next_byte_steps, next_turn_steps, next_word_steps, step_in_de_steps, step_steps, sum_of_byte_steps, sum_of_word_steps, test_label_steps, to_known_steps, turns_labels, turns_steps};
+ghost use Rattle.statements8080.specs.internal.Tests.{less_steps};
+ghost use Rattle.statements8080.specs.internal.Iterations.{add_byte_steps, add_de_in_frame_steps, add_de_steps, add_word_steps, add_word_to_byte_steps, asked_jump, asked_mark, asked_test_steps, count_steps, facts_of_turn, first_steps, first_test_steps, general_begin_steps, general_end_steps, general_steps, is_byte, is_byte_type, iteration_labels, iteration_steps, loop_labels, next_byte_steps, next_turn_steps, next_word_steps, step_in_de_steps, step_steps, sum_of_byte_steps, sum_of_word_steps, test_label_steps, to_known_steps, turns_labels, turns_steps};
 
 use crate::assignment::plan_single;
 use crate::body::{Body, whole};
@@ -128,7 +128,7 @@ fn counts_by_one(site: &Site<'_>, step: Option<ExpressionNumber>) -> bool
 }
 
 // Assigns the first value to the variable.
-#[tactic(auto, unfolding(crate::specs::Iterations::first_steps))]
+#[tactic(auto, unfolding(crate::specs::internal::Iterations::first_steps))]
 fn plan_first(
     body: &Body<'_>,
     site: &Site<'_>,
@@ -147,7 +147,7 @@ fn plan_first(
 }
 
 // The test before the first turn of a loop with a known bound, unless a first turn is known.
-#[tactic(auto, unfolding(crate::specs::Iterations::first_test_steps))]
+#[tactic(auto, unfolding(crate::specs::internal::Iterations::first_test_steps))]
 fn plan_first_test(
     plan: &mut Plan,
     counter: &Counter,
@@ -236,7 +236,7 @@ fn plan_next_word(
 }
 
 // Counts the variable by 1, by its type and its place.
-#[tactic(auto, unfolding(crate::specs::Iterations::next_turn_steps))]
+#[tactic(auto, unfolding(crate::specs::internal::Iterations::next_turn_steps))]
 fn plan_next(
     plan: &mut Plan,
     counter: &Counter,
@@ -253,7 +253,7 @@ fn plan_next(
 }
 
 // The facts at the start of a turn.
-#[tactic(auto, unfolding(crate::specs::Iterations::facts_of_turn))]
+#[tactic(auto, unfolding(crate::specs::internal::Iterations::facts_of_turn))]
 fn facts_of_turn(counter: &Counter) -> Facts
     ensures { result ≡ facts_of_turn counter.now }
 {
@@ -265,7 +265,7 @@ fn facts_of_turn(counter: &Counter) -> Facts
 }
 
 // The test before the first turn, if asked for and not every BYTE passes it.
-#[tactic(auto, unfolding(crate::specs::Iterations::asked_test_steps))]
+#[tactic(auto, unfolding(crate::specs::internal::Iterations::asked_test_steps))]
 fn plan_asked_test(
     plan: &mut Plan,
     counter: &Counter,
@@ -290,7 +290,7 @@ fn plan_asked_mark(plan: &mut Plan, is_asked: bool, label: LabelNumber) -> Resul
 }
 
 // Counts by 1 to a known bound: the test is at the end, together with the counting.
-#[tactic(auto, unfolding(crate::specs::Iterations::to_known_steps))]
+#[tactic(auto, unfolding(crate::specs::internal::Iterations::to_known_steps))]
 fn plan_to_known(
     plan: &mut Plan,
     counter: &Counter,
@@ -349,7 +349,7 @@ fn plan_add_byte(
 }
 
 // Adds DE to the byte at the address in HL. A and the carry show whether the sum exceeds a BYTE.
-#[tactic(auto, unfolding(crate::specs::Iterations::sum_of_byte_steps))]
+#[tactic(auto, unfolding(crate::specs::internal::Iterations::sum_of_byte_steps))]
 fn plan_sum_of_byte(plan: &mut Plan) -> Result<(), AllocError>
     ensures { OnOk result (PlanAdds plan.old plan.new sum_of_byte_steps) }
 {
@@ -398,7 +398,7 @@ fn plan_step_in_de(
 }
 
 // Adds DE to the word at the address in HL. The carry shows an overflow.
-#[tactic(auto, unfolding(crate::specs::Iterations::sum_of_word_steps))]
+#[tactic(auto, unfolding(crate::specs::internal::Iterations::sum_of_word_steps))]
 fn plan_sum_of_word(plan: &mut Plan) -> Result<(), AllocError>
     ensures { OnOk result (PlanAdds plan.old plan.new sum_of_word_steps) }
 {
@@ -465,7 +465,7 @@ fn is_byte(site: &Site<'_>, number: ExpressionNumber) -> bool
 }
 
 // Adds the step to the variable. The loop ends on overflow.
-#[tactic(auto, unfolding(crate::specs::Iterations::step_steps))]
+#[tactic(auto, unfolding(crate::specs::internal::Iterations::step_steps))]
 fn plan_step(
     site: &Site<'_>,
     plan: &mut Plan,
@@ -491,7 +491,7 @@ fn plan_step(
 }
 
 // The place of the test. If it `is_entered`, the code before the loop jumps to it.
-#[tactic(auto, unfolding(crate::specs::Iterations::test_label_steps))]
+#[tactic(auto, unfolding(crate::specs::internal::Iterations::test_label_steps))]
 fn plan_test_label(
     plan: &mut Plan,
     counter: &Counter,
@@ -525,7 +525,7 @@ fn plan_asked_jump(plan: &mut Plan, is_tested: bool, test: LabelNumber) -> Resul
 }
 
 // The general form of a loop, up to the end of a turn.
-#[tactic(auto, unfolding(crate::specs::Iterations::general_begin_steps))]
+#[tactic(auto, unfolding(crate::specs::internal::Iterations::general_begin_steps))]
 fn plan_general_begin(
     plan: &mut Plan,
     counter: &Counter,
@@ -547,7 +547,7 @@ fn plan_general_begin(
 }
 
 // The general form of a loop, from the end of a turn on: the step, and the test.
-#[tactic(auto, unfolding(crate::specs::Iterations::general_end_steps))]
+#[tactic(auto, unfolding(crate::specs::internal::Iterations::general_end_steps))]
 fn plan_general_end(
     site: &Site<'_>,
     plan: &mut Plan,
@@ -569,7 +569,7 @@ fn plan_general_end(
 }
 
 // The general form of a loop: the test is at the end, after the step.
-#[tactic(auto, unfolding(crate::specs::Iterations::general_steps))]
+#[tactic(auto, unfolding(crate::specs::internal::Iterations::general_steps))]
 fn plan_general(
     site: &Site<'_>,
     plan: &mut Plan,

@@ -2,7 +2,7 @@
 
 ghost use Rattle.std.specs.Prelude.{OnOk};
 ghost use Rattle.statements8080.specs.Plans.{PlanAdds};
-ghost use Rattle.statements8080.specs.Moves.{ends_steps, known_move_steps, move_steps};
+ghost use Rattle.statements8080.specs.internal.Moves.{ends_steps, known_move_steps, move_steps};
 
 use crate::plan::{Plan, Planned};
 use asm8080::WordForm;

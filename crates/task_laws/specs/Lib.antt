@@ -1,5 +1,4 @@
 pub mod Conditions
-pub mod Contexts
-pub mod Tasks
-pub mod Steps
+pub mod CallingConvention
 pub mod ProgramTypes
+pub mod internal

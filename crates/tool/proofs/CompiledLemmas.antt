@@ -1,5 +1,5 @@
 -- Sources that are compiled, one by one.
-use Rattle.tool.proofs.Prelude.{◌≡◌, Err, Ok, ℕ, ◌+◌, ◌<◌, ◌≤◌, List, [], ◌∷◌, ◌++◌, length, drop, get_or, arith, refl, sym, ap, ◌∙◌, subst, add-one, append-nil, append_assoc, ⊎_elim, drop_of_length-le, drop-cons, cases_lt, get_or-map, length-map, IsErrAnd, Result, TypedModule, ObjectModule, Storage, storage_with, Plan, HasReadCause, IsSourceOf, IsSoundTreeCode, MakesNone, OfItsModule, IsSoundlyMade, IsSoundlyTyped, text_of, texts_of, Compiled, ToolFault, TooManySources, Source, Code, Program, Link, Locate, IsCompiledTo, AreWithoutFault, HasCause, IsInOrder, HasNoObject, IsRefusedAlone, IsWithoutFault, AreCompiled, HasCompileCause, HasGenerationCause, HasSource, HasSourceCause, IsCompiled, failure_of_code, module_in}
+use Rattle.tool.proofs.Prelude.{◌≡◌, Err, Ok, ℕ, ◌+◌, ◌<◌, ◌≤◌, List, [], ◌∷◌, ◌++◌, length, drop, get_or, arith, refl, sym, ap, ◌∙◌, subst, add-one, append-nil, append_assoc, ⊎_elim, drop_of_length-le, drop-cons, cases_lt, get_or-map, length-map, IsErrAnd, Result, TypedModule, ObjectModule, Storage, storage_with, Plan, HasReadCause, IsSourceOf, IsSoundTreeCode, MakesNone, OfItsModule, IsSoundlyMade, IsSoundlyTyped, text_of, texts_of, Compiled, ToolFault, TooManySources, Source, Code, Program, Link, Locate, IsCompiledTo, AreWithoutFault, HasCause, IsInOrder, HasNoObject, IsRefusedAlone, IsWithoutFault, AreCompiled, HasCompileCause, HasGenerationCause, HasSource, HasSourceCause, IsCompiled, IsNotCompiled, failure_of_code, keeps_contract, module_in}
 use Rattle.failure.specs.{Failure.{IfFault}, declared.Failure.{Failure, TheVariants.{Fault, Memory}}}
 use Rattle.treecode.specs.{declared.module.TreeModule.{TreeModule}, Lowered.{IsLowered}}
 use Rattle.codegen8080.specs.declared.fault.Fault as code_fault
@@ -40,12 +40,12 @@ generation_refused file typed tree (Fault fault) code none = (refl, none typed c
 generation_refused file typed tree Memory code none = tt
 
 -- what one text is compiled to
-compiled_to : (text : List ℕ) (one : Compiled) → IsCompiled text one → IsCompiledTo text one.object
-compiled_to text one is = record { typed = module_in one; source = is.source; made = is.made }
-
-pub compiled_alone : (text : List ℕ) (one : Compiled) (object : ObjectModule) → object ≡ one.object → IsCompiled text one
-    → IsCompiledTo text object
-compiled_alone text one object same is = subst (IsCompiledTo text) (sym same) (compiled_to text one is)
+pub compiled_to : (text : List ℕ) (one : Compiled) → IsCompiled text one → IsCompiledTo text one.object
+compiled_to text one is = record {
+  typed = module_in one;
+  source = is.source;
+  contract = keeps_contract (module_in one) one.object is.made;
+}
 
 -- texts without a fault
 pub none_without_fault : (texts : List (List ℕ)) → AreWithoutFault 0 texts
@@ -110,10 +110,14 @@ generation_cause (Program fault) place text typed is cause = absurd cause
 generation_cause (Link fault) place text typed is cause = absurd cause
 generation_cause (Locate fault) place text typed is cause = absurd cause
 
+-- a text of which no object module is made has none
+has_no_object : (fault : code_fault.Fault) (text : List ℕ) → IsNotCompiled fault text → HasNoObject fault text
+has_no_object fault text is = record { typed = is.typed; source = is.source; passes = is.none.passes }
+
 -- the fault of source 0 is that of a text alone
 pub cause_alone : (fault : ToolFault) (text : List ℕ) → HasCompileCause fault 0 text → IsRefusedAlone text fault
 cause_alone (Source file fault) text cause = cause
-cause_alone (Code file fault) text cause = cause
+cause_alone (Code file fault) text cause = (cause.0, has_no_object fault text cause.1)
 cause_alone TooManySources text cause = absurd cause
 cause_alone (Program fault) text cause = absurd cause
 cause_alone (Link fault) text cause = absurd cause
@@ -125,7 +129,8 @@ cause_of_one TooManySources file texts plan below cause = absurd cause
 cause_of_one (Source place fault) file texts plan below cause =
     subst (λ k. (k < length texts) × HasReadCause fault (text_of texts k)) (sym cause.0) (below, cause.1)
 cause_of_one (Code place fault) file texts plan below cause =
-    subst (λ k. (k < length texts) × HasNoObject fault (text_of texts k)) (sym cause.0) (below, cause.1)
+    subst (λ k. (k < length texts) × HasNoObject fault (text_of texts k)) (sym cause.0)
+    (below, has_no_object fault (text_of texts file) cause.1)
 cause_of_one (Program fault) file texts plan below cause = absurd cause
 cause_of_one (Link fault) file texts plan below cause = absurd cause
 cause_of_one (Locate fault) file texts plan below cause = absurd cause

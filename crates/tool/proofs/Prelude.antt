@@ -12,9 +12,9 @@ unfoldable pub use Rattle.object_modules.specs.Merge.{merge_of}
 pub use Rattle.locate.specs.{Loading.{GivesItsImage}, Locating.{Absolute, IsPlaced, loaded}}
 pub use Rattle.file_laws.proofs.FileImages.{files_give_the_image}
 pub use Rattle.cpu8080.specs.{Machine.{Machine}, Runs.{IsOnlyHalt, IsRun}, declared.machine.End.{End, TheVariants.{Halted}}}
-pub use Rattle.generation.proofs.Programs.{make_the_program, numbers_fit}
-pub use Rattle.generation.specs.{Agreement.{Agrees}, Bounded.{AreWithinBounds}, Kept.{KeepsContract}, Modules.{IsSoundTreeCode, MakesNone}, Typed.{AreSoundlyMade, IsSoundlyMade}, internal.Names.{HaveImage}, internal.Programs.{AreLoaded}}
-unfoldable pub use Rattle.generation.specs.Modules.{OfItsModule}
+pub use Rattle.generation.proofs.Programs.{keeps_contract, make_the_program, numbers_fit}
+pub use Rattle.generation.specs.{Agreement.{Agrees}, Kept.{KeepsContract}, internal.Modules.{IsSoundTreeCode, MakesNone}, internal.Typed.{AreSoundlyMade, IsSoundlyMade}, internal.Names.{HaveImage}, internal.Programs.{AreLoaded}}
+unfoldable pub use Rattle.generation.specs.internal.Modules.{OfItsModule}
 pub use Rattle.sources.specs.{Causes.{HasReadCause}, Programs.{AreSourcesOf, IsPlacedBy, IsProgramOf, program_modules, text_of, texts_of}, Reading.{IsSourceOf}, declared.placed.Placed.{Placed}, declared.read.ReadFault.{ReadFault}}
 pub use Rattle.tool.specs.Execution.{IsFaithful, started}
 pub use Rattle.tool.specs.Headline.{DoesWhatItSays}
@@ -24,5 +24,5 @@ pub use Rattle.tool.specs.Sources.{AreWithoutFault, HasCause, HasNoObject, IsInO
 pub use Rattle.tool.specs.declared.compiled.Compiled.{Compiled}
 pub use Rattle.tool.specs.declared.fault.ToolFault.{ToolFault}
 pub use Rattle.tool.specs.declared.fault.ToolFault.TheVariants.{Code, Link, Locate, Program, Source, TooManySources}
-pub use Rattle.tool.specs.internal.Compiling.{AreCompiled, HasBuildCause, HasCompileCause, HasGenerationCause, HasSource, HasSourceCause, IsBuiltFrom, IsCompiled, failure_of_code, module_in}
+pub use Rattle.tool.specs.internal.Compiling.{AreCompiled, HasBuildCause, HasCompileCause, HasGenerationCause, HasSource, HasSourceCause, IsBuiltFrom, IsCompiled, IsNotCompiled, failure_of_code, module_in}
 pub use Rattle.tool.specs.internal.Merged.{GivesImageOfObjects}

@@ -1,12 +1,12 @@
 -- Programs of sources that are compiled.
-use Rattle.tool.proofs.Prelude.{◌≡◌, ℕ, zero, suc, ◌<◌, ◌≤◌, ◌⊎◌, inl, inr, List, [], ◌∷◌, length, map, zip, Option, Some, None, All, arith, refl, sym, ap, ◌∙◌, subst, ⊎_elim, cases_lt, All-cons, All-from_recursion, All-nil, AllByRecursion, AllZip, TypedModule, Typed, JumpsAreSound, module_view, Layout, IsJoined, IsLawful, Placement, placement_by, placing_refusal, storage_with, layout_view, IsObjectModule, ObjectModule, length_of, Plan, HaveStorage, ReadFault, HasReadCause, Absolute, files_give_the_image, AreWithinBounds, KeepsContract, AreSoundlyMade, make_the_program, numbers_fit, HaveImage, Placed, AreSourcesOf, IsPlacedBy, IsProgramOf, program_modules, text_of, Compiled, ToolFault, TooManySources, Source, Code, Program, Link, Locate, DoesWhatItSays, IsImageOfFiles, IsImageOfObjects, StartsAsItsSource, code_lengths, GivesImageOfObjects, AreWithoutFault, HasCause, IsInOrder, IsWithoutFault, sources_before, AreCompiled, HasBuildCause, IsBuiltFrom, module_in}
+use Rattle.tool.proofs.Prelude.{◌≡◌, ℕ, zero, suc, ◌<◌, ◌≤◌, ◌⊎◌, inl, inr, List, [], ◌∷◌, length, map, Some, None, All, arith, refl, sym, ap, ◌∙◌, subst, ⊎_elim, cases_lt, All-cons, All-from_recursion, All-nil, AllByRecursion, AllZip, TypedModule, Typed, JumpsAreSound, module_view, Layout, IsJoined, IsLawful, IsSoundlyTyped, Placement, placement_by, placing_refusal, storage_with, layout_view, IsObjectModule, ObjectModule, length_of, Plan, HaveStorage, ReadFault, HasReadCause, Absolute, files_give_the_image, KeepsContract, AreSoundlyMade, make_the_program, numbers_fit, HaveImage, Placed, AreSourcesOf, IsPlacedBy, IsProgramOf, program_modules, text_of, Compiled, ToolFault, TooManySources, Source, Code, Program, Link, Locate, DoesWhatItSays, IsImageOfFiles, IsImageOfObjects, StartsAsItsSource, code_lengths, GivesImageOfObjects, AreWithoutFault, HasCause, IsInOrder, IsWithoutFault, sources_before, AreCompiled, HasBuildCause, IsBuiltFrom, module_in}
 use Rattle.words.specs.declared.limits.TheConstants.{LONGEST_SOURCE}
 use Rattle.object_modules.specs.declared.segment.Segment.TheVariants as segments
 use Rattle.locate.specs.Locating as of_locating
 use Rattle.placing.specs.Views as of_placement
 use Rattle.sources.specs.declared.read.ReadFault.TheVariants as read_faults
 use Rattle.sources.specs.declared.fault.ProgramFault.TheVariants as program_faults
-use Rattle.tool.specs.{Construction.{Construction, IsConstruction, IsTyped}, Refusals.{IsRefusal}, internal.Inside.{construction_with}}
+use Rattle.tool.specs.{Construction.{Construction, IsTyped}, Refusals.{IsRefusal}, internal.Inside.{IsMadeConstruction, construction_with}}
 use Rattle.tool.proofs.Headline.{declared_bytes_start, does_what_it_says}
 
 length_mapped : {A B : Type 0} (f : A → B) (items : List A) → length (map f items) ≡ length items
@@ -67,6 +67,13 @@ jumps_each [] (object ∷ objects) made = absurd made
 jumps_each (typed ∷ modules) [] made = absurd made
 jumps_each (typed ∷ modules) (object ∷ objects) made = (made.0.facts.jumps, jumps_each modules objects made.1)
 
+sound_each : (modules : List TypedModule) (objects : List ObjectModule) → AreSoundlyMade modules objects
+    → AllByRecursion IsSoundlyTyped modules
+sound_each [] [] made = tt
+sound_each [] (object ∷ objects) made = absurd made
+sound_each (typed ∷ modules) [] made = absurd made
+sound_each (typed ∷ modules) (object ∷ objects) made = (made.0.facts, sound_each modules objects made.1)
+
 types_each : (modules : List TypedModule) (objects : List ObjectModule) → AreSoundlyMade modules objects → AllByRecursion IsTyped modules
 types_each [] [] made = tt
 types_each [] (object ∷ objects) made = absurd made
@@ -120,8 +127,9 @@ build_cause (Program (program_faults.Placement fault)) texts compiled modules ob
       modules = map module_view modules;
       objects = objects;
       program = program_is texts compiled modules are is cause.0;
-      made = made_all texts compiled modules objects are is its;
-      bounds = (make_the_program (map module_view modules) objects (made_all texts compiled modules objects are is its)).bounds;
+      contracts =
+          let made = made_all texts compiled modules objects are is its in
+          (make_the_program (map module_view modules) objects made).contracts;
       cause = subst (λ (given : List ℕ). placing_refusal (of_placement.plan_view plan) (map module_view modules) given ≡ Some (of_placement.refusal_of fault))
           (lengths_fit compiled objects lengths its long) cause.1;
     }
@@ -153,7 +161,7 @@ is_image_of_files plan modules objects image made linked =
 -- a program that was placed, with object modules that are made of its modules and the image of these
 pub is_construction : (plan : Plan) (modules : List TypedModule) (lengths : List ℕ) (placed : Placed) (objects : List ObjectModule) (image : Absolute) → IsPlacedBy modules lengths plan placed → lengths ≡ code_lengths objects
     → AreSoundlyMade modules objects → IsImageOfObjects plan objects image → GivesImageOfObjects plan objects image
-    → IsConstruction (construction_with placed plan objects image)
+    → IsMadeConstruction (construction_with placed plan objects image)
 is_construction plan modules lengths placed objects image is its made linked gives =
     let as_planned : of_placement.placement_view placed.placement ≡ placement_by (of_placement.plan_view plan) modules (code_lengths objects) =
     is.as_planned ∙ ap (λ (given : List ℕ). placement_by (of_placement.plan_view plan) modules given) its in
@@ -163,25 +171,27 @@ is_construction plan modules lengths placed objects image is its made linked giv
     (does_what_it_says plan modules objects image is.joined made lies linked gives) in
     let starts : StartsAsItsSource modules (of_placement.placement_view placed.placement) image =
     subst (λ (placement : Placement). StartsAsItsSource modules placement image) (sym as_planned)
-    (declared_bytes_start plan modules objects image is.joined made lies linked gives) in
-    record {
-      starts = subst (λ ms. StartsAsItsSource ms (of_placement.placement_view placed.placement) image) (sym is.program) starts;
-      headline = subst (λ ms. DoesWhatItSays ms (of_placement.placement_view placed.placement) plan.stack_size image) (sym is.program) does;
-      linked = linked;
-      files = is_image_of_files plan modules objects image made linked;
-      joined = subst IsJoined (sym is.program) is.joined;
-      jumps = subst (All JumpsAreSound) (sym is.program) (All-from_recursion JumpsAreSound modules (jumps_each modules objects made));
-      types = subst (All IsTyped) (sym is.program) (All-from_recursion IsTyped modules (types_each modules objects made));
-      storable = rw is.program (make_the_program modules objects made).storable;
-      made = subst (λ ms. AreSoundlyMade ms objects) (sym is.program) made;
-      contracts = subst (λ ms. AllZip KeepsContract ms objects) (sym is.program) (make_the_program modules objects made).contracts;
-      bounds = subst (λ ms. AreWithinBounds ms objects) (sym is.program) (make_the_program modules objects made).bounds;
-      objects = sym (length_mapped (λ (object : ObjectModule). length_of object segments.Code) objects)
-          ∙ (make_the_program modules objects made).lengths ∙ sym (ap length is.program);
-      may_lie = rw (is.program, sym its) is.may_lie;
-      lawful = rw is.program is.lawful;
-      as_planned = rw is.program as_planned;
-    }
+    (declared_bytes_start plan modules objects image is.joined made lies linked gives) in (
+      record {
+        starts = subst (λ ms. StartsAsItsSource ms (of_placement.placement_view placed.placement) image) (sym is.program) starts;
+        headline = subst (λ ms. DoesWhatItSays ms (of_placement.placement_view placed.placement) plan.stack_size image) (sym is.program) does;
+        linked = linked;
+        files = is_image_of_files plan modules objects image made linked;
+        joined = subst IsJoined (sym is.program) is.joined;
+        sound = subst (All IsSoundlyTyped) (sym is.program)
+            (All-from_recursion IsSoundlyTyped modules (sound_each modules objects made));
+        jumps = subst (All JumpsAreSound) (sym is.program) (All-from_recursion JumpsAreSound modules (jumps_each modules objects made));
+        types = subst (All IsTyped) (sym is.program) (All-from_recursion IsTyped modules (types_each modules objects made));
+        storable = rw is.program (make_the_program modules objects made).storable;
+        contracts = subst (λ ms. AllZip KeepsContract ms objects) (sym is.program) (make_the_program modules objects made).contracts;
+        objects = sym (length_mapped (λ (object : ObjectModule). length_of object segments.Code) objects)
+            ∙ (make_the_program modules objects made).lengths ∙ sym (ap length is.program);
+        may_lie = rw (is.program, sym its) is.may_lie;
+        lawful = rw is.program is.lawful;
+        as_planned = rw is.program as_planned;
+      },
+      subst (λ ms. AreSoundlyMade ms objects) (sym is.program) made,
+    )
 
 -- a text without a fault is not too long
 short_without_fault : (text : List ℕ) → IsWithoutFault text → LONGEST_SOURCE < length text → ⊥

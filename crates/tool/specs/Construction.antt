@@ -12,14 +12,13 @@ use Rattle.layout.specs.Joined.{IsJoined}
 use Rattle.layout.specs.Lawful.{IsLawful}
 use Rattle.layout.specs.Placement.{Placement}
 use Rattle.layout.specs.Placing.{placement_by, placing_refusal}
+use Rattle.layout.specs.Sound.{IsSoundlyTyped}
 use Rattle.join.specs.declared.joined.Joined.{Joined}
 use Rattle.mem80.specs.declared.plan.Plan.{Plan}
 use Rattle.placing.specs.Views.{plan_view}
 use Rattle.object_modules.specs.Module.{ObjectModule}
 use Rattle.locate.specs.Locating.{Absolute}
-use Rattle.generation.specs.Bounded.{AreWithinBounds}
 use Rattle.generation.specs.Kept.{KeepsContract}
-use Rattle.generation.specs.Typed.{AreSoundlyMade}
 use Rattle.sources.specs.Programs.{program_modules}
 use Rattle.tool.specs.Headline.{DoesWhatItSays}
 use Rattle.tool.specs.Made.{IsImageOfFiles, IsImageOfObjects, StartsAsItsSource, code_lengths}
@@ -40,21 +39,20 @@ IsTyped typed = IsWellTyped typed × NumbersFitInModule typed × ListsGlobals ty
 -- The image does what the program says, with the stack of the plan; where it is loaded each declared byte
 -- begins as the program has it; it is the merge of the object modules, placed by the plan, and their files, linked
 -- and placed by hand, give it too. The modules make a program, which is well typed, whose jumps go to labels that
--- are known, and whose storage fits; there is an object module made of each, within its code bound, which keeps
--- what `generate` promises: so it does what its module says. The plan is not refused for their code segments, and the
--- program lies lawfully where it puts it.
+-- are known, and whose storage fits; there is an object module for each, which keeps what `generate` promises: it does
+-- what its module says, and is within the code bound. The plan is not refused for their code segments, and the program
+-- lies lawfully where it puts it.
 pub record IsConstruction (built : Construction) : Type 0 where
   pub headline : DoesWhatItSays (program_modules built.program) built.placement built.plan.stack_size built.image
   pub starts : StartsAsItsSource (program_modules built.program) built.placement built.image
   pub linked : IsImageOfObjects built.plan built.objects built.image
   pub files : IsImageOfFiles built.plan built.objects built.image
   pub joined : IsJoined (program_modules built.program)
+  pub sound : All IsSoundlyTyped (program_modules built.program)
   pub jumps : All JumpsAreSound (program_modules built.program)
   pub types : All IsTyped (program_modules built.program)
   pub storable : All IsStorable (program_modules built.program)
-  pub made : AreSoundlyMade (program_modules built.program) built.objects
   pub contracts : AllZip KeepsContract (program_modules built.program) built.objects
-  pub bounds : AreWithinBounds (program_modules built.program) built.objects
   pub objects : length built.objects ≡ length (program_modules built.program)
   pub may_lie :
       placing_refusal (plan_view built.plan) (program_modules built.program) (code_lengths built.objects) ≡ None

@@ -6,8 +6,6 @@ pub use Rattle.sources.specs.Reading
 pub use Rattle.sources.specs.Causes
 pub use Rattle.sources.specs.Programs
 pub use Rattle.printing.specs.Printing
-pub use Rattle.generation.specs.Bounded
-pub use Rattle.generation.specs.Typed
 pub use Rattle.generation.specs.Agreement
 pub mod Image
 pub mod Headline

@@ -10,15 +10,16 @@ use Rattle.object_modules.specs.declared.segment.Segment.TheVariants.{Code}
 use Rattle.locate.specs.Locating.{Absolute, IsPlaced, loaded, plan_view}
 use Rattle.mem80.specs.declared.plan.Plan.{Plan}
 use Rattle.file_laws.specs.FileImages.{LinkTo, PlacesAs, files_of}
-use Rattle.generation.specs.Typed.{IsSoundlyMade}
+use Rattle.generation.specs.Kept.{KeepsContract}
 use Rattle.layout.specs.Placement.{AgreesOnDeclared, Placement}
 use Rattle.layout.specs.StartingMemory.{starting_memory}
 
--- a text is compiled to an object module: this is made of the module that the text is the source of
+-- A text is compiled to an object module: this keeps what is promised of an object module of the module that the text is the
+-- source of.
 pub record IsCompiledTo (text : List ℕ) (object : ObjectModule) : Type 0 where
   pub typed : TypedModule
   pub source : IsSourceOf text typed
-  pub made : IsSoundlyMade typed object
+  pub contract : KeepsContract typed object
 
 -- how long the code segments of object modules are
 abbrev pub code_lengths : List ObjectModule → List ℕ

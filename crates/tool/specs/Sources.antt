@@ -1,5 +1,6 @@
 -- Sources: why they are refused, and in which order their faults are looked for.
 use Rattle.std.specs.Prelude.{◌≡◌, ℕ, ◌<◌, List, length, Some}
+use Rattle.std.specs.List.{AllZip}
 use Rattle.typed_trees.specs.TypedTrees.{TypedModule}
 use Rattle.layout.specs.Joined.{join_refusal}
 use Rattle.layout.specs.Placing.{placing_refusal}
@@ -11,8 +12,8 @@ use Rattle.placing.specs.Views as of_placement
 use Rattle.mem80.specs.declared.plan.Plan.{Plan}
 use Rattle.sources.specs.Causes.{HasReadCause}
 use Rattle.sources.specs.Reading.{IsSourceOf}
-use Rattle.generation.specs.Bounded.{AreWithinBounds, IsNotMade}
-use Rattle.generation.specs.Typed.{AreSoundlyMade}
+use Rattle.generation.specs.Bounded.{PassesBound}
+use Rattle.generation.specs.Kept.{KeepsContract}
 use Rattle.sources.specs.declared.fault.ProgramFault.{ProgramFault}
 use Rattle.sources.specs.declared.fault.ProgramFault.TheVariants.{Join, Placement}
 use Rattle.sources.specs.declared.sources.TheConstants.{MOST_SOURCES}
@@ -22,11 +23,11 @@ use Rattle.tool.specs.declared.fault.ToolFault.TheVariants.{TooManySources, Sour
 use Rattle.codegen8080.specs.declared.fault.Fault as code_fault
 use Rattle.tool.specs.Made.{IsCompiledTo, code_lengths}
 
--- a text is the source of a module of which no object module is made, for this fault
+-- a text is the source of a module that has no object module, for this fault: its code bound passes what a segment may have
 pub record HasNoObject (fault : code_fault.Fault) (text : List ℕ) : Type 0 where
   pub typed : TypedModule
   pub source : IsSourceOf text typed
-  pub none : IsNotMade fault typed
+  pub passes : PassesBound fault typed
 
 -- the modules of the texts make no program
 pub record HasNoProgram (fault : join_fault.Fault) (texts : List (List ℕ)) : Type 0 where
@@ -34,14 +35,13 @@ pub record HasNoProgram (fault : join_fault.Fault) (texts : List (List ℕ)) : T
   pub sources : AreSourcesOf texts modules
   pub cause : join_refusal modules ≡ Some (of_joining.refusal_of fault)
 
--- the program of the texts can't lie as planned, with the code segments of object modules that are made of its modules: of
--- lengths between the constants and the code bounds of these
+-- the program of the texts can't lie as planned, with the code segments of object modules that keep what is promised of them:
+-- of lengths between the constants and the code bounds of its modules
 pub record HasNoPlace (fault : placing_fault.Fault) (texts : List (List ℕ)) (plan : Plan) : Type 0 where
   pub modules : List TypedModule
   pub objects : List ObjectModule
   pub program : IsProgramOf texts modules
-  pub made : AreSoundlyMade modules objects
-  pub bounds : AreWithinBounds modules objects
+  pub contracts : AllZip KeepsContract modules objects
   pub cause : placing_refusal (of_placement.plan_view plan) modules (code_lengths objects)
       ≡ Some (of_placement.refusal_of fault)
 

@@ -6,7 +6,7 @@ ghost use Rattle.failure.specs.Failure.{IfFault};
 ghost use Rattle.typed_trees.specs.Views.{module_view};
 ghost use Rattle.layout.specs.Storage.{storage_with};
 ghost use Rattle.layout.specs.Views.{layout_view};
-ghost use Rattle.generation.specs.Typed.{AreSoundlyMade};
+ghost use Rattle.generation.specs.internal.Typed.{AreSoundlyMade};
 ghost use Rattle.sources.specs.Programs.{IsProgramOf, program_modules, text_of, texts_of};
 ghost use Rattle.tool.specs.Construction.{IsConstruction};
 ghost use Rattle.tool.specs.Headline.{DoesWhatItSays};

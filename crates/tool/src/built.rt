@@ -3,7 +3,7 @@
 ghost use Rattle.std.specs.Prelude.{◌≡◌};
 ghost use Rattle.placing.specs.Views.{placement_view};
 ghost use Rattle.tool.specs.Construction.{IsConstruction};
-ghost use Rattle.tool.specs.internal.Inside.{construction_with};
+ghost use Rattle.tool.specs.internal.Inside.{IsMadeConstruction, construction_with};
 
 use join::Joined;
 use locate::Absolute;
@@ -48,7 +48,7 @@ impl Built {
         objects: Vec<ObjectModule>,
         image: Absolute,
     ) -> Built
-        requires { IsConstruction (construction_with placed plan objects.items image) }
+        requires { IsMadeConstruction (construction_with placed plan objects.items image) }
         ensures { result ≡ construction_with placed plan objects.items image }
     {
         let Placed { program, placement } = placed;

@@ -9,7 +9,7 @@ ghost use Rattle.layout.specs.Views.{layout_view};
 ghost use Rattle.sources.specs.Reading.{IsSourceOf};
 ghost use Rattle.object_modules.specs.Module.{length_of};
 ghost use Rattle.object_modules.specs.declared.segment.Segment.TheVariants as segments;
-ghost use Rattle.generation.specs.Typed.{IsSoundlyMade};
+ghost use Rattle.generation.specs.internal.Typed.{IsSoundlyMade};
 ghost use Rattle.sources.specs.Sound.{IsSoundlyTyped};
 ghost use Rattle.sources.specs.Programs.{texts_of};
 ghost use Rattle.tool.specs.Made.{IsCompiledTo};

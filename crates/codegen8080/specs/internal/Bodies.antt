@@ -9,14 +9,14 @@ use Rattle.treecode.specs.declared.procedure.TreeProcedure.{TreeProcedure}
 use Rattle.steps8080.specs.Externals.{Extends}
 use Rattle.steps8080.specs.Step.{label_after}
 use Rattle.steps8080.specs.Writer.{Written, WritesRoutine}
-use Rattle.exprgen8080.specs.Emission.{first_label, module_routine_label}
+use Rattle.exprgen8080.specs.internal.Emission.{first_label, module_routine_label}
 use Rattle.statements8080.specs.declared.body.Body.{Body}
 use Rattle.codegen8080.specs.declared.generator.Generator.{Generator}
 use Rattle.codegen8080.specs.declared.meeting.Here.{Here}
-use Rattle.codegen8080.specs.Driven.{AddsCode, here_of}
-use Rattle.codegen8080.specs.Labelled.{LabelledSteps}
-use Rattle.codegen8080.specs.Modules.{AreCodeOf, AreProceduresLabelled, AreRoutines, IsCodeLabelled, IsCodeOf, IsCodeOfMain, IsCodeOfMainLabelled, IsEndCode, IsEndLabelled, IsMainCode, IsMainLabelled, IsOwnCode, IsOwnLabelled, IsProcedureCode, IsProcedureLabelled, has_main}
-use Rattle.codegen8080.specs.Procedures.{entry_labels, entry_steps}
+use Rattle.codegen8080.specs.internal.Driven.{AddsCode, here_of}
+use Rattle.codegen8080.specs.internal.Labelled.{LabelledSteps}
+use Rattle.codegen8080.specs.internal.Modules.{AreCodeOf, AreProceduresLabelled, AreRoutines, IsCodeLabelled, IsCodeOf, IsCodeOfMain, IsCodeOfMainLabelled, IsEndCode, IsEndLabelled, IsMainCode, IsMainLabelled, IsOwnCode, IsOwnLabelled, IsProcedureCode, IsProcedureLabelled, has_main}
+use Rattle.codegen8080.specs.internal.Procedures.{entry_labels, entry_steps}
 
 -- the code of the end of a procedure, if it can be reached, with these labels
 abbrev pub LabelledEnd :

@@ -3,13 +3,13 @@ use Rattle.std.specs.Prelude.{◌≡◌, ℕ, Bool, List, ◌∷◌, ◌++◌, O
 use Rattle.asm8080.specs.declared.item.Item.{Item}
 use Rattle.steps8080.specs.declared.facts.Facts.{Facts}
 use Rattle.steps8080.specs.Writer.{Writes}
-use Rattle.exprgen8080.specs.Emitted.{HasAll, NotesCalled}
+use Rattle.exprgen8080.specs.internal.Emitted.{HasAll, NotesCalled}
 use Rattle.statements8080.specs.declared.body.Body.{Body}
 use Rattle.statements8080.specs.declared.plan.Planned.{Planned}
 use Rattle.codegen8080.specs.declared.generator.Generator.{Generator}
 use Rattle.codegen8080.specs.declared.meeting.Here.{Here}
-use Rattle.codegen8080.specs.Driven.{here_of}
-use Rattle.codegen8080.specs.Labelled.{LabelledSteps}
+use Rattle.codegen8080.specs.internal.Driven.{here_of}
+use Rattle.codegen8080.specs.internal.Labelled.{LabelledSteps}
 
 -- the code of a step is added: with the code of the steps after it, it is that of all steps
 pub record CarriesOut

@@ -11,7 +11,7 @@ use Rattle.treecode.specs.declared.module.PublicPlace.TheVariants.{Object, Proce
 use Rattle.treecode.specs.declared.module.TreeModule.{TreeModule}
 use Rattle.steps8080.specs.Externals.{entry}
 use Rattle.steps8080.specs.Writer.{place_of_known}
-use Rattle.codegen8080.specs.Modules.{IsAtPlace, has_main, used_names}
+use Rattle.codegen8080.specs.internal.Modules.{IsAtPlace, has_main, used_names}
 use Rattle.codegen8080.specs.internal.Names.{Linkage}
 use Rattle.codegen8080.specs.Targets.{with_targets}
 use Rattle.codegen8080.specs.internal.Segments.{retarget}

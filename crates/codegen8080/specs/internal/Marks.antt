@@ -7,11 +7,11 @@ use Rattle.runtime8080.specs.declared.routine.Routine.{Routine}
 use Rattle.treecode.specs.declared.module.TreeModule.{TreeModule}
 use Rattle.steps8080.specs.Externals.{entry}
 use Rattle.steps8080.specs.Writer.{place_of_known}
-use Rattle.exprgen8080.specs.Emission.{module_routine_label}
+use Rattle.exprgen8080.specs.internal.Emission.{module_routine_label}
 use Rattle.codegen8080.specs.declared.marking.CodePart.{CodePart}
 use Rattle.codegen8080.specs.declared.marking.Mark.{Mark}
 use Rattle.codegen8080.specs.declared.marking.Marks.{Marks}
-use Rattle.codegen8080.specs.Marking.{routine_mark}
+use Rattle.codegen8080.specs.internal.Marking.{routine_mark}
 
 -- the place after the items that come after the last mark
 abbrev pub place_in : List Item → Marks → ℕ

@@ -25,7 +25,6 @@ use Rattle.image_laws.specs.internal.AtPlans.{code_lengths_of, plan_of}
 use Rattle.image_laws.specs.internal.ProgramInMemory.{placement_of}
 use Rattle.image_laws.specs.internal.Names.{HaveImage}
 use Rattle.program_laws.specs.Agreement.{Agrees}
-use Rattle.generation.specs.Bounded.{AreWithinBounds}
 use Rattle.generation.specs.Kept.{KeepsContract}
 
 -- The object modules of a joined program are merged, placed by a plan at which it lies lawfully, and put into a memory.
@@ -41,9 +40,8 @@ pub record AreLoaded
 
 -- Object modules make the program of modules.
 pub record MakeTheProgram (modules : List TypedModule) (objects : List ObjectModule) : Type 0 where
-  -- there is a code segment for each module, within its code bound, which holds its constants, and a place for its objects
+  -- there is a code segment for each module, which holds its constants, and a place for its objects
   pub lengths : length (code_lengths_of objects) ≡ length modules
-  pub bounds : AreWithinBounds modules objects
   pub constants :
       All (λ (segment : TypedModule × ℕ). constant_bytes segment.0 ≤ segment.1)
       (zip modules (code_lengths_of objects))

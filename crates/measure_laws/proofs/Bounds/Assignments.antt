@@ -1,7 +1,7 @@
 -- Assignments.
 use Rattle.measure_laws.proofs.Prelude.{◌≡◌, ℕ, ◌+◌, ◌-◌, ◌<◌, ◌≤◌, Bool, true, false, if◌then◌else◌, is_some, nat_eq, nat_lt, List, [], ◌∷◌, sum_by, Option, Some, None, refl, sym, ap, subst, ◌∙◌, arith, eqb-true, sum_by-cons, ScalarType, Byte, Address, SentTo, StoredIn, TypedExpression, TypedModule, TypedTarget, TypesHoldInTarget, TypesHoldInTargets, Within, weight_of_expression, weight_of_storing, weight_of_target, Storage, ExpressionNumber, Range, Target, AreTargets, IsExpression, IsExpressionIn, IsSent, IsStored, IsTarget, MoreTargets, NoTargets, nodes_of, target_at, Facts, Site, known, number, expression, scalar, knowing, Body, Planned, any_target, assignment_steps, each_at, each_steps, from_type, several_by, several_steps, single_steps, store_at, takes_byte, takes_word, together_steps, types_by, value_steps, part, steps_from, site_of, PartsFit, bytes_for, StepsFit, none_passes}
 use Rattle.steps8080.specs.declared.step.Task.TheVariants as tasks
-use Rattle.statements8080.specs.Assignments.{stores_steps}
+use Rattle.statements8080.specs.internal.Assignments.{stores_steps}
 use Rattle.measure_laws.proofs.{Bounds.Fitting.{both_fit, less_fits, none_fit}, Bounds.KnownValues.{known_byte_fits, known_word_fits}, Bounds.ExpressionParts.{byte_fits, store_fits, target_weighs, weight_beside, word_fits}, Bounds.Singles.{ValueFits, single_fits}, Bounds.Targets.{EachFits, targets_fit}, Bounds.Ranges.{item_there}}
 
 -- a number is known at every site

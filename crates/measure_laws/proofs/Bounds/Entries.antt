@@ -1,7 +1,7 @@
 -- The entries of procedures.
 use Rattle.measure_laws.proofs.Prelude.{◌≡◌, ℕ, zero, suc, ◌+◌, ◌-◌, ◌*◌, ◌/◌, ◌%◌, Bool, true, false, if◌then◌else◌, nat_eq, nat_le, List, [], ◌∷◌, ◌++◌, length, replicate, slice_get, take, Option, Some, None, refl, arith, length-take, leb-true, NotZero, Dcr, Inx, Lxi, Mvi, Pop, Push, Xthl, Of, De, Sp, B, StackDe, StackHl, JumpWhere, ScalarType, Byte, Address, Location, Parameter, ProcedureKind, LabelNumber, no_facts, label_of, Body, Planned, holds, jump, mark, plain, argument_step, below_return_steps, entry_steps, entry_steps_by, exchanged_steps, frame_entry_steps, is_address, known_from, last_argument_facts, odd_byte_steps, pair_of, popped_argument_steps, popped_at, popped_from, push_loop_steps, pushed_arguments_steps, pushes_steps, static_entry_steps, store_argument, stores_steps, with_argument, zeros_steps, StepsFit}
 use Rattle.treecode.specs.declared.procedure.ProcedureKind.TheVariants as kinds
-use Rattle.codegen8080.specs.Procedures.{last_argument_steps}
+use Rattle.codegen8080.specs.internal.Procedures.{last_argument_steps}
 use Rattle.measure_laws.proofs.{Bounds.Fitting.{both_fit, less_fits, none_fit, then_fit}, Bounds.Pieces.{plain_fits, plains_fit, repeated_fit}}
 
 -- an argument is stored in its parameter

@@ -2,7 +2,7 @@
 use Rattle.measure_laws.proofs.Prelude.{◌≡◌, ℕ, suc, ◌+◌, ◌-◌, ◌≤◌, Bool, List, [], ◌∷◌, slice_get, Option, Some, refl, sym, subst, ◌∙◌, arith, same_Some, IsNoLabel, TypedStatement, LabelStatement, NullStatement, AssignmentStatement, CallStatement, MoveStatement, ReturnStatement, HaltStatement, GotoStatement, IfStatement, DoStatement, WhileStatement, IterateStatement, CaseStatement, TypedStatements, NoStatements, MoreStatements, TypedList, weight_of_list, weight_of_statement, weight_of_statements, Item, size_of_items, size_in_parts, Range, StatementNumber, Facts, Body, Here, AreAllCarriedOut, AreCarriedOut, IsCarriedOut, IsListCarriedOut, ListCarriedOut, ListPlanned, StatementCarriedOut, StepCarriedOut, bytes_for, ListFits, StatementFits, StepsFit, spared_by}
 use Rattle.typed_trees.specs.TypedTrees.{ListOf}
 use Rattle.statements8080.specs.declared.plan.Planned.TheVariants as planned
-use Rattle.codegen8080.specs.Generated as generated
+use Rattle.codegen8080.specs.internal.Generated as generated
 use Rattle.measure_laws.proofs.Bounds.Fitting.{no_size}
 
 -- as many statements of the table of lists as `count`, from an entry on, are not too long for their trees

@@ -1,7 +1,7 @@
 -- One target that gets a value.
 use Rattle.measure_laws.proofs.Prelude.{ℕ, ◌+◌, Bool, true, false, List, [], ◌∷◌, Option, Some, None, if◌then◌else◌, refl, arith, Instr, Inx, MovToMemory, Mvi, M, Hl, A, ScalarType, Byte, Address, TypedReference, TypedTarget, SentTo, StoredIn, weight_of_reference, weight_of_storing, Storage, ExpressionNumber, Reference, Target, Sent, Stored, IsReference, IsSent, IsStored, IsTarget, nodes_of, high, low, Site, location_of, number, Body, Planned, count_of, from_byte_steps, from_type, from_word_steps, is_address_first, number_steps, other_byte_steps, other_word_steps, single_steps, is_near, part, plain, site_of, PartsFit, bytes_for, StepsFit}
 use Rattle.steps8080.specs.declared.step.Task.TheVariants as tasks
-use Rattle.statements8080.specs.Assignments.{byte_steps, word_steps}
+use Rattle.statements8080.specs.internal.Assignments.{byte_steps, word_steps}
 use Rattle.measure_laws.proofs.{Bounds.Fitting.{less_fits, then_fit}, Bounds.ExpressionParts.{address_fits, store_fits, weight_beside}, Bounds.Pieces.{plains_fit}}
 
 -- the code that puts the value into its register takes at most `bytes` bytes

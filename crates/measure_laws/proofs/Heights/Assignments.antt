@@ -1,7 +1,7 @@
 -- Assignments.
 use Rattle.measure_laws.proofs.Prelude.{◌≡◌, ℕ, suc, ◌+◌, ◌-◌, ◌*◌, ◌<◌, ◌≤◌, Bool, true, false, if◌then◌else◌, is_some, nat_eq, nat_lt, List, [], ◌∷◌, Option, Some, None, sym, subst, arith, ScalarType, Byte, Address, height_of_targets, TypedTarget, TypesHoldInTargets, ExpressionNumber, Range, Target, AreTargets, MoreTargets, NoTargets, nodes_of, target_at, Site, number, scalar, Body, Planned, any_target, assignment_steps, each_at, each_steps, from_type, several_by, several_steps, single_steps, store_at, takes_byte, takes_word, together_steps, types_by, value_steps, part, steps_from, StepsRun, IsAimed, IsOperand, Source}
 use Rattle.steps8080.specs.declared.step.Task.TheVariants as tasks
-use Rattle.statements8080.specs.Assignments.{stores_steps}
+use Rattle.statements8080.specs.internal.Assignments.{stores_steps}
 use Rattle.measure_laws.proofs.{Bounds.Ranges.{item_there}, Heights.ExpressionParts.{byte_runs, store_runs, word_runs}, Heights.Planning.{both_run, none_run}, Heights.Singles.{aimed_from, single_runs}, Heights.Trees.{aim_holds}}
 
 module _ (body : Body) (called : List Bool) (source : Source body.tree.now) (level : ℕ) where

@@ -3,7 +3,7 @@ use Rattle.measure_laws.proofs.Prelude.{ℕ, ◌+◌, ◌-◌, ◌%◌, ◌==◌
 use Rattle.steps8080.specs.declared.step.Task.TheVariants as tasks
 use Rattle.steps8080.specs.Step.{part}
 use Rattle.steps8080.specs.declared.step.Step.TheVariants as steps
-use Rattle.operands8080.specs.{declared.byte_relations.Form.TheVariants.{Pushed}, ByteRelations.{byte_number_steps, form_of, with_e_steps, with_memory_steps}}
+use Rattle.operands8080.specs.{declared.byte_relations.Form.TheVariants.{Pushed}, internal.ByteRelations.{byte_number_steps, form_of, with_e_steps, with_memory_steps}}
 use Rattle.measure_laws.proofs.{Heights.Found.{operand_is_in_memory}, Heights.Joining.{after_part, by_finding, by_test, joined, lowered, restored, runs, two_free, weak}}
 
 byte_is_runs :

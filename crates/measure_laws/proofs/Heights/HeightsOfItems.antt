@@ -4,7 +4,7 @@ use Rattle.isa8080.specs.declared.instr.Instr.TheVariants as instructions
 use Rattle.asm8080.specs.declared.item.Item.TheVariants as items
 use Rattle.asm8080.specs.declared.item.WordForm.TheVariants as word_forms
 use Rattle.steps8080.specs.declared.step.Task.TheVariants as tasks
-use Rattle.exprgen8080.specs.Emission.{Planned}
+use Rattle.exprgen8080.specs.internal.Emission.{Planned}
 use Rattle.measure_laws.proofs.{Heights.Addresses.{address_runs}, Heights.Calls.{call_runs, effects_run}, Heights.Relations.{branch_runs}, Heights.Rooms.{room_joined}, Heights.Stores.{store_runs}, Heights.Values.{byte_runs, word_runs}}
 
 -- an instruction

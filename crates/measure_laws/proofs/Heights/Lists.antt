@@ -1,7 +1,7 @@
 -- Statements one after another.
 use Rattle.measure_laws.proofs.Prelude.{◌≡◌, ℕ, suc, Bool, List, [], ◌∷◌, slice_get, Option, Some, sym, subst, ◌∙◌, same_Some, Item, Range, StatementNumber, Facts, Body, Here, AreAllCarriedOut, AreCarriedOut, IsCarriedOut, IsListCarriedOut, ListCarriedOut, ListPlanned, StatementCarriedOut, StepCarriedOut, FindsRoom, NothingThere, PushesAtMost, ListRuns, StatementRuns, StepsRun}
 use Rattle.statements8080.specs.declared.plan.Planned.TheVariants as planned
-use Rattle.codegen8080.specs.Generated.{MoreStatements, NoStatements}
+use Rattle.codegen8080.specs.internal.Generated.{MoreStatements, NoStatements}
 use Rattle.measure_laws.proofs.{Heights.Planning.{none_room}, Heights.Rooms.{room_joined}}
 
 -- as many statements of the table of lists as `count` find room, from an entry on

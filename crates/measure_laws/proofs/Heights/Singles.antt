@@ -2,7 +2,7 @@
 use Rattle.measure_laws.proofs.Prelude.{◌≡◌, ℕ, ◌+◌, ◌*◌, ◌≤◌, ◌&&◌, IfSome, Bool, true, false, List, [], ◌∷◌, Option, Some, None, if◌then◌else◌, refl, Instr, Inx, MovToMemory, Mvi, M, Hl, A, ScalarType, Byte, Address, BinaryOperator, TypedTarget, SentTo, StoredIn, height_of_target, ExpressionNumber, Expression, ExpressionForm, Binary, TreeModule, Reference, Target, Sent, Stored, IsSent, IsStored, IsTarget, nodes_of, high, low, Site, location_of, number, expression, Body, Planned, count_by, count_of, count_of_form, from_byte_steps, from_type, from_word_steps, is_address_first, is_one, is_value_of, number_steps, other_byte_steps, other_word_steps, single_steps, is_near, part, plain, keeps_stack, StepsRun, AimHolds, IsAimed, IsOperand, IsPlaced, Source}
 use Rattle.trees.specs.declared.expression.BinaryOperator.TheVariants.{Add, Subtract}
 use Rattle.steps8080.specs.declared.step.Task.TheVariants as tasks
-use Rattle.statements8080.specs.Assignments.{byte_steps, word_steps}
+use Rattle.statements8080.specs.internal.Assignments.{byte_steps, word_steps}
 use Rattle.measure_laws.proofs.{Heights.ExpressionParts.{address_runs, byte_runs, store_runs, word_runs}, Heights.Planning.{plain_runs, plains_run, then_run}, Heights.Stores.{placed_target}}
 
 -- INR M and DCR M keep the stack pointer

@@ -7,7 +7,7 @@ use Rattle.steps8080.specs.Queries as queries
 use Rattle.steps8080.specs.declared.step.Step.TheVariants as steps
 use Rattle.steps8080.specs.declared.step.Task.TheVariants as tasks
 use Rattle.steps8080.specs.Step.{part}
-use Rattle.operands8080.specs.WordRelations.{difference_steps, high_byte_steps, with_pair_steps}
+use Rattle.operands8080.specs.internal.WordRelations.{difference_steps, high_byte_steps, with_pair_steps}
 use Rattle.measure_laws.proofs.{Sizes.Found.{of_found}, Heights.ByteRelations.{byte_number_runs, byte_relation_runs, number_in_a_runs}, Heights.Found.{high_is_in_memory}, Heights.Joining.{after_part, after_plain, by_finding, by_test, joined, repeated, runs, weak}, Heights.Pairs.{pair_runs}, Heights.Trees.{has_parts}}
 
 -- the high byte of an ADDRESS

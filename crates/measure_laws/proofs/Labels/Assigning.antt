@@ -2,7 +2,7 @@
 use Rattle.measure_laws.proofs.Prelude.{ℕ, ◌+◌, ◌-◌, ◌%◌, ◌/◌, min, nat_eq, nat_le, Bool, true, false, if◌then◌else◌, [], ◌∷◌, Option, Some, None, is_some, Instr, Dad, Inx, Lxi, Pop, Sphl, Hl, Sp, StackBc, ScalarType, Byte, Address, ExpressionNumber, Range, ProcedureKind, Reference, Target, Stored, Sent, StatementNumber, source, target_at, LabelNumber, Site, scalar, keeps, known, location_of, number, Body, Test, Counter, assignment_steps, count_of, each_at, each_steps, is_address_first, other_byte_steps, other_word_steps, several_by, single_steps, store_at, takes_byte, takes_word, any_target, types_by, together_steps, value_steps, is_near, ends_steps, move_steps, less_steps, test_steps, drop_steps, end_steps, kept_steps, pops_steps, return_of_frame_steps, return_over_any_steps, return_over_steps, return_steps, return_steps_by, zero_result_steps, return_of_steps, returned_value_steps}
 use Rattle.treecode.specs.declared.procedure.ProcedureKind.TheVariants as kinds
 use Rattle.statements8080.specs.declared.bound.Test.TheVariants as tests
-use Rattle.statements8080.specs.Assignments.{byte_steps, word_steps}
+use Rattle.statements8080.specs.internal.Assignments.{byte_steps, word_steps}
 use Rattle.measure_laws.proofs.Labels.Planning.{PlanGo, after_load, after_plain, after_word, either_go, each_go, finding_go, planned_go, plans_then, repeated_go}
 
 module _ {ok : ℕ → Type 0} {statement : StatementNumber → Type 0} {list : Range → Type 0} where

@@ -1,7 +1,7 @@
 -- The entries of procedures refer to labels that they bind.
 use Rattle.measure_laws.proofs.Prelude.{inl, inr, refl, ℕ, zero, suc, ◌-◌, ◌%◌, ◌/◌, nat_eq, nat_le, Bool, true, false, if◌then◌else◌, List, [], ◌∷◌, ◌++◌, length, replicate, take, slice_get, Lxi, Push, De, StackDe, ScalarType, Byte, Address, Range, Location, Parameter, ProcedureKind, StatementNumber, LabelNumber, label_of, Body, holds, plain, argument_step, below_return_steps, entry_steps, entry_steps_by, exchanged_steps, frame_entry_steps, is_address, last_argument_facts, odd_byte_steps, popped_at, popped_from, push_loop_steps, pushed_arguments_steps, pushes_steps, static_entry_steps, store_argument, stores_steps, zeros_steps, PlanBinds}
 use Rattle.treecode.specs.declared.procedure.ProcedureKind.TheVariants as kinds
-use Rattle.codegen8080.specs.Procedures.{last_argument_steps}
+use Rattle.codegen8080.specs.internal.Procedures.{last_argument_steps}
 use Rattle.measure_laws.proofs.Labels.Planning.{PlanGo, after_plain, either_go, finding_go, plan_first, plan_later, planned_go, plans_then, repeated_go}
 
 -- the loop that pushes zeros

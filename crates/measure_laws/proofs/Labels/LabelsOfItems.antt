@@ -3,7 +3,7 @@ use Rattle.measure_laws.proofs.Prelude.{◌≡◌, inl, inr, ℕ, Bool, true, fa
 use Rattle.asm8080.specs.declared.item.Item.TheVariants as items
 use Rattle.treecode.specs.declared.place.Place.TheVariants.{Code}
 use Rattle.steps8080.specs.declared.step.Task.TheVariants as tasks
-use Rattle.exprgen8080.specs.Emission.{Planned}
+use Rattle.exprgen8080.specs.internal.Emission.{Planned}
 use Rattle.measure_laws.proofs.{Labels.Going.{free_go}, Labels.Branches.{branch_go}, Labels.Operands.{address_free, store_free}, Labels.Tasks.{byte_free, call_free, effects_free, word_free}}
 
 -- items after others

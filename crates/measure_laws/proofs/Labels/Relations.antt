@@ -5,7 +5,7 @@ use Rattle.trees.specs.declared.declaration.ScalarType.TheVariants as scalars
 use Rattle.steps8080.specs.declared.step.Step.TheVariants as steps
 use Rattle.steps8080.specs.declared.step.Task.TheVariants as tasks
 use Rattle.steps8080.specs.Step.{part}
-use Rattle.operands8080.specs.{declared.byte_relations.Form.TheVariants.{Pushed}, ByteRelations.{byte_number_steps, form_of, with_e_steps, with_memory_steps}, WordRelations.{difference_steps, high_byte_steps, with_pair_steps}}
+use Rattle.operands8080.specs.{declared.byte_relations.Form.TheVariants.{Pushed}, internal.ByteRelations.{byte_number_steps, form_of, with_e_steps, with_memory_steps}, internal.WordRelations.{difference_steps, high_byte_steps, with_pair_steps}}
 use Rattle.operands8080.specs.declared.relations.Outcome.TheVariants as outcomes
 use Rattle.measure_laws.proofs.{Labels.Joining.{AreFree, after_byte, after_plain, after_word, by_finding, by_test, free, joined, repeated}, Labels.Operands.{pair_free}}
 

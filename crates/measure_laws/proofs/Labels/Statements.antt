@@ -3,7 +3,7 @@ use Rattle.measure_laws.proofs.Prelude.{◌≡◌, inl, inr, refl, sym, ap, ◌�
 use Rattle.treecode.specs.declared.statement.Statement.{Statement}
 use Rattle.treecode.specs.declared.statement.Statement.TheVariants as statements
 use Rattle.treecode.proofs.LabelNumbers.{first_or_later}
-use Rattle.codegen8080.specs.Generated as generated
+use Rattle.codegen8080.specs.internal.Generated as generated
 use Rattle.measure_laws.proofs.{Labels.Planning.{planned_go}, Labels.Carried.{plan_bound, plan_carried}, Labels.LabelsOfItems.{Knows, bound_after, bound_first, items_both}, Labels.Assigning.{assignment_go, move_go, return_of_go}, Labels.Looping.{iteration_go}, Labels.Choosing.{AnyGoes, BodyGo, case_go, if_go, while_go}}
 
 -- the labels of the lists around a place are among these, by their numbers in a body

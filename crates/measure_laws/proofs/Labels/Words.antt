@@ -4,7 +4,7 @@ use Rattle.trees.specs.declared.expression.BinaryOperator.TheVariants as operato
 use Rattle.steps8080.specs.declared.step.Step.TheVariants as steps
 use Rattle.steps8080.specs.Step.{plain}
 use Rattle.exprgen8080.specs.declared.word_operators.Simple.TheVariants as simple
-use Rattle.exprgen8080.specs.WordShifts.{shifted_left_steps, zero_steps}
+use Rattle.exprgen8080.specs.internal.WordShifts.{shifted_left_steps, zero_steps}
 use Rattle.measure_laws.proofs.{Labels.Joining.{AreFree, after_byte, after_plain, after_word, by_finding, by_test, free, joined, repeated}, Labels.Operands.{addition_free, pair_free, pair_in_order_free, product_free}, Labels.Bytes.{byte_operation_free, byte_shifted_right_free, high_byte_free, right_shift_free, with_number_free}}
 
 zero_free : (value : ExpressionNumber) (pushed : ℕ) → AreFree (zero_steps value pushed)

@@ -3,7 +3,7 @@ use Rattle.measure_laws.proofs.Prelude.{◌≡◌, ℕ, ◌+◌, ◌*◌, ◌%�
 use Rattle.steps8080.specs.declared.step.Task.TheVariants as tasks
 use Rattle.steps8080.specs.Step.{part}
 use Rattle.steps8080.specs.declared.step.Step.TheVariants as steps
-use Rattle.operands8080.specs.{declared.byte_relations.Form.TheVariants.{Pushed}, ByteRelations.{byte_number_steps, form_of, with_e_steps, with_memory_steps}}
+use Rattle.operands8080.specs.{declared.byte_relations.Form.TheVariants.{Pushed}, internal.ByteRelations.{byte_number_steps, form_of, with_e_steps, with_memory_steps}}
 use Rattle.measure_laws.specs.internal.TaskWeights.{IsOperand}
 use Rattle.measure_laws.proofs.{Sizes.Found.{IsInMemory, operand_is_in_memory}, Sizes.Joining.{after_part, after_plain, by_finding, by_test, fits, joined, within}}
 

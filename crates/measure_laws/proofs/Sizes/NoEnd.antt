@@ -6,7 +6,7 @@ use Rattle.treecode.specs.declared.expression.ExpressionForm.TheVariants as form
 use Rattle.steps8080.specs.declared.step.Step.TheVariants as steps
 use Rattle.steps8080.specs.declared.step.Task.TheVariants as tasks
 use Rattle.steps8080.specs.Step.{part}
-use Rattle.exprgen8080.specs.Emission.{Planned}
+use Rattle.exprgen8080.specs.internal.Emission.{Planned}
 use Rattle.measure_laws.proofs.{Sizes.Trees.{type_found}, Sizes.Values.{HasNoEnd, ListTurns, LocationTurns, NumberTurns, ProductTurns, QuotientTurns, Turns, ValueTurns}}
 
 -- the queries about the tree do not depend on the facts about the registers

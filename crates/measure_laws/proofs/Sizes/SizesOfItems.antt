@@ -2,7 +2,7 @@
 use Rattle.measure_laws.proofs.Prelude.{ℕ, ◌≤◌, Bool, true, false, List, [], ◌∷◌, Option, Some, None, slice_get, if◌then◌else◌, arith, Storage, Item, size_of_items, ProcedureKind, TreeProcedure, Facts, Part, Step, Site, AreWritten, CallWritten, ChangeWritten, HoldsWritten, IsWritten, JumpWritten, MarkWritten, NoneWritten, PartWritten, PlainWritten, RoutineWritten, TestWritten, WordWritten, call_items, items_of_call, knowing, test_items, test_of_a, task_steps, size_of_steps, AreOfTrees, Fit, size_of_task, size_in_parts}
 use Rattle.asm8080.specs.declared.item.Item.TheVariants as items
 use Rattle.treecode.specs.declared.procedure.ProcedureKind.TheVariants as kinds
-use Rattle.exprgen8080.specs.Emission.{Planned}
+use Rattle.exprgen8080.specs.internal.Emission.{Planned}
 use Rattle.measure_laws.specs.internal.TaskWeights.{IsOfTree}
 
 size_of_kind : (procedure : ℕ) (kind : ProcedureKind) → size_of_items (items_of_call procedure kind) ≤ 3

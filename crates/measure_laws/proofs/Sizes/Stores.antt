@@ -2,7 +2,7 @@
 use Rattle.measure_laws.proofs.Prelude.{◌≡◌, ℕ, ◌+◌, ◌*◌, ◌%◌, ◌≤◌, Bool, true, false, ◌&&◌, not, List, [], ◌∷◌, ◌++◌, Option, Some, None, if◌then◌else◌, arith, ScalarType, Byte, Address, Storage, Inx, MovToMemory, Mvi, M, Hl, A, D, L, StoreA, StoreHl, Location, Static, Frame, Reference, Target, Sent, Stored, IsSent, IsStored, IsTarget, nodes_of, TypedTarget, Step, copy, extension_steps, Site, Goal, Near, First, Second, address_beside_a_steps, address_beside_de_steps, byte_is_here_steps, goal_of, goal_steps, high_zero_steps, send_steps, store_a_at_steps, store_a_steps, store_extended_steps, store_hl_at_steps, store_low_byte_at_steps, store_low_byte_steps, store_near_steps, store_steps, store_word_steps, value_back_steps, word_is_here_steps, word_near, beside_at, weight_in_target, Fit, indices}
 use Rattle.steps8080.specs.declared.step.Step.TheVariants as steps
 use Rattle.steps8080.specs.Step.{plain}
-use Rattle.operands8080.specs.Stores.{high_byte_steps}
+use Rattle.operands8080.specs.internal.Stores.{high_byte_steps}
 use Rattle.measure_laws.specs.internal.TaskWeights.{IsAimed, IsPlaced}
 use Rattle.measure_laws.proofs.Sizes.Joining.{after_plain, by_finding, by_test, fits, joined, within}
 

@@ -7,7 +7,7 @@ use Rattle.steps8080.specs.Queries as queries
 use Rattle.steps8080.specs.declared.step.Step.TheVariants as steps
 use Rattle.steps8080.specs.declared.step.Task.TheVariants as tasks
 use Rattle.steps8080.specs.Step.{part}
-use Rattle.operands8080.specs.WordRelations.{difference_steps, high_byte_steps, with_pair_steps}
+use Rattle.operands8080.specs.internal.WordRelations.{difference_steps, high_byte_steps, with_pair_steps}
 use Rattle.measure_laws.specs.internal.TaskWeights.{HasParts, IsOperand}
 use Rattle.measure_laws.proofs.{Sizes.ByteRelations.{byte_number_fits, byte_relation_fits, number_in_a_fits}, Sizes.Found.{IsInMemory, high_is_in_memory, of_found}, Sizes.Joining.{after_part, after_plain, by_asking, by_finding, by_test, fits, joined, repeated, within}, Sizes.Pairs.{pair_fits}, Sizes.Trees.{has_parts}}
 

@@ -2,7 +2,7 @@
 use Rattle.measure_laws.proofs.Prelude.{◌≡◌, ℕ, ◌+◌, ◌-◌, ◌*◌, ◌%◌, ◌/◌, ◌==◌, ◌≤◌, nat_le, nat_lt, Bool, true, false, ◌&&◌, ◌||◌, IfSome, List, [], ◌∷◌, ◌++◌, Option, Some, None, if◌then◌else◌, refl, arith, leb-true, leb-false, Storage, Dad, Operation, Add, Subtract, SubtractWithBorrow, And, ExclusiveOr, Or, Compare, Hl, Register, A, H, L, BinaryOperator, UnaryOperator, Not, Negate, ShiftFunction, ShiftLeft, ShiftRight, RotateLeft, RotateRight, ExpressionNumber, Place, Number, Site, is_free, known, may_exchange, number_of, direct_word, fits_byte, is_word_in_hl, power, PairOrder, LeftInHl, RightInHl, addition_steps, pair_order, Operands, Shifted, Simple, number_of_two, computed_count_steps, count_beside_word_steps, shifted_half_steps, quarter_steps, shifted_right_little_steps, word_by_number_steps, word_shift_steps, word_shifted_right_steps, and_with_number_steps, both_halves_steps, computed_logic_steps, difference_steps, division_steps, exchanged_operand, first_and_simple, half_steps, half_through_a_steps, high_half_steps, is_of_bytes, left_word, logic_steps, logic_with_byte_steps, logic_with_number_steps, logic_with_simple_steps, paired_steps, product_order, product_word_steps, quotient_steps, remainder_steps, simple_operand, sum_steps, taken_from_number_steps, with_pair_steps, with_simple, with_word_steps, word_binary_steps, word_unary_steps, high_byte_steps, clear_a, copy, high, low, set, with_register, Fit, beside}
 use Rattle.trees.specs.declared.expression.BinaryOperator.TheVariants as operators
 use Rattle.exprgen8080.specs.declared.word_operators.Simple.TheVariants as simple
-use Rattle.exprgen8080.specs.WordShifts.{shifted_left_steps, zero_steps}
+use Rattle.exprgen8080.specs.internal.WordShifts.{shifted_left_steps, zero_steps}
 use Rattle.steps8080.specs.declared.step.Step.TheVariants as steps
 use Rattle.steps8080.specs.Step.{plain}
 use Rattle.measure_laws.specs.internal.TaskWeights.{IsOperand}

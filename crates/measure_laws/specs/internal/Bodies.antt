@@ -7,8 +7,8 @@ use Rattle.steps8080.specs.declared.facts.Facts.{Facts}
 use Rattle.statements8080.specs.declared.body.Body.{Body}
 use Rattle.statements8080.specs.declared.plan.Planned.{Planned}
 use Rattle.codegen8080.specs.declared.meeting.Here.{Here}
-use Rattle.codegen8080.specs.Generated.{AreCarriedOut, IsCarriedOut, IsListCarriedOut}
-use Rattle.measure_laws.specs.Heights.{FindsRoom, PushesAtMost}
+use Rattle.codegen8080.specs.internal.Generated.{AreCarriedOut, IsCarriedOut, IsListCarriedOut}
+use Rattle.measure_laws.specs.internal.Heights.{FindsRoom, PushesAtMost}
 
 -- planned steps, with `free` bytes free before their code, and `after` bytes after it
 pub record StepsRun

@@ -16,8 +16,8 @@ use Rattle.frames.specs.Calls.{call_bytes}
 use Rattle.steps8080.specs.declared.step.Task.{Task}
 use Rattle.steps8080.specs.declared.step.Task.TheVariants as tasks
 use Rattle.statements8080.specs.declared.body.Body.{Body}
-use Rattle.codegen8080.specs.Modules.{IsMainCode, IsProcedureCode}
-use Rattle.measure_laws.specs.Heights.{PushesAtMost}
+use Rattle.codegen8080.specs.internal.Modules.{IsMainCode, IsProcedureCode}
+use Rattle.measure_laws.specs.internal.Heights.{PushesAtMost}
 
 -- the setting of a part of a body: its typed module, the storage of that module, and the procedure
 pub record Setting : Type 0 where

@@ -13,7 +13,7 @@ use Rattle.steps8080.specs.declared.sites.site.Site.{Site}
 use Rattle.statements8080.specs.declared.body.Body.{Body}
 use Rattle.statements8080.specs.declared.plan.Planned.{Planned}
 use Rattle.codegen8080.specs.declared.meeting.Here.{Here}
-use Rattle.codegen8080.specs.Generated.{AreCarriedOut, IsCarriedOut, IsListCarriedOut}
+use Rattle.codegen8080.specs.internal.Generated.{AreCarriedOut, IsCarriedOut, IsListCarriedOut}
 use Rattle.measure_laws.specs.internal.Sizes.{PartsFit, bytes_for}
 
 -- the code of planned steps takes at most `most` bytes, wherever it is placed

@@ -23,7 +23,7 @@ use Rattle.steps8080.specs.declared.step.Step.TheVariants as steps
 use Rattle.steps8080.specs.declared.step.Task.{Task}
 use Rattle.steps8080.specs.declared.step.Task.TheVariants as tasks
 use Rattle.steps8080.specs.declared.sites.site.Site.{Site}
-use Rattle.measure_laws.specs.Heights.{taken_by}
+use Rattle.measure_laws.specs.internal.Heights.{taken_by}
 
 -- the source of the tree code of a body: its typed module, the storage of that module, and the place of the
 -- body in it; each procedure takes as many arguments as it has parameter types

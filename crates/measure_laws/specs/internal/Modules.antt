@@ -3,7 +3,7 @@ use Rattle.std.specs.Prelude.{◌≡◌, ◌⊎◌, ℕ, Bool, true, List}
 use Rattle.asm8080.specs.declared.item.Item.{Item}
 use Rattle.runtime8080.specs.declared.routine.Routine.{Routine}
 use Rattle.treecode.specs.declared.module.TreeModule.{TreeModule}
-use Rattle.exprgen8080.specs.Emission.{has_routine, module_label_of_routine}
+use Rattle.exprgen8080.specs.internal.Emission.{has_routine, module_label_of_routine}
 use Rattle.measure_laws.specs.internal.ItemLabels.{ItemsBind, ItemsGo}
 
 -- a label is bound by items of a module, or is that of a routine that is called

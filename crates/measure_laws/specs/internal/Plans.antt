@@ -11,9 +11,9 @@ use Rattle.steps8080.specs.declared.step.Task.TheVariants as tasks
 use Rattle.statements8080.specs.declared.body.Body.{Body}
 use Rattle.statements8080.specs.declared.plan.Planned.{Planned}
 use Rattle.statements8080.specs.declared.plan.Planned.TheVariants as planned
-use Rattle.statements8080.specs.Branches.{goto_label}
+use Rattle.statements8080.specs.internal.Branches.{goto_label}
 use Rattle.codegen8080.specs.declared.meeting.Here.{Here}
-use Rattle.codegen8080.specs.Generated.{IsCarriedOut, IsListCarriedOut}
+use Rattle.codegen8080.specs.internal.Generated.{IsCarriedOut, IsListCarriedOut}
 use Rattle.measure_laws.specs.internal.ItemLabels.{ItemsBind, ItemsGo}
 
 -- a task refers to one of these labels, if it is a jump on a condition, and `others` holds

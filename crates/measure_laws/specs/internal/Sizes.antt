@@ -27,7 +27,7 @@ use Rattle.steps8080.specs.declared.step.Step.TheVariants as steps
 use Rattle.steps8080.specs.declared.step.Task.{Task}
 use Rattle.steps8080.specs.declared.step.Task.TheVariants as tasks
 use Rattle.steps8080.specs.declared.sites.site.Site.{Site}
-use Rattle.exprgen8080.specs.Emission.{IsWritten}
+use Rattle.exprgen8080.specs.internal.Emission.{IsWritten}
 
 -- the bytes that a weight allows
 abbrev pub bytes_for : (weight : ℕ) → ℕ

@@ -8,11 +8,11 @@ use Rattle.image_laws.specs.internal.InMemory.{address_of_public, address_of_tar
 use Rattle.typed_trees.specs.TypedTrees.{TypedModule}
 use Rattle.layout.specs.Placing.{Plan as PlacingPlan}
 use Rattle.asm8080.specs.Items.{Layout}
-use Rattle.program_laws.specs.Made.{IsMadeOf}
+use Rattle.program_laws.specs.internal.Made.{IsMadeOf}
 use Rattle.image_laws.specs.internal.AtPlans.{plan_of}
 use Rattle.image_laws.specs.internal.Linked.{IsLinked}
 use Rattle.program_laws.specs.internal.Layouts.{module_layout}
-use Rattle.program_laws.specs.Typed.{IsSoundlyMade}
+use Rattle.program_laws.specs.internal.Typed.{IsSoundlyMade}
 
 -- a module by its number in a program
 pub record ModuleIs

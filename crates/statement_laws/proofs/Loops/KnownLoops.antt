@@ -224,9 +224,9 @@ word_turns {at = at} loop head list last is_tested end turn facts from place ite
     lies = same_Some _ _ (sym (counted.located facts) ∙ is)
 
     at_place_is : address ≡ Rattle.code_meaning.specs.Holding.location_at at.context.activation
-        (Rattle.task_laws.specs.Contexts.distances_in at.context) (locations.Static place)
+        (Rattle.task_laws.specs.internal.Contexts.distances_in at.context) (locations.Static place)
     at_place_is = counted.is_there ∙ ap (Rattle.code_meaning.specs.Holding.location_at at.context.activation
-        (Rattle.task_laws.specs.Contexts.distances_in at.context)) lies
+        (Rattle.task_laws.specs.internal.Contexts.distances_in at.context)) lies
 
     counts : (limit : ℕ) → limit < loop.budget → Runs loop limit from turn_facts (from_list loop)
         → CountsWords loop last limit turn turn_facts

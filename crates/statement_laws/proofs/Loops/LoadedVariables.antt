@@ -3,7 +3,7 @@ use Rattle.statement_laws.proofs.Prelude.{◌≡◌, ℕ, ◌+◌, ◌*◌, ◌/
 use Rattle.mem80.specs.Memory.{word_at}
 use Rattle.treecode.specs.declared.place.Location.TheVariants as locations
 use Rattle.steps8080.specs.declared.step.Step.TheVariants as steps
-use Rattle.operands8080.specs.Addresses.{word_at_hl_steps}
+use Rattle.operands8080.specs.internal.Addresses.{word_at_hl_steps}
 use Rattle.task_laws.proofs.Machine.Rules.{split}
 use Rattle.statement_laws.proofs.Loops.CountedVariables.{IsCounted, variable_address}
 use Rattle.statement_laws.proofs.Loops.LoopCode.{Steps, address_then, load_then}

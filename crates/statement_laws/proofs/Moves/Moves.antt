@@ -303,7 +303,7 @@ move_ends {at = at} {base = base} {to = to} {need = need} {after = after} {befor
         memory = memory_now;
         is_at = refl;
         ready = stage.ready;
-        holds = subst (λ (here : Here). Rattle.task_laws.specs.Tasks.Know at.context here.facts now memory_now) (sym ends.same) stage.known;
+        holds = subst (λ (here : Here). Rattle.task_laws.specs.internal.Tasks.Know at.context here.facts now memory_now) (sym ends.same) stage.known;
       };
     }))
 
@@ -316,7 +316,7 @@ move_by :
     → 7 + 2 * height_of bytes ≤ need → 7 + 2 * height_of from_tree ≤ need → 7 + 2 * height_of to_tree ≤ need
     → Stand at (record { facts = before; goes_on = true }) None place
     (elim found [
-      | Some here ↦ Rattle.statements8080.specs.Moves.known_move_steps (knowing at.context.site before) here source destination
+      | Some here ↦ Rattle.statements8080.specs.internal.Moves.known_move_steps (knowing at.context.site before) here source destination
       | None ↦
           Rattle.statements8080.specs.Plans.part (tasks.Word count) 0
           ∷ Rattle.statements8080.specs.Plans.plain (Push StackHl)
@@ -356,7 +356,7 @@ move_by {at = at} {base = base} {to = to} {need = need} {after = after} {before 
     by : (found : Option Place) → known site count ≡ found
         → Stand at (record { facts = before; goes_on = true }) None place
         (elim found [
-          | Some here ↦ Rattle.statements8080.specs.Moves.known_move_steps site here source destination
+          | Some here ↦ Rattle.statements8080.specs.internal.Moves.known_move_steps site here source destination
           | None ↦
               Rattle.statements8080.specs.Plans.part (tasks.Word count) 0
               ∷ Rattle.statements8080.specs.Plans.plain (Push StackHl)

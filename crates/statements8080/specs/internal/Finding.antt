@@ -2,7 +2,7 @@
 use Rattle.std.specs.Prelude.{◌≡◌, ℕ, ◌-◌, Bool, ◌||◌}
 use Rattle.treecode.specs.declared.lists.Range.{Range}
 use Rattle.statements8080.specs.declared.body.Body.{Body}
-use Rattle.statements8080.specs.Assignments.{any_target, takes_byte, takes_word}
+use Rattle.statements8080.specs.internal.Assignments.{any_target, takes_byte, takes_word}
 
 -- the types found before an index, with those of the targets from it on, are those of all targets
 pub record IsFinding

@@ -227,7 +227,7 @@ module _
           → relation_of (knowing context.site facts) condition ≡ found
           → StepsStand context (PartDoes context) facts from
           (elim found [
-            | Some relation ↦ Rattle.operands8080.specs.Branches.relation_branch_steps (knowing context.site facts) relation branch label
+            | Some relation ↦ Rattle.operands8080.specs.internal.Branches.relation_branch_steps (knowing context.site facts) relation branch label
             | None ↦ by_bit_steps condition branch
           ]) last to
           → Jumps tree
@@ -289,7 +289,7 @@ module _
       → ((v : ℕ) → is_true n ≡ deciding → is_true (f v) ≡ deciding)
       → ((v : ℕ) → is_true n ≡ not deciding → is_true (f v) ≡ is_true v)
       → StepsStand context (PartDoes context) facts from
-      (shape_steps (knowing context.site facts) (Rattle.operands8080.specs.Branches.shape_with_number operand n deciding) condition branch label) last to
+      (shape_steps (knowing context.site facts) (Rattle.operands8080.specs.internal.Branches.shape_with_number operand n deciding) condition branch label) last to
       → Stage context top branch.pushed need base s facts r memory
       → Jumps tree
   with_number_jumps condition operand bound n tree inside deciding f node types fewer many means decides keeps stand stage =
@@ -329,7 +329,7 @@ module _
       → ((v w : ℕ) → is_true w ≡ not deciding → is_true (f v w) ≡ is_true v)
       → StepsStand context (PartDoes context) facts from
       (shape_steps (knowing context.site facts)
-      (Rattle.operands8080.specs.Branches.shape_of_junction (knowing context.site facts) (record { deciding = deciding; left = left; right = right }))
+      (Rattle.operands8080.specs.internal.Branches.shape_of_junction (knowing context.site facts) (record { deciding = deciding; left = left; right = right }))
       condition branch label) last to
       → Stage context top branch.pushed need base s facts r memory
       → Jumps tree
@@ -350,9 +350,9 @@ module _
           → StepsStand context (PartDoes context) facts from
           (shape_steps (knowing context.site facts)
           (elim right_number [
-            | Some value ↦ Rattle.operands8080.specs.Branches.shape_with_number left value deciding
+            | Some value ↦ Rattle.operands8080.specs.internal.Branches.shape_with_number left value deciding
             | None ↦ elim left_number [
-              | Some value ↦ Rattle.operands8080.specs.Branches.shape_with_number right value deciding
+              | Some value ↦ Rattle.operands8080.specs.internal.Branches.shape_with_number right value deciding
               | None ↦ if quiet then Joined (record { deciding = deciding; left = left; right = right }) else Other
             ]
           ]) condition branch label) last to

@@ -2,7 +2,7 @@
 -- reference puts its address into HL.
 use Rattle.task_laws.proofs.Prelude.{◌≡◌, ℕ, ◌+◌, ◌*◌, ◌/◌, ◌%◌, ◌<◌, ◌==◌, ◌⊎◌, max, List, Bool, Some, true, byte_at, ScalarType, height_of, type_of, TypedExpression, TypesHold, SourceState, Outcome, Gave, values_of, Registers, word, ExpressionNumber, Place, Reference, place_after, IsExpression, Facts, keeps_of_address, memory, direct_word, fits_byte, IsReady, IsSteady, place_at, PairOrder, LeftInHl, RightInHl, pair_order, pair_steps, Purpose, Branch, Value, Setting, word_is_zero_steps, GoesOutside, in_order, knowing, Context, nodes_in, StepsStand, AddressDoes, Carries, Know, Left, Nothing, PartDoes}
 use Rattle.trees.specs.declared.declaration.ScalarType.TheVariants as scalars
-use Rattle.operands8080.specs.WordRelations.{high_byte_steps}
+use Rattle.operands8080.specs.internal.WordRelations.{high_byte_steps}
 use Rattle.task_laws.proofs.Machine.SiteNodes.{value_in}
 
 -- the low byte of a value is at the address in HL; A is kept if the traits say so

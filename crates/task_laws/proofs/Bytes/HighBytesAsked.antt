@@ -4,7 +4,7 @@ use Rattle.trees.specs.declared.declaration.ScalarType.TheVariants as scalars
 use Rattle.isa8080.specs.declared.instr.Register.TheVariants as registers
 use Rattle.treecode.specs.declared.place.Location.TheVariants as locations
 use Rattle.steps8080.specs.declared.step.Task.TheVariants as tasks
-use Rattle.operands8080.specs.WordRelations.{high_byte_steps}
+use Rattle.operands8080.specs.internal.WordRelations.{high_byte_steps}
 use Rattle.task_laws.proofs.Bytes.BytesAsked.{HighBytesGiven, HighIsGiven, WordAtPlace, WordsAtPlaces}
 use Rattle.task_laws.proofs.Places.Fitting.{located_fits, refers_is_referred}
 use Rattle.task_laws.proofs.Loads.Loads.{lies_there}

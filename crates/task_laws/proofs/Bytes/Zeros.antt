@@ -3,7 +3,7 @@ use Rattle.task_laws.proofs.Prelude.{◌≡◌, ℕ, ◌*◌, ◌/◌, ◌%◌, 
 use lib.Bits.{and_zero_r}
 use Rattle.trees.specs.declared.declaration.ScalarType.TheVariants as scalars
 use Rattle.steps8080.specs.declared.step.Task.TheVariants as tasks
-use Rattle.operands8080.specs.WordRelations.{high_byte_steps}
+use Rattle.operands8080.specs.internal.WordRelations.{high_byte_steps}
 use Rattle.task_laws.proofs.Relations.Answers.{ZeroShows}
 use Rattle.task_laws.proofs.Branches.Branches.{given_itself}
 use Rattle.task_laws.proofs.Bytes.BytesAsked.{HighBytesGiven, HighIsGiven, ZeroIsShown}
@@ -24,7 +24,7 @@ IsValue Value = Unit {0}
 shown_zero :
     (context : Context) (last : Facts) (purpose : Purpose) (r now : Registers) (memory memory_now : List ℕ) (found : ℕ)
     → ZeroShows purpose (found == 0) now
-    → Rattle.task_laws.specs.Tasks.Know context last now memory_now
+    → Rattle.task_laws.specs.internal.Tasks.Know context last now memory_now
     → ZeroIsShown context last purpose r memory found now memory_now
 shown_zero context last Branch r now memory memory_now found shows known =
     record { flag = λ same. shows; value = λ same. absurd (differ same); known = known }

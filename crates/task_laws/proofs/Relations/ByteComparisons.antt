@@ -1,6 +1,6 @@
 -- Two BYTEs are compared, in each form.
 use Rattle.task_laws.proofs.Prelude.{◌≡◌, ℕ, ◌+◌, ◌*◌, ◌<◌, ◌≤◌, ◌==◌, Bool, true, false, ◌&&◌, List, Option, Some, None, refl, sym, ◌∙◌, subst, arith, if◌then◌else◌, and_parts, ScalarType, height_of, TypedExpression, TypesHold, SourceState, Outcome, Operation, Compare, Subtract, Registers, State, ExpressionNumber, Reference, IsExpression, Facts, Step, Does, at_place, evaluated_in_order, Comparison, Question, LeftBelow, RightBelow, Equal, Site, is_free, may_exchange, operand_in_memory, Zero, Purpose, Branch, Value, Setting, Form, WithMemory, WithE, answer_to, better_form, byte_relation_steps, comparing, form_or_push, memory_form, pushed_steps, register_form, without_push, knowing, Context, IsSound, nodes_in, StepsStand, PartDoes}
-use Rattle.operands8080.specs.{declared.byte_relations.Form.TheVariants.{Pushed}, ByteRelations.{exchanged, form_of, in_order, with_e_steps, with_memory_steps}}
+use Rattle.operands8080.specs.{declared.byte_relations.Form.TheVariants.{Pushed}, internal.ByteRelations.{exchanged, form_of, in_order, with_e_steps, with_memory_steps}}
 use Rattle.task_laws.proofs.Relations.Answers.{AnswerShows, compared_below, compared_equal, question_truth, same_turned, subtracted_equal}
 use Rattle.task_laws.proofs.Bytes.BytesAsked.{BytesAsked}
 use Rattle.task_laws.proofs.Bytes.ByteOperations.{IsOperated, IsValueOf, operand_at, operated_with_e, operated_with_first_in_b, operated_with_memory, operated_with_second_in_b}
@@ -157,7 +157,7 @@ form_fits site comparison = by comparison.question
         (elim question [
           | LeftBelow ↦ form_or_push (without_push site comparison (in_order comparison))
           | RightBelow ↦ form_or_push (without_push site comparison (exchanged comparison))
-          | Equal ↦ Rattle.operands8080.specs.ByteRelations.form_of_equality site comparison
+          | Equal ↦ Rattle.operands8080.specs.internal.ByteRelations.form_of_equality site comparison
         ])
     by LeftBelow = push_fits site comparison LeftBelow _ (left_fits site comparison LeftBelow refl)
     by RightBelow = push_fits site comparison RightBelow _ (right_fits site comparison RightBelow refl)

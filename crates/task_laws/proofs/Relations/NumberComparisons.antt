@@ -1,6 +1,6 @@
 -- A BYTE is compared with a number.
 use Rattle.task_laws.proofs.Prelude.{◌≡◌, ℕ, ◌+◌, ◌*◌, ◌%◌, ◌<◌, ◌≤◌, ◌==◌, Bool, true, false, nat_lt, List, [], ◌∷◌, Option, Some, None, refl, sym, ap, ◌∙◌, arith, if◌then◌else◌, ltb-true, ltb-false, lt-ltb, le-ltb, eqb-true, eqb-false, eq-eqb, ne_eqb, height_of, TypedExpression, TypesHold, SourceState, Outcome, then_do, AccumulateImmediate, Dcr, Inr, Of, Compare, Subtract, A, decrement_of, increment_of, subtract_of, Registers, State, ExpressionNumber, IsExpression, Facts, Plain, TestA, Does, at_place, borrow_shows, count_shows, same_test, zero_shows, NumberQuestion, Never, Below, Is, Answer, Carry, Zero, Purpose, Branch, Value, Setting, known_steps, byte_is_steps, byte_number_answer, is_zero_steps, known_answer, number_in_a_answer, number_in_a_steps, Context, IsSound, nodes_in, StepsStand, PartThere, PlainThere, TestThere, PartDoes, low_of_byte}
-use Rattle.operands8080.specs.{declared.answers.Answer.TheVariants.{Known}, ByteRelations.{byte_number_steps}}
+use Rattle.operands8080.specs.{declared.answers.Answer.TheVariants.{Known}, internal.ByteRelations.{byte_number_steps}}
 use Rattle.task_laws.proofs.Relations.Answers.{AnswerShows, number_truth}
 use Rattle.task_laws.proofs.Bytes.BytesAsked.{BytesAsked}
 use Rattle.task_laws.proofs.Bytes.ByteOperations.{IsValueOf, value_of}

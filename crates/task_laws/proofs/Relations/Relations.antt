@@ -3,7 +3,7 @@ use Rattle.task_laws.proofs.Prelude.{◌≡◌, ℕ, ◌+◌, ◌*◌, ◌<◌, 
 use Rattle.trees.specs.declared.declaration.ScalarType.TheVariants as scalars
 use Rattle.isa8080.specs.declared.instr.Condition.TheVariants as conditions
 use Rattle.operands8080.specs.declared.answers.Answer.TheVariants as answers
-use Rattle.operands8080.specs.Relations.{outcome_of}
+use Rattle.operands8080.specs.internal.Relations.{outcome_of}
 use Rattle.task_laws.proofs.Relations.Answers.{AnswerShows, ZeroShows, agree_twice, mirrored_asks, number_asks, number_truth, question_truth, relation_gives}
 use Rattle.task_laws.proofs.Bytes.BytesAsked.{BytesAsked}
 use Rattle.task_laws.proofs.Relations.ByteComparisons.{asking, bytes_compared}

@@ -1,7 +1,7 @@
 -- An ADDRESS is compared with a number.
 use Rattle.task_laws.proofs.Prelude.{◌≡◌, ℕ, zero, suc, ◌+◌, ◌-◌, ◌*◌, ◌/◌, ◌%◌, ◌<◌, ◌≤◌, ◌==◌, Bool, true, false, nat_lt, bit_or, bit_xor, List, [], ◌∷◌, ◌++◌, refl, sym, ap, ◌∙◌, subst, arith, if◌then◌else◌, ltb-true, ltb-false, lt-ltb, le-ltb, eqb-true, eqb-false, eq-eqb, ne_eqb, xor_self, xor_add_and, and_le_l, and_le_r, Address, height_of, type_of, TypedExpression, TypesHold, SourceState, Outcome, then_do, values_of, AccumulateImmediate, Dad, Inx, Lxi, ExclusiveOr, Or, Subtract, SubtractWithBorrow, De, Hl, A, H, L, Registers, State, ExpressionNumber, IsExpression, Facts, copy, high, low, with_register, part, plain, repeat_steps, Does, at_place, same_test, NumberQuestion, Never, Below, Is, fits_byte, negated, Answer, Carry, Zero, Purpose, Branch, Value, Setting, byte_number_answer, number_in_a_answer, number_in_a_steps, below_steps, word_below_answer, word_below_steps, word_is_steps, word_is_zero_steps, word_number_answer, word_number_steps, word_question_answer, word_question_steps, knowing, Context, IsSound, nodes_in, StepsStand, PartThere, PartDoes}
 use Rattle.steps8080.specs.declared.step.Task.TheVariants as tasks
-use Rattle.operands8080.specs.{ByteRelations.{byte_number_steps}, WordRelations.{high_byte_steps}}
+use Rattle.operands8080.specs.{internal.ByteRelations.{byte_number_steps}, internal.WordRelations.{high_byte_steps}}
 use Rattle.task_laws.proofs.Relations.Answers.{AnswerShows, ZeroShows, number_truth}
 use Rattle.task_laws.proofs.Bytes.BytesAsked.{BytesAsked, HighIsGiven, ZeroIsShown}
 use Rattle.task_laws.proofs.Bytes.ByteOperations.{IsValueOf, value_of}

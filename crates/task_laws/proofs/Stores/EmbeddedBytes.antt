@@ -2,7 +2,7 @@
 use Rattle.task_laws.proofs.Prelude.{◌≡◌, ℕ, ◌*◌, ◌/◌, ◌%◌, ◌<◌, true, false, List, [], ◌∷◌, refl, sym, ◌∙◌, subst, arith, false≢true, height_of, type_of, type_of_target, TypedExpression, TypedTarget, AssignmentNode, TypesHold, TypesHoldInTarget, stored, SourceState, Ended, More, Outside, Outcome, Gave, Stopped, values_of, A, L, State, ExpressionNumber, Target, IsExpression, IsTarget, Facts, Plain, copy, part, Does, Lands, is_free, Context, InRegister, IsSound, nodes_in, StepsStand, PartThere, PlainThere, ByteIsGiven, Carries, Nothing, PartDoes, low_of_byte}
 use Rattle.trees.specs.declared.declaration.ScalarType.TheVariants as scalars
 use Rattle.steps8080.specs.declared.step.Task.TheVariants as tasks
-use Rattle.task_laws.specs.Tasks.{IsStored}
+use Rattle.task_laws.specs.internal.Tasks.{IsStored}
 use Rattle.task_laws.proofs.Bytes.ByteForms.{byte_given}
 use Rattle.task_laws.proofs.Machine.SiteNodes.{value_in}
 use Rattle.task_laws.proofs.Machine.Stages.{at_a, at_byte, at_carried, at_end, at_word}

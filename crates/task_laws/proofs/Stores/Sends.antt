@@ -1,6 +1,6 @@
 -- The code that sends the low byte of a value to a port.
 use Rattle.task_laws.proofs.Prelude.{◌≡◌, ℕ, ◌+◌, ◌%◌, ◌<◌, Bool, List, [], ◌∷◌, ◌++◌, refl, sym, ap, subst, ◌∙◌, write_event, ScalarType, Byte, Address, SourceState, values_of, Out, Registers, Sent, IsSent, Does, at_place, Arrives, gives, Facts, Plain, send_steps, Context, InRegister, IsSound, StepsStand, PlainThere, PartDoes, StoreDoes, byte_is_low}
-use Rattle.task_laws.specs.Tasks.{IsStored}
+use Rattle.task_laws.specs.internal.Tasks.{IsStored}
 use Rattle.task_laws.proofs.Machine.Rules.{GoesOn, registers_go}
 use Rattle.task_laws.proofs.Machine.Addresses.{nothing_goes}
 use Rattle.task_laws.proofs.Stores.Stores.{plain_gains}

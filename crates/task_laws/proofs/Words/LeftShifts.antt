@@ -1,7 +1,7 @@
 -- Shifts of an ADDRESS left by a number.
 use Rattle.task_laws.proofs.Prelude.{◌≡◌, ℕ, ◌+◌, ◌-◌, ◌*◌, ◌/◌, ◌%◌, ◌^◌, ◌<◌, ◌≤◌, Bool, true, false, nat_le, if◌then◌else◌, List, [], ◌∷◌, ◌++◌, replicate, Some, pow-add, refl, sym, ap, ◌∙◌, subst, arith, leb-true, leb-false, lt-ltb, le-ltb, Address, ShiftLeft, height_of, TypedExpression, value, SourceState, Gave, then_do, shifted, Instr, Dad, Hl, A, H, L, Registers, LoadPair, ExpressionNumber, Number, keeps_at, keeps_none, keeps_of_shift, Does, at_place, Arrives, HasRoom, Facts, Step, copy, set, part_of, plain, repeat_steps, keeps, Context, IsSound, nodes_in, StepsStand, PartThere, WordThere, PartDoes, WordIsGiven, left_far_number}
 use Rattle.steps8080.specs.declared.step.Task.TheVariants as tasks
-use Rattle.exprgen8080.specs.WordShifts.{shifted_left_steps, zero_steps}
+use Rattle.exprgen8080.specs.internal.WordShifts.{shifted_left_steps, zero_steps}
 use Rattle.task_laws.proofs.Machine.Addresses.{registers_end}
 use Rattle.task_laws.proofs.Machine.Rules.{GoesOn, ready_with_registers, word_goes}
 use Rattle.task_laws.proofs.Machine.RegisterCode.{effect, registers_then}

@@ -2,7 +2,7 @@
 use Rattle.task_laws.proofs.Prelude.{◌≡◌, ℕ, ◌+◌, ◌-◌, ◌*◌, ◌/◌, ◌%◌, ◌^◌, ◌<◌, ◌≤◌, ◌==◌, nat_le, Bool, true, false, if◌then◌else◌, List, [], ◌∷◌, ◌++◌, refl, sym, ap, ◌∙◌, subst, arith, eqb-true, leb-true, leb-false, append_assoc, xor_self, Address, ShiftRight, height_of, type_of, TypedExpression, SourceState, Gave, then_do, Instr, AccumulateImmediate, Rar, Rrc, And, ExclusiveOr, Or, A, H, L, Registers, by_eight, half_small, halves, none_left, quarter_high_small, quarter_low_small, quarters, none_right, ExpressionNumber, keeps_none, Does, at_place, Arrives, HasRoom, Facts, Step, CallRoutine, Plain, clear_a, copy, set, with_register, extension_steps, part_of, plain, keeps, fits_byte, byte_shifted_right_steps, right_shift_steps, byte_zero_steps, knowing, high_byte_steps, quarter_steps, shifted_right_little_steps, word_routine, word_shifted_right_steps, Context, IsSound, StepsStand, PartThere, PartDoes, WordIsGiven, word_from_halves, low_is_byte}
 use Rattle.runtime8080.specs.declared.routine.Routine.TheVariants as routines
 use Rattle.steps8080.specs.declared.step.Task.TheVariants as tasks
-use Rattle.exprgen8080.specs.WordShifts.{half_steps, zero_steps}
+use Rattle.exprgen8080.specs.internal.WordShifts.{half_steps, zero_steps}
 use Rattle.task_laws.proofs.Words.AndNumbers.{HighHalvesGiven, extended, extended_then}
 use Rattle.task_laws.proofs.Bytes.ByteCode.{CodeOfA, at_last_instructions}
 use Rattle.task_laws.proofs.Bytes.ByteShiftNumbers.{both_straight, shifted_code}

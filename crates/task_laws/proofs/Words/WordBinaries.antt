@@ -4,7 +4,7 @@ use Rattle.trees.specs.declared.expression.BinaryOperator.TheVariants as operato
 use Rattle.runtime8080.specs.declared.routine.Routine.TheVariants as routines
 use Rattle.steps8080.specs.declared.step.Task.TheVariants as tasks
 use Rattle.task_laws.proofs.Machine.RegisterCode.{AreOnRegisters}
-use Rattle.exprgen8080.specs.WordOperators.{with_pair_steps}
+use Rattle.exprgen8080.specs.internal.WordOperators.{with_pair_steps}
 use Rattle.task_laws.proofs.Machine.Rules.{GoesOn}
 use Rattle.task_laws.proofs.Machine.KnownOperands.{number_known, number_small}
 use Rattle.task_laws.proofs.Machine.Values.{word_given}
@@ -264,8 +264,8 @@ difference_does {context = context} {pushed = pushed} {top = top} {need = need} 
         less room (one_high (height_of first) (height_of second) need height)
         (two_high (height_of first) (height_of second) need height)
         (subst (λ steps. StepsStand context (PartDoes context) facts from
-        (Rattle.operands8080.specs.Pairs.pair_steps (knowing context.site facts) operands.left operands.right false pushed ++ steps) last to)
-        (pairs_same Subtract SubtractWithBorrow (Rattle.operands8080.specs.Pairs.pair_order (knowing context.site facts) operands.left operands.right false)) stand)
+        (Rattle.operands8080.specs.internal.Pairs.pair_steps (knowing context.site facts) operands.left operands.right false pushed ++ steps) last to)
+        (pairs_same Subtract SubtractWithBorrow (Rattle.operands8080.specs.internal.Pairs.pair_order (knowing context.site facts) operands.left operands.right false)) stand)
         going
 
     by_left : (found : Option ℕ) → number_of (knowing context.site facts) operands.left ≡ found

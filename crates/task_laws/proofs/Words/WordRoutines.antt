@@ -62,7 +62,7 @@ pub multiply_does :
     (λ y u. Gave ((x * y) % 65536) u)))
     (Arrives context.activation top base to (WordIsGiven context last number Address r memory))
 multiply_does {context = context} {facts = facts} {left = left} {right = right} number wish from s r memory sound one two none less room high higher stand going =
-    let order : PairOrder = Rattle.operands8080.specs.Pairs.pair_order_by (knowing context.site facts) left right wish in
+    let order : PairOrder = Rattle.operands8080.specs.internal.Pairs.pair_order_by (knowing context.site facts) left right wish in
     pair_then context sound wish (CallRoutine routines.Multiply ∷ []) from s r memory one two less room high higher stand going
     (λ x y t now ended middle found fewer rest going_on has.
     routine_then routines.Multiply [] now sound tt room (omega (arith, higher)) rest going_on

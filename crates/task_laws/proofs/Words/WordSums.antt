@@ -193,7 +193,7 @@ sum_does {context = context} {pushed = pushed} {top = top} {need = need} {to = t
         → StepsStand context (PartDoes context) facts from (elim found [
           | Some place ↦ part_of (tasks.Word operands.right) pushed ∷ addition_steps place
           | None ↦
-              Rattle.operands8080.specs.Pairs.pair_steps (knowing context.site facts) operands.left operands.right false pushed
+              Rattle.operands8080.specs.internal.Pairs.pair_steps (knowing context.site facts) operands.left operands.right false pushed
               ++ (Plain (Rattle.isa8080.specs.declared.instr.Instr.TheVariants.Dad Rattle.isa8080.specs.declared.instr.Pair.TheVariants.De) ∷ [])
         ]) last to
         → Does context.activation.around.program.script s.budget 0 (at_place from r memory s.events)
@@ -229,7 +229,7 @@ sum_does {context = context} {pushed = pushed} {top = top} {need = need} {to = t
           | None ↦ elim (known (knowing context.site facts) operands.left) [
             | Some place ↦ part_of (tasks.Word operands.right) pushed ∷ addition_steps place
             | None ↦
-                Rattle.operands8080.specs.Pairs.pair_steps (knowing context.site facts) operands.left operands.right false pushed
+                Rattle.operands8080.specs.internal.Pairs.pair_steps (knowing context.site facts) operands.left operands.right false pushed
                 ++ (Plain (Rattle.isa8080.specs.declared.instr.Instr.TheVariants.Dad Rattle.isa8080.specs.declared.instr.Pair.TheVariants.De) ∷ [])
           ]
         ]) last to

@@ -11,14 +11,13 @@ use Rattle.mem80.specs.declared.plan.Plan.{Plan}
 use Rattle.codegen8080.specs.declared.fault.Fault as code_fault
 use Rattle.sources.specs.Causes.{HasReadCause}
 use Rattle.sources.specs.Reading.{IsSourceOf}
-use Rattle.generation.specs.Bounded.{IsNotMade}
-use Rattle.generation.specs.Typed.{IsSoundlyMade}
+use Rattle.generation.specs.internal.Measured.{IsNotMade}
+use Rattle.generation.specs.internal.Typed.{IsSoundlyMade}
 use Rattle.sources.specs.Programs.{HasProgramCause, program_modules}
 use Rattle.tool.specs.declared.compiled.Compiled.{Compiled}
 use Rattle.tool.specs.declared.fault.ToolFault.{ToolFault}
-use Rattle.tool.specs.declared.fault.ToolFault.TheVariants.{Source, Code, Program, Link, Locate}
+use Rattle.tool.specs.declared.fault.ToolFault.TheVariants.{Source, Code, Program}
 use Rattle.tool.specs.Construction.{Construction}
-use Rattle.tool.specs.Sources.{HasNoObject}
 
 -- the module of a source that is compiled
 abbrev pub module_in : Compiled → TypedModule
@@ -56,10 +55,16 @@ abbrev pub HasGenerationCause : (place : ℕ) → TypedModule → ToolFault → 
 HasGenerationCause place typed (Code file fault) = (file ≡ place) × IsNotMade fault typed
 HasGenerationCause place typed fault = ⊥
 
--- the text has the fault, or it has no object module
+-- a text is the source of a module of which `generate` makes no object module, for this fault
+pub record IsNotCompiled (fault : code_fault.Fault) (text : List ℕ) : Type 0 where
+  pub typed : TypedModule
+  pub source : IsSourceOf text typed
+  pub none : IsNotMade fault typed
+
+-- the text has the fault, or no object module is made of it
 abbrev pub HasCompileCause : ToolFault → ℕ → List ℕ → Type 0
 HasCompileCause (Source file fault) place text = (file ≡ place) × HasReadCause fault text
-HasCompileCause (Code file fault) place text = (file ≡ place) × HasNoObject fault text
+HasCompileCause (Code file fault) place text = (file ≡ place) × IsNotCompiled fault text
 HasCompileCause fault place text = ⊥
 
 -- a program that was built from modules by a plan

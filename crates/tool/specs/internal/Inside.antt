@@ -4,6 +4,8 @@ use Rattle.object_modules.specs.Module.{ObjectModule}
 use Rattle.locate.specs.Locating.{Absolute}
 use Rattle.mem80.specs.declared.plan.Plan.{Plan}
 use Rattle.placing.specs.Views.{placement_view}
+use Rattle.generation.specs.internal.Typed.{AreSoundlyMade}
+use Rattle.sources.specs.Programs.{program_modules}
 use Rattle.sources.specs.declared.placed.Placed.{Placed}
 use Rattle.tool.specs.declared.built.Built.TheInside.{Inside}
 use Rattle.tool.specs.Construction.{Construction, IsConstruction}
@@ -17,8 +19,14 @@ construction_of b = record {
   image = b.image;
 }
 
+-- a construction whose object modules are those that `generate` makes of its modules: that they are is shown to nobody, and
+-- what they do is in the contracts that they keep
+abbrev pub IsMadeConstruction : Construction → Type 0
+IsMadeConstruction built =
+    IsConstruction built × AreSoundlyMade (program_modules built.program) built.objects
+
 abbrev pub IsConstructionInside : Inside → Type 0
-IsConstructionInside b = IsConstruction (construction_of b)
+IsConstructionInside b = IsMadeConstruction (construction_of b)
 
 -- a program that was placed, with its object modules and its image
 abbrev pub construction_with : Placed → Plan → List ObjectModule → Absolute → Construction

@@ -1,5 +1,5 @@
 use Rattle.std.proofs.Common.{ap, ◌∙◌, arith}
-use Rattle.operands8080.specs.Products.{has_bit}
+use Rattle.operands8080.specs.internal.Products.{has_bit}
 use Rattle.operands8080.proofs.Chains.{bit_added, chain_ended}
 use Rattle.operands8080.proofs.products.plan_chain.Goals as goal
 

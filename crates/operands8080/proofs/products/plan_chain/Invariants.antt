@@ -1,5 +1,5 @@
 use Rattle.std.proofs.Common.{◌≡◌, ◌++◌, ◌-◌}
-use Rattle.operands8080.specs.Products.{chain_from, chain_steps}
+use Rattle.operands8080.specs.internal.Products.{chain_from, chain_steps}
 use Rattle.operands8080.proofs.products.plan_chain.Given as goal
 
 abbrev pub invariant-loop-index : goal.invariant-loop-index

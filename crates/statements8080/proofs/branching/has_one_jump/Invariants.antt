@@ -1,5 +1,5 @@
 use Rattle.statements8080.proofs.Prelude.{◌≡◌}
-use Rattle.statements8080.specs.Branches.{has_one_jump, has_one_jump_within}
+use Rattle.statements8080.specs.internal.Branches.{has_one_jump, has_one_jump_within}
 use Rattle.statements8080.proofs.branching.has_one_jump.Given as goal
 
 abbrev pub invariant-loop-left : goal.invariant-loop-left

@@ -1,5 +1,5 @@
 use Rattle.statements8080.proofs.Prelude.{◌-◌, steps_from, IsAdding}
-use Rattle.statements8080.specs.Cases.{statement_at, statements_steps}
+use Rattle.statements8080.specs.internal.Cases.{statement_at, statements_steps}
 use Rattle.statements8080.proofs.case.plan_statements.Given as goal
 
 abbrev pub invariant-loop-index : goal.invariant-loop-index

@@ -1,5 +1,5 @@
 use Rattle.statements8080.proofs.Prelude.{◌-◌, steps_from, IsAdding}
-use Rattle.statements8080.specs.Cases.{table_at, table_steps}
+use Rattle.statements8080.specs.internal.Cases.{table_at, table_steps}
 use Rattle.statements8080.proofs.case.plan_table.Given as goal
 
 abbrev pub invariant-loop-index : goal.invariant-loop-index
