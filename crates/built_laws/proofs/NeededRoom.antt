@@ -1,9 +1,8 @@
 -- A program that is built with as much stack as it needs.
-use Rattle.built_laws.proofs.Prelude.{◌≡◌, ℕ, ◌+◌, ◌<◌, ◌≤◌, List, Some, min, arith, refl, sym, ap, subst, TypedModule, Absolute, program_modules, Construction, IsConstruction, DoesWhatItSays}
+use Rattle.built_laws.proofs.Prelude.{◌≡◌, ℕ, ◌+◌, ◌<◌, ◌≤◌, List, Some, min, arith, ap, subst, TypedModule, Absolute, program_modules, Construction, IsConstruction, DoesWhatItSays}
 use Rattle.ports.specs.declared.event.Event.{Event}
 use Rattle.layout.specs.{Placement.{Placement}, Placing.{placement_by}}
-use Rattle.meaning.specs.{declared.reason.Reason.{Reason, TheVariants.{Divide, Byte, Constant, Stack}}, Outcomes.{Outside}, Run.{NeverOutside, source_run}}
-use Rattle.placing.specs.Views.{plan_view}
+use Rattle.meaning.specs.{declared.reason.Reason.{Reason, TheVariants.{Divide, Byte, Constant, Stack}}, Run.{NeverOutside, source_run}}
 use Rattle.stack_need.specs.StackNeed.{IsEnough, TellsNeed}
 use Rattle.built_laws.specs.NeededRoom.{DoesWhatItSaysWithRoom, NeverOutsideButForStack}
 
