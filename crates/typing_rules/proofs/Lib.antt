@@ -1,0 +1,6 @@
+mod Prelude
+pub mod Judged
+pub mod ReferencesJudged
+pub mod ExpressionsJudged
+pub mod ExpressionsTyped
+pub mod ExpressionsRefused

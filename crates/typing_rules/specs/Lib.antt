@@ -1,0 +1,4 @@
+pub mod Names
+pub mod Constants
+pub mod Expressions
+pub mod ExpressionFaults
