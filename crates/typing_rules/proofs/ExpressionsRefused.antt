@@ -9,7 +9,7 @@ use Rattle.typing_rules.proofs.Judged.{fault_of, then_ok, then_fault, passed, fa
 use Rattle.typing_rules.proofs.ReferencesJudged.{given_name}
 use Rattle.typing_rules.proofs.ExpressionsTyped.{port_is, function_is, shift_is, measure_function_is, then_member_ok, measured_is, measure_is, one_fits, typing_is, values_is, subscript_is, part_is, target_is}
 
-is_nothing : {A : Type 0} (option : Option A) → ((a : A) → ¬ (option ≡ Some a)) → option ≡ None
+pub is_nothing : {A : Type 0} (option : Option A) → ((a : A) → ¬ (option ≡ Some a)) → option ≡ None
 is_nothing None none = refl
 is_nothing (Some a) none = absurd (none a refl)
 
@@ -56,11 +56,11 @@ member_fault_is next (no_structure is) = then_fault _ (got_none _ _ (ap members_
 member_fault_is next (no_such_member is none) = then_ok _ (got _ _ (ap members_of is)) (then_fault _ (got_none _ _ none))
 
 -- names
-abbrev NoObject : Known → Binding → Type 0
+abbrev pub NoObject : Known → Binding → Type 0
 NoObject known binding =
     (number : ℕ) (object : TypedObject) → binding ≡ Declared (Object number) → ¬ (slice_get known.objects number ≡ Some object)
 
-no_object : {known : Known} {name : Identifier} (is : IsNoVariable known name) → NoObject known is.binding
+pub no_object : {known : Known} {name : Identifier} (is : IsNoVariable known name) → NoObject known is.binding
 no_object is number object e listed = is.no_variable number object (record { named = is.named ∙ ap Some e; listed = listed })
 
 -- LENGTH, LAST and SIZE

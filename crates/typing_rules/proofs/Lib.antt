@@ -4,3 +4,7 @@ pub mod ReferencesJudged
 pub mod ExpressionsJudged
 pub mod ExpressionsTyped
 pub mod ExpressionsRefused
+pub mod StatementsJudged
+pub mod ModulesJudged
+pub mod ModulesTyped
+pub mod ModulesRefused

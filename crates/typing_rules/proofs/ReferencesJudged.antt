@@ -181,7 +181,7 @@ scalar_judged known number object name trees part before judged its_judged fails
     (subst (λ it. PartTyping known AnElement number object before trees part found.0.reference it found.1) some typing)))
 
 -- names
-is_no_variable : {known : Known} {name : Identifier} (binding : Binding)
+pub is_no_variable : {known : Known} {name : Identifier} (binding : Binding)
     → StandsFor known name binding
     → ((number : ℕ) (object : TypedObject) → binding ≡ Declared (Object number) → slice_get known.objects number ≡ Some object → ⊥)
     → IsNoVariable known name
@@ -520,11 +520,11 @@ built_in_target_judged known built_ins.Output name trees part before named =
 built_in_target_judged known built_in name trees part before named =
     judged_fault (no_target (is_no_variable _ named (λ other object e listed. absurd cc)) (λ is. absurd cc))
 
-is_true : (test : Bool) → not test ≡ false → test ≡ true
+pub is_true : (test : Bool) → not test ≡ false → test ≡ true
 is_true true e = refl
 is_true false e = absurd cc
 
-is_false : (test : Bool) → not test ≡ true → test ≡ false
+pub is_false : (test : Bool) → not test ≡ true → test ≡ false
 is_false true e = absurd cc
 is_false false e = refl
 

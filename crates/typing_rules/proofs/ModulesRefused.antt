@@ -1,0 +1,239 @@
+-- A fault of a statement, a declaration or a module by the rules is the one that the typing gives. So there is at most one,
+-- and none where there is a typing.
+use Rattle.typing_rules.proofs.Prelude.{◌≡◌, ◌∙◌, ℕ, ◌==◌, Bool, true, false, not, List, [], ◌∷◌, length, Option, Some, None, Ok, Err, refl, sym, ap, subst, slice_get, eq-eqb, ne_eqb, Identifier, Place, ExpressionTree, ReferenceTree, ArgumentTrees, Binding, Declared, BuiltInName, UnknownLabel, BuiltIn, Object, Procedure, Label, Definition, TypedObject, TypedProcedure, Constants, CallOfNoProcedure, NoVariable, Cause, Fault, Checked, ◌>>=◌, require, arguments, Known, scalar_of, IsNoVariable, IsNoProcedure, at_name, ExpressionFault}
+use Rattle.std.specs.Prelude.{◌&&◌, is_none}
+use Rattle.trees.specs.Trees.{IterationTree, StatementTree, StatementKindTree, ElseTree, StatementTrees, DeclarationTree, DeclarationTrees, ModuleTree}
+use Rattle.names.specs.declared.entity.BuiltIn.TheVariants as built_ins
+use Rattle.names.specs.Environment.{Here}
+use Rattle.typing.specs.declared.fault.Cause.TheVariants.{ReturnOutside, UnknownLabel as NoLabel}
+use Rattle.typing.specs.Blocks.{Owner, TheModule, Block, Progress}
+use Rattle.typing.specs.Statements.{with_constants, value, destinations, call_bound, return_from, goto_bound, counter_bound, step, iteration, declare_labels, list_of}
+use Rattle.typing.specs.Typing.{kind, alone, else_part, cases, statements, declaration, declarations, typing_of}
+use Rattle.typing_rules.specs.ModuleFaults.{StatementFault, in_targets, in_source, call_of_unknown, call_of_no_procedure, call_of_typed, call_with_wrong_count, in_argument_of_call, move_with_wrong_count, in_argument_of_move, return_outside, value_for_no_type, no_value_for_type, in_returned_value, unknown_label, in_condition, in_then, in_else, in_declarations_of_do, in_do, in_while_condition, in_while, in_head, in_iterated, in_choice, in_cases, AloneFault, misplaced_label, in_alone, ElseFault, after_else, CasesFault, in_first_case, in_other_cases, StatementsFault, in_labels, in_first_statement, in_other_statements, ListFault, in_list, DeclarationFault, in_declare, in_heading, in_own_declarations, in_parameters, with_body, in_body, DeclarationsFault, in_first_declaration, in_other_declarations, ModuleFault, in_declarations, in_statements}
+use Rattle.typing_rules.specs.StatementFaults.{TargetsFault, in_first_target, in_other_targets, CounterFault, unknown_counter, counter_of_no_variable, counter_with_data, counter_in_array, based_counter, counter_with_members, StepFault, in_step, IterationFault, in_counter, in_first_value, in_last_value, in_step_value, LabelsFault, label_again, in_other_labels}
+use Rattle.typing_rules.proofs.Judged.{fault_of, then_ok, then_fault, passed, failed, got, got_none}
+use Rattle.typing_rules.proofs.ExpressionsTyped.{target_is, typing_is}
+use Rattle.typing_rules.proofs.ExpressionsRefused.{is_nothing, NoObject, no_object, fault_is, values_fault, target_fault_is}
+use Rattle.typing_rules.proofs.ModulesTyped.{value_is, targets_are, both_are, counter_is, iteration_is, labels_are, return_is, goto_is, statement_is, alone_is, list_is, declaration_is, declarations_are}
+
+value_fault : {tree : ExpressionTree} {fault : Fault} (progress : Progress)
+    → ExpressionFault progress.known progress.constants tree fault
+    → value tree progress ≡ Err fault
+value_fault progress is = then_fault _ (fault_is is)
+
+targets_fault : {known : Known} {before : Constants} {targets : List ReferenceTree} {fault : Fault}
+    → TargetsFault known before targets fault
+    → destinations known targets before ≡ Err fault
+targets_fault (in_first_target is) = then_fault _ (target_fault_is is)
+targets_fault (in_other_targets target is) = then_ok _ (target_is target) (then_fault _ (targets_fault is))
+
+-- iterations
+no_counter_is : (known : Known) (name : Identifier) (binding : Binding)
+    → NoObject known binding
+    → counter_bound known binding name ≡ Err (at_name NoVariable name)
+no_counter_is known name (Declared (Object number)) none =
+    then_fault _ (got_none _ _ (is_nothing (slice_get known.objects number) (λ object e. none number object refl e)))
+no_counter_is known name (Declared (Procedure number)) none = refl
+no_counter_is known name (Declared (Label number)) none = refl
+no_counter_is known name (Declared Definition) none = refl
+no_counter_is known name (BuiltInName built_in) none = refl
+no_counter_is known name UnknownLabel none = refl
+
+first_is_false : {one : Bool} (other : Bool) → one ≡ false → (one && other) ≡ false
+first_is_false other is = subst (λ it. (it && other) ≡ false) (sym is) refl
+
+last_is_false : (one : Bool) {other : Bool} → other ≡ false → (one && other) ≡ false
+last_is_false true is = is
+last_is_false false is = refl
+
+-- a structure that is neither an array nor BASED, and one that is
+no_scalar_is : {A : Type 0} {cause : Cause} {place : Place} (test : Bool) (next : Checked A)
+    → next ≡ Err (fault_of cause place)
+    → (require test cause place >>= λ _. next) ≡ Err (fault_of cause place)
+no_scalar_is true next e = e
+no_scalar_is false next e = refl
+
+counter_fault : {fault : Fault} (head : IterationTree) (progress : Progress)
+    → CounterFault progress.known head.variable fault
+    → iteration head progress ≡ Err fault
+counter_fault head progress (unknown_counter none) = then_fault _ (got_none _ _ none)
+counter_fault head progress (counter_of_no_variable is) =
+    then_ok _ (got _ _ is.named) (then_fault _ (no_counter_is progress.known head.variable is.binding (no_object is)))
+counter_fault head progress (counter_with_data is has) =
+    then_ok _ (got _ _ is.named) (then_fault _ (then_ok _ (got _ _ is.listed) (then_fault _ (failed _ _ (ap not has)))))
+counter_fault head progress (counter_in_array is plain array) =
+    then_ok _ (got _ _ is.named) (then_fault _ (then_ok _ (got _ _ is.listed) (then_ok _ (passed _ _ (ap not plain))
+    (then_fault _ (failed _ _ (first_is_false _ (ap is_none array)))))))
+counter_fault head progress (based_counter is plain based) =
+    then_ok _ (got _ _ is.named) (then_fault _ (then_ok _ (got _ _ is.listed) (then_ok _ (passed _ _ (ap not plain))
+    (then_fault _ (failed _ _ (last_is_false _ based))))))
+counter_fault head progress (counter_with_members is plain members) =
+    then_ok _ (got _ _ is.named) (then_fault _ (then_ok _ (got _ _ is.listed) (then_ok _ (passed _ _ (ap not plain))
+    (no_scalar_is _ _ (then_fault _ (got_none _ _ (ap scalar_of members)))))))
+
+step_fault : {tree : Option ExpressionTree} {fault : Fault} (progress : Progress)
+    → StepFault progress.known progress.constants tree fault
+    → step tree progress ≡ Err fault
+step_fault progress (in_step is) = then_fault _ (value_fault progress is)
+
+iteration_fault : {head : IterationTree} {fault : Fault} (progress : Progress)
+    → IterationFault progress.known progress.constants head fault
+    → iteration head progress ≡ Err fault
+iteration_fault progress (in_counter {head = head} is) = counter_fault head progress is
+iteration_fault progress (in_first_value is fault) =
+    then_ok _ (got _ _ is.variable.named) (then_ok _ (counter_is is) (then_fault _ (value_fault progress fault)))
+iteration_fault progress (in_last_value {one = one} is first fault) =
+    then_ok _ (got _ _ is.variable.named) (then_ok _ (counter_is is) (then_ok _ (value_is progress first)
+    (then_fault _ (value_fault (with_constants one progress) fault))))
+iteration_fault progress (in_step_value {one = one} {two = two} is first last fault) =
+    then_ok _ (got _ _ is.variable.named) (then_ok _ (counter_is is) (then_ok _ (value_is progress first)
+    (then_ok _ (value_is (with_constants one progress) last) (then_fault _ (step_fault (with_constants two progress) fault)))))
+
+labels_fault : {here : Here} {labels : List Identifier} {fault : Fault}
+    → LabelsFault here labels fault
+    → declare_labels labels here ≡ Err fault
+labels_fault (label_again again) = then_fault _ (failed _ _ (ap not again))
+labels_fault (in_other_labels new is) = then_ok _ (passed _ _ (ap not new)) (labels_fault is)
+
+-- CALL
+built_in_call_is : (known : Known) (name : Identifier) (trees : ArgumentTrees) (before : Constants) (built_in : BuiltIn)
+    → ¬ (built_in ≡ built_ins.Move)
+    → call_bound known (BuiltInName built_in) name (record { trees = trees; typed = arguments known trees }) before
+    ≡ Err (at_name CallOfNoProcedure name)
+built_in_call_is known name trees before built_ins.Move other = absurd (other refl)
+built_in_call_is known name trees before built_in other = refl
+
+no_call_is : (known : Known) (name : Identifier) (trees : ArgumentTrees) (before : Constants) (binding : Binding)
+    → ((number : ℕ) (procedure : TypedProcedure)
+    → binding ≡ Declared (Procedure number) → ¬ (slice_get known.procedures number ≡ Some procedure))
+    → ¬ (binding ≡ BuiltInName built_ins.Move)
+    → call_bound known binding name (record { trees = trees; typed = arguments known trees }) before
+    ≡ Err (at_name CallOfNoProcedure name)
+no_call_is known name trees before (Declared (Procedure number)) none other =
+    then_fault _ (got_none _ _ (is_nothing (slice_get known.procedures number) (λ procedure e. none number procedure refl e)))
+no_call_is known name trees before (Declared (Object number)) none other = refl
+no_call_is known name trees before (Declared (Label number)) none other = refl
+no_call_is known name trees before (Declared Definition) none other = refl
+no_call_is known name trees before (BuiltInName built_in) none other =
+    built_in_call_is known name trees before built_in (λ e. other (ap BuiltInName e))
+no_call_is known name trees before UnknownLabel none other = refl
+
+-- GOTO
+no_label_is : (place : Place) (binding : Binding)
+    → ((number : ℕ) → ¬ (binding ≡ Declared (Label number)))
+    → goto_bound place binding ≡ Err (fault_of NoLabel place)
+no_label_is place (Declared (Label number)) none = absurd (none number refl)
+no_label_is place (Declared (Object number)) none = refl
+no_label_is place (Declared (Procedure number)) none = refl
+no_label_is place (Declared Definition) none = refl
+no_label_is place (BuiltInName built_in) none = refl
+no_label_is place UnknownLabel none = refl
+
+return_outside_is : {owner : Owner} (progress : Progress) (place : Place) (tree : Option ExpressionTree)
+    → owner ≡ TheModule
+    → return_from place owner tree progress ≡ Err (fault_of ReturnOutside place)
+return_outside_is progress place tree is =
+    subst (λ owner. return_from place owner tree progress ≡ Err (fault_of ReturnOutside place)) (sym is) refl
+
+mutual
+  pub statement_fault : {block : Block} {progress : Progress} {tree : StatementKindTree} {fault : Fault}
+      → StatementFault block progress tree fault
+      → kind block tree progress ≡ Err fault
+  statement_fault (in_targets is) = then_fault _ (targets_fault is)
+  statement_fault (in_source {progress = progress} {middle = middle} targets is) =
+      then_ok _ (targets_are targets) (then_fault _ (value_fault (with_constants middle progress) is))
+  statement_fault (call_of_unknown none) = then_fault _ (got_none _ _ none)
+  statement_fault (call_of_no_procedure {progress = progress} {name = name} {trees = trees} is other) =
+      then_ok _ (got _ _ is.named) (then_fault _ (no_call_is progress.known name trees progress.constants is.binding
+      (λ number procedure e listed. is.no_procedure number procedure (record { named = is.named ∙ ap Some e; listed = listed }))
+      (λ e. other (is.named ∙ ap Some e))))
+  statement_fault (call_of_typed is typed) =
+      then_ok _ (got _ _ is.named) (then_fault _ (then_ok _ (got _ _ is.listed) (then_fault _ (failed _ _ (ap is_none typed)))))
+  statement_fault (call_with_wrong_count is untyped wrong) =
+      then_ok _ (got _ _ is.named) (then_fault _ (then_ok _ (got _ _ is.listed) (then_ok _ (passed _ _ (ap is_none untyped))
+      (then_fault _ (then_fault _ (failed _ _ (ne_eqb _ _ wrong)))))))
+  statement_fault (in_argument_of_call is untyped count fault) =
+      then_ok _ (got _ _ is.named) (then_fault _ (then_ok _ (got _ _ is.listed) (then_ok _ (passed _ _ (ap is_none untyped))
+      (then_fault _ (then_ok _ (passed _ _ (eq-eqb _ _ count)) (then_fault _ (values_fault fault)))))))
+  statement_fault (move_with_wrong_count named wrong) =
+      then_ok _ (got _ _ named) (then_fault _ (then_fault _ (failed _ _ (ne_eqb _ _ wrong))))
+  statement_fault (in_argument_of_move named count fault) =
+      then_ok _ (got _ _ named) (then_fault _ (then_ok _ (passed _ _ (eq-eqb _ _ count)) (then_fault _ (values_fault fault))))
+  statement_fault (return_outside {progress = progress} {place = place} {value = tree} is) = return_outside_is progress place tree is
+  statement_fault (value_for_no_type {progress = progress} {place = place} {value = tree} is has) =
+      return_is progress place (Some tree) is has refl
+  statement_fault (no_value_for_type {progress = progress} {place = place} is has) = return_is progress place None is has refl
+  statement_fault (in_returned_value {progress = progress} {place = place} {value = tree} is has fault) =
+      return_is progress place (Some tree) is has (then_fault _ (value_fault progress fault))
+  statement_fault (unknown_label {label = label} none) = then_fault _ (no_label_is label.place _ none)
+  statement_fault (in_condition {progress = progress} is) = then_fault _ (value_fault progress is)
+  statement_fault (in_then {progress = progress} condition is) =
+      then_ok _ (value_is progress condition) (then_fault _ (alone_fault is))
+  statement_fault (in_else {progress = progress} condition body is) =
+      then_ok _ (value_is progress condition) (then_ok _ (alone_is body) (then_fault _ (else_fault is)))
+  statement_fault (in_declarations_of_do is) = then_fault _ (declarations_fault is)
+  statement_fault (in_do declared is) = then_ok _ (declarations_are declared) (then_fault _ (list_fault is))
+  statement_fault (in_while_condition {progress = progress} is) = then_fault _ (value_fault progress is)
+  statement_fault (in_while {progress = progress} condition is) =
+      then_ok _ (value_is progress condition) (then_fault _ (list_fault is))
+  statement_fault (in_head {progress = progress} is) = then_fault _ (iteration_fault progress is)
+  statement_fault (in_iterated {progress = progress} head is) =
+      then_ok _ (iteration_is progress head) (then_fault _ (list_fault is))
+  statement_fault (in_choice {progress = progress} is) = then_fault _ (value_fault progress is)
+  statement_fault (in_cases {progress = progress} choice is) =
+      then_ok _ (value_is progress choice) (then_fault _ (cases_fault is))
+
+  pub alone_fault : {block : Block} {progress : Progress} {tree : StatementTree} {fault : Fault}
+      → AloneFault block progress tree fault
+      → alone block tree progress ≡ Err fault
+  alone_fault misplaced_label = refl
+  alone_fault (in_alone is) = statement_fault is
+
+  pub else_fault : {block : Block} {progress : Progress} {tree : ElseTree} {fault : Fault}
+      → ElseFault block progress tree fault
+      → else_part block tree progress ≡ Err fault
+  else_fault (after_else is) = then_fault _ (alone_fault is)
+
+  pub cases_fault : {block : Block} {progress : Progress} {trees : StatementTrees} {fault : Fault}
+      → CasesFault block progress trees fault
+      → cases block trees progress ≡ Err fault
+  cases_fault (in_first_case is) = then_fault _ (alone_fault is)
+  cases_fault (in_other_cases first is) = then_ok _ (alone_is first) (then_fault _ (cases_fault is))
+
+  pub statements_fault : {block : Block} {progress : Progress} {trees : StatementTrees} {fault : Fault}
+      → StatementsFault block progress trees fault
+      → (label : ℕ)
+      → statements block trees label progress ≡ Err fault
+  statements_fault (in_labels is) label = then_fault _ (labels_fault is)
+  statements_fault (in_first_statement labels is) label = then_ok _ (labels_are labels) (then_fault _ (statement_fault is))
+  statements_fault (in_other_statements labels first is) label =
+      then_ok _ (labels_are labels) (then_ok _ (statement_is first) (then_fault _ (statements_fault is _)))
+
+  pub list_fault : {block : Block} {progress : Progress} {trees : StatementTrees} {fault : Fault}
+      → ListFault block progress trees fault
+      → list_of trees (λ label. statements block trees label) progress ≡ Err fault
+  list_fault (in_list {progress = progress} is) = then_fault _ (statements_fault is progress.known.here.labels)
+
+  pub declaration_fault : {block : Block} {progress : Progress} {tree : DeclarationTree} {fault : Fault}
+      → DeclarationFault block progress tree fault
+      → declaration block tree progress ≡ Err fault
+  declaration_fault (in_declare is) = is
+  declaration_fault (in_heading is) = then_fault _ is
+  declaration_fault (in_own_declarations heading is) = then_ok _ heading (then_fault _ (declarations_fault is))
+  declaration_fault (in_parameters heading declared is) =
+      then_ok _ heading (then_ok _ (declarations_are declared) (then_fault _ is))
+  declaration_fault (with_body heading declared parameters is) =
+      then_ok _ heading (then_ok _ (declarations_are declared) (then_ok _ parameters (then_fault _ is)))
+  declaration_fault (in_body heading declared parameters body is) =
+      then_ok _ heading (then_ok _ (declarations_are declared) (then_ok _ parameters (then_ok _ body (then_fault _ (list_fault is)))))
+
+  pub declarations_fault : {block : Block} {progress : Progress} {trees : DeclarationTrees} {fault : Fault}
+      → DeclarationsFault block progress trees fault
+      → declarations block trees progress ≡ Err fault
+  declarations_fault (in_first_declaration is) = then_fault _ (declaration_fault is)
+  declarations_fault (in_other_declarations first is) = then_ok _ (declaration_is first) (declarations_fault is)
+
+pub module_fault : {tree : ModuleTree} {fault : Fault} → ModuleFault tree fault → typing_of tree ≡ Err fault
+unfolding typing_of
+module_fault (in_declarations is) = then_fault _ (declarations_fault is)
+module_fault (in_statements declared is) = then_ok _ (declarations_are declared) (then_fault _ (list_fault is))
