@@ -4,7 +4,7 @@ use Rattle.typing_rules.proofs.Judged.{Judged, judged_ok, judged_fault, then_jud
 use Rattle.typing_rules.proofs.ReferencesJudged.{ValuesJudged, MemberJudged, value_judged, location_judged, target_judged}
 
 -- strings as numbers
-string_is_number : (string : StringTree) (number : ℕ) (characters : List ℕ)
+pub string_is_number : (string : StringTree) (number : ℕ) (characters : List ℕ)
     → string.characters ≡ characters
     → number_of_characters characters ≡ Some number
     → IsNumber (StringConstant string) number
@@ -17,7 +17,7 @@ string_is_number string number (high ∷ low ∷ []) is e =
     subst (λ it. IsNumber (StringConstant string) it) same (two_characters is)
 string_is_number string number (first ∷ second ∷ third ∷ others) is e = absurd cc
 
-string_is_none : (string : StringTree) → number_of_characters string.characters ≡ None → IsNoNumber string
+pub string_is_none : (string : StringTree) → number_of_characters string.characters ≡ None → IsNoNumber string
 string_is_none string none = record {
   not_one = λ character is.
       let some : number_of_characters string.characters ≡ Some character = ap number_of_characters is in

@@ -14,7 +14,7 @@ is_nothing None none = refl
 is_nothing (Some a) none = absurd (none a refl)
 
 -- constants and ports
-no_number_is : (string : StringTree) (characters : List ℕ)
+pub no_number_is : (string : StringTree) (characters : List ℕ)
     → IsNoNumber string
     → string.characters ≡ characters
     → number_of_characters characters ≡ None

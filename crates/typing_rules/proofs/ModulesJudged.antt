@@ -6,18 +6,15 @@ use Rattle.names.specs.BuiltIns.{jump_of}
 use Rattle.names.specs.Environment.{into_list}
 use Rattle.names.specs.Events.{labels_of}
 use Rattle.typing.specs.Blocks.{Block, Progress}
-use Rattle.typing.specs.Items.{declare_elements}
-use Rattle.typing.specs.Procedures.{open_procedure, own_block, parameter_objects, check_body}
+use Rattle.typing.specs.Procedures.{own_block}
 use Rattle.typing.specs.Statements.{with_here, with_constants, list_of}
 use Rattle.typing.specs.Typing.{inner_block, entered, kind, alone, else_part, cases, statements, declaration, declarations, module_block, at_the_beginning, typing_of}
 use Rattle.typing_rules.specs.Modules.{StatementTyping, null, assignment, halt, if_then, simple_do, do_while, iterative_do, do_case, AloneTyping, unlabelled, ElseTyping, no_else, with_else, CasesTyping, no_case, next_case, StatementsTyping, no_statement, next_statement, ListTyping, list, DeclarationTyping, declare, procedure, DeclarationsTyping, no_declaration, next_declaration, ModuleTyping, whole}
 use Rattle.typing_rules.specs.ModuleFaults.{StatementFault, in_targets, in_source, call_of_unknown, in_condition, in_then, in_else, in_declarations_of_do, in_do, in_while_condition, in_while, in_head, in_iterated, in_choice, in_cases, AloneFault, misplaced_label, in_alone, ElseFault, after_else, CasesFault, in_first_case, in_other_cases, StatementsFault, in_labels, in_first_statement, in_other_statements, ListFault, in_list, DeclarationFault, in_declare, in_heading, in_own_declarations, in_parameters, with_body, in_body, DeclarationsFault, in_first_declaration, in_other_declarations, ModuleFault, in_declarations, in_statements}
 use Rattle.typing_rules.proofs.Judged.{Judged, judged_ok, judged_fault, then_judged, judged_more, then_found}
+use Rattle.typing_rules.proofs.ItemsTyped.{elements_judged}
+use Rattle.typing_rules.proofs.ProceduresTyped.{heading_judged, objects_judged, body_judged}
 use Rattle.typing_rules.proofs.StatementsJudged.{then_reached, value_judged, targets_judged, iteration_judged, labels_judged, call_judged, return_judged, goto_judged}
-
--- a check of which it only matters what it gives
-itself : {A : Type 0} (checked : Checked A) → Judged (λ a. checked ≡ Ok a) (λ fault. checked ≡ Err fault) checked
-itself checked = record { typed = λ a e. e; refused = λ fault e. e }
 
 list_judged : (block : Block) (trees : StatementTrees) (progress : Progress)
     → Judged (λ found. StatementsTyping block progress.known.here.labels
@@ -109,13 +106,13 @@ mutual
   pub declaration_judged : (block : Block) (tree : DeclarationTree) (progress : Progress)
       → Judged (DeclarationTyping block progress tree) (DeclarationFault block progress tree) (declaration block tree progress)
   declaration_judged block (DeclareTree elements) progress =
-      judged_more (itself (declare_elements block elements progress)) (λ fault is. in_declare is) (λ after is. declare is)
+      judged_more (elements_judged block elements progress) (λ fault is. in_declare is) (λ after is. declare is)
   declaration_judged block (ProcedureTree heading declared body end_name) progress =
-      then_judged (itself (open_procedure block heading declared progress)) (λ fault is. in_heading is) (λ opened is.
+      then_judged (heading_judged block heading declared progress) (λ fault is. in_heading is) (λ opened is.
       then_judged (declarations_judged (own_block heading progress) declared opened) (λ fault its. in_own_declarations is its) (λ within its.
-      then_judged (itself (parameter_objects within.known.here heading.parameters)) (λ fault are. in_parameters is its are)
+      then_judged (objects_judged within.known.here heading.parameters) (λ fault are. in_parameters is its are)
       (λ parameters are.
-      then_judged (itself (check_body heading body)) (λ fault there. with_body is its are there) (λ _ passes.
+      then_judged (body_judged heading body) (λ fault there. with_body is its are there) (λ _ passes.
       then_judged (list_judged (own_block heading progress) body within (statements_judged (own_block heading progress) body
       within.known.here.labels (with_here (into_list (labels_of body) within.known.here) within)))
       (λ fault more. in_body is its are passes more) (λ typed more.

@@ -14,6 +14,8 @@ use Rattle.typing_rules.specs.StatementFaults.{TargetsFault, in_first_target, in
 use Rattle.typing_rules.proofs.Judged.{fault_of, then_ok, then_fault, passed, failed, got, got_none}
 use Rattle.typing_rules.proofs.ExpressionsTyped.{target_is, typing_is}
 use Rattle.typing_rules.proofs.ExpressionsRefused.{is_nothing, NoObject, no_object, fault_is, values_fault, target_fault_is}
+use Rattle.typing_rules.proofs.ItemsTyped.{elements_fault}
+use Rattle.typing_rules.proofs.ProceduresTyped.{heading_is, objects_are, body_is, heading_fault, objects_fault, body_fault}
 use Rattle.typing_rules.proofs.ModulesTyped.{value_is, targets_are, both_are, counter_is, iteration_is, labels_are, return_is, goto_is, statement_is, alone_is, list_is, declaration_is, declarations_are}
 
 value_fault : {tree : ExpressionTree} {fault : Fault} (progress : Progress)
@@ -217,15 +219,17 @@ mutual
   pub declaration_fault : {block : Block} {progress : Progress} {tree : DeclarationTree} {fault : Fault}
       → DeclarationFault block progress tree fault
       → declaration block tree progress ≡ Err fault
-  declaration_fault (in_declare is) = is
-  declaration_fault (in_heading is) = then_fault _ is
-  declaration_fault (in_own_declarations heading is) = then_ok _ heading (then_fault _ (declarations_fault is))
-  declaration_fault (in_parameters heading declared is) =
-      then_ok _ heading (then_ok _ (declarations_are declared) (then_fault _ is))
-  declaration_fault (with_body heading declared parameters is) =
-      then_ok _ heading (then_ok _ (declarations_are declared) (then_ok _ parameters (then_fault _ is)))
-  declaration_fault (in_body heading declared parameters body is) =
-      then_ok _ heading (then_ok _ (declarations_are declared) (then_ok _ parameters (then_ok _ body (then_fault _ (list_fault is)))))
+  declaration_fault (in_declare is) = elements_fault is
+  declaration_fault (in_heading {declared = declared} is) = then_fault _ (heading_fault declared is)
+  declaration_fault (in_own_declarations opening is) = then_ok _ (heading_is opening) (then_fault _ (declarations_fault is))
+  declaration_fault (in_parameters opening declared is) =
+      then_ok _ (heading_is opening) (then_ok _ (declarations_are declared) (then_fault _ (objects_fault is)))
+  declaration_fault (with_body opening declared parameters is) =
+      then_ok _ (heading_is opening) (then_ok _ (declarations_are declared) (then_ok _ (objects_are parameters)
+      (then_fault _ (body_fault is))))
+  declaration_fault (in_body opening declared parameters body is) =
+      then_ok _ (heading_is opening) (then_ok _ (declarations_are declared) (then_ok _ (objects_are parameters)
+      (then_ok _ (body_is body) (then_fault _ (list_fault is)))))
 
   pub declarations_fault : {block : Block} {progress : Progress} {trees : DeclarationTrees} {fault : Fault}
       → DeclarationsFault block progress trees fault

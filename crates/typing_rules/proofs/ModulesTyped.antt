@@ -11,6 +11,8 @@ use Rattle.typing_rules.specs.Modules.{StatementTyping, null, assignment, call, 
 use Rattle.typing_rules.specs.Statements.{TargetsTyping, no_targets, next_target, IsCounter, StepTyping, no_step, a_step, IterationTyping, iterates, AreNewLabels, no_labels, next_label}
 use Rattle.typing_rules.proofs.Judged.{then_ok, passed, got}
 use Rattle.typing_rules.proofs.ExpressionsTyped.{typing_is, values_is, target_is}
+use Rattle.typing_rules.proofs.ItemsTyped.{elements_are}
+use Rattle.typing_rules.proofs.ProceduresTyped.{heading_is, objects_are, body_is}
 
 pub value_is : {tree : ExpressionTree} {typed : TypedExpression} {after : Constants} (progress : Progress)
     → ExpressionTyping progress.known progress.constants tree typed after
@@ -138,9 +140,10 @@ mutual
   pub declaration_is : {block : Block} {progress : Progress} {tree : DeclarationTree} {after : Progress}
       → DeclarationTyping block progress tree after
       → declaration block tree progress ≡ Ok after
-  declaration_is (declare is) = is
-  declaration_is (procedure heading declared parameters body statements) =
-      then_ok _ heading (then_ok _ (declarations_are declared) (then_ok _ parameters (then_ok _ body (then_ok _ (list_is statements) refl))))
+  declaration_is (declare is) = elements_are is
+  declaration_is (procedure opening declared parameters body statements) =
+      then_ok _ (heading_is opening) (then_ok _ (declarations_are declared) (then_ok _ (objects_are parameters)
+      (then_ok _ (body_is body) (then_ok _ (list_is statements) refl))))
 
   pub declarations_are : {block : Block} {progress : Progress} {trees : DeclarationTrees} {after : Progress}
       → DeclarationsTyping block progress trees after

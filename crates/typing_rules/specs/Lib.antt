@@ -4,5 +4,10 @@ pub mod Expressions
 pub mod ExpressionFaults
 pub mod Statements
 pub mod StatementFaults
+pub mod Procedures
+pub mod Filling
+pub mod Items
+pub mod ItemFaults
 pub mod Modules
 pub mod ModuleFaults
+pub mod Laws

@@ -17,14 +17,15 @@ use Rattle.typing.specs.declared.fault.Fault.{Fault}
 use Rattle.typing.specs.Nodes.{Destination}
 use Rattle.typing.specs.References.{number_of_arguments}
 use Rattle.typing.specs.Blocks.{TheModule, OfProcedure, Block, Progress}
-use Rattle.typing.specs.Items.{declare_elements}
 use Rattle.typing.specs.Statements.{with_here, with_constants}
-use Rattle.typing.specs.Procedures.{open_procedure, own_block, parameter_objects, check_body}
+use Rattle.typing.specs.Procedures.{own_block}
 use Rattle.typing.specs.Typing.{inner_block, entered, module_block, at_the_beginning}
 use Rattle.typing_rules.specs.Expressions.{ExpressionTyping}
 use Rattle.typing_rules.specs.ExpressionFaults.{ExpressionFault, ValuesFault}
+use Rattle.typing_rules.specs.ItemFaults.{ElementsFault}
 use Rattle.typing_rules.specs.Modules.{StatementTyping, AloneTyping, ListTyping, DeclarationTyping, DeclarationsTyping}
 use Rattle.typing_rules.specs.Names.{IsUnknown, IsProcedure, IsBuiltIn, IsNoProcedure, at_name}
+use Rattle.typing_rules.specs.Procedures.{HeadingTyping, AreParameters, BodyStands, HeadingFault, ParameterFault, BodyFault}
 use Rattle.typing_rules.specs.StatementFaults.{TargetsFault, IterationFault, LabelsFault}
 use Rattle.typing_rules.specs.Statements.{TargetsTyping, IterationTyping, AreNewLabels}
 
@@ -199,36 +200,36 @@ mutual
 
   pub data DeclarationFault : Block → Progress → DeclarationTree → Fault → Type 0 where
     in_declare : {block : Block} {progress : Progress} {elements : List ElementTree} {fault : Fault}
-        → declare_elements block elements progress ≡ Err fault
+        → ElementsFault block progress elements fault
         → DeclarationFault block progress (DeclareTree elements) fault
     in_heading : {block : Block} {progress : Progress} {heading : HeadingTree} {declared : DeclarationTrees}
         {body : StatementTrees} {end_name : Option Identifier} {fault : Fault}
-        → open_procedure block heading declared progress ≡ Err fault
+        → HeadingFault block heading progress fault
         → DeclarationFault block progress (ProcedureTree heading declared body end_name) fault
     in_own_declarations : {block : Block} {progress opened : Progress} {heading : HeadingTree} {declared : DeclarationTrees}
         {body : StatementTrees} {end_name : Option Identifier} {fault : Fault}
-        → open_procedure block heading declared progress ≡ Ok opened
+        → HeadingTyping block heading declared progress opened
         → DeclarationsFault (own_block heading progress) opened declared fault
         → DeclarationFault block progress (ProcedureTree heading declared body end_name) fault
     in_parameters : {block : Block} {progress opened within : Progress} {heading : HeadingTree} {declared : DeclarationTrees}
         {body : StatementTrees} {end_name : Option Identifier} {fault : Fault}
-        → open_procedure block heading declared progress ≡ Ok opened
+        → HeadingTyping block heading declared progress opened
         → DeclarationsTyping (own_block heading progress) opened declared within
-        → parameter_objects within.known.here heading.parameters ≡ Err fault
+        → ParameterFault within.known.here heading.parameters fault
         → DeclarationFault block progress (ProcedureTree heading declared body end_name) fault
     with_body : {block : Block} {progress opened within : Progress} {heading : HeadingTree} {declared : DeclarationTrees}
         {body : StatementTrees} {end_name : Option Identifier} {parameters : List ℕ} {fault : Fault}
-        → open_procedure block heading declared progress ≡ Ok opened
+        → HeadingTyping block heading declared progress opened
         → DeclarationsTyping (own_block heading progress) opened declared within
-        → parameter_objects within.known.here heading.parameters ≡ Ok parameters
-        → check_body heading body ≡ Err fault
+        → AreParameters within.known.here heading.parameters parameters
+        → BodyFault heading body fault
         → DeclarationFault block progress (ProcedureTree heading declared body end_name) fault
     in_body : {block : Block} {progress opened within : Progress} {heading : HeadingTree} {declared : DeclarationTrees}
         {body : StatementTrees} {end_name : Option Identifier} {parameters : List ℕ} {fault : Fault}
-        → open_procedure block heading declared progress ≡ Ok opened
+        → HeadingTyping block heading declared progress opened
         → DeclarationsTyping (own_block heading progress) opened declared within
-        → parameter_objects within.known.here heading.parameters ≡ Ok parameters
-        → check_body heading body ≡ Ok tt
+        → AreParameters within.known.here heading.parameters parameters
+        → BodyStands heading body
         → ListFault (own_block heading progress) within body fault
         → DeclarationFault block progress (ProcedureTree heading declared body end_name) fault
 

@@ -18,12 +18,13 @@ use Rattle.typed_trees.specs.TypedTrees.{TypedExpression, TypedArguments, NoArgu
 use Rattle.typing.specs.Nodes.{as_type, arguments_as, Destination}
 use Rattle.typing.specs.References.{number_of_arguments}
 use Rattle.typing.specs.Blocks.{OfProcedure, Block, Progress}
-use Rattle.typing.specs.Items.{declare_elements}
 use Rattle.typing.specs.Statements.{with_here, with_constants, assigned, after_labels, places_from}
-use Rattle.typing.specs.Procedures.{open_procedure, own_block, parameter_objects, check_body, close_procedure}
+use Rattle.typing.specs.Procedures.{own_block, close_procedure}
 use Rattle.typing.specs.Typing.{inner_block, entered, left, module_block, at_the_beginning, module_with}
 use Rattle.typing_rules.specs.Expressions.{ExpressionTyping, ValuesTyping}
+use Rattle.typing_rules.specs.Items.{ElementsTyping}
 use Rattle.typing_rules.specs.Names.{IsProcedure, IsBuiltIn}
+use Rattle.typing_rules.specs.Procedures.{HeadingTyping, AreParameters, BodyStands}
 use Rattle.typing_rules.specs.Statements.{TargetsTyping, IterationTyping, AreNewLabels}
 
 mutual
@@ -148,16 +149,16 @@ mutual
 
   pub data DeclarationTyping : Block → Progress → DeclarationTree → Progress → Type 0 where
     declare : {block : Block} {progress after : Progress} {elements : List ElementTree}
-        → declare_elements block elements progress ≡ Ok after
+        → ElementsTyping block progress elements after
         → DeclarationTyping block progress (DeclareTree elements) after
     -- A procedure: its heading, then its declarations, each of its parameters among them, and its statements.
     procedure : {block : Block} {progress opened within after : Progress} {heading : HeadingTree}
         {declared : DeclarationTrees} {body : StatementTrees} {end_name : Option Identifier} {parameters : List ℕ}
         {typed : TypedList}
-        → open_procedure block heading declared progress ≡ Ok opened
+        → HeadingTyping block heading declared progress opened
         → DeclarationsTyping (own_block heading progress) opened declared within
-        → parameter_objects within.known.here heading.parameters ≡ Ok parameters
-        → check_body heading body ≡ Ok tt
+        → AreParameters within.known.here heading.parameters parameters
+        → BodyStands heading body
         → ListTyping (own_block heading progress) within body typed after
         → DeclarationTyping block progress (ProcedureTree heading declared body end_name)
         (close_procedure heading declared (length progress.known.procedures) parameters typed after)
