@@ -1,6 +1,6 @@
 -- Expressions: what the typing gives of one has a typing by the rules, and the fault that it gives is one of the rules.
-use Rattle.typing_rules.proofs.Prelude.{◌≡◌, ℕ, ◌+◌, ◌*◌, List, [], ◌∷◌, Option, Some, None, Ok, refl, ap, subst, ConstantTree, NumberConstant, StringConstant, StringTree, ExpressionTree, ConstantLeaf, ReferenceLeaf, LocationLeaf, ListLeaf, ParenthesizedNode, AssignmentNode, UnaryNode, BinaryNode, ReferenceTo, MemberTree, NoMember, MemberOf, ArgumentTrees, NoArguments, MoreArguments, TypedExpression, Constants, StringNotNumber, Fault, Checked, number_of_characters, number_node, expression, arguments, Known, IsNumber, digits, one_character, two_characters, ExpressionTyping, constant, constant_list, parenthesized, embedded_assignment, unary, binary, ValuesTyping, no_values, next_value, IsNoNumber, ExpressionFault, no_number, in_value, in_location, in_parentheses, in_target, in_assigned_value, in_operand, in_left, in_right, ValuesFault, in_first, in_others}
-use Rattle.typing_rules.proofs.Judged.{Judged, judged_ok, judged_fault, then_judged, judged_more, then_found}
+use Rattle.typing_rules.proofs.Prelude.{◌≡◌, ℕ, ◌+◌, ◌*◌, List, [], ◌∷◌, Some, None, refl, ap, subst, ConstantTree, NumberConstant, StringConstant, StringTree, ExpressionTree, ConstantLeaf, ReferenceLeaf, LocationLeaf, ListLeaf, ParenthesizedNode, AssignmentNode, UnaryNode, BinaryNode, ReferenceTo, MemberTree, NoMember, MemberOf, ArgumentTrees, NoArguments, MoreArguments, Constants, StringNotNumber, number_of_characters, number_node, expression, Known, IsNumber, digits, one_character, two_characters, ExpressionTyping, constant, constant_list, parenthesized, embedded_assignment, unary, binary, no_values, next_value, IsNoNumber, ExpressionFault, no_number, in_value, in_location, in_parentheses, in_target, in_assigned_value, in_operand, in_left, in_right, in_first, in_others}
+use Rattle.typing_rules.proofs.Judged.{Judged, judged_ok, then_judged, judged_more, then_found}
 use Rattle.typing_rules.proofs.ReferencesJudged.{ValuesJudged, MemberJudged, value_judged, location_judged, target_judged}
 
 -- strings as numbers

@@ -1,10 +1,8 @@
 -- A fault of an expression by the rules is the one that the typing gives. So there is at most one, and none where the
 -- expression has a typing.
-use Rattle.typing_rules.proofs.Prelude.{◌≡◌, ◌∙◌, ℕ, ◌==◌, Bool, true, false, List, [], ◌∷◌, Option, Some, None, Ok, Err, not, refl, sym, ap, subst, arith, slice_get, lt-leb, eq-eqb, ne_eqb, Identifier, Place, ConstantTree, NumberConstant, StringConstant, StringTree, ExpressionTree, ConstantLeaf, ReferenceLeaf, ReferenceTree, ReferenceTo, MemberTree, NoMember, MemberOf, ArgumentTrees, NoArguments, MoreArguments, Binding, Declared, BuiltInName, UnknownLabel, BuiltIn, Object, Procedure, Label, Definition, FoundMember, Measure, ShiftFunction, UnaryFunction, TypedExpression, member_named, TypedObject, TypedArguments, Constants, ArgumentCount, SubscriptMismatch, MemberMismatch, NotMeasurable, NoVariable, NoLocation, PortNotConstant, PortTooLarge, UnknownName, Fault, Checked, ◌>>=◌, require, found, inl, inr, ◌⊎◌, number_of_characters, number_of_constant, expression, given_reference, given_member, arguments, Measured, measured_object, measure_of, measurement, value_of_bound, value_of, location_of_bound, location_of, destination_of_bound, destination_of, Known, Extent, AnElement, AlsoTheWhole, number_of_arguments, takes_subscripts, members_of, part_of, port_of, port_of_character, StandsFor, IsVariable, IsBuiltIn, IsNoVariable, at_name, ExpressionTyping, scalar_value, typed_call, input, function_call, shift_call, measure_call, IsNoNumber, PortFault, number_too_great, character_too_great, no_character, no_constant, MemberFault, no_structure, no_such_member, MeasureFault, no_reference, unknown_variable, no_variable, subscripted, in_member, no_dimension, IsWrongNumber, of_no_array, more_than_one, no_element, HasNoValue, TakesValues, takes_one, takes_two, ExpressionFault, no_number, in_value, in_location, in_parentheses, in_target, in_assigned_value, in_operand, in_left, in_right, ValuesFault, in_first, in_others, ValueFault, unknown_value, no_value, in_part, no_scalar, no_procedure, untyped, value_of_output, value_of_move, wrong_count, in_argument, wrong_count_of_values, in_values, in_port, in_measure, member_of_result, LocationFault, unknown_location, location_of_procedure, location_in_frame, location_of_no_variable, in_located_part, TargetFault, unknown_target, no_target, target_with_data, in_target_part, no_scalar_target, in_output, member_of_output, SubscriptFault, wrong_number, in_subscript, PartFault, in_subscripts, no_member, in_member_subscripts}
+use Rattle.typing_rules.proofs.Prelude.{◌≡◌, ◌∙◌, ℕ, true, false, List, [], ◌∷◌, Option, Some, None, Err, not, refl, sym, ap, subst, arith, slice_get, lt-leb, eq-eqb, ne_eqb, Identifier, Place, ConstantTree, NumberConstant, StringConstant, StringTree, ExpressionTree, ConstantLeaf, ReferenceLeaf, ReferenceTree, ReferenceTo, MemberTree, NoMember, MemberOf, ArgumentTrees, NoArguments, MoreArguments, Binding, Declared, BuiltInName, UnknownLabel, BuiltIn, Object, Procedure, Label, Definition, FoundMember, Measure, TypedExpression, member_named, TypedObject, TypedArguments, Constants, ArgumentCount, SubscriptMismatch, MemberMismatch, NotMeasurable, NoVariable, PortNotConstant, PortTooLarge, UnknownName, Fault, Checked, ◌>>=◌, require, found, inl, inr, ◌⊎◌, number_of_characters, expression, given_reference, arguments, Measured, measured_object, measure_of, measurement, value_of_bound, value_of, location_of_bound, location_of, destination_of_bound, destination_of, Known, Extent, AnElement, AlsoTheWhole, number_of_arguments, takes_subscripts, members_of, part_of, port_of, port_of_character, IsNoVariable, at_name, ExpressionTyping, scalar_value, typed_call, input, function_call, shift_call, measure_call, IsNoNumber, PortFault, number_too_great, character_too_great, no_character, no_constant, MemberFault, no_structure, no_such_member, MeasureFault, no_reference, unknown_variable, no_variable, subscripted, in_member, no_dimension, IsWrongNumber, of_no_array, more_than_one, no_element, TakesValues, takes_one, takes_two, ExpressionFault, no_number, in_value, in_location, in_parentheses, in_target, in_assigned_value, in_operand, in_left, in_right, ValuesFault, in_first, in_others, ValueFault, unknown_value, no_value, in_part, no_scalar, no_procedure, untyped, value_of_output, value_of_move, wrong_count, in_argument, wrong_count_of_values, in_values, in_port, in_measure, member_of_result, LocationFault, unknown_location, location_of_procedure, location_in_frame, location_of_no_variable, in_located_part, TargetFault, unknown_target, no_target, target_with_data, in_target_part, no_scalar_target, in_output, member_of_output, SubscriptFault, wrong_number, in_subscript, PartFault, in_subscripts, no_member, in_member_subscripts}
 use Rattle.names.specs.declared.entity.BuiltIn.TheVariants as built_ins
 use Rattle.typed_trees.specs.declared.parts.Measure.TheVariants as measures
-use Rattle.typed_trees.specs.declared.parts.ShiftFunction.TheVariants as shifts
-use Rattle.typed_trees.specs.declared.parts.UnaryFunction.TheVariants as functions
 use Rattle.typing_rules.proofs.Judged.{fault_of, then_ok, then_fault, passed, failed, got, got_none}
 use Rattle.typing_rules.proofs.ReferencesJudged.{given_name}
 use Rattle.typing_rules.proofs.ExpressionsTyped.{port_is, function_is, shift_is, measure_function_is, then_member_ok, measured_is, measure_is, one_fits, typing_is, values_is, subscript_is, part_is, target_is}

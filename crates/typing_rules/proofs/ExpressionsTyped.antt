@@ -1,5 +1,5 @@
 -- A typing of an expression by the rules is the one that the typing gives. So there is at most one.
-use Rattle.typing_rules.proofs.Prelude.{◌≡◌, ◌∙◌, ℕ, Bool, true, false, List, [], ◌∷◌, Option, Some, None, Ok, Err, not, refl, sym, ap, subst, le-leb, eq-eqb, Identifier, Place, ConstantTree, ExpressionTree, ReferenceLeaf, ReferenceTree, ReferenceTo, MemberTree, NoMember, MemberOf, ArgumentTrees, NoArguments, MoreArguments, Binding, Declared, Object, FoundMember, Measure, ShiftFunction, UnaryFunction, ScalarType, size_of_element, member_named, TypedExpression, TypedReference, PartOf, Subscript, NoSubscript, TypedArguments, NoTyped, MoreTyped, ObjectType, TypedObject, Constants, MemberMismatch, UnknownName, Checked, ◌>>=◌, found, number_of_characters, number_of_constant, expression, given_reference, arguments, Measured, measured_object, measure_of, number_of_variable, unary_function, shift_function, built_in_value, Destination, Known, GivenReference, Extent, AnElement, AlsoTheWhole, number_of_arguments, takes_subscripts, subscript_of, members_of, FoundPart, whole_part, part_of, port_of, port_of_character, destination_of, IsNumber, digits, one_character, two_characters, IsPort, port_number, port_character, StandsFor, named_function, named_shift, named_measure, IsMember, IsMeasured, a_variable, a_member, IsMeasure, a_length, a_last, a_size, ExpressionTyping, constant, scalar_value, typed_call, input, function_call, shift_call, measure_call, location, constant_list, parenthesized, embedded_assignment, unary, binary, ValuesTyping, no_values, next_value, SubscriptTyping, no_array, element, whole_array, PartTyping, has_no_member, has_member, TargetTyping, scalar_target, output}
+use Rattle.typing_rules.proofs.Prelude.{◌≡◌, ◌∙◌, ℕ, true, Option, Some, Ok, Err, not, refl, sym, ap, subst, le-leb, eq-eqb, Identifier, Place, ConstantTree, ExpressionTree, ReferenceLeaf, ReferenceTree, ReferenceTo, MemberTree, NoMember, ArgumentTrees, NoArguments, MoreArguments, Binding, Declared, Object, FoundMember, Measure, ShiftFunction, UnaryFunction, ScalarType, member_named, TypedExpression, TypedReference, PartOf, Subscript, TypedArguments, NoTyped, MoreTyped, TypedObject, Constants, MemberMismatch, UnknownName, Checked, ◌>>=◌, found, number_of_characters, number_of_constant, expression, given_reference, arguments, Measured, measured_object, measure_of, number_of_variable, unary_function, shift_function, built_in_value, Destination, Known, GivenReference, Extent, AnElement, AlsoTheWhole, number_of_arguments, takes_subscripts, subscript_of, members_of, FoundPart, whole_part, part_of, port_of, port_of_character, destination_of, IsNumber, digits, one_character, two_characters, IsPort, port_number, port_character, StandsFor, named_function, named_shift, named_measure, IsMember, IsMeasured, a_variable, a_member, IsMeasure, a_length, a_last, a_size, ExpressionTyping, constant, scalar_value, typed_call, input, function_call, shift_call, measure_call, location, constant_list, parenthesized, embedded_assignment, unary, binary, ValuesTyping, no_values, next_value, SubscriptTyping, no_array, element, whole_array, PartTyping, has_no_member, has_member, TargetTyping, scalar_target, output}
 use Rattle.typed_trees.specs.declared.parts.Measure.TheVariants as measures
 use Rattle.typed_trees.specs.declared.parts.ShiftFunction.TheVariants as shifts
 use Rattle.typed_trees.specs.declared.parts.UnaryFunction.TheVariants as functions

@@ -1,5 +1,5 @@
 -- What a DECLARE declares: what the typing gives of it is what the rules give, and so is the fault.
-use Rattle.typing_rules.proofs.Prelude.{◌≡◌, ◌∙◌, ℕ, ◌<◌, ◌≤◌, Bool, true, false, not, List, [], ◌∷◌, ◌++◌, Option, Some, None, Ok, Err, nat_le, refl, sym, ap, subst, arith, slice_get, leb-true, leb-false, le-leb, lt-leb, Identifier, Place, Binding, Declared, BuiltInName, UnknownLabel, Object, Procedure, Label, Definition, binding_of, TypedMember, ObjectType, ScalarObject, StructureObject, TypedObject, Cause, NoVariable, UnknownName, Fault, Checked, ◌>>=◌, require, Known, StandsFor, IsUnknown, IsVariable, IsNoVariable, at_name}
+use Rattle.typing_rules.proofs.Prelude.{◌≡◌, ℕ, Bool, true, false, not, List, [], ◌∷◌, ◌++◌, Option, Some, None, Ok, Err, nat_le, refl, ap, slice_get, leb-true, leb-false, le-leb, lt-leb, Identifier, Place, Binding, Declared, BuiltInName, UnknownLabel, Object, Procedure, Label, Definition, binding_of, TypedMember, ObjectType, Cause, NoVariable, UnknownName, Fault, ◌>>=◌, require, Known, StandsFor, IsVariable, at_name}
 use Rattle.std.specs.Prelude.{◌&&◌, ◌||◌, is_none, is_some}
 use Rattle.trees.specs.declared.declaration.Dimension.{Dimension}
 use Rattle.trees.specs.declared.declaration.Dimension.TheVariants.{Count, Implied}
@@ -14,8 +14,8 @@ use Rattle.typed_trees.specs.declared.parts.AtAddress.{AtAddress}
 use Rattle.typed_trees.specs.Sizes.{has_member}
 use Rattle.typing.specs.declared.fault.Cause.TheVariants.{DeclaredTwice, ParameterNotScalar, NoBase, MisplacedLinkage, MisplacedAt, MisplacedValues, BasedParameter, ImpliedForGroup, ExternalContents, ZeroDimension, ImpliedWithoutValues, TooLarge}
 use Rattle.typing.specs.Blocks.{Block, Progress, is_external, is_module_level, declares_parameter, place_of_linkage}
-use Rattle.typing.specs.Filling.{ThisModule, address_of, at_address, Extents, NoArray, Elements, AsListed, Contents}
-use Rattle.typing.specs.Items.{declare_names, is_group, names_parameter, base_of, place_of_item, is_base, object_bound, typed_base, extents_of, member_dimension, typed_members, typed_type, check_linkage, is_plain, typed_at, place_of_storage, typed_contents, TypedItem, object_named, with_typed_object, with_objects, typed_item, size_of_item, declare_item, declare_element, declare_elements}
+use Rattle.typing.specs.Filling.{ThisModule, Extents, Contents}
+use Rattle.typing.specs.Items.{declare_names, is_group, names_parameter, base_of, place_of_item, is_base, object_bound, typed_base, extents_of, member_dimension, typed_members, typed_type, check_linkage, is_plain, typed_at, place_of_storage, typed_contents, TypedItem, object_named, with_typed_object, with_objects, typed_item, size_of_item, declare_element, declare_elements}
 use Rattle.typing.specs.References.{object_of}
 use Rattle.typing_rules.specs.Items.{AreNewNames, no_names, next_name, BaseTyping, no_base, a_base, ExtentsTyping, no_extents, counted, implied, DimensionTyping, no_elements, some_elements, MembersTyping, no_members, next_member, TypeTyping, scalar_type, structure_type, ItemLinkageStands, private_item, shared_item, AtTyping, not_placed, is_placed, ListTypingOf, without_list, with_list_of, ItemTyping, an_item, ObjectsTyping, no_objects, next_object, ElementTyping, a_definition, of_item, ElementsTyping, no_more_elements, next_element}
 use Rattle.typing_rules.specs.ItemFaults.{NamesFault, name_again, external_contents, in_other_names, BaseFault, based_parameter, unknown_base, base_is_no_variable, wrong_base, ExtentsFault, zero_dimension, array_parameter, implied_parameter, implied_for_group, implied_without_list, DimensionFault, zero_of_member, MembersFault, member_again, in_dimension, in_other_members, TypeFault, structure_parameter, in_members, ItemLinkageFault, misplaced_item_linkage, AtFault, misplaced_at, in_at, ListFaultOf, in_no_list, misplaced_values, in_values_of_list, ItemFault, in_base, in_extents, in_type, in_linkage, in_place, in_list_of_item, ObjectsFault, frame_too_large, in_other_objects, ElementFault, definition_again, external_definition, in_names, in_item, item_too_large, in_objects, ElementsFault, in_first_element, in_other_elements}

@@ -37,6 +37,7 @@ then_judged {A = A} {B = B} {P = P} {R = R} {Q = Q} {S = S} {checked = checked} 
     gives : (r : Checked A) → ((a : A) → r ≡ Ok a → P a) → (b : B) → (r >>= next) ≡ Ok b → R b
     gives (Ok a) first b e = (then_is a (first a refl)).typed b e
     gives (Err fault) first b e = absurd cc
+
     is_refused : (r : Checked A) → ((a : A) → r ≡ Ok a → P a) → ((fault : Fault) → r ≡ Err fault → Q fault)
         → (fault : Fault) → (r >>= next) ≡ Err fault → S fault
     is_refused (Ok a) first is_fault fault e = (then_is a (first a refl)).refused fault e

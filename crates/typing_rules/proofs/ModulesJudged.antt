@@ -1,6 +1,6 @@
 -- Statements, declarations and modules: what the typing gives of one has a typing by the rules, and the fault that it gives
 -- is one of the rules.
-use Rattle.typing_rules.proofs.Prelude.{◌≡◌, ℕ, ◌+◌, List, [], ◌∷◌, length, Ok, Err, refl, binding_of, UnknownName, Fault, Checked, ◌>>=◌, arguments, Constants}
+use Rattle.typing_rules.proofs.Prelude.{ℕ, ◌+◌, [], ◌∷◌, length, refl, binding_of, UnknownName}
 use Rattle.trees.specs.Trees.{StatementTree, LabelledStatement, StatementKindTree, NullStatement, AssignmentStatement, CallStatement, ReturnStatement, HaltStatement, GotoStatement, IfStatement, DoStatement, WhileStatement, IterateStatement, CaseStatement, ElseTree, NoElse, ElseStatement, StatementTrees, NoStatements, MoreStatements, DeclarationTree, DeclareTree, ProcedureTree, DeclarationTrees, NoDeclarations, MoreDeclarations, ModuleTree}
 use Rattle.names.specs.BuiltIns.{jump_of}
 use Rattle.names.specs.Environment.{into_list}

@@ -1,6 +1,6 @@
 -- A fault of a statement, a declaration or a module by the rules is the one that the typing gives. So there is at most one,
 -- and none where there is a typing.
-use Rattle.typing_rules.proofs.Prelude.{◌≡◌, ◌∙◌, ℕ, ◌==◌, Bool, true, false, not, List, [], ◌∷◌, length, Option, Some, None, Ok, Err, refl, sym, ap, subst, slice_get, eq-eqb, ne_eqb, Identifier, Place, ExpressionTree, ReferenceTree, ArgumentTrees, Binding, Declared, BuiltInName, UnknownLabel, BuiltIn, Object, Procedure, Label, Definition, TypedObject, TypedProcedure, Constants, CallOfNoProcedure, NoVariable, Cause, Fault, Checked, ◌>>=◌, require, arguments, Known, scalar_of, IsNoVariable, IsNoProcedure, at_name, ExpressionFault}
+use Rattle.typing_rules.proofs.Prelude.{◌≡◌, ◌∙◌, ℕ, Bool, true, false, not, List, Option, Some, None, Err, refl, sym, ap, subst, slice_get, eq-eqb, ne_eqb, Identifier, Place, ExpressionTree, ReferenceTree, ArgumentTrees, Binding, Declared, BuiltInName, UnknownLabel, BuiltIn, Object, Procedure, Label, Definition, TypedProcedure, Constants, CallOfNoProcedure, NoVariable, Cause, Fault, Checked, ◌>>=◌, require, arguments, Known, scalar_of, at_name, ExpressionFault}
 use Rattle.std.specs.Prelude.{◌&&◌, is_none}
 use Rattle.trees.specs.Trees.{IterationTree, StatementTree, StatementKindTree, ElseTree, StatementTrees, DeclarationTree, DeclarationTrees, ModuleTree}
 use Rattle.names.specs.declared.entity.BuiltIn.TheVariants as built_ins
@@ -12,11 +12,11 @@ use Rattle.typing.specs.Typing.{kind, alone, else_part, cases, statements, decla
 use Rattle.typing_rules.specs.ModuleFaults.{StatementFault, in_targets, in_source, call_of_unknown, call_of_no_procedure, call_of_typed, call_with_wrong_count, in_argument_of_call, move_with_wrong_count, in_argument_of_move, return_outside, value_for_no_type, no_value_for_type, in_returned_value, unknown_label, in_condition, in_then, in_else, in_declarations_of_do, in_do, in_while_condition, in_while, in_head, in_iterated, in_choice, in_cases, AloneFault, misplaced_label, in_alone, ElseFault, after_else, CasesFault, in_first_case, in_other_cases, StatementsFault, in_labels, in_first_statement, in_other_statements, ListFault, in_list, DeclarationFault, in_declare, in_heading, in_own_declarations, in_parameters, with_body, in_body, DeclarationsFault, in_first_declaration, in_other_declarations, ModuleFault, in_declarations, in_statements}
 use Rattle.typing_rules.specs.StatementFaults.{TargetsFault, in_first_target, in_other_targets, CounterFault, unknown_counter, counter_of_no_variable, counter_with_data, counter_in_array, based_counter, counter_with_members, StepFault, in_step, IterationFault, in_counter, in_first_value, in_last_value, in_step_value, LabelsFault, label_again, in_other_labels}
 use Rattle.typing_rules.proofs.Judged.{fault_of, then_ok, then_fault, passed, failed, got, got_none}
-use Rattle.typing_rules.proofs.ExpressionsTyped.{target_is, typing_is}
+use Rattle.typing_rules.proofs.ExpressionsTyped.{target_is}
 use Rattle.typing_rules.proofs.ExpressionsRefused.{is_nothing, NoObject, no_object, fault_is, values_fault, target_fault_is}
 use Rattle.typing_rules.proofs.ItemsTyped.{elements_fault}
 use Rattle.typing_rules.proofs.ProceduresTyped.{heading_is, objects_are, body_is, heading_fault, objects_fault, body_fault}
-use Rattle.typing_rules.proofs.ModulesTyped.{value_is, targets_are, both_are, counter_is, iteration_is, labels_are, return_is, goto_is, statement_is, alone_is, list_is, declaration_is, declarations_are}
+use Rattle.typing_rules.proofs.ModulesTyped.{value_is, targets_are, counter_is, iteration_is, labels_are, return_is, statement_is, alone_is, declaration_is, declarations_are}
 
 value_fault : {tree : ExpressionTree} {fault : Fault} (progress : Progress)
     → ExpressionFault progress.known progress.constants tree fault

@@ -1,11 +1,11 @@
 -- A typing of a statement, a declaration or a module by the rules is the one that the typing gives. So there is at most one.
-use Rattle.typing_rules.proofs.Prelude.{◌≡◌, ◌∙◌, ℕ, suc, ◌==◌, Bool, true, false, not, List, [], ◌∷◌, length, Option, Some, None, Ok, Err, refl, sym, ap, subst, arith, eq-eqb, ScalarType, Identifier, Place, ExpressionTree, ReferenceTree, ArgumentTrees, NoArguments, MoreArguments, Binding, Declared, BuiltIn, Object, TypedExpression, TypedArguments, MoreTyped, NoTyped, ObjectType, Constants, Checked, ◌>>=◌, Destination, Known, number_of_arguments, scalar_of, ExpressionTyping, ValuesTyping, no_values, next_value}
+use Rattle.typing_rules.proofs.Prelude.{◌≡◌, ℕ, Bool, true, not, List, Option, Some, None, Ok, refl, sym, ap, subst, eq-eqb, ScalarType, Identifier, Place, ExpressionTree, ReferenceTree, ArgumentTrees, Binding, Declared, Object, TypedExpression, MoreTyped, NoTyped, Constants, Checked, Destination, Known, number_of_arguments, scalar_of, ExpressionTyping, ValuesTyping, no_values, next_value}
 use Rattle.std.specs.Prelude.{◌&&◌, is_none}
 use Rattle.trees.specs.Trees.{HeadingTree, IterationTree, StatementTree, StatementKindTree, ElseTree, StatementTrees, DeclarationTree, DeclarationTrees, ModuleTree}
 use Rattle.names.specs.Environment.{Here}
 use Rattle.typed_trees.specs.TypedTrees.{TypedIteration, TypedStatement, TypedElse, TypedStatements, TypedList, TypedModule}
 use Rattle.typing.specs.Blocks.{Owner, OfProcedure, Block, Progress}
-use Rattle.typing.specs.Statements.{with_constants, value, destinations, return_with, return_from, goto_bound, Counter, counter_bound, step, iteration, declare_labels, list_of}
+use Rattle.typing.specs.Statements.{with_constants, value, destinations, return_with, return_from, goto_bound, counter_bound, step, iteration, declare_labels, list_of}
 use Rattle.typing.specs.Typing.{kind, alone, else_part, cases, statements, declaration, declarations, typing_of}
 use Rattle.typing_rules.specs.Modules.{StatementTyping, null, assignment, call, move, return, return_value, halt, goto, if_then, simple_do, do_while, iterative_do, do_case, AloneTyping, unlabelled, ElseTyping, no_else, with_else, CasesTyping, no_case, next_case, StatementsTyping, no_statement, next_statement, ListTyping, list, DeclarationTyping, declare, procedure, DeclarationsTyping, no_declaration, next_declaration, ModuleTyping, whole}
 use Rattle.typing_rules.specs.Statements.{TargetsTyping, no_targets, next_target, IsCounter, StepTyping, no_step, a_step, IterationTyping, iterates, AreNewLabels, no_labels, next_label}

@@ -1,5 +1,5 @@
 -- Headings, parameters and bodies: what the typing gives of them is what the rules give, and so is the fault.
-use Rattle.typing_rules.proofs.Prelude.{◌≡◌, ◌∙◌, ℕ, Bool, true, false, not, List, [], ◌∷◌, Option, Some, None, Ok, Err, refl, sym, ap, subst, Identifier, Object, Procedure, Label, Definition, Fault, Checked, ◌>>=◌, require}
+use Rattle.typing_rules.proofs.Prelude.{◌≡◌, ◌∙◌, ℕ, Bool, true, false, not, List, [], ◌∷◌, Option, Some, None, Ok, Err, refl, sym, ap, subst, Identifier, Object, Procedure, Label, Definition, Fault, require}
 use Rattle.std.specs.Prelude.{◌||◌, take, drop}
 use Rattle.std.specs.Map.{lookup}
 use Rattle.std.specs.Str.{bytes_eq}

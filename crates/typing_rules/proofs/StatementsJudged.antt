@@ -1,19 +1,19 @@
 -- The parts of statements that hold no statement: what the typing gives of them has a typing by the rules, and the fault
 -- that it gives is one of the rules.
-use Rattle.typing_rules.proofs.Prelude.{◌≡◌, ◌∙◌, ℕ, zero, suc, ◌==◌, Bool, true, false, not, List, [], ◌∷◌, length, Option, Some, None, Ok, Err, refl, sym, ap, subst, arith, slice_get, inl, inr, ◌⊎◌, eqb-true, eqb-false, ScalarType, Identifier, Place, ExpressionTree, ReferenceTree, ReferenceTo, ArgumentTrees, NoArguments, MoreArguments, Binding, Declared, BuiltInName, UnknownLabel, BuiltIn, Object, Procedure, Label, Definition, binding_of, TypedExpression, TypedArguments, ObjectType, ScalarObject, StructureObject, TypedProcedure, Constants, ArgumentCount, CallOfNoProcedure, ConstantWritten, NoVariable, UnknownName, Fault, Checked, ◌>>=◌, arguments, call_arguments, Destination, Known, number_of_arguments, scalar_of, is_constant, StandsFor, IsVariable, IsProcedure, IsBuiltIn, IsNoProcedure, ExpressionTyping, ValuesTyping, no_values, next_value, ExpressionFault}
+use Rattle.typing_rules.proofs.Prelude.{◌≡◌, ℕ, ◌==◌, Bool, true, false, not, List, [], ◌∷◌, length, Option, Some, None, Ok, refl, sym, ap, subst, arith, slice_get, inl, inr, ◌⊎◌, eqb-true, eqb-false, ScalarType, Identifier, Place, ExpressionTree, ReferenceTree, ReferenceTo, ArgumentTrees, Binding, Declared, BuiltInName, UnknownLabel, BuiltIn, Object, Procedure, Label, Definition, binding_of, TypedArguments, ObjectType, ScalarObject, StructureObject, TypedProcedure, Constants, ArgumentCount, CallOfNoProcedure, ConstantWritten, NoVariable, UnknownName, Fault, Checked, ◌>>=◌, arguments, Known, number_of_arguments, scalar_of, is_constant, StandsFor, IsVariable, IsProcedure, IsBuiltIn, IsNoProcedure, ExpressionTyping, ValuesTyping, no_values, next_value, ExpressionFault}
 use Rattle.std.specs.Prelude.{◌&&◌, is_none}
 use Rattle.trees.specs.Trees.{HeadingTree, IterationTree, CallStatement, ReturnStatement, GotoStatement}
 use Rattle.names.specs.declared.entity.BuiltIn.TheVariants as built_ins
 use Rattle.names.specs.BuiltIns.{jump_of}
 use Rattle.names.specs.Environment.{Here, with_label, is_label_again}
-use Rattle.typed_trees.specs.TypedTrees.{TypedIteration, TypedStatement, CallStatement as TypedCall}
+use Rattle.typed_trees.specs.TypedTrees.{TypedStatement}
 use Rattle.typed_trees.specs.declared.parts.TypedMember.{TypedMember}
-use Rattle.typing.specs.declared.fault.Cause.TheVariants.{DeclaredTwice, CallOfTyped, NoCounter, ReturnMismatch, UnknownLabel as NoLabel}
+use Rattle.typing.specs.declared.fault.Cause.TheVariants.{DeclaredTwice, CallOfTyped, NoCounter}
 use Rattle.typing.specs.Blocks.{Owner, TheModule, OfProcedure, Block, Progress}
 use Rattle.typing.specs.Items.{is_not_based}
-use Rattle.typing.specs.Statements.{with_constants, value, destinations, moved, call_bound, return_with, return_from, goto_bound, Counter, counter_bound, step, iteration, declare_labels}
+use Rattle.typing.specs.Statements.{with_constants, value, destinations, moved, call_bound, return_with, return_from, goto_bound, counter_bound, step, iteration, declare_labels}
 use Rattle.typing_rules.specs.Modules.{StatementTyping, call, move, return, return_value, goto}
-use Rattle.typing_rules.specs.ModuleFaults.{StatementFault, call_of_unknown, call_of_no_procedure, call_of_typed, call_with_wrong_count, in_argument_of_call, move_with_wrong_count, in_argument_of_move, return_outside, value_for_no_type, no_value_for_type, in_returned_value, unknown_label}
+use Rattle.typing_rules.specs.ModuleFaults.{StatementFault, call_of_no_procedure, call_of_typed, call_with_wrong_count, in_argument_of_call, move_with_wrong_count, in_argument_of_move, return_outside, value_for_no_type, no_value_for_type, in_returned_value, unknown_label}
 use Rattle.typing_rules.specs.Statements.{TargetsTyping, no_targets, next_target, IsCounter, StepTyping, no_step, a_step, IterationTyping, iterates, AreNewLabels, no_labels, next_label}
 use Rattle.typing_rules.specs.StatementFaults.{TargetsFault, in_first_target, in_other_targets, CounterFault, unknown_counter, counter_of_no_variable, counter_with_data, counter_in_array, based_counter, counter_with_members, StepFault, in_step, IterationFault, in_counter, in_first_value, in_last_value, in_step_value, LabelsFault, label_again, in_other_labels}
 use Rattle.typing_rules.proofs.Judged.{Judged, judged_ok, judged_fault, then_judged, judged_more, then_when, then_found}

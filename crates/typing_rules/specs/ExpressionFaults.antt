@@ -7,8 +7,7 @@ use Rattle.trees.specs.declared.expression.UnaryOperator.{UnaryOperator}
 use Rattle.trees.specs.declared.identifier.Identifier.{Identifier}
 use Rattle.trees.specs.declared.identifier.Number.{Number}
 use Rattle.trees.specs.Trees.{StringTree, ConstantTree, NumberConstant, StringConstant, ExpressionTree, ConstantLeaf, ReferenceLeaf, LocationLeaf, ParenthesizedNode, AssignmentNode, UnaryNode, BinaryNode, ReferenceTree, ReferenceTo, MemberTree, NoMember, MemberOf, ArgumentTrees, NoArguments, MoreArguments}
-use Rattle.names.specs.declared.entity.Binding.{Binding}
-use Rattle.names.specs.declared.entity.Binding.TheVariants.{Declared, BuiltInName}
+use Rattle.names.specs.declared.entity.Binding.TheVariants.{Declared}
 use Rattle.names.specs.declared.entity.BuiltIn.{BuiltIn}
 use Rattle.names.specs.declared.entity.BuiltIn.TheVariants as built_ins
 use Rattle.names.specs.declared.entity.Entity.TheVariants.{Procedure}
@@ -21,12 +20,12 @@ use Rattle.typed_trees.specs.declared.parts.ShiftFunction.{ShiftFunction}
 use Rattle.typed_trees.specs.declared.parts.TypedMember.{TypedMember}
 use Rattle.typed_trees.specs.declared.parts.UnaryFunction.{UnaryFunction}
 use Rattle.typed_trees.specs.Sizes.{size_of_element, member_named}
-use Rattle.typed_trees.specs.TypedTrees.{TypedExpression, TypedReference, Subscript, TypedArguments, ObjectType, ScalarObject, StructureObject, TypedObject, TypedProcedure, Constants}
+use Rattle.typed_trees.specs.TypedTrees.{TypedExpression, TypedReference, Subscript, ScalarObject, StructureObject, TypedObject, TypedProcedure, Constants}
 use Rattle.typing.specs.Functions.{Measured}
 use Rattle.typing.specs.Nodes.{Destination}
 use Rattle.typing.specs.References.{Known, Extent, AnElement, AlsoTheWhole, number_of_arguments, has_location, is_constant}
 use Rattle.typing_rules.specs.Constants.{IsPort}
-use Rattle.typing_rules.specs.Expressions.{named_function, named_shift, named_measure, IsMember, IsMeasured, IsMeasure, ExpressionTyping, ValuesTyping, SubscriptTyping, PartTyping, TargetTyping}
+use Rattle.typing_rules.specs.Expressions.{named_function, named_shift, named_measure, IsMember, IsMeasured, ExpressionTyping, SubscriptTyping, PartTyping, TargetTyping}
 use Rattle.typing_rules.specs.Names.{StandsFor, IsUnknown, IsVariable, IsProcedure, IsBuiltIn, IsNoVariable, at_name}
 
 -- a string that is no number, since it has no characters or more than two
@@ -83,7 +82,8 @@ pub data MeasureFault (known : Known) (name : Identifier) (measure : Measure) : 
       → MeasureFault known name measure (MoreArguments (ReferenceLeaf (ReferenceTo variable NoArguments part)) NoArguments)
       (at_name NoVariable variable)
   -- C13: a member with a subscript
-  subscripted : {variable member : Identifier} {first : ExpressionTree} {others : ArgumentTrees} {number : ℕ} {object : TypedObject}
+  subscripted : {variable member : Identifier} {first : ExpressionTree} {others : ArgumentTrees} {number : ℕ}
+      {object : TypedObject}
       → IsVariable known variable number object
       → MeasureFault known name measure
       (MoreArguments (ReferenceLeaf (ReferenceTo variable NoArguments (MemberOf member (MoreArguments first others))))
@@ -105,7 +105,9 @@ pub data MeasureFault (known : Known) (name : Identifier) (measure : Measure) : 
 -- A number of subscripts that does not go with a dimension. Where an array cannot be meant as a whole, it has one.
 pub data IsWrongNumber : Extent → Option ℕ → ℕ → Type 0 where
   of_no_array : {extent : Extent} {count : ℕ} → 0 < count → IsWrongNumber extent None count
-  more_than_one : {extent : Extent} {dimension count : ℕ} → 1 < count → IsWrongNumber extent (Some dimension) count
+  more_than_one : {extent : Extent} {dimension count : ℕ}
+      → 1 < count
+      → IsWrongNumber extent (Some dimension) count
   no_element : {dimension : ℕ} → IsWrongNumber AnElement (Some dimension) 0
 
 -- a name that is known, but of nothing that has a value: a label or a definition
@@ -160,8 +162,8 @@ mutual
     in_first : {before : Constants} {first : ExpressionTree} {others : ArgumentTrees} {fault : Fault}
         → ExpressionFault known before first fault
         → ValuesFault known before (MoreArguments first others) fault
-    in_others : {before middle : Constants} {first : ExpressionTree} {others : ArgumentTrees} {typed : TypedExpression}
-        {fault : Fault}
+    in_others : {before middle : Constants} {first : ExpressionTree} {others : ArgumentTrees}
+        {typed : TypedExpression} {fault : Fault}
         → ExpressionTyping known before first typed middle
         → ValuesFault known middle others fault
         → ValuesFault known before (MoreArguments first others) fault
@@ -182,13 +184,14 @@ mutual
         → PartFault known AnElement object name before trees part fault
         → ValueFault known before (ReferenceTo name trees part) fault
     -- C13: a structure as a value
-    no_scalar : {before after : Constants} {name : Identifier} {trees : ArgumentTrees} {part : MemberTree} {number : ℕ}
-        {object : TypedObject} {reference : TypedReference}
+    no_scalar : {before after : Constants} {name : Identifier} {trees : ArgumentTrees} {part : MemberTree}
+        {number : ℕ} {object : TypedObject} {reference : TypedReference}
         → IsVariable known name number object
         → PartTyping known AnElement number object before trees part reference None after
         → ValueFault known before (ReferenceTo name trees part) (at_name MemberMismatch name)
     -- C13: the number of a procedure that is none of the table; no name of a text has one
-    no_procedure : {before : Constants} {name : Identifier} {trees : ArgumentTrees} {part : MemberTree} {number : ℕ}
+    no_procedure : {before : Constants} {name : Identifier} {trees : ArgumentTrees} {part : MemberTree}
+        {number : ℕ}
         → StandsFor known name (Declared (Procedure number))
         → ((procedure : TypedProcedure) → ¬ IsProcedure known name number procedure)
         → ValueFault known before (ReferenceTo name trees part) (at_name CallOfNoProcedure name)
@@ -205,14 +208,14 @@ mutual
         → IsBuiltIn known name built_ins.Move
         → ValueFault known before (ReferenceTo name trees part) (at_name ValueOfUntyped name)
     -- C13: not as many arguments as the procedure has parameters
-    wrong_count : {before : Constants} {name : Identifier} {trees : ArgumentTrees} {part : MemberTree} {number : ℕ}
-        {procedure : TypedProcedure} {result : ScalarType}
+    wrong_count : {before : Constants} {name : Identifier} {trees : ArgumentTrees} {part : MemberTree}
+        {number : ℕ} {procedure : TypedProcedure} {result : ScalarType}
         → IsProcedure known name number procedure
         → procedure.result ≡ Some result
         → ¬ (number_of_arguments trees ≡ length procedure.parameter_types)
         → ValueFault known before (ReferenceTo name trees part) (at_name ArgumentCount name)
-    in_argument : {before : Constants} {name : Identifier} {trees : ArgumentTrees} {part : MemberTree} {number : ℕ}
-        {procedure : TypedProcedure} {result : ScalarType} {fault : Fault}
+    in_argument : {before : Constants} {name : Identifier} {trees : ArgumentTrees} {part : MemberTree}
+        {number : ℕ} {procedure : TypedProcedure} {result : ScalarType} {fault : Fault}
         → IsProcedure known name number procedure
         → procedure.result ≡ Some result
         → number_of_arguments trees ≡ length procedure.parameter_types
@@ -225,25 +228,26 @@ mutual
         → TakesValues built_in count
         → ¬ (number_of_arguments trees ≡ count)
         → ValueFault known before (ReferenceTo name trees part) (at_name ArgumentCount name)
-    in_values : {before : Constants} {name : Identifier} {trees : ArgumentTrees} {part : MemberTree} {built_in : BuiltIn}
-        {count : ℕ} {fault : Fault}
+    in_values : {before : Constants} {name : Identifier} {trees : ArgumentTrees} {part : MemberTree}
+        {built_in : BuiltIn} {count : ℕ} {fault : Fault}
         → IsBuiltIn known name built_in
         → TakesValues built_in count
         → number_of_arguments trees ≡ count
         → ValuesFault known before trees fault
         → ValueFault known before (ReferenceTo name trees part) fault
-    in_port : {before : Constants} {name : Identifier} {trees : ArgumentTrees} {part : MemberTree} {fault : Fault}
+    in_port : {before : Constants} {name : Identifier} {trees : ArgumentTrees} {part : MemberTree}
+        {fault : Fault}
         → IsBuiltIn known name built_ins.Input
         → PortFault name trees fault
         → ValueFault known before (ReferenceTo name trees part) fault
-    in_measure : {before : Constants} {name : Identifier} {trees : ArgumentTrees} {part : MemberTree} {measure : Measure}
-        {fault : Fault}
+    in_measure : {before : Constants} {name : Identifier} {trees : ArgumentTrees} {part : MemberTree}
+        {measure : Measure} {fault : Fault}
         → IsBuiltIn known name (named_measure measure)
         → MeasureFault known name measure trees fault
         → ValueFault known before (ReferenceTo name trees part) fault
     -- C13: the result of a procedure or of a built-in function has no members
-    member_of_result : {before after : Constants} {name member : Identifier} {trees its_subscripts : ArgumentTrees}
-        {typed : TypedExpression}
+    member_of_result : {before after : Constants} {name member : Identifier}
+        {trees its_subscripts : ArgumentTrees} {typed : TypedExpression}
         → IsNoVariable known name
         → ExpressionTyping known before (ReferenceLeaf (ReferenceTo name trees NoMember)) typed after
         → ValueFault known before (ReferenceTo name trees (MemberOf member its_subscripts)) (at_name MemberMismatch member)
@@ -255,21 +259,23 @@ mutual
         → IsUnknown known name
         → LocationFault known before (ReferenceTo name trees part) (at_name UnknownName name)
     -- C17
-    location_of_procedure : {before : Constants} {name : Identifier} {trees : ArgumentTrees} {part : MemberTree} {number : ℕ}
+    location_of_procedure : {before : Constants} {name : Identifier} {trees : ArgumentTrees} {part : MemberTree}
+        {number : ℕ}
         → StandsFor known name (Declared (Procedure number))
         → LocationFault known before (ReferenceTo name trees part) (at_name NoLocation name)
-    location_in_frame : {before : Constants} {name : Identifier} {trees : ArgumentTrees} {part : MemberTree} {number : ℕ}
-        {object : TypedObject}
+    location_in_frame : {before : Constants} {name : Identifier} {trees : ArgumentTrees} {part : MemberTree}
+        {number : ℕ} {object : TypedObject}
         → IsVariable known name number object
         → has_location object.home ≡ false
         → LocationFault known before (ReferenceTo name trees part) (at_name NoLocation name)
     -- C13
-    location_of_no_variable : {before : Constants} {name : Identifier} {trees : ArgumentTrees} {part : MemberTree}
+    location_of_no_variable : {before : Constants} {name : Identifier} {trees : ArgumentTrees}
+        {part : MemberTree}
         → IsNoVariable known name
         → ((number : ℕ) → ¬ StandsFor known name (Declared (Procedure number)))
         → LocationFault known before (ReferenceTo name trees part) (at_name NoVariable name)
-    in_located_part : {before : Constants} {name : Identifier} {trees : ArgumentTrees} {part : MemberTree} {number : ℕ}
-        {object : TypedObject} {fault : Fault}
+    in_located_part : {before : Constants} {name : Identifier} {trees : ArgumentTrees} {part : MemberTree}
+        {number : ℕ} {object : TypedObject} {fault : Fault}
         → IsVariable known name number object
         → has_location object.home ≡ true
         → PartFault known AlsoTheWhole object name before trees part fault
@@ -287,30 +293,32 @@ mutual
         → ¬ IsBuiltIn known name built_ins.Output
         → TargetFault known before (ReferenceTo name trees part) (at_name NoVariable name)
     -- C16
-    target_with_data : {before : Constants} {name : Identifier} {trees : ArgumentTrees} {part : MemberTree} {number : ℕ}
-        {object : TypedObject}
+    target_with_data : {before : Constants} {name : Identifier} {trees : ArgumentTrees} {part : MemberTree}
+        {number : ℕ} {object : TypedObject}
         → IsVariable known name number object
         → is_constant object.home ≡ true
         → TargetFault known before (ReferenceTo name trees part) (at_name ConstantWritten name)
-    in_target_part : {before : Constants} {name : Identifier} {trees : ArgumentTrees} {part : MemberTree} {number : ℕ}
-        {object : TypedObject} {fault : Fault}
+    in_target_part : {before : Constants} {name : Identifier} {trees : ArgumentTrees} {part : MemberTree}
+        {number : ℕ} {object : TypedObject} {fault : Fault}
         → IsVariable known name number object
         → is_constant object.home ≡ false
         → PartFault known AnElement object name before trees part fault
         → TargetFault known before (ReferenceTo name trees part) fault
     -- C13: a structure as a target
-    no_scalar_target : {before after : Constants} {name : Identifier} {trees : ArgumentTrees} {part : MemberTree} {number : ℕ}
-        {object : TypedObject} {reference : TypedReference}
+    no_scalar_target : {before after : Constants} {name : Identifier} {trees : ArgumentTrees}
+        {part : MemberTree} {number : ℕ} {object : TypedObject} {reference : TypedReference}
         → IsVariable known name number object
         → is_constant object.home ≡ false
         → PartTyping known AnElement number object before trees part reference None after
         → TargetFault known before (ReferenceTo name trees part) (at_name MemberMismatch name)
-    in_output : {before : Constants} {name : Identifier} {trees : ArgumentTrees} {part : MemberTree} {fault : Fault}
+    in_output : {before : Constants} {name : Identifier} {trees : ArgumentTrees} {part : MemberTree}
+        {fault : Fault}
         → IsBuiltIn known name built_ins.Output
         → PortFault name trees fault
         → TargetFault known before (ReferenceTo name trees part) fault
     -- C13
-    member_of_output : {before : Constants} {name member : Identifier} {trees its_subscripts : ArgumentTrees} {port : ℕ}
+    member_of_output : {before : Constants} {name member : Identifier} {trees its_subscripts : ArgumentTrees}
+        {port : ℕ}
         → IsBuiltIn known name built_ins.Output
         → IsPort trees port
         → TargetFault known before (ReferenceTo name trees (MemberOf member its_subscripts)) (at_name MemberMismatch member)
@@ -318,18 +326,20 @@ mutual
   -- the subscripts after a name, of something with this dimension
   pub data SubscriptFault (known : Known) : Extent → Option ℕ → Identifier → Constants → ArgumentTrees → Fault → Type 0 where
     -- C13
-    wrong_number : {extent : Extent} {dimension : Option ℕ} {name : Identifier} {before : Constants} {trees : ArgumentTrees}
+    wrong_number : {extent : Extent} {dimension : Option ℕ} {name : Identifier} {before : Constants}
+        {trees : ArgumentTrees}
         → IsWrongNumber extent dimension (number_of_arguments trees)
         → SubscriptFault known extent dimension name before trees (at_name SubscriptMismatch name)
-    in_subscript : {extent : Extent} {count : ℕ} {name : Identifier} {before : Constants} {index : ExpressionTree} {fault : Fault}
+    in_subscript : {extent : Extent} {count : ℕ} {name : Identifier} {before : Constants}
+        {index : ExpressionTree} {fault : Fault}
         → ExpressionFault known before index fault
         → SubscriptFault known extent (Some count) name before (MoreArguments index NoArguments) fault
 
   -- the subscripts and the member after the name of an object
   pub data PartFault (known : Known) :
       Extent → TypedObject → Identifier → Constants → ArgumentTrees → MemberTree → Fault → Type 0 where
-    in_subscripts : {extent : Extent} {object : TypedObject} {name : Identifier} {before : Constants} {trees : ArgumentTrees}
-        {part : MemberTree} {fault : Fault}
+    in_subscripts : {extent : Extent} {object : TypedObject} {name : Identifier} {before : Constants}
+        {trees : ArgumentTrees} {part : MemberTree} {fault : Fault}
         → SubscriptFault known extent object.dimension name before trees fault
         → PartFault known extent object name before trees part fault
     no_member : {extent : Extent} {object : TypedObject} {name member : Identifier} {before middle : Constants}
@@ -337,8 +347,9 @@ mutual
         → SubscriptTyping known extent object.dimension (size_of_element object.object_type) before trees subscript middle
         → MemberFault object member fault
         → PartFault known extent object name before trees (MemberOf member its_subscripts) fault
-    in_member_subscripts : {extent : Extent} {object : TypedObject} {name member : Identifier} {before middle : Constants}
-        {trees its_subscripts : ArgumentTrees} {subscript : Subscript} {place : FoundMember} {fault : Fault}
+    in_member_subscripts : {extent : Extent} {object : TypedObject} {name member : Identifier}
+        {before middle : Constants} {trees its_subscripts : ArgumentTrees} {subscript : Subscript}
+        {place : FoundMember} {fault : Fault}
         → SubscriptTyping known extent object.dimension (size_of_element object.object_type) before trees subscript middle
         → IsMember object member place
         → SubscriptFault known extent place.member.dimension member middle its_subscripts fault

@@ -1,7 +1,7 @@
 -- When an expression is well typed, and what it is as a typed one: a rule for each construct of the language (PL/M-80
 -- Programming Manual, "Expressions and assignments"). The constant lists `.(..)` are numbered in the order of the text:
 -- each rule tells which constants the module has before its construct, and which after it.
-use Rattle.std.specs.Prelude.{◌≡◌, ℕ, ◌-◌, ◌≤◌, false, true, List, length, Option, Some, None}
+use Rattle.std.specs.Prelude.{◌≡◌, ℕ, ◌-◌, false, true, List, length, Option, Some, None}
 use Rattle.trees.specs.declared.declaration.ScalarType.{ScalarType}
 use Rattle.trees.specs.declared.declaration.ScalarType.TheVariants.{Address}
 use Rattle.trees.specs.declared.expression.BinaryOperator.{BinaryOperator}
@@ -21,7 +21,7 @@ use Rattle.typed_trees.specs.declared.parts.UnaryFunction.{UnaryFunction}
 use Rattle.typed_trees.specs.declared.parts.UnaryFunction.TheVariants as functions
 use Rattle.typed_trees.specs.ExpressionTypes.{type_of}
 use Rattle.typed_trees.specs.Sizes.{size_of_scalar, size_of_member, size_of_element, size_of_object, member_named}
-use Rattle.typed_trees.specs.TypedTrees.{TypedExpression, NumberNode, ValueNode, LocationNode, ListNode, AssignmentNode as TypedAssignment, UnaryNode as TypedUnary, CallNode, FunctionNode, InputNode, TypedReference, PartOf, Subscript, NoSubscript, At, TypedArguments, NoArguments as NoTyped, MoreArguments as MoreTyped, ObjectType, StructureObject, TypedObject, TypedProcedure, Constants}
+use Rattle.typed_trees.specs.TypedTrees.{TypedExpression, NumberNode, ValueNode, LocationNode, ListNode, AssignmentNode as TypedAssignment, UnaryNode as TypedUnary, CallNode, FunctionNode, InputNode, TypedReference, PartOf, Subscript, NoSubscript, At, TypedArguments, NoArguments as NoTyped, MoreArguments as MoreTyped, StructureObject, TypedObject, TypedProcedure, Constants}
 use Rattle.typing.specs.Constants.{type_of_number}
 use Rattle.typing.specs.Expressions.{origin_of, with_list}
 use Rattle.typing.specs.Functions.{Measured}
@@ -87,14 +87,15 @@ mutual
         → ExpressionTyping known constants (ConstantLeaf leaf)
         (NumberNode (type_of_number number) number (origin_of leaf)) constants
     -- the value of a scalar: of a variable, of an element of an array, or of a member
-    scalar_value : {before after : Constants} {name : Identifier} {subscripts : ArgumentTrees} {part : MemberTree} {number : ℕ}
-        {object : TypedObject} {reference : TypedReference} {scalar : ScalarType}
+    scalar_value : {before after : Constants} {name : Identifier} {subscripts : ArgumentTrees}
+        {part : MemberTree} {number : ℕ} {object : TypedObject} {reference : TypedReference}
+        {scalar : ScalarType}
         → IsVariable known name number object
         → PartTyping known AnElement number object before subscripts part reference (Some scalar) after
         → ExpressionTyping known before (ReferenceLeaf (ReferenceTo name subscripts part)) (ValueNode scalar reference) after
     -- The result of a typed procedure. There are as many arguments as parameters, each converted to the type of its own.
-    typed_call : {before after : Constants} {name : Identifier} {trees : ArgumentTrees} {number : ℕ} {procedure : TypedProcedure}
-        {result : ScalarType} {values : TypedArguments}
+    typed_call : {before after : Constants} {name : Identifier} {trees : ArgumentTrees} {number : ℕ}
+        {procedure : TypedProcedure} {result : ScalarType} {values : TypedArguments}
         → IsProcedure known name number procedure
         → procedure.result ≡ Some result
         → number_of_arguments trees ≡ length procedure.parameter_types
@@ -107,8 +108,8 @@ mutual
         → IsPort trees port
         → ExpressionTyping known constants (ReferenceLeaf (ReferenceTo name trees NoMember)) (InputNode port) constants
     -- LOW and HIGH of a value give a BYTE, DOUBLE an ADDRESS
-    function_call : {before after : Constants} {name : Identifier} {operand : ExpressionTree} {typed : TypedExpression}
-        {function : UnaryFunction}
+    function_call : {before after : Constants} {name : Identifier} {operand : ExpressionTree}
+        {typed : TypedExpression} {function : UnaryFunction}
         → IsBuiltIn known name (named_function function)
         → ExpressionTyping known before operand typed after
         → ExpressionTyping known before (ReferenceLeaf (ReferenceTo name (MoreArguments operand NoArguments) NoMember))
@@ -134,8 +135,8 @@ mutual
         (NumberNode (type_of_number number) number (FromMeasure measure measured.object measured.member)) constants
     -- The location of a variable or of a part of it, an ADDRESS; of an array or a structure where it begins. What lies in
     -- the frames of the calls of a REENTRANT procedure has none.
-    location : {before after : Constants} {name : Identifier} {subscripts : ArgumentTrees} {part : MemberTree} {number : ℕ}
-        {object : TypedObject} {reference : TypedReference} {scalar : Option ScalarType}
+    location : {before after : Constants} {name : Identifier} {subscripts : ArgumentTrees} {part : MemberTree}
+        {number : ℕ} {object : TypedObject} {reference : TypedReference} {scalar : Option ScalarType}
         → IsVariable known name number object
         → has_location object.home ≡ true
         → PartTyping known AlsoTheWhole number object before subscripts part reference scalar after
@@ -154,7 +155,8 @@ mutual
         → ExpressionTyping known before (AssignmentNode target value)
         (TypedAssignment (target_of destination (type_of typed)) typed) after
     -- NOT and the minus sign preserve the type
-    unary : {before after : Constants} {operator : UnaryOperator} {operand : ExpressionTree} {typed : TypedExpression}
+    unary : {before after : Constants} {operator : UnaryOperator} {operand : ExpressionTree}
+        {typed : TypedExpression}
         → ExpressionTyping known before operand typed after
         → ExpressionTyping known before (UnaryNode operator operand) (TypedUnary (type_of typed) operator typed) after
     -- The operands of * / and MOD are extended to ADDRESS. Those of another operator are too, unless both are BYTE.
@@ -181,7 +183,8 @@ mutual
     no_array : {extent : Extent} {size : ℕ} {constants : Constants}
         → SubscriptTyping known extent None size constants NoArguments NoSubscript constants
     -- an array has one, which is converted to an ADDRESS
-    element : {extent : Extent} {count size : ℕ} {before after : Constants} {index : ExpressionTree} {typed : TypedExpression}
+    element : {extent : Extent} {count size : ℕ} {before after : Constants} {index : ExpressionTree}
+        {typed : TypedExpression}
         → ExpressionTyping known before index typed after
         → SubscriptTyping known extent (Some count) size before (MoreArguments index NoArguments)
         (At size count (as_type Address typed)) after
@@ -194,12 +197,14 @@ mutual
   pub data PartTyping (known : Known) :
       Extent → (number : ℕ) → TypedObject → Constants → ArgumentTrees → MemberTree → TypedReference → Option ScalarType
       → Constants → Type 0 where
-    without_member : {extent : Extent} {number : ℕ} {object : TypedObject} {before after : Constants} {subscripts : ArgumentTrees} {subscript : Subscript}
+    without_member : {extent : Extent} {number : ℕ} {object : TypedObject} {before after : Constants}
+        {subscripts : ArgumentTrees} {subscript : Subscript}
         → SubscriptTyping known extent object.dimension (size_of_element object.object_type) before subscripts subscript after
         → PartTyping known extent number object before subscripts NoMember
         (PartOf number subscript None 0 NoSubscript) (scalar_of object.object_type) after
-    with_member : {extent : Extent} {number : ℕ} {object : TypedObject} {before middle after : Constants} {subscripts its_subscripts : ArgumentTrees} {member : Identifier}
-        {subscript its_subscript : Subscript} {place : FoundMember}
+    with_member : {extent : Extent} {number : ℕ} {object : TypedObject} {before middle after : Constants}
+        {subscripts its_subscripts : ArgumentTrees} {member : Identifier} {subscript its_subscript : Subscript}
+        {place : FoundMember}
         → SubscriptTyping known extent object.dimension (size_of_element object.object_type) before subscripts subscript middle
         → IsMember object member place
         → SubscriptTyping known extent place.member.dimension (size_of_scalar place.member.scalar) middle its_subscripts
@@ -210,8 +215,9 @@ mutual
   -- the destination of an assigned value
   pub data TargetTyping (known : Known) : Constants → ReferenceTree → Destination → Constants → Type 0 where
     -- a scalar, which is none of DATA
-    scalar_target : {before after : Constants} {name : Identifier} {subscripts : ArgumentTrees} {part : MemberTree} {number : ℕ}
-        {object : TypedObject} {reference : TypedReference} {scalar : ScalarType}
+    scalar_target : {before after : Constants} {name : Identifier} {subscripts : ArgumentTrees}
+        {part : MemberTree} {number : ℕ} {object : TypedObject} {reference : TypedReference}
+        {scalar : ScalarType}
         → IsVariable known name number object
         → is_constant object.home ≡ false
         → PartTyping known AnElement number object before subscripts part reference (Some scalar) after

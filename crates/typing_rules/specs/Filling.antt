@@ -64,7 +64,8 @@ pub data FillsScalar : List ScalarType → RestrictedValue → Filled → Type 0
 
 -- the characters of a string, a BYTE each
 pub data CharactersFill : List ℕ → List ScalarType → Filled → Type 0 where
-  no_characters : {scalars : List ScalarType} → CharactersFill [] scalars (record { values = []; left = scalars })
+  no_characters :
+      {scalars : List ScalarType} → CharactersFill [] scalars (record { values = []; left = scalars })
   next_character : {character : ℕ} {others : List ℕ} {left : List ScalarType} {filled : Filled}
       → CharactersFill others left filled
       → CharactersFill (character ∷ others) (Byte ∷ left) (and_before (ByteValue character) filled)
@@ -81,7 +82,8 @@ pub data StringFills (string : StringTree) : List ScalarType → Filled → Type
 
 -- what is not a string that stands alone
 pub data IsNoString : OriginTree → List OffsetTree → Type 0 where
-  a_number : {number : Number} {offsets : List OffsetTree} → IsNoString (ConstantOrigin (NumberConstant number)) offsets
+  a_number : {number : Number} {offsets : List OffsetTree}
+      → IsNoString (ConstantOrigin (NumberConstant number)) offsets
   located : {name : Identifier} {offsets : List OffsetTree} → IsNoString (LocationOrigin name) offsets
   moved : {string : StringTree} {offset : OffsetTree} {others : List OffsetTree}
       → IsNoString (ConstantOrigin (StringConstant string)) (offset ∷ others)
@@ -99,8 +101,10 @@ pub data ValueFills (known : Known) (scalars : List ScalarType) : OriginTree →
 
 -- the values of a list, which fill scalars from the first on
 pub data ListFills (known : Known) : List RestrictedTree → List ScalarType → Filled → Type 0 where
-  no_more_values : {scalars : List ScalarType} → ListFills known [] scalars (record { values = []; left = scalars })
-  and_then : {restricted : RestrictedTree} {others : List RestrictedTree} {scalars : List ScalarType} {first rest : Filled}
+  no_more_values :
+      {scalars : List ScalarType} → ListFills known [] scalars (record { values = []; left = scalars })
+  and_then : {restricted : RestrictedTree} {others : List RestrictedTree} {scalars : List ScalarType}
+      {first rest : Filled}
       → ValueFills known scalars restricted.origin restricted.offsets first
       → ListFills known others first.left rest
       → ListFills known (restricted ∷ others) scalars (record { values = first.values ++ rest.values; left = rest.left })
@@ -170,11 +174,13 @@ pub data RestrictedFault (reach : Reach) (known : Known) : OriginTree → List O
       → IsNoVariable known name
       → ((number : ℕ) → ¬ StandsFor known name (Declared (Procedure number)))
       → RestrictedFault reach known (LocationOrigin name) offsets (at_name NoVariable name)
-  no_address : {name : Identifier} {offsets : List OffsetTree} {number : ℕ} {object : TypedObject} {cause : Cause}
+  no_address : {name : Identifier} {offsets : List OffsetTree} {number : ℕ} {object : TypedObject}
+      {cause : Cause}
       → IsVariable known name number object
       → NoAddress reach object.home cause
       → RestrictedFault reach known (LocationOrigin name) offsets (at_name cause name)
-  after_location : {name : Identifier} {offsets : List OffsetTree} {number : ℕ} {object : TypedObject} {fault : Fault}
+  after_location : {name : Identifier} {offsets : List OffsetTree} {number : ℕ} {object : TypedObject}
+      {fault : Fault}
       → IsVariable known name number object
       → HasAddress reach object.home
       → OffsetsFault offsets fault
@@ -187,7 +193,8 @@ pub data ScalarFault (place : Place) : List ScalarType → RestrictedValue → F
       → ScalarFault place (Byte ∷ left) (ANumber number) (record { cause = NotByte; place = place })
   location_for_byte : {left : List ScalarType} {object offset : ℕ}
       → ScalarFault place (Byte ∷ left) (FromObject object offset) (record { cause = NotByte; place = place })
-  no_scalar_left : {value : RestrictedValue} → ScalarFault place [] value (record { cause = TooManyValues; place = place })
+  no_scalar_left :
+      {value : RestrictedValue} → ScalarFault place [] value (record { cause = TooManyValues; place = place })
 
 -- C15: a string with more characters than BYTEs are left for it
 pub data CharactersFault (place : Place) : List ℕ → List ScalarType → Fault → Type 0 where
@@ -200,7 +207,9 @@ pub data CharactersFault (place : Place) : List ℕ → List ScalarType → Faul
       → CharactersFault place (character ∷ others) (Byte ∷ left) fault
 
 pub data StringFault (string : StringTree) : List ScalarType → Fault → Type 0 where
-  string_at_the_end : {fault : Fault} → CharactersFault string.place string.characters [] fault → StringFault string [] fault
+  string_at_the_end : {fault : Fault}
+      → CharactersFault string.place string.characters [] fault
+      → StringFault string [] fault
   string_at_byte : {left : List ScalarType} {fault : Fault}
       → CharactersFault string.place string.characters (Byte ∷ left) fault
       → StringFault string (Byte ∷ left) fault
@@ -224,11 +233,12 @@ pub data FillFault (known : Known) (scalars : List ScalarType) : OriginTree → 
       → FillFault known scalars origin offsets fault
 
 pub data FillsFault (known : Known) : List RestrictedTree → List ScalarType → Fault → Type 0 where
-  in_first_fill : {restricted : RestrictedTree} {others : List RestrictedTree} {scalars : List ScalarType} {fault : Fault}
+  in_first_fill : {restricted : RestrictedTree} {others : List RestrictedTree} {scalars : List ScalarType}
+      {fault : Fault}
       → FillFault known scalars restricted.origin restricted.offsets fault
       → FillsFault known (restricted ∷ others) scalars fault
-  in_other_fills : {restricted : RestrictedTree} {others : List RestrictedTree} {scalars : List ScalarType} {first : Filled}
-      {fault : Fault}
+  in_other_fills : {restricted : RestrictedTree} {others : List RestrictedTree} {scalars : List ScalarType}
+      {first : Filled} {fault : Fault}
       → ValueFills known scalars restricted.origin restricted.offsets first
       → FillsFault known others first.left fault
       → FillsFault known (restricted ∷ others) scalars fault

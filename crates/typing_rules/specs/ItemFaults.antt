@@ -99,7 +99,8 @@ pub data MembersFault : List TypedMember → List Member → Fault → Type 0 wh
       → has_member before member.name.name ≡ false
       → DimensionFault member.dimension fault
       → MembersFault before (member ∷ others) fault
-  in_other_members : {before : List TypedMember} {member : Member} {others : List Member} {dimension : Option ℕ} {fault : Fault}
+  in_other_members : {before : List TypedMember} {member : Member} {others : List Member} {dimension : Option ℕ}
+      {fault : Fault}
       → has_member before member.name.name ≡ false
       → DimensionTyping member.dimension dimension
       → MembersFault
@@ -149,7 +150,9 @@ pub data ListFaultOf (known : Known) (block : Block) (item : ItemTree) (object_t
 
 -- an item, all but its names
 pub data ItemFault (known : Known) (block : Block) (item : ItemTree) : Fault → Type 0 where
-  in_base : {fault : Fault} → BaseFault known block item.subject (base_of item.subject) fault → ItemFault known block item fault
+  in_base : {fault : Fault}
+      → BaseFault known block item.subject (base_of item.subject) fault
+      → ItemFault known block item fault
   in_extents : {base : Option ℕ} {fault : Fault}
       → BaseTyping known block item.subject (base_of item.subject) base
       → ExtentsFault block item item.dimension fault
@@ -172,7 +175,8 @@ pub data ItemFault (known : Known) (block : Block) (item : ItemTree) : Fault →
       → ItemLinkageStands block item item.linkage
       → AtFault known block item item.at fault
       → ItemFault known block item fault
-  in_list_of_item : {base : Option ℕ} {extents : Extents} {object_type : ObjectType} {at : Option AtAddress} {fault : Fault}
+  in_list_of_item : {base : Option ℕ} {extents : Extents} {object_type : ObjectType} {at : Option AtAddress}
+      {fault : Fault}
       → BaseTyping known block item.subject (base_of item.subject) base
       → ExtentsTyping block item item.dimension extents
       → TypeTyping block item item.item_type object_type
@@ -225,7 +229,8 @@ pub data ElementsFault (block : Block) : Progress → List ElementTree → Fault
   in_first_element : {progress : Progress} {first : ElementTree} {others : List ElementTree} {fault : Fault}
       → ElementFault block progress first fault
       → ElementsFault block progress (first ∷ others) fault
-  in_other_elements : {progress middle : Progress} {first : ElementTree} {others : List ElementTree} {fault : Fault}
+  in_other_elements : {progress middle : Progress} {first : ElementTree} {others : List ElementTree}
+      {fault : Fault}
       → ElementTyping block progress first middle
       → ElementsFault block middle others fault
       → ElementsFault block progress (first ∷ others) fault

@@ -104,7 +104,8 @@ pub data ListTypingOf (known : Known) (block : Block) (item : ItemTree) (object_
 
 -- an item, all but its names
 pub data ItemTyping (known : Known) (block : Block) (item : ItemTree) : TypedItem → Type 0 where
-  an_item : {base : Option ℕ} {extents : Extents} {object_type : ObjectType} {at : Option AtAddress} {filled : Contents}
+  an_item : {base : Option ℕ} {extents : Extents} {object_type : ObjectType} {at : Option AtAddress}
+      {filled : Contents}
       → BaseTyping known block item.subject (base_of item.subject) base
       → ExtentsTyping block item item.dimension extents
       → TypeTyping block item item.item_type object_type

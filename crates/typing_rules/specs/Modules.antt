@@ -2,7 +2,7 @@
 -- the language (PL/M-80 Programming Manual, "Statements", "Declarations", "Procedures"). A rule tells how far the typing of
 -- the text has come before its construct and after it: what names stand for, the objects, the procedures, the constants and
 -- the globals so far.
-use Rattle.std.specs.Prelude.{◌≡◌, ℕ, ◌+◌, List, [], ◌∷◌, length, Option, Some, None, Ok}
+use Rattle.std.specs.Prelude.{◌≡◌, ℕ, ◌+◌, List, [], length, Option, Some, None}
 use Rattle.trees.specs.declared.declaration.ScalarType.{ScalarType}
 use Rattle.trees.specs.declared.declaration.ScalarType.TheVariants.{Address}
 use Rattle.trees.specs.declared.identifier.Identifier.{Identifier}
@@ -40,8 +40,8 @@ mutual
         → StatementTyping block progress (AssignmentStatement targets source) (assigned destinations typed)
         (with_constants after progress)
     -- CALL of a procedure without a type, with as many arguments as parameters, each converted to the type of its own
-    call : {block : Block} {progress : Progress} {place : Place} {name : Identifier} {trees : ArgumentTrees} {number : ℕ}
-        {procedure : TypedProcedure} {values : TypedArguments} {after : Constants}
+    call : {block : Block} {progress : Progress} {place : Place} {name : Identifier} {trees : ArgumentTrees}
+        {number : ℕ} {procedure : TypedProcedure} {values : TypedArguments} {after : Constants}
         → IsProcedure progress.known name number procedure
         → procedure.result ≡ None
         → number_of_arguments trees ≡ length procedure.parameter_types
@@ -120,8 +120,8 @@ mutual
   -- the statements of a DO CASE
   pub data CasesTyping : Block → Progress → StatementTrees → TypedStatements → Progress → Type 0 where
     no_case : {block : Block} {progress : Progress} → CasesTyping block progress NoStatements NoTyped progress
-    next_case : {block : Block} {progress middle after : Progress} {first : StatementTree} {others : StatementTrees}
-        {typed : TypedStatement} {rest : TypedStatements}
+    next_case : {block : Block} {progress middle after : Progress} {first : StatementTree}
+        {others : StatementTrees} {typed : TypedStatement} {rest : TypedStatements}
         → AloneTyping block progress first typed middle
         → CasesTyping block middle others rest after
         → CasesTyping block progress (MoreStatements first others) (MoreTyped typed rest) after
@@ -153,8 +153,8 @@ mutual
         → DeclarationTyping block progress (DeclareTree elements) after
     -- A procedure: its heading, then its declarations, each of its parameters among them, and its statements.
     procedure : {block : Block} {progress opened within after : Progress} {heading : HeadingTree}
-        {declared : DeclarationTrees} {body : StatementTrees} {end_name : Option Identifier} {parameters : List ℕ}
-        {typed : TypedList}
+        {declared : DeclarationTrees} {body : StatementTrees} {end_name : Option Identifier}
+        {parameters : List ℕ} {typed : TypedList}
         → HeadingTyping block heading declared progress opened
         → DeclarationsTyping (own_block heading progress) opened declared within
         → AreParameters within.known.here heading.parameters parameters
@@ -164,7 +164,8 @@ mutual
         (close_procedure heading declared (length progress.known.procedures) parameters typed after)
 
   pub data DeclarationsTyping : Block → Progress → DeclarationTrees → Progress → Type 0 where
-    no_declaration : {block : Block} {progress : Progress} → DeclarationsTyping block progress NoDeclarations progress
+    no_declaration : {block : Block} {progress : Progress}
+        → DeclarationsTyping block progress NoDeclarations progress
     next_declaration : {block : Block} {progress middle after : Progress} {first : DeclarationTree}
         {others : DeclarationTrees}
         → DeclarationTyping block progress first middle

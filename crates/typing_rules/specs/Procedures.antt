@@ -38,7 +38,8 @@ pub data ReentrantStands (linkage : Option Linkage) : Option Place → Type 0 wh
 -- A heading, up to where its body begins. The name is new in its block; no procedure stands in a REENTRANT or an EXTERNAL
 -- one; and there are at most 16 parameters.
 pub data HeadingTyping : Block → HeadingTree → DeclarationTrees → Progress → Progress → Type 0 where
-  heading_stands : {block : Block} {heading : HeadingTree} {declared : DeclarationTrees} {progress : Progress} {here : Here}
+  heading_stands : {block : Block} {heading : HeadingTree} {declared : DeclarationTrees} {progress : Progress}
+      {here : Here}
       → is_declared_again progress.known.here heading.name.name ≡ false
       → (is_reentrant block.owner || is_external block.owner) ≡ false
       → AreNewParameters (into_body (with_procedure heading.name.name progress.known.here))
@@ -91,8 +92,8 @@ pub data HeadingFault : Block → HeadingTree → Progress → Fault → Type 0 
       (take PARAMETER_LIMIT heading.parameters) fault
       → HeadingFault block heading progress fault
   -- C15: the 17th parameter
-  too_many_parameters : {block : Block} {heading : HeadingTree} {progress : Progress} {here : Here} {parameter : Identifier}
-      {others : List Identifier}
+  too_many_parameters : {block : Block} {heading : HeadingTree} {progress : Progress} {here : Here}
+      {parameter : Identifier} {others : List Identifier}
       → is_declared_again progress.known.here heading.name.name ≡ false
       → (is_reentrant block.owner || is_external block.owner) ≡ false
       → AreNewParameters (into_body (with_procedure heading.name.name progress.known.here))
@@ -100,7 +101,8 @@ pub data HeadingFault : Block → HeadingTree → Progress → Fault → Type 0 
       → drop PARAMETER_LIMIT heading.parameters ≡ parameter ∷ others
       → HeadingFault block heading progress (at_name TooManyParameters parameter)
   -- C14: PUBLIC or EXTERNAL below the level of the module
-  misplaced_linkage : {block : Block} {heading : HeadingTree} {progress : Progress} {here : Here} {linkage : Linkage}
+  misplaced_linkage : {block : Block} {heading : HeadingTree} {progress : Progress} {here : Here}
+      {linkage : Linkage}
       → is_declared_again progress.known.here heading.name.name ≡ false
       → (is_reentrant block.owner || is_external block.owner) ≡ false
       → AreNewParameters (into_body (with_procedure heading.name.name progress.known.here))
@@ -110,7 +112,8 @@ pub data HeadingFault : Block → HeadingTree → Progress → Fault → Type 0 
       → is_module_level block ≡ false
       → HeadingFault block heading progress (record { cause = MisplacedLinkage; place = place_of_linkage linkage })
   -- C14: REENTRANT with EXTERNAL
-  reentrant_external : {block : Block} {heading : HeadingTree} {progress : Progress} {here : Here} {place : Place}
+  reentrant_external : {block : Block} {heading : HeadingTree} {progress : Progress} {here : Here}
+      {place : Place}
       → is_declared_again progress.known.here heading.name.name ≡ false
       → (is_reentrant block.owner || is_external block.owner) ≡ false
       → AreNewParameters (into_body (with_procedure heading.name.name progress.known.here))

@@ -1,5 +1,5 @@
 -- Which fault the parts of statements have that hold no statement: a rule for each cause, with its place.
-use Rattle.std.specs.Prelude.{◌≡◌, ℕ, false, true, List, [], ◌∷◌, Option, Some, None}
+use Rattle.std.specs.Prelude.{◌≡◌, ℕ, false, true, List, ◌∷◌, Option, Some}
 use Rattle.trees.specs.declared.declaration.ScalarType.{ScalarType}
 use Rattle.trees.specs.declared.identifier.Identifier.{Identifier}
 use Rattle.trees.specs.Trees.{ExpressionTree, ReferenceTree, IterationTree}
@@ -20,8 +20,8 @@ pub data TargetsFault (known : Known) : Constants → List ReferenceTree → Fau
   in_first_target : {before : Constants} {first : ReferenceTree} {others : List ReferenceTree} {fault : Fault}
       → TargetFault known before first fault
       → TargetsFault known before (first ∷ others) fault
-  in_other_targets : {before middle : Constants} {first : ReferenceTree} {others : List ReferenceTree} {destination : Destination}
-      {fault : Fault}
+  in_other_targets : {before middle : Constants} {first : ReferenceTree} {others : List ReferenceTree}
+      {destination : Destination} {fault : Fault}
       → TargetTyping known before first destination middle
       → TargetsFault known middle others fault
       → TargetsFault known before (first ∷ others) fault
@@ -64,12 +64,13 @@ pub data IterationFault (known : Known) : Constants → IterationTree → Fault 
   in_counter : {before : Constants} {head : IterationTree} {fault : Fault}
       → CounterFault known head.variable fault
       → IterationFault known before head fault
-  in_first_value : {before : Constants} {head : IterationTree} {number : ℕ} {scalar : ScalarType} {fault : Fault}
+  in_first_value : {before : Constants} {head : IterationTree} {number : ℕ} {scalar : ScalarType}
+      {fault : Fault}
       → IsCounter known head.variable number scalar
       → ExpressionFault known before head.first fault
       → IterationFault known before head fault
-  in_last_value : {before one : Constants} {head : IterationTree} {number : ℕ} {scalar : ScalarType} {first : TypedExpression}
-      {fault : Fault}
+  in_last_value : {before one : Constants} {head : IterationTree} {number : ℕ} {scalar : ScalarType}
+      {first : TypedExpression} {fault : Fault}
       → IsCounter known head.variable number scalar
       → ExpressionTyping known before head.first first one
       → ExpressionFault known one head.last fault
