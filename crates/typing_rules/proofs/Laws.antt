@@ -1,12 +1,14 @@
 -- The typing of a module is the one of the rules.
-use Rattle.typing_rules.proofs.Prelude.{◌≡◌, ◌∙◌, ◌⊎◌, inl, inr, Option, Some, None, Ok, Err, refl, sym, Fault, Checked}
+use Rattle.typing_rules.proofs.Prelude.{◌≡◌, ◌∙◌, ◌⊎◌, inl, inr, Ok, Err, refl, sym, Fault, Checked}
 use Rattle.std.specs.Prelude.{Result}
 use Rattle.failure.specs.declared.Failure.{Failure}
+use Rattle.failure.specs.declared.Failure.TheVariants as failures
+use Rattle.failure.specs.Failure.{IfFault}
 use Rattle.trees.specs.Trees.{ModuleTree}
 use Rattle.typed_trees.specs.TypedTrees.{TypedModule}
-use Rattle.typing.specs.Results.{Answers, FailsBy, fault_in}
+use Rattle.typing.specs.Results.{Answers}
 use Rattle.typing.specs.Typing.{typing_of}
-use Rattle.typing_rules.specs.Laws.{FollowsTheRules, IsJudgedOnce, FailsByTheRules, AnswersByTheRules}
+use Rattle.typing_rules.specs.Laws.{FollowsTheRules, IsJudgedOnce}
 use Rattle.typing_rules.specs.Modules.{ModuleTyping}
 use Rattle.typing_rules.specs.ModuleFaults.{ModuleFault}
 use Rattle.typing_rules.proofs.ModulesJudged.{module_judged}
@@ -43,12 +45,12 @@ judged_once tree = record {
 }
 
 -- what a checker answers that gives the typing
-fails_by_rules : (tree : ModuleTree) (fault : Option Fault) → FailsBy fault (typing_of tree) → FailsByTheRules tree fault
-fails_by_rules tree None e = tt
-fails_by_rules tree (Some fault) e = (module_judged tree).refused fault e
+pub typed_by_rules : (tree : ModuleTree) (found : TypedModule) → typing_of tree ≡ Ok found → ModuleTyping tree found
+typed_by_rules tree = (module_judged tree).typed
 
-pub answers_by_rules : {X : Type 0} (view : X → TypedModule) (result : Result X (Failure Fault)) (tree : ModuleTree)
+pub refused_by_rules : {X : Type 0} (view : X → TypedModule) (result : Result X (Failure Fault)) (tree : ModuleTree)
     → Answers view result (typing_of tree)
-    → AnswersByTheRules view result tree
-answers_by_rules view (Ok x) tree e = (module_judged tree).typed (view x) e
-answers_by_rules view (Err failure) tree e = fails_by_rules tree (fault_in failure) e
+    → IfFault result (ModuleFault tree)
+refused_by_rules view (Ok x) tree e = tt
+refused_by_rules view (Err (failures.Fault fault)) tree e = (module_judged tree).refused fault e
+refused_by_rules view (Err failures.Memory) tree e = tt

@@ -1,10 +1,8 @@
 -- That the typing of a module is the one of the rules.
-use Rattle.std.specs.Prelude.{◌≡◌, ◌⊎◌, ◌↔◌, Option, Some, None, Result, Ok, Err}
-use Rattle.failure.specs.declared.Failure.{Failure}
+use Rattle.std.specs.Prelude.{◌≡◌, ◌⊎◌, ◌↔◌, Ok, Err}
 use Rattle.trees.specs.Trees.{ModuleTree}
 use Rattle.typed_trees.specs.TypedTrees.{TypedModule}
 use Rattle.typing.specs.declared.fault.Fault.{Fault}
-use Rattle.typing.specs.Results.{fault_in}
 use Rattle.typing.specs.Typing.{typing_of}
 use Rattle.typing_rules.specs.Modules.{ModuleTyping}
 use Rattle.typing_rules.specs.ModuleFaults.{ModuleFault}
@@ -20,12 +18,3 @@ pub record IsJudgedOnce (tree : ModuleTree) : Type 0 where
   pub one_typing : (one other : TypedModule) → ModuleTyping tree one → ModuleTyping tree other → one ≡ other
   pub one_fault : (one other : Fault) → ModuleFault tree one → ModuleFault tree other → one ≡ other
   pub never_both : (found : TypedModule) (fault : Fault) → ModuleTyping tree found → ¬ ModuleFault tree fault
-
--- A checker answers by the rules: with the typing of a module, or with its fault, unless memory runs out.
-abbrev pub FailsByTheRules : ModuleTree → Option Fault → Type 0
-FailsByTheRules tree None = Unit {0}
-FailsByTheRules tree (Some fault) = ModuleFault tree fault
-
-abbrev pub AnswersByTheRules : {X : Type 0} → (X → TypedModule) → Result X (Failure Fault) → ModuleTree → Type 0
-AnswersByTheRules view (Ok x) tree = ModuleTyping tree (view x)
-AnswersByTheRules view (Err failure) tree = FailsByTheRules tree (fault_in failure)

@@ -11,3 +11,4 @@ pub mod ItemFaults
 pub mod Modules
 pub mod ModuleFaults
 pub mod Laws
+pub mod internal
