@@ -1,5 +1,5 @@
 -- What a DECLARE declares: what the typing gives of it is what the rules give, and so is the fault.
-use Rattle.typing_rules.proofs.Prelude.{◌≡◌, ℕ, Bool, true, false, not, List, [], ◌∷◌, ◌++◌, Option, Some, None, Ok, Err, nat_le, refl, ap, slice_get, leb-true, leb-false, le-leb, lt-leb, Identifier, Place, Binding, Declared, BuiltInName, UnknownLabel, Object, Procedure, Label, Definition, binding_of, TypedMember, ObjectType, Cause, NoVariable, UnknownName, Fault, ◌>>=◌, require, Known, StandsFor, IsVariable, at_name}
+use Rattle.typing_rules.proofs.Prelude.{not-false, not-true, ◌≡◌, ℕ, Bool, true, false, not, List, [], ◌∷◌, ◌++◌, Option, Some, None, Ok, Err, nat_le, refl, ap, slice_get, leb-true, leb-false, le-leb, lt-leb, Identifier, Place, Binding, Declared, BuiltInName, UnknownLabel, Object, Procedure, Label, Definition, binding_of, TypedMember, ObjectType, Cause, NoVariable, UnknownName, Fault, ◌>>=◌, require, Known, StandsFor, IsVariable, at_name}
 use Rattle.std.specs.Prelude.{◌&&◌, ◌||◌, is_none, is_some}
 use Rattle.trees.specs.declared.declaration.Dimension.{Dimension}
 use Rattle.trees.specs.declared.declaration.Dimension.TheVariants.{Count, Implied}
@@ -20,7 +20,7 @@ use Rattle.typing.specs.References.{object_of}
 use Rattle.typing_rules.specs.Items.{AreNewNames, no_names, next_name, BaseTyping, no_base, a_base, ExtentsTyping, no_extents, counted, implied, DimensionTyping, no_elements, some_elements, MembersTyping, no_members, next_member, TypeTyping, scalar_type, structure_type, ItemLinkageStands, private_item, shared_item, AtTyping, not_placed, is_placed, ListTypingOf, without_list, with_list_of, ItemTyping, an_item, ObjectsTyping, no_objects, next_object, ElementTyping, a_definition, of_item, ElementsTyping, no_more_elements, next_element}
 use Rattle.typing_rules.specs.ItemFaults.{NamesFault, name_again, external_contents, in_other_names, BaseFault, based_parameter, unknown_base, base_is_no_variable, wrong_base, ExtentsFault, zero_dimension, array_parameter, implied_parameter, implied_for_group, implied_without_list, DimensionFault, zero_of_member, MembersFault, member_again, in_dimension, in_other_members, TypeFault, structure_parameter, in_members, ItemLinkageFault, misplaced_item_linkage, AtFault, misplaced_at, in_at, ListFaultOf, in_no_list, misplaced_values, in_values_of_list, ItemFault, in_base, in_extents, in_type, in_linkage, in_place, in_list_of_item, ObjectsFault, frame_too_large, in_other_objects, ElementFault, definition_again, external_definition, in_names, in_item, item_too_large, in_objects, ElementsFault, in_first_element, in_other_elements}
 use Rattle.typing_rules.proofs.Judged.{Judged, judged_ok, judged_fault, then_judged, judged_more, then_when, then_found, fault_of, then_ok, then_fault, passed, failed, got, got_none}
-use Rattle.typing_rules.proofs.ReferencesJudged.{is_no_variable, is_true, is_false}
+use Rattle.typing_rules.proofs.ReferencesJudged.{is_no_variable}
 use Rattle.typing_rules.proofs.ExpressionsRefused.{is_nothing, NoObject, no_object}
 use Rattle.typing_rules.proofs.FillingTyped.{restricted_judged, restricted_is, restricted_fault, contents_judged, contents_are, contents_fault}
 
@@ -37,11 +37,11 @@ pub names_judged : (block : Block) (names : List Identifier) (here : Here)
     → Judged (AreNewNames block here names) (NamesFault block here names) (declare_names block names here)
 names_judged block [] here = judged_ok no_names
 names_judged block (name ∷ others) here =
-    then_when (not (is_declared_again here name.name)) DeclaredTwice name.place (λ again. name_again (is_true _ again)) (λ _ new.
+    then_when (not (is_declared_again here name.name)) DeclaredTwice name.place (λ again. name_again (not-false _ again)) (λ _ new.
     then_when (not (is_external block.owner) || declares_parameter block name.name) ExternalContents name.place
-    (λ other. external_contents (is_false _ new) other) (λ _ own.
-    judged_more (names_judged block others (with_object name.name here)) (λ fault is. in_other_names (is_false _ new) own is)
-    (λ after are. next_name (is_false _ new) own are)))
+    (λ other. external_contents (not-true _ new) other) (λ _ own.
+    judged_more (names_judged block others (with_object name.name here)) (λ fault is. in_other_names (not-true _ new) own is)
+    (λ after are. next_name (not-true _ new) own are)))
 
 names_are : {block : Block} {here after : Here} {names : List Identifier}
     → AreNewNames block here names after
@@ -83,10 +83,10 @@ base_judged : (known : Known) (block : Block) (subject : SubjectTree) (base : Op
     → Judged (BaseTyping known block subject base) (BaseFault known block subject base) (typed_base known block subject base)
 base_judged known block subject None = judged_ok no_base
 base_judged known block subject (Some name) =
-    then_when (not (names_parameter block subject)) BasedParameter name.place (λ parameter. based_parameter (is_true _ parameter))
+    then_when (not (names_parameter block subject)) BasedParameter name.place (λ parameter. based_parameter (not-false _ parameter))
     (λ _ own.
-    then_found (binding_of known.here name.name) UnknownName name.place (λ none. unknown_base (is_false _ own) none) (λ binding named.
-    base_bound_judged known block subject name binding (is_false _ own) named))
+    then_found (binding_of known.here name.name) UnknownName name.place (λ none. unknown_base (not-true _ own) none) (λ binding named.
+    base_bound_judged known block subject name binding (not-true _ own) named))
 
 base_is : {known : Known} {block : Block} {subject : SubjectTree} {base : Option Identifier} {number : Option ℕ}
     → BaseTyping known block subject base number
@@ -134,16 +134,16 @@ extents_judged block item None = judged_ok no_extents
 extents_judged block item (Some (Count number)) =
     then_when (nat_le 1 number.value) ZeroDimension number.place (λ zero. zero_dimension (leb-false _ _ zero)) (λ _ some.
     then_when (not (names_parameter block item.subject)) ParameterNotScalar number.place
-    (λ parameter. array_parameter (leb-true _ _ some) (is_true _ parameter)) (λ _ own.
-    judged_ok (counted (leb-true _ _ some) (is_false _ own))))
+    (λ parameter. array_parameter (leb-true _ _ some) (not-false _ parameter)) (λ _ own.
+    judged_ok (counted (leb-true _ _ some) (not-true _ own))))
 extents_judged block item (Some Implied) =
     then_when (not (names_parameter block item.subject)) ParameterNotScalar (place_of_item item)
-    (λ parameter. implied_parameter (is_true _ parameter)) (λ _ own.
+    (λ parameter. implied_parameter (not-false _ parameter)) (λ _ own.
     then_when (not (is_group item.subject)) ImpliedForGroup (place_of_item item)
-    (λ group. implied_for_group (is_false _ own) (is_true _ group)) (λ _ single.
+    (λ group. implied_for_group (not-true _ own) (not-false _ group)) (λ _ single.
     then_when (is_some item.value_list) ImpliedWithoutValues (place_of_item item)
-    (λ none. implied_without_list (is_false _ own) (is_false _ single) (no_list item.value_list none)) (λ _ some.
-    judged_ok (implied (is_false _ own) (is_false _ single) (the_list item.value_list some).1))))
+    (λ none. implied_without_list (not-true _ own) (not-true _ single) (no_list item.value_list none)) (λ _ some.
+    judged_ok (implied (not-true _ own) (not-true _ single) (the_list item.value_list some).1))))
 
 extents_are : {block : Block} {item : ItemTree} {dimension : Option Dimension} {extents : Extents}
     → ExtentsTyping block item dimension extents
@@ -185,11 +185,11 @@ members_judged : (members : List Member) (before : List TypedMember)
 members_judged [] before = judged_ok no_members
 members_judged (member ∷ others) before =
     then_when (not (has_member before member.name.name)) DeclaredTwice member.name.place
-    (λ again. member_again (is_true _ again)) (λ _ new.
-    then_judged (dimension_judged member.dimension) (λ fault is. in_dimension (is_false _ new) is) (λ dimension is.
+    (λ again. member_again (not-false _ again)) (λ _ new.
+    then_judged (dimension_judged member.dimension) (λ fault is. in_dimension (not-true _ new) is) (λ dimension is.
     judged_more (members_judged others
     (before ++ record { name = member.name.name; dimension = dimension; scalar = member.scalar } ∷ []))
-    (λ fault its. in_other_members (is_false _ new) is its) (λ all its. next_member (is_false _ new) is its)))
+    (λ fault its. in_other_members (not-true _ new) is its) (λ all its. next_member (not-true _ new) is its)))
 
 members_are : {before all : List TypedMember} {members : List Member}
     → MembersTyping before members all
@@ -211,9 +211,9 @@ type_judged : (block : Block) (item : ItemTree) (tree : ItemTypeTree)
 type_judged block item (ScalarItem scalar) = judged_ok scalar_type
 type_judged block item (StructureItem members) =
     then_when (not (names_parameter block item.subject)) ParameterNotScalar (place_of_item item)
-    (λ parameter. structure_parameter (is_true _ parameter)) (λ _ own.
-    then_judged (members_judged members []) (λ fault is. in_members (is_false _ own) is) (λ typed is.
-    judged_ok (structure_type (is_false _ own) is)))
+    (λ parameter. structure_parameter (not-false _ parameter)) (λ _ own.
+    then_judged (members_judged members []) (λ fault is. in_members (not-true _ own) is) (λ typed is.
+    judged_ok (structure_type (not-true _ own) is)))
 
 type_is : {block : Block} {item : ItemTree} {tree : ItemTypeTree} {object_type : ObjectType}
     → TypeTyping block item tree object_type
@@ -356,10 +356,10 @@ objects_fault (in_other_objects fits others) = then_ok _ (passed _ _ (le-leb _ _
 element_judged : (block : Block) (element : ElementTree) (progress : Progress)
     → Judged (ElementTyping block progress element) (ElementFault block progress element) (declare_element block element progress)
 element_judged block (LiterallyElement name text) progress =
-    then_when (not (is_declared_again progress.known.here name.name)) DeclaredTwice name.place (λ again. definition_again (is_true _ again))
+    then_when (not (is_declared_again progress.known.here name.name)) DeclaredTwice name.place (λ again. definition_again (not-false _ again))
     (λ _ new.
-    then_when (not (is_external block.owner)) ExternalContents name.place (λ external. external_definition (is_false _ new) (is_true _ external))
-    (λ _ own. judged_ok (a_definition (is_false _ new) (is_false _ own))))
+    then_when (not (is_external block.owner)) ExternalContents name.place (λ external. external_definition (not-true _ new) (not-false _ external))
+    (λ _ own. judged_ok (a_definition (not-true _ new) (not-true _ own))))
 element_judged block (ItemElement item) progress =
     then_judged (names_judged block (declared_by item.subject) progress.known.here) (λ fault are. in_names are) (λ here are.
     then_judged (item_judged progress.known block item) (λ fault is. in_item are is) (λ typed is.

@@ -1,7 +1,7 @@
 -- The names that the proofs of this crate cite, passed on from one place. Declares nothing.
 pub use Rattle.std.proofs.Common.{◌≡◌, ◌∙◌, ℕ, zero, suc, ◌+◌, ◌-◌, ◌*◌, ◌<◌, ◌≤◌, ◌==◌, Bool, true, false, List, [], ◌∷◌, ◌++◌, length, Option, Some, None, Ok, Err, nat_le, inl, inr, ◌⊎◌, refl, sym, ap, subst, arith, slice_get}
 pub use Rattle.std.specs.Prelude.{not}
-pub use Rattle.std.proofs.lemmas.Bool.{leb-true, leb-false, le-leb, lt-leb, eqb-true, eqb-false, eq-eqb, ne_eqb}
+pub use Rattle.std.proofs.lemmas.Bool.{not-false, not-true, leb-true, leb-false, le-leb, lt-leb, eqb-true, eqb-false, eq-eqb, ne_eqb}
 pub use Rattle.trees.specs.declared.declaration.ScalarType.{ScalarType}
 pub use Rattle.trees.specs.declared.identifier.Identifier.{Identifier}
 pub use Rattle.trees.specs.declared.identifier.Place.{Place}

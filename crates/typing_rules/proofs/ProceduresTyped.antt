@@ -1,5 +1,5 @@
 -- Headings, parameters and bodies: what the typing gives of them is what the rules give, and so is the fault.
-use Rattle.typing_rules.proofs.Prelude.{◌≡◌, ◌∙◌, ℕ, Bool, true, false, not, List, [], ◌∷◌, Option, Some, None, Ok, Err, refl, sym, ap, subst, Identifier, Object, Procedure, Label, Definition, Fault, require}
+use Rattle.typing_rules.proofs.Prelude.{not-false, not-true, ◌≡◌, ◌∙◌, ℕ, Bool, true, false, not, List, [], ◌∷◌, Option, Some, None, Ok, Err, refl, sym, ap, subst, Identifier, Object, Procedure, Label, Definition, Fault, require}
 use Rattle.std.specs.Prelude.{◌||◌, take, drop}
 use Rattle.std.specs.Map.{lookup}
 use Rattle.std.specs.Str.{bytes_eq}
@@ -16,7 +16,6 @@ use Rattle.typing.specs.Statements.{place_of_statement}
 use Rattle.typing_rules.specs.Procedures.{AreNewParameters, no_parameters, next_parameter, LinkageStands, no_linkage, at_module_level, ReentrantStands, not_reentrant, not_external, HeadingTyping, heading_stands, AreParameters, none_declared, next_declared, BodyStands, no_body, own_body, ParametersFault, parameter_again, in_other_parameters, HeadingFault, procedure_again, nested, in_heading_parameters, too_many_parameters, misplaced_linkage, reentrant_external, ParameterFault, not_declared, later_parameter, BodyFault, external_body}
 use Rattle.typing_rules.specs.Names.{at_name}
 use Rattle.typing_rules.proofs.Judged.{Judged, judged_ok, judged_fault, then_judged, judged_more, then_when, fault_of, then_ok, then_fault, passed, failed}
-use Rattle.typing_rules.proofs.ReferencesJudged.{is_true, is_false}
 
 -- parameters of a heading
 parameters_judged : (parameters : List Identifier) (here : Here)
@@ -24,9 +23,9 @@ parameters_judged : (parameters : List Identifier) (here : Here)
 parameters_judged [] here = judged_ok no_parameters
 parameters_judged (parameter ∷ others) here =
     then_when (not (is_parameter_again here parameter.name)) DeclaredTwice parameter.place
-    (λ again. parameter_again (is_true _ again)) (λ _ new.
-    judged_more (parameters_judged others (with_parameter parameter.name here)) (λ fault is. in_other_parameters (is_false _ new) is)
-    (λ after are. next_parameter (is_false _ new) are))
+    (λ again. parameter_again (not-false _ again)) (λ _ new.
+    judged_more (parameters_judged others (with_parameter parameter.name here)) (λ fault is. in_other_parameters (not-true _ new) is)
+    (λ after are. next_parameter (not-true _ new) are))
 
 parameters_are_new : {here after : Here} {parameters : List Identifier}
     → AreNewParameters here parameters after
@@ -78,22 +77,22 @@ pub heading_judged : (block : Block) (tree : HeadingTree) (declared : Declaratio
     → Judged (HeadingTyping block tree declared progress) (HeadingFault block tree progress) (open_procedure block tree declared progress)
 heading_judged block tree declared progress =
     then_when (not (is_declared_again progress.known.here tree.name.name)) DeclaredTwice tree.name.place
-    (λ again. procedure_again (is_true _ again)) (λ _ new.
+    (λ again. procedure_again (not-false _ again)) (λ _ new.
     then_when (not (is_reentrant block.owner || is_external block.owner)) NestedProcedure tree.name.place
-    (λ within. nested (is_false _ new) (is_true _ within)) (λ _ apart.
+    (λ within. nested (not-true _ new) (not-false _ within)) (λ _ apart.
     then_judged (parameters_judged (take PARAMETER_LIMIT tree.parameters)
     (into_body (with_procedure tree.name.name progress.known.here)))
-    (λ fault is. in_heading_parameters (is_false _ new) (is_false _ apart) is) (λ here are.
+    (λ fault is. in_heading_parameters (not-true _ new) (not-true _ apart) is) (λ here are.
     then_judged (no_more_judged (drop PARAMETER_LIMIT tree.parameters) (drop PARAMETER_LIMIT tree.parameters) refl)
     (λ fault more. subst (HeadingFault block tree progress) (sym more.3)
-    (too_many_parameters (is_false _ new) (is_false _ apart) are more.2)) (λ _ few.
+    (too_many_parameters (not-true _ new) (not-true _ apart) are more.2)) (λ _ few.
     then_judged (linkage_judged block tree.linkage)
     (λ fault wrong. subst (HeadingFault block tree progress) (sym wrong.3)
-    (misplaced_linkage (is_false _ new) (is_false _ apart) are few wrong.1 wrong.2)) (λ _ stands.
+    (misplaced_linkage (not-true _ new) (not-true _ apart) are few wrong.1 wrong.2)) (λ _ stands.
     then_judged (reentrant_judged tree.linkage tree.reentrant)
     (λ fault wrong. subst (HeadingFault block tree progress) (sym wrong.3)
-    (reentrant_external (is_false _ new) (is_false _ apart) are few stands wrong.1 wrong.2)) (λ _ also.
-    judged_ok (heading_stands (is_false _ new) (is_false _ apart) are few stands also)))))))
+    (reentrant_external (not-true _ new) (not-true _ apart) are few stands wrong.1 wrong.2)) (λ _ also.
+    judged_ok (heading_stands (not-true _ new) (not-true _ apart) are few stands also)))))))
 
 linkage_is : {block : Block} {linkage : Option Linkage} → LinkageStands block linkage → check_visibility block linkage ≡ Ok tt
 linkage_is no_linkage = refl

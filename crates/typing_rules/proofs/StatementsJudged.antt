@@ -1,6 +1,6 @@
 -- The parts of statements that hold no statement: what the typing gives of them has a typing by the rules, and the fault
 -- that it gives is one of the rules.
-use Rattle.typing_rules.proofs.Prelude.{◌≡◌, ℕ, ◌==◌, Bool, true, false, not, List, [], ◌∷◌, length, Option, Some, None, Ok, refl, sym, ap, subst, arith, slice_get, inl, inr, ◌⊎◌, eqb-true, eqb-false, ScalarType, Identifier, Place, ExpressionTree, ReferenceTree, ReferenceTo, ArgumentTrees, Binding, Declared, BuiltInName, UnknownLabel, BuiltIn, Object, Procedure, Label, Definition, binding_of, TypedArguments, ObjectType, ScalarObject, StructureObject, TypedProcedure, Constants, ArgumentCount, CallOfNoProcedure, ConstantWritten, NoVariable, UnknownName, Fault, Checked, ◌>>=◌, arguments, Known, number_of_arguments, scalar_of, is_constant, StandsFor, IsVariable, IsProcedure, IsBuiltIn, IsNoProcedure, ExpressionTyping, ValuesTyping, no_values, next_value, ExpressionFault}
+use Rattle.typing_rules.proofs.Prelude.{not-false, not-true, ◌≡◌, ℕ, ◌==◌, Bool, true, false, not, List, [], ◌∷◌, length, Option, Some, None, Ok, refl, sym, ap, subst, arith, slice_get, inl, inr, ◌⊎◌, eqb-true, eqb-false, ScalarType, Identifier, Place, ExpressionTree, ReferenceTree, ReferenceTo, ArgumentTrees, Binding, Declared, BuiltInName, UnknownLabel, BuiltIn, Object, Procedure, Label, Definition, binding_of, TypedArguments, ObjectType, ScalarObject, StructureObject, TypedProcedure, Constants, ArgumentCount, CallOfNoProcedure, ConstantWritten, NoVariable, UnknownName, Fault, Checked, ◌>>=◌, arguments, Known, number_of_arguments, scalar_of, is_constant, StandsFor, IsVariable, IsProcedure, IsBuiltIn, IsNoProcedure, ExpressionTyping, ValuesTyping, no_values, next_value, ExpressionFault}
 use Rattle.std.specs.Prelude.{◌&&◌, is_none}
 use Rattle.trees.specs.Trees.{HeadingTree, IterationTree, CallStatement, ReturnStatement, GotoStatement}
 use Rattle.names.specs.declared.entity.BuiltIn.TheVariants as built_ins
@@ -17,7 +17,8 @@ use Rattle.typing_rules.specs.ModuleFaults.{StatementFault, call_of_no_procedure
 use Rattle.typing_rules.specs.Statements.{TargetsTyping, no_targets, next_target, IsCounter, StepTyping, no_step, a_step, IterationTyping, iterates, AreNewLabels, no_labels, next_label}
 use Rattle.typing_rules.specs.StatementFaults.{TargetsFault, in_first_target, in_other_targets, CounterFault, unknown_counter, counter_of_no_variable, counter_with_data, counter_in_array, based_counter, counter_with_members, StepFault, in_step, IterationFault, in_counter, in_first_value, in_last_value, in_step_value, LabelsFault, label_again, in_other_labels}
 use Rattle.typing_rules.proofs.Judged.{Judged, judged_ok, judged_fault, then_judged, judged_more, then_when, then_found}
-use Rattle.typing_rules.proofs.ReferencesJudged.{is_no_variable, is_true, is_false, target_judged}
+use Rattle.typing.proofs.Types.TypesOfReferences.{scalar_is}
+use Rattle.typing_rules.proofs.ReferencesJudged.{is_no_variable, target_judged}
 use Rattle.typing_rules.proofs.ExpressionsJudged.{expression_judged, values_judged, its_values_judged}
 
 -- what is found, with the constants after it
@@ -72,10 +73,6 @@ is_full : {A : Type 0} (option : Option A) → is_none option ≡ false → (a :
 is_full None e = absurd cc
 is_full (Some a) e = (a, refl)
 
-the_scalar : (object_type : ObjectType) (scalar : ScalarType) → scalar_of object_type ≡ Some scalar → object_type ≡ ScalarObject scalar
-the_scalar (ScalarObject found) scalar e = let same : found ≡ scalar = cc in ap ScalarObject same
-the_scalar (StructureObject members) scalar e = absurd cc
-
 the_members : (object_type : ObjectType) → scalar_of object_type ≡ None → (members : List TypedMember) × (object_type ≡ StructureObject members)
 the_members (ScalarObject scalar) e = absurd cc
 the_members (StructureObject members) e = (members, refl)
@@ -88,18 +85,18 @@ counter_judged known (Declared (Object number)) name named =
     then_found (slice_get known.objects number) NoVariable name.place
     (λ none. counter_of_no_variable (is_no_variable _ named (λ other object e listed. absurd cc))) (λ object listed.
     let is : IsVariable known name number object = record { named = named; listed = listed } in
-    then_when (not (is_constant object.home)) ConstantWritten name.place (λ has. counter_with_data is (is_true _ has)) (λ _ plain.
+    then_when (not (is_constant object.home)) ConstantWritten name.place (λ has. counter_with_data is (not-false _ has)) (λ _ plain.
     then_when (is_none object.dimension && is_not_based object.home) NoCounter name.place
-    (λ wrong. no_counter number object is (is_false _ plain) (not_both _ _ wrong)) (λ _ fits.
+    (λ wrong. no_counter number object is (not-true _ plain) (not_both _ _ wrong)) (λ _ fits.
     then_found (scalar_of object.object_type) NoCounter name.place
-    (λ none. counter_with_members is (is_false _ plain) (the_members object.object_type none).1) (λ scalar some.
+    (λ none. counter_with_members is (not-true _ plain) (the_members object.object_type none).1) (λ scalar some.
     judged_ok (record {
       object = object;
       variable = is;
-      without_data = is_false _ plain;
+      without_data = not-true _ plain;
       no_array = is_empty object.dimension (both (is_none object.dimension) (is_not_based object.home) fits).0;
       not_based = (both (is_none object.dimension) (is_not_based object.home) fits).1;
-      is_scalar = the_scalar object.object_type scalar some;
+      is_scalar = scalar_is object.object_type scalar some;
     })))))
   where
     no_counter : (number : ℕ) (object : _)
@@ -147,9 +144,9 @@ pub labels_judged : (labels : List Identifier) (here : Here)
     → Judged (AreNewLabels here labels) (LabelsFault here labels) (declare_labels labels here)
 labels_judged [] here = judged_ok no_labels
 labels_judged (label ∷ others) here =
-    then_when (not (is_label_again here label.name)) DeclaredTwice label.place (λ again. label_again (is_true _ again)) (λ _ new.
-    judged_more (labels_judged others (with_label label.name here)) (λ fault is. in_other_labels (is_false _ new) is)
-    (λ after are. next_label (is_false _ new) are))
+    then_when (not (is_label_again here label.name)) DeclaredTwice label.place (λ again. label_again (not-false _ again)) (λ _ new.
+    judged_more (labels_judged others (with_label label.name here)) (λ fault is. in_other_labels (not-true _ new) is)
+    (λ after are. next_label (not-true _ new) are))
 
 -- CALL
 is_no_procedure : {known : Known} {name : Identifier} (binding : Binding)
