@@ -1,5 +1,6 @@
--- Which fault an expression has, the first in the order of its rules: a rule for each cause, with the place that it
--- concerns, and one for each part that a construct may have a fault in. What comes before that part is well typed.
+-- Which fault an expression has: a rule for each cause, with the place that it concerns, and one for each part that a
+-- construct may have a fault in. What comes before that part is well typed, so the fault is the first one of the text; only
+-- a reference is judged as a whole after its subscripts.
 use Rattle.std.specs.Prelude.{◌≡◌, ℕ, ◌<◌, false, true, List, [], ◌∷◌, length, Option, Some, None}
 use Rattle.trees.specs.declared.declaration.ScalarType.{ScalarType}
 use Rattle.trees.specs.declared.expression.BinaryOperator.{BinaryOperator}
@@ -94,7 +95,7 @@ pub data MeasureFault (known : Known) (name : Identifier) (measure : Measure) : 
       → MemberFault object member fault
       → MeasureFault known name measure
       (MoreArguments (ReferenceLeaf (ReferenceTo variable NoArguments (MemberOf member NoArguments))) NoArguments) fault
-  -- C13: the length of what is no array
+  -- C13, at the variable: the length of what is no array
   no_dimension : {variable : Identifier} {part : MemberTree} {measured : Measured}
       → IsMeasured known variable part measured
       → measured.dimension ≡ None
@@ -183,7 +184,7 @@ mutual
         → IsVariable known name number object
         → PartFault known AnElement object name before trees part fault
         → ValueFault known before (ReferenceTo name trees part) fault
-    -- C13: a structure as a value
+    -- C13: a structure as a value, once its subscripts are well typed
     no_scalar : {before after : Constants} {name : Identifier} {trees : ArgumentTrees} {part : MemberTree}
         {number : ℕ} {object : TypedObject} {reference : TypedReference}
         → IsVariable known name number object
@@ -304,7 +305,7 @@ mutual
         → is_constant object.home ≡ false
         → PartFault known AnElement object name before trees part fault
         → TargetFault known before (ReferenceTo name trees part) fault
-    -- C13: a structure as a target
+    -- C13: a structure as a target, once its subscripts are well typed
     no_scalar_target : {before after : Constants} {name : Identifier} {trees : ArgumentTrees}
         {part : MemberTree} {number : ℕ} {object : TypedObject} {reference : TypedReference}
         → IsVariable known name number object

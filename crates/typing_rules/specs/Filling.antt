@@ -70,7 +70,7 @@ pub data CharactersFill : List ℕ → List ScalarType → Filled → Type 0 whe
       → CharactersFill others left filled
       → CharactersFill (character ∷ others) (Byte ∷ left) (and_before (ByteValue character) filled)
 
--- a string that stands alone: its characters, unless it meets an ADDRESS, which it fills as a number
+-- a string that stands alone: one that begins at an ADDRESS fills it as a number, any other fills a BYTE with each character
 pub data StringFills (string : StringTree) : List ScalarType → Filled → Type 0 where
   at_the_end : {filled : Filled} → CharactersFill string.characters [] filled → StringFills string [] filled
   at_byte : {left : List ScalarType} {filled : Filled}
@@ -131,7 +131,8 @@ pub data ContentsTyping (known : Known) (object_type : ObjectType) : Extents →
         values = filled.values;
       })
 
--- C17 and C15: why an object has no address that is known
+-- C17 and C15: why an object has no address that is known. (No text meets the first rule, since a list or an AT in a
+-- REENTRANT procedure is refused before, nor the last one: parameters have neither.)
 pub data NoAddress : Reach → Home → Cause → Type 0 where
   in_frame : {reach : Reach} {procedure : ℕ} → NoAddress reach (InFrame procedure) NoLocation
   based : {reach : Reach} {base : ℕ} → NoAddress reach (BasedOn base) NoFixedAddress
@@ -226,6 +227,7 @@ pub data FillFault (known : Known) (scalars : List ScalarType) : OriginTree → 
       → IsNoString origin offsets
       → RestrictedFault OtherModulesToo known origin offsets fault
       → FillFault known scalars origin offsets fault
+  -- the value is judged by itself first, then whether its scalar takes it
   in_scalar : {origin : OriginTree} {offsets : List OffsetTree} {value : RestrictedValue} {fault : Fault}
       → IsNoString origin offsets
       → RestrictedTyping OtherModulesToo known origin offsets value

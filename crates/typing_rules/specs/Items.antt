@@ -22,7 +22,8 @@ use Rattle.typing.specs.References.{Known}
 use Rattle.typing_rules.specs.Filling.{RestrictedTyping, ContentsTyping}
 use Rattle.typing_rules.specs.Names.{IsVariable}
 
--- The names of an item, which are new in their block. An EXTERNAL procedure declares its parameters and nothing else.
+-- The names of an item, which are new in their block, and no labels of its body so far. An EXTERNAL procedure declares its
+-- parameters and nothing else.
 pub data AreNewNames (block : Block) : Here → List Identifier → Here → Type 0 where
   no_names : {here : Here} → AreNewNames block here [] here
   next_name : {here after : Here} {name : Identifier} {others : List Identifier}
@@ -119,7 +120,8 @@ pub data ItemTyping (known : Known) (block : Block) (item : ItemTree) : TypedIte
         linkage = item.linkage;
       })
 
--- the objects of an item, one for each name; those of a REENTRANT procedure take at most 1024 bytes
+-- The objects of an item, one for each name. Those of a REENTRANT procedure take at most 1024 bytes, parameters and BASED
+-- ones aside.
 pub data ObjectsTyping (block : Block) (item : TypedItem) : Progress → List Identifier → Progress → Type 0 where
   no_objects : {progress : Progress} → ObjectsTyping block item progress [] progress
   next_object : {progress after : Progress} {name : Identifier} {others : List Identifier}
@@ -127,8 +129,8 @@ pub data ObjectsTyping (block : Block) (item : TypedItem) : Progress → List Id
       → ObjectsTyping block item (with_typed_object item.linkage (object_named block item name.name) progress) others after
       → ObjectsTyping block item progress (name ∷ others) after
 
--- An element of a DECLARE. The names of an item are known after the whole item, which has at most 65535 bytes. A
--- definition by LITERALLY declares its name.
+-- An element of a DECLARE. The names of an item are known after the whole item. Each object of it has at most 65535 bytes.
+-- A definition by LITERALLY declares its name.
 pub data ElementTyping (block : Block) : Progress → ElementTree → Progress → Type 0 where
   a_definition : {progress : Progress} {name : Identifier} {text : StringTree}
       → is_declared_again progress.known.here name.name ≡ false

@@ -1,5 +1,5 @@
--- Which fault a statement, a declaration or a module has, the first in the order of the rules: a rule for each cause, with
--- its place, and one for each part that a construct may have a fault in. What comes before that part is well typed.
+-- Which fault a statement, a declaration or a module has: a rule for each cause, with its place, and one for each part that
+-- a construct may have a fault in. What comes before that part is well typed, so the fault is the first one of the text.
 use Rattle.std.specs.Prelude.{◌≡◌, ℕ, List, [], ◌∷◌, length, Option, Some, None}
 use Rattle.trees.specs.declared.declaration.ScalarType.{ScalarType}
 use Rattle.trees.specs.declared.identifier.Identifier.{Identifier}

@@ -35,8 +35,8 @@ pub data ReentrantStands (linkage : Option Linkage) : Option Place → Type 0 wh
   not_reentrant : ReentrantStands linkage None
   not_external : {place : Place} → is_external_linkage linkage ≡ false → ReentrantStands linkage (Some place)
 
--- A heading, up to where its body begins. The name is new in its block; no procedure stands in a REENTRANT or an EXTERNAL
--- one; and there are at most 16 parameters.
+-- A heading, up to where its body begins. The name is new in its block, and no label of its body so far; no procedure stands
+-- in a REENTRANT or an EXTERNAL one; and there are at most 16 parameters.
 pub data HeadingTyping : Block → HeadingTree → DeclarationTrees → Progress → Progress → Type 0 where
   heading_stands : {block : Block} {heading : HeadingTree} {declared : DeclarationTrees} {progress : Progress}
       {here : Here}

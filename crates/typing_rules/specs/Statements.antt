@@ -47,7 +47,8 @@ pub data IterationTyping (known : Known) : Constants → IterationTree → Typed
       → IterationTyping known before head
       (record { variable = number; scalar = scalar; first = first; last = last; step = step }) after
 
--- the labels before a statement, which differ from each other and from what their body declares
+-- the labels before a statement, which differ from each other, from all earlier labels of their body, and from what it
+-- declares
 pub data AreNewLabels : Here → List Identifier → Here → Type 0 where
   no_labels : {here : Here} → AreNewLabels here [] here
   next_label : {here after : Here} {label : Identifier} {others : List Identifier}
