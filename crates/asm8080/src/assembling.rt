@@ -187,7 +187,7 @@ fn push_word(bytes: &mut Vec<u8>, word: u16) -> Result<(), AllocError>
     Ok(())
 }
 
-// Adds `count` bytes of 0.
+// Adds `count` bytes of 0. Fails past the greatest usize, which is out of memory.
 fn push_zeros(bytes: &mut Vec<u8>, count: u16) -> Result<(), AllocError>
     ensures { OnOk result ((bytes.new).items ≡ (bytes.old).items ++ replicate count 0) }
 {
@@ -204,7 +204,7 @@ fn is_set(item: Item) -> bool
     !matches!(item, Item::Gap(_))
 }
 
-// Adds a flag for each byte of an item: whether it is set.
+// Adds a flag for each byte of an item: whether it is set. Fails past the greatest usize, which is out of memory.
 fn push_flags(flags: &mut Vec<bool>, item: Item) -> Result<(), AllocError>
     ensures { OnOk result ((flags.new).items ≡ (flags.old).items ++ flags_of_item item) }
 {

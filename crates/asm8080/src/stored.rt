@@ -159,7 +159,7 @@ impl StoredItem {
     }
 }
 
-/// Adds an item. If it can't be added, the items stay as they were.
+/// Adds an item. Fails if memory runs out or a label's number passes 32 bits, and then the items stay as they were.
 pub(crate) fn store(items: &mut Vec<StoredItem>, item: Item) -> Result<(), AllocError>
     ensures items { OnOk result ((items.new).items ≡ (items.old).items ++ item ∷ []) }
     ensures err { OnErr result ((items.new).items ≡ (items.old).items) }

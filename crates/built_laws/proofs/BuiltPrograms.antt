@@ -1,8 +1,9 @@
 -- What is true of each program that is built, and of each whose sources are read.
 use Rattle.built_laws.proofs.Prelude.{ℕ, List, [], ◌∷◌, All, All-cons, All-nil, TypedModule, IsSourceOf, AreSourcesOf, IsProgramOf, program_modules, Construction, IsConstruction}
+use Rattle.typing_rules.proofs.ModulesTyped.{module_is}
 use Rattle.typed_laws.specs.Limits.{ChargesFit}
 use Rattle.typed_laws.proofs.Charges.{derived_charges_fit}
-use Rattle.meaning_laws.specs.{Defaults.{TakesNoDefault}, Meant.{IsWhole}, Places.{IsPlaceable}, Publics.{HasTree}}
+use Rattle.meaning_laws.specs.{Defaults.{TakesNoDefault}, Meant.{IsWhole}, Places.{IsPlaceable}, internal.Publics.{HasTree}}
 use Rattle.meaning_laws.proofs.{Defaults.{takes_no_default}, Publics.{all_placeable}}
 use Rattle.built_laws.specs.BuiltPrograms.{program_of}
 
@@ -21,7 +22,7 @@ sources_have_trees : (texts : List (List ℕ)) (modules : List TypedModule) → 
 sources_have_trees [] [] are = All-nil HasTree
 sources_have_trees (text ∷ texts) (typed ∷ modules) are =
     let typing = (are.0).typing in
-    All-cons HasTree typed modules (record { tree = typing.tree; is = typing.typing })
+    All-cons HasTree typed modules (record { tree = typing.tree; is = module_is typing.typing })
     (sources_have_trees texts modules are.1)
 sources_have_trees [] (typed ∷ modules) are = absurd are
 sources_have_trees (text ∷ texts) [] are = absurd are
@@ -44,7 +45,7 @@ built_takes_no_default texts built script sources is =
 pub source_charges_fit : (text : List ℕ) (typed : TypedModule) → IsSourceOf text typed → ChargesFit typed
 source_charges_fit text typed is =
     let typing = is.typing in
-    derived_charges_fit typing.read.output typing.tree typed typing.read.derived typing.typing
+    derived_charges_fit typing.read.output typing.tree typed typing.read.derived (module_is typing.typing)
 
 all_charges_fit : (texts : List (List ℕ)) (modules : List TypedModule) → AreSourcesOf texts modules
     → All ChargesFit modules

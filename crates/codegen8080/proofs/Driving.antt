@@ -78,6 +78,23 @@ module _ {body : Body} {called : List Bool} (wider : List Bool) (more : HasAll c
       → LabelledList body wider facts range items last label next
   labelled_list_kept label next code = list_kept code.0 label next code.1
 
+-- a planned step that is neither a statement nor a list holds no statement
+pub holds_none : (step : Planned)
+    → ((number : StatementNumber) → step ≡ planned.Statement number → ⊥)
+    → ((list : Range) → step ≡ planned.List list → ⊥)
+    → HoldsNoStatement step
+holds_none (planned.Code step) no_statement no_list = tt
+holds_none (planned.LoadByte reference) no_statement no_list = tt
+holds_none (planned.LoadWord reference) no_statement no_list = tt
+holds_none (planned.JumpOn label) no_statement no_list = tt
+holds_none (planned.Turn other end) no_statement no_list = tt
+holds_none (planned.Meet label) no_statement no_list = tt
+holds_none (planned.Again label facts is_entered) no_statement no_list = tt
+holds_none (planned.Jumped is_the_only_one) no_statement no_list = tt
+holds_none (planned.Reaches goes_on) no_statement no_list = tt
+holds_none (planned.Statement number) no_statement no_list = absurd (no_statement number refl)
+holds_none (planned.List list) no_statement no_list = absurd (no_list list refl)
+
 module _ (body : Body) (waiting : Option Facts) (before after : Generator) where
   -- a step that holds no statement is carried out
   pub step_carried : (step : Planned) (waits : Option Facts)
@@ -124,7 +141,7 @@ module _ (body : Body) (waiting : Option Facts) (before after : Generator) where
 
   pub step_carried_if : (step : Planned) {E : Type 0} (result : Result (Option Facts) E)
       → IfOk result (λ waits. AddsStep body step waiting before after waits)
-      → OnOk result (HoldsNoStatement step)
+      → HoldsNoStatement step
       → IfOk result (λ waits. CarriesOut body step waiting before after waits)
   step_carried_if step (Ok waits) adds alone = step_carried step waits adds alone
   step_carried_if step (Err fault) adds alone = adds

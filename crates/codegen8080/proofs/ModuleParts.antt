@@ -1,5 +1,5 @@
 -- The code of a module, from the code of its parts.
-use Rattle.codegen8080.proofs.Prelude.{◌≡◌, ℕ, zero, suc, ◌+◌, inl, inr, Bool, true, false, List, replicate, slice_index_or, [], ◌∷◌, ◌++◌, Option, Some, None, Result, Ok, Err, OnOk, slice_get, length, take, drop, ◌-◌, ◌<◌, arith, refl, sym, ap, subst, ◌∙◌, append_assoc, append-nil, add-one, option_map, none-some, Item, Routine, Content, TreeModule, ProcedureKind, TreeProcedure, Extends, entry, no_facts, label_after, Written, Writes, in_front, items_stay, writes_nothing, writes_then, has_routine, index_of_routine, module_routine_label, HasAll, IsEmpty, NotesCalled, has_itself, none_noted, notes_then, Generator, LabelledList, LabelledSteps, AreRoutines, IsCodeOfRoutine, IsCodeWritten, IsMainCode, IsMainLabelled, IsOwnCode, IsProcedureCode, IsProcedureLabelled, all_routines, content_items, contents_items, has_main, entry_labels, entry_steps, AddsCalled, AddsCodeOfMain, AddsMain, AddsOwnCode, AddsProcedure, AddsProcedures, AddsRoutineIf, AddsRoutines, LabelledCode, LabelledCodeOfMain, LabelledEnd, LabelledProcedure, LabelledProcedures, same_Some}
+use Rattle.codegen8080.proofs.Prelude.{◌≡◌, ℕ, zero, suc, ◌+◌, inl, inr, Bool, true, false, List, length-replicate, replicate, slice_index_or, [], ◌∷◌, ◌++◌, Option, Some, None, Result, Ok, Err, OnOk, slice_get, length, take, drop, ◌-◌, ◌<◌, arith, refl, sym, ap, subst, ◌∙◌, append_assoc, append-nil, add-one, option_map, none-some, Item, Routine, Content, TreeModule, ProcedureKind, TreeProcedure, Extends, entry, no_facts, label_after, Written, Writes, in_front, items_stay, writes_nothing, writes_then, has_routine, index_of_routine, module_routine_label, HasAll, IsEmpty, NotesCalled, has_itself, none_noted, notes_then, Generator, LabelledList, LabelledSteps, AreRoutines, IsCodeOfRoutine, IsCodeWritten, IsMainCode, IsMainLabelled, IsOwnCode, IsProcedureCode, IsProcedureLabelled, all_routines, content_items, contents_items, has_main, entry_labels, entry_steps, AddsCalled, AddsCodeOfMain, AddsMain, AddsOwnCode, AddsProcedure, AddsProcedures, AddsRoutineIf, AddsRoutines, LabelledCode, LabelledCodeOfMain, LabelledEnd, LabelledProcedure, LabelledProcedures, same_Some}
 use Rattle.asm8080.specs.declared.item.Item.TheVariants as items
 use Rattle.treecode.specs.declared.procedure.ProcedureKind.TheVariants as kinds
 use Rattle.codegen8080.proofs.BodyParts.{end_kept}
@@ -344,6 +344,7 @@ record AddsOne (tree : TreeModule) (is_called : Bool) (routine : Routine) (befor
   labels : Extends before.labels after.labels
   externals : Extends before.externals after.externals
   no_names : Extends after.externals before.externals
+  count : length after.externals ≡ length before.externals
 
 one_added :
     (tree : TreeModule) (routine : Routine) (is_called : Bool) (before after : Written)
@@ -356,6 +357,7 @@ one_added tree routine false before after same = record {
   labels = λ number found given. ap (λ (written : Written). entry written.labels number) same ∙ given;
   externals = λ number found given. ap (λ (written : Written). entry written.externals number) same ∙ given;
   no_names = λ number found given. ap (λ (written : Written). entry written.externals number) (sym same) ∙ given;
+  count = ap (λ (written : Written). length written.externals) same;
 }
 one_added tree routine true before after writes =
     let entered : Written = writes.entered in
@@ -385,6 +387,7 @@ one_added tree routine true before after writes =
             | inl old ↦ old
             | inr bad ↦ absurd (let no : false ≡ true = bad in cc)
           ];
+      count = ap (λ table. length table) writes.externals ∙ writes.marked.count;
     }
 
 -- no routine is added
@@ -396,6 +399,7 @@ no_routines tree called written = record {
   labels = λ number found given. given;
   externals = λ number found given. given;
   no_names = λ number found given. given;
+  count = refl;
 }
 
 -- a routine is added, and others after it
@@ -422,6 +426,7 @@ routine_then tree called routine others before between after first rest =
       labels = λ number found given. rest.labels number found (one.labels number found given);
       externals = λ number found given. rest.externals number found (one.externals number found given);
       no_names = λ number found given. one.no_names number found (rest.no_names number found given);
+      count = rest.count ∙ one.count;
     }
 
 -- the code of routines, if code has more labels
@@ -473,6 +478,7 @@ routines_then tree called routines others before between after first second = re
   labels = λ number found given. second.labels number found (first.labels number found given);
   externals = λ number found given. second.externals number found (first.externals number found given);
   no_names = λ number found given. first.no_names number found (second.no_names number found given);
+  count = second.count ∙ first.count;
 }
 
 -- if no name has a number, no number is found
@@ -518,6 +524,10 @@ code_written tree start before between called written after none own called_is w
           routines.added
           ∙ ap (λ list. list ++ routines.list)
           (own.writes.added ∙ ap (λ list. list ++ own.writes.made) nothing);
+      count =
+          routines.count ∙ own.writes.count
+          ∙ ap (λ (written : Written). length written.externals) none.items
+          ∙ length-replicate (length tree.externals.items) None;
       names = λ name number given.
           elim (own.writes.names name number (routines.no_names name number given)) [
             | inl old ↦ absurd (no_number (length tree.externals.items) name number

@@ -1,24 +1,191 @@
 -- Names that are listed one by one.
-use Rattle.codegen8080.proofs.Prelude.{◌≡◌, ℕ, ◌-◌, ◌<◌, List, [], ◌∷◌, ◌++◌, Option, Some, None, length, take, drop, slice_get, refl, sym, ap, subst, ◌∙◌, arith, append_assoc, append-nil, none-some, Public, Assembled, ExternalName, PublicName, used_names, AreListed, ArePublicsIn, HavePlaces, IsPlaceAfter, IsPublicIn, used_name, Linkage, same_Some}
+use Rattle.codegen8080.proofs.Prelude.{◌≡◌, ℕ, zero, suc, ◌+◌, ◌-◌, ◌<◌, List, [], ◌∷◌, ◌++◌, Option, Some, None, length, take, drop, slice_get, set, length-set, IfNone, IfSome, refl, sym, ap, subst, ◌∙◌, arith, append_assoc, append-nil, none-some, Public, Assembled, ExternalName, PublicName, AreDifferent, IsNumbering, entries, entry, used_names, AreListed, ArePublicsIn, FollowPlaces, HavePlaces, IsPublicIn, used_name, Linkage, same_Some}
 use Rattle.codegen8080.proofs.ModuleParts.{take_all}
 
--- Names are being listed; some numbers and names remain.
-pub record IsListingNames
-    (externals : List ExternalName) (numbers : List (Option ℕ)) (places : List ℕ) (place : ℕ)
-    (rest : List ExternalName) (left : List (Option ℕ)) (names : Linkage) : Type 0 where
-  pub names_are : names.externals ++ used_names left rest ≡ used_names numbers externals
-  pub places_are : HavePlaces places place left rest → HavePlaces places 0 numbers externals
-  pub publics : names.publics ≡ []
+-- a table agrees with another but for numbers that remain
+abbrev KeepPlaces : (left : List (Option ℕ)) → (places final : List ℕ) → Type 0
+KeepPlaces left places final =
+    (number : ℕ)
+    → ((name : ℕ) → entry left name ≡ Some number → ⊥)
+    → slice_get final number ≡ slice_get places number
 
-pub listing_names_begins :
-    (externals : List ExternalName) (numbers : List (Option ℕ)) (places : List ℕ) (names : Linkage)
-    → names ≡ record { externals = []; publics = [] }
-    → IsListingNames externals numbers places 0 externals numbers names
-listing_names_begins externals numbers places names none = record {
-  names_are = ap (λ (linkage : Linkage). linkage.externals ++ used_names numbers externals) none;
-  places_are = λ have. have;
-  publics = ap (λ (linkage : Linkage). linkage.publics) none;
+-- Places are being set by numbers; some numbers remain.
+pub record IsPlacing
+    (count : ℕ) (numbers : List (Option ℕ)) (places : List ℕ) (place : ℕ) (left : List (Option ℕ)) : Type 0 where
+  pub few : count < 65536
+  pub below : (name number : ℕ) → entry left name ≡ Some number → number < count
+  pub different : AreDifferent left
+  pub counted : place + entries left ≡ count
+  pub long : length places ≡ count
+  pub places_are : (final : List ℕ)
+      → KeepPlaces left places final
+      → FollowPlaces final place left
+      → FollowPlaces final 0 numbers
+
+pub placing_begins : (count : ℕ) (numbers : List (Option ℕ)) (places : List ℕ)
+    → count < 65536
+    → IsNumbering count numbers
+    → length places ≡ count
+    → IsPlacing count numbers places 0 numbers
+placing_begins count numbers places few numbering long = record {
+  few = few;
+  below = numbering.below;
+  different = numbering.different;
+  counted = let counted : entries numbers ≡ count = numbering.counted in omega (arith, counted);
+  long = long;
+  places_are = λ final keep follow. follow;
 }
+
+-- there is room for the number that is next
+pub placing_known : (count : ℕ) (numbers : List (Option ℕ)) (places : List ℕ) (place : ℕ)
+    (left : List (Option ℕ)) (number : Option ℕ)
+    → slice_get left 0 ≡ Some number
+    → IsPlacing count numbers places place left
+    → IfSome number (λ one. one < length places)
+placing_known count numbers places place left None at placing = tt
+placing_known count numbers places place [] (Some number) at placing = absurd (none-some (Some number) at)
+placing_known count numbers places place (first ∷ others) (Some number) at placing =
+    let low : number < count = placing.below 0 number (same_Some first (Some number) at) in
+    let long : length places ≡ count = placing.long in
+    omega (arith, low, long)
+
+pub placing_more : (count : ℕ) (numbers : List (Option ℕ)) (places : List ℕ) (place : ℕ)
+    (left : List (Option ℕ)) (number : Option ℕ)
+    → slice_get left 0 ≡ Some number
+    → IsPlacing count numbers places place left
+    → IfSome number (λ one. place + 1 < 65536)
+placing_more count numbers places place left None at placing = tt
+placing_more count numbers places place [] (Some number) at placing = absurd (none-some (Some number) at)
+placing_more count numbers places place (first ∷ others) (Some number) at placing =
+    let counted : place + entries (Some number ∷ others) ≡ count =
+    subst (λ one. place + entries (one ∷ others) ≡ count) (same_Some first (Some number) at) placing.counted in
+    let few : count < 65536 = placing.few in
+    omega (arith, counted, few)
+
+-- entries of a table that is set at one index
+set_here : (places : List ℕ) (number place : ℕ) → number < length places
+    → slice_get (set places number place) number ≡ Some place
+set_here [] number place low = absurd (omega (arith, low))
+set_here (first ∷ others) zero place low = refl
+set_here (first ∷ others) (suc number) place low = set_here others number place (omega (arith, low))
+
+set_elsewhere : (places : List ℕ) (number place other : ℕ) → (other ≡ number → ⊥)
+    → slice_get (set places number place) other ≡ slice_get places other
+set_elsewhere [] number place other apart = refl
+set_elsewhere (first ∷ others) zero place zero apart = absurd (apart refl)
+set_elsewhere (first ∷ others) zero place (suc other) apart = refl
+set_elsewhere (first ∷ others) (suc number) place zero apart = refl
+set_elsewhere (first ∷ others) (suc number) place (suc other) apart =
+    set_elsewhere others number place other (λ same. apart (ap suc same))
+
+-- the next number is none
+none_placed : (count : ℕ) (numbers : List (Option ℕ)) (places : List ℕ) (place : ℕ) (others : List (Option ℕ))
+    → IsPlacing count numbers places place (None ∷ others)
+    → IsPlacing count numbers places place others
+none_placed count numbers places place others placing = record {
+  few = placing.few;
+  below = λ name number given. placing.below (suc name) number given;
+  different = λ name other number given also.
+      let same : suc name ≡ suc other = placing.different (suc name) (suc other) number given also in
+      omega (arith, same);
+  counted = placing.counted;
+  long = placing.long;
+  places_are = λ final keep follow.
+      placing.places_are final (λ number none. keep number (λ name given. none (suc name) given))
+      (place, record { follows = refl }, follow);
+}
+
+-- its place is set
+one_placed : (count : ℕ) (numbers : List (Option ℕ)) (places : List ℕ) (place number : ℕ)
+    (others : List (Option ℕ))
+    → IsPlacing count numbers places place (Some number ∷ others)
+    → IsPlacing count numbers (set places number place) (place + 1) others
+one_placed count numbers places place number others placing = record {
+  few = placing.few;
+  below = λ name found given. placing.below (suc name) found given;
+  different = λ name other found given also.
+      let same : suc name ≡ suc other = placing.different (suc name) (suc other) found given also in
+      omega (arith, same);
+  counted = omega (arith, counted);
+  long = length-set places number place ∙ placing.long;
+  places_are = λ final keep follow.
+      placing.places_are final
+      (λ other none.
+      keep other (λ name given. none (suc name) given)
+      ∙ set_elsewhere places number place other (λ same. none 0 (ap (λ one. Some one) (sym same)))) (
+        place + 1,
+        record { follows = (keep number absent ∙ set_here places number place low, refl, omega (arith, counted, few)) },
+        follow,
+      );
+}
+  where
+    counted : place + suc (entries others) ≡ count
+    counted = placing.counted
+
+    few : count < 65536
+    few = placing.few
+
+    low : number < length places
+    low =
+        let below : number < count = placing.below 0 number refl in
+        let long : length places ≡ count = placing.long in omega (arith, below, long)
+
+    absent : (name : ℕ) → entry others name ≡ Some number → ⊥
+    absent name given =
+        let same : 0 ≡ suc name = placing.different 0 (suc name) number refl given in omega (arith, same)
+
+one_step : (count : ℕ) (numbers : List (Option ℕ)) (places after : List ℕ) (place next : ℕ) (number : Option ℕ)
+    (others : List (Option ℕ))
+    → IsPlacing count numbers places place (number ∷ others)
+    → IfNone number (after ≡ places)
+    → IfNone number (next ≡ place)
+    → IfSome number (λ one. after ≡ set places one place)
+    → IfSome number (λ one. next ≡ place + 1)
+    → IsPlacing count numbers after next others
+one_step count numbers places after place next None others placing kept same set_is more =
+    subst (λ table. IsPlacing count numbers table next others) (sym kept)
+    (subst (λ at. IsPlacing count numbers places at others) (sym same)
+    (none_placed count numbers places place others placing))
+one_step count numbers places after place next (Some number) others placing kept same set_is more =
+    subst (λ table. IsPlacing count numbers table next others) (sym set_is)
+    (subst (λ at. IsPlacing count numbers (set places number place) at others) (sym more)
+    (one_placed count numbers places place number others placing))
+
+pub placing_step : (count : ℕ) (numbers : List (Option ℕ)) (places after : List ℕ) (place next : ℕ)
+    (left : List (Option ℕ)) (number : Option ℕ)
+    → slice_get left 0 ≡ Some number
+    → IsPlacing count numbers places place left
+    → IfNone number (after ≡ places)
+    → IfNone number (next ≡ place)
+    → IfSome number (λ one. after ≡ set places one place)
+    → IfSome number (λ one. next ≡ place + 1)
+    → IsPlacing count numbers after next (take (length left - 1) (drop 1 left))
+placing_step count numbers places after place next [] number at placing kept same set_is more =
+    absurd (none-some number at)
+placing_step count numbers places after place next (first ∷ others) number at placing kept same set_is more =
+    subst (IsPlacing count numbers after next)
+    (sym (take_all others (length (first ∷ others) - 1) (omega arith)))
+    (one_step count numbers places after place next number others
+    (subst (λ one. IsPlacing count numbers places place (one ∷ others)) (same_Some first number at) placing)
+    kept same set_is more)
+
+pub placing_ends : (count : ℕ) (numbers : List (Option ℕ)) (places : List ℕ) (place : ℕ)
+    (left : List (Option ℕ))
+    → length left < 1
+    → IsPlacing count numbers places place left
+    → FollowPlaces places 0 numbers
+placing_ends count numbers places place [] none placing = placing.places_are places (λ number absent. refl) tt
+placing_ends count numbers places place (first ∷ others) none placing = absurd (omega (arith, none))
+
+-- the places of as many names
+pub places_of_names : (places : List ℕ) (place : ℕ) (numbers : List (Option ℕ)) (externals : List ExternalName)
+    → length numbers ≡ length externals
+    → FollowPlaces places place numbers
+    → HavePlaces places place numbers externals
+places_of_names places place [] externals same follow = tt
+places_of_names places place (number ∷ numbers) [] same follow = absurd (omega (arith, same))
+places_of_names places place (number ∷ numbers) (external ∷ externals) same follow =
+    (follow.0, follow.1, places_of_names places follow.0 numbers externals (omega (arith, same)) follow.2)
 
 used_first :
     (number : Option ℕ) (numbers : List (Option ℕ)) (external : ExternalName) (externals : List ExternalName)
@@ -26,57 +193,83 @@ used_first :
 used_first None numbers external externals = refl
 used_first (Some number) numbers external externals = refl
 
+-- Names are being listed; some numbers and as many names remain.
+pub record IsListingNames
+    (externals : List ExternalName) (numbers : List (Option ℕ)) (rest : List ExternalName)
+    (left : List (Option ℕ)) (names : Linkage) : Type 0 where
+  pub names_are : names.externals ++ used_names left rest ≡ used_names numbers externals
+  pub as_many : length left ≡ length rest
+  pub publics : names.publics ≡ []
+
+pub listing_names_begins : (externals : List ExternalName) (numbers : List (Option ℕ)) (names : Linkage)
+    → length numbers ≡ length externals
+    → names ≡ record { externals = []; publics = [] }
+    → IsListingNames externals numbers externals numbers names
+listing_names_begins externals numbers names as_many none = record {
+  names_are = ap (λ (linkage : Linkage). linkage.externals ++ used_names numbers externals) none;
+  as_many = as_many;
+  publics = ap (λ (linkage : Linkage). linkage.publics) none;
+}
+
 pub listing_names_step :
-    (externals : List ExternalName) (numbers : List (Option ℕ)) (places : List ℕ) (place next : ℕ)
-    (rest : List ExternalName) (left : List (Option ℕ)) (names after : Linkage) (number : Option ℕ)
-    (external : ExternalName)
+    (externals : List ExternalName) (numbers : List (Option ℕ)) (rest : List ExternalName)
+    (left : List (Option ℕ)) (names after : Linkage) (number : Option ℕ) (external : ExternalName)
     → slice_get left 0 ≡ Some number
     → slice_get rest 0 ≡ Some external
-    → IsListingNames externals numbers places place rest left names
-    → IsPlaceAfter places number place next
+    → IsListingNames externals numbers rest left names
     → after.publics ≡ []
     → after.externals ≡ names.externals ++ used_name number external
-    → IsListingNames externals numbers places next (take (length rest - 1) (drop 1 rest))
-    (take (length left - 1) (drop 1 left)) after
-listing_names_step externals numbers places place next rest [] names after number external left_is rest_is listing
-    placed publics more = absurd (none-some number left_is)
-listing_names_step externals numbers places place next [] (known ∷ left) names after number external left_is rest_is
-    listing placed publics more = absurd (none-some external rest_is)
-listing_names_step externals numbers places place next (first ∷ rest) (known ∷ left) names after number external
-    left_is rest_is listing placed publics more =
+    → IsListingNames externals numbers (take (length rest - 1) (drop 1 rest)) (take (length left - 1) (drop 1 left))
+    after
+listing_names_step externals numbers rest [] names after number external left_is rest_is listing publics more =
+    absurd (none-some number left_is)
+listing_names_step externals numbers [] (known ∷ left) names after number external left_is rest_is listing publics
+    more = absurd (none-some external rest_is)
+listing_names_step externals numbers (first ∷ rest) (known ∷ left) names after number external left_is rest_is
+    listing publics more =
     let here : number ≡ known = same_Some number known (sym left_is) in
     let there : external ≡ first = same_Some external first (sym rest_is) in
     let front : used_name number external ≡ used_name known first =
     ap (λ one. used_name one external) here ∙ ap (used_name known) there in
-    let at : IsPlaceAfter places known place next = subst (λ one. IsPlaceAfter places one place next) here placed in
-    let stepped : IsListingNames externals numbers places next rest left after = record {
+    let as_many : suc (length left) ≡ suc (length rest) = listing.as_many in
+    let stepped : IsListingNames externals numbers rest left after = record {
       names_are =
           ap (λ list. list ++ used_names left rest) (more ∙ ap (λ list. names.externals ++ list) front)
           ∙ append_assoc names.externals (used_name known first) (used_names left rest)
           ∙ ap (λ list. names.externals ++ list) (sym (used_first known left first rest))
           ∙ listing.names_are;
-      places_are = λ have. listing.places_are (next, at, have);
+      as_many = omega (arith, as_many);
       publics = publics;
     } in
-    subst
-    (λ list. IsListingNames externals numbers places next list (take (length (known ∷ left) - 1) left) after)
+    subst (λ list. IsListingNames externals numbers list (take (length (known ∷ left) - 1) left) after)
     (sym (take_all rest (length (first ∷ rest) - 1) (omega arith)))
-    (subst (λ list. IsListingNames externals numbers places next rest list after)
+    (subst (λ list. IsListingNames externals numbers rest list after)
     (sym (take_all left (length (known ∷ left) - 1) (omega arith))) stepped)
 
 pub listing_names_ends :
-    (externals : List ExternalName) (numbers : List (Option ℕ)) (places : List ℕ) (place : ℕ)
-    (rest : List ExternalName) (left : List (Option ℕ)) (names : Linkage)
+    (externals : List ExternalName) (numbers : List (Option ℕ)) (rest : List ExternalName)
+    (left : List (Option ℕ)) (names : Linkage)
     → length left < 1
-    → IsListingNames externals numbers places place rest left names
-    → AreListed externals numbers places names
-listing_names_ends externals numbers places place rest [] names none listing = record {
-  names_are = sym (append-nil names.externals) ∙ listing.names_are;
-  places_are = listing.places_are tt;
-  publics = listing.publics;
+    → IsListingNames externals numbers rest left names
+    → names.externals ≡ used_names numbers externals
+listing_names_ends externals numbers rest [] names none listing =
+    sym (append-nil names.externals) ∙ listing.names_are
+listing_names_ends externals numbers rest (known ∷ left) names none listing = absurd (omega (arith, none))
+
+-- the names are listed at these places
+pub names_listed :
+    (externals : List ExternalName) (table numbers : List (Option ℕ)) (places : List ℕ) (names : Linkage)
+    → numbers ≡ table
+    → length table ≡ length externals
+    → FollowPlaces places 0 numbers
+    → names.externals ≡ used_names numbers externals
+    → names.publics ≡ []
+    → AreListed externals table places names
+names_listed externals table numbers places names same as_many follow listed publics = record {
+  names_are = listed ∙ ap (λ one. used_names one externals) same;
+  places_are = places_of_names places 0 table externals as_many (subst (λ one. FollowPlaces places 0 one) same follow);
+  publics = publics;
 }
-listing_names_ends externals numbers places place rest (known ∷ left) names none listing =
-    absurd (omega (arith, none))
 
 -- PUBLIC names are being added; some remain.
 pub record IsAddingPublics

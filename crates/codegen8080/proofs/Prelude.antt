@@ -1,6 +1,6 @@
 -- The names that the proofs of this crate cite, passed on from one place. Declares nothing.
-pub use Rattle.std.proofs.{Common.{Bool, Err, List, None, Ok, OnOk, Option, Result, Some, [], add-one, ap, append-nil, append_assoc, arith, cond, drop, false, find, if◌then◌else◌, inl, inr, length, map, nat_le, nat_lt, not, option_and_then, option_map, refl, replicate, rules, slice_get, slice_index, slice_index_or, subst, suc, sym, take, true, unwrap_or, zero, ℕ, ◌&&◌, ◌++◌, ◌+◌, ◌-◌, ◌<◌, ◌==◌, ◌||◌, ◌∙◌, ◌∷◌, ◌≡◌, ◌≤◌, ◌⊎◌}, lemmas.Bool.{and_from, and_parts, eq-eqb, le-leb, lt-ltb, or_from, or_parts}, lemmas.List.{drop_all, drop_at, map-append}, lemmas.Option.{none-some, same_Some, slice_get_within}}
-pub use Rattle.std.specs.{List.{list_all, slice_range}, Option.{option_flatten, option_map_or}, Prelude.{All, IfOk, IfSome, IsTrue, min}, Str.{bytes_eq}}
+pub use Rattle.std.proofs.{Common.{Bool, Bor, Err, List, None, Ok, OnOk, Option, Result, Some, [], add-one, ap, append-nil, append_assoc, arith, cond, drop, false, find, if◌then◌else◌, inl, inr, length, map, nat_le, nat_lt, not, option_and_then, option_copied, option_map, refl, replicate, rules, set, slice_get, slice_index, slice_index_or, subst, suc, sym, take, true, unwrap_or, zero, ℕ, ◌&&◌, ◌++◌, ◌+◌, ◌-◌, ◌<◌, ◌==◌, ◌||◌, ◌∙◌, ◌∷◌, ◌≡◌, ◌≤◌, ◌⊎◌}, lemmas.Bool.{and_from, and_parts, eq-eqb, le-leb, lt-ltb, or_from, or_parts}, lemmas.List.{drop_all, drop_at, length-replicate, length-set, map-append}, lemmas.Option.{none-some, same_Some, slice_get_past, slice_get_within}}
+pub use Rattle.std.specs.{List.{list_all, slice_range}, Option.{option_flatten, option_map_or}, Prelude.{All, IfNone, IfOk, IfSome, IsTrue, min}, Slice.{IsItemAt}, Str.{bytes_eq}}
 pub use Rattle.mem80.proofs.Lists.{take_found, take_whole}
 pub use Rattle.symbols.specs.Names.{is_name}
 pub use Rattle.trees.proofs.Lists.{drop_found}
@@ -12,7 +12,7 @@ pub use Rattle.runtime8080.specs.{Routines.{IsRoutine, size_of_routine}, declare
 pub use Rattle.treecode.specs.{declared.lists.Range.{Range}, declared.module.Content.{Content}, declared.module.ExternalName.{ExternalName}, declared.module.PublicName.{PublicName}, declared.module.PublicPlace.{PublicPlace, TheVariants.{Object, Procedure}}, declared.module.TreeModule.{TreeModule}, declared.procedure.Parameter.{Parameter}, declared.procedure.ProcedureKind.{ProcedureKind}, declared.procedure.TreeProcedure.{TreeProcedure}, declared.statement.Statement.{Statement, Statement as TreeStatement}, declared.statement.StatementNumber.{StatementNumber}}
 pub use Rattle.frames.specs.{Frames.{HasFrame, HasNothing, IsPlanOf, LiesApart}, declared.frame_plan.FramePlan.{FramePlan}}
 pub use Rattle.steps8080.proofs.Numbered.{items_stay, use_either, writes_nothing, writes_then}
-pub use Rattle.steps8080.specs.{Externals.{Extends, entry}, Facts.{no_facts}, Step.{label_after, label_of}, Writer.{Finishes, NumbersNames, Writes, Written, in_front, known_label, numbered, numbered_item, numbered_reference, place_of_known, place_of_label, stack_end_item}, declared.facts.Facts.{Facts}, declared.sites.site.Site.{Site}, declared.step.LabelNumber.{LabelNumber}, declared.step.Step.{Step}, declared.step.Step.TheVariants.{Holds}}
+pub use Rattle.steps8080.specs.{Externals.{AreDifferent, Extends, IsNumbering, entries, entry}, Facts.{no_facts}, Step.{label_after, label_of}, Writer.{Finishes, NumbersNames, Writes, Written, in_front, known_label, numbered, numbered_item, numbered_reference, place_of_known, place_of_label, stack_end_item}, declared.facts.Facts.{Facts}, declared.sites.site.Site.{Site}, declared.step.LabelNumber.{LabelNumber}, declared.step.Step.{Step}, declared.step.Step.TheVariants.{Holds}}
 pub use Rattle.exprgen8080.proofs.{CodeLaws.{found_deeper, found_map, found_then, steps_are_code}, Emitting.{are_kept, are_labels_kept, emits_then, has_itself, none_is, none_noted, notes_then}}
 pub use Rattle.exprgen8080.specs.{internal.Code.{IsFoundDeep}, internal.Emission.{AreWritten, MarkWritten, NoneWritten, PlainWritten, call_routine, has_routine, index_of_routine, knowing, module_label_of_routine, module_routine_label}, internal.Emitted.{EmitsSteps, HasAll, IsEmpty, NotesCalled}, internal.Labelled.{AreLabelled}, declared.emission.Emission.{Emission}}
 unfoldable pub use Rattle.exprgen8080.specs.internal.Code.{code_of_part, code_of_steps}
@@ -30,6 +30,6 @@ pub use Rattle.codegen8080.specs.declared.generator.Generator.{Generator}
 pub use Rattle.codegen8080.specs.declared.meeting.Here.{Here}
 pub use Rattle.codegen8080.specs.internal.Bodies.{AddsCalled, AddsCodeOfMain, AddsEnd, AddsEntry, AddsMain, AddsOwn, AddsOwnCode, AddsProcedure, AddsProcedures, AddsRoutineIf, AddsRoutines, LabelledCode, LabelledCodeOfMain, LabelledEnd, LabelledProcedure, LabelledProcedures, first_routines, last_routines, next_routines}
 pub use Rattle.codegen8080.specs.internal.Carrying.{CarriesOut}
-pub use Rattle.codegen8080.specs.internal.Listing.{AreListed, ArePublicsIn, HavePlaces, IsMadeOf, IsPlaceAfter, IsPublicIn, used_name}
+pub use Rattle.codegen8080.specs.internal.Listing.{AreListed, ArePublicsIn, FollowPlaces, HavePlaces, IsMadeOf, IsPlaceAfter, IsPublicIn, used_name}
 pub use Rattle.codegen8080.specs.internal.Names.{IsLinkage, Linkage, names_of}
 pub use Rattle.codegen8080.specs.internal.Segments.{IsKept, KeepsFixes, listed_target, retarget}

@@ -1,6 +1,8 @@
 //! The code of procedures and of the main program.
 
 ghost use Rattle.std.specs.Prelude.{◌≡◌, ◌++◌, IfOk, OnOk};
+ghost use Rattle.treecode.specs.Nodes.{nodes_of};
+ghost use Rattle.treecode.specs.Rising.{NumbersRise};
 ghost use Rattle.steps8080.specs.Step.{label_after, label_of};
 ghost use Rattle.codegen8080.specs.internal.Modules.{IsFrameOf};
 ghost use Rattle.codegen8080.specs.internal.Procedures.{entry_labels, entry_steps};
@@ -71,6 +73,7 @@ fn plan_next_entry(generator: &mut Generator, body: &Body<'_>) -> Result<(), All
 
 // Adds the entry of a procedure.
 fn put_entry(generator: &mut Generator, body: &Body<'_>) -> Result<(), AllocError>
+    requires { NumbersRise (nodes_of body.now.tree.now) }
     ensures { OnOk result (AddsEntry body.now generator.old generator.new) }
 {
     let start = generator.plan.count();
@@ -80,6 +83,7 @@ fn put_entry(generator: &mut Generator, body: &Body<'_>) -> Result<(), AllocErro
 
 // Adds the end of a procedure, if it can be reached.
 fn put_end(generator: &mut Generator, body: &Body<'_>) -> Result<(), AllocError>
+    requires { NumbersRise (nodes_of body.now.tree.now) }
     ensures { OnOk result (AddsEnd body.now generator.old generator.new) }
 {
     if !body.procedure.reaches_its_end {
@@ -98,6 +102,7 @@ fn put_own(
     procedure: &TreeProcedure,
     entry: LabelNumber,
 ) -> Result<(), AllocError>
+    requires { NumbersRise (nodes_of tree.now) }
     ensures { OnOk result (AddsOwn tree.now entry.index procedure.now generator.old generator.new) }
 {
     let frame = frame_of(alloc, procedure)?;
@@ -120,6 +125,7 @@ pub(crate) fn put_procedure(
     procedure: &TreeProcedure,
     number: u32,
 ) -> Result<(), AllocError>
+    requires { NumbersRise (nodes_of tree.now) }
     ensures { OnOk result (AddsProcedure tree.now number procedure.now generator.old generator.new) }
 {
     match procedure.kind {
@@ -141,6 +147,7 @@ pub(crate) fn put_main(
     tree: &TreeModule,
     entry: LabelNumber,
 ) -> Result<(), AllocError>
+    requires { NumbersRise (nodes_of tree.now) }
     ensures { OnOk result (AddsMain tree.now entry.index generator.old generator.new) }
 {
     let frame = FramePlan::empty(alloc);

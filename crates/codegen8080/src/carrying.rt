@@ -1,6 +1,8 @@
 //! Emission of planned steps that hold no statement.
 
 ghost use Rattle.std.specs.Prelude.{◌≡◌, ◌∷◌, ◌++◌, [], OnOk};
+ghost use Rattle.treecode.specs.Nodes.{nodes_of};
+ghost use Rattle.treecode.specs.Rising.{NumbersRise};
 ghost use Rattle.steps8080.specs.declared.step.Step.TheVariants.{Holds, Mark};
 ghost use Rattle.steps8080.specs.declared.step.Task.TheVariants as tasks;
 ghost use Rattle.steps8080.specs.Step.{part};
@@ -29,6 +31,7 @@ pub(crate) fn site_of<'a>(body: &Body<'a>) -> Site<'a>
 
 // Adds the code of an expression step.
 fn add(emission: &mut Emission, body: &Body<'_>, step: Step) -> Result<(), AllocError>
+    requires { NumbersRise (nodes_of body.now.tree.now) }
     ensures { OnOk result (EmitsSteps (site_of body.now) (step ∷ []) emission.old emission.new) }
 {
     emission.add(&site_of(body), step)
@@ -50,6 +53,7 @@ fn byte_at_address(
     body: &Body<'_>,
     reference: Reference,
 ) -> Result<(), AllocError>
+    requires { NumbersRise (nodes_of body.now.tree.now) }
     ensures { OnOk result (EmitsSteps (site_of body.now)
         (byte_at_address_steps reference) emission.old emission.new) }
 {
@@ -68,6 +72,7 @@ fn byte_at(
     reference: Reference,
     location: Location,
 ) -> Result<(), AllocError>
+    requires { NumbersRise (nodes_of body.now.tree.now) }
     ensures { OnOk result (EmitsSteps (site_of body.now)
         (byte_at_steps emission.old.facts reference location) emission.old emission.new) }
 {
@@ -90,6 +95,7 @@ fn known_byte_at(
     reference: Reference,
     location: Location,
 ) -> Result<(), AllocError>
+    requires { NumbersRise (nodes_of body.now.tree.now) }
     ensures { OnOk result (EmitsSteps (site_of body.now)
         (byte_at_steps emission.old.facts reference location ++ (Holds (byte_in_a location) ∷ []))
         emission.old emission.new) }
@@ -112,6 +118,7 @@ fn load_byte(
     body: &Body<'_>,
     reference: Reference,
 ) -> Result<(), AllocError>
+    requires { NumbersRise (nodes_of body.now.tree.now) }
     ensures { OnOk result (EmitsSteps (site_of body.now)
         (load_byte_steps (knowing (site_of body.now) emission.old.facts) reference)
         emission.old emission.new) }
@@ -135,6 +142,7 @@ fn frame_word(
     body: &Body<'_>,
     reference: Reference,
 ) -> Result<(), AllocError>
+    requires { NumbersRise (nodes_of body.now.tree.now) }
     ensures { OnOk result (EmitsSteps (site_of body.now)
         (frame_word_steps reference) emission.old emission.new) }
 {
@@ -164,6 +172,7 @@ fn word_at(
     reference: Reference,
     location: Location,
 ) -> Result<(), AllocError>
+    requires { NumbersRise (nodes_of body.now.tree.now) }
     ensures { OnOk result (EmitsSteps (site_of body.now)
         (word_at_steps reference location) emission.old emission.new) }
 {
@@ -180,6 +189,7 @@ fn known_word_at(
     reference: Reference,
     location: Location,
 ) -> Result<(), AllocError>
+    requires { NumbersRise (nodes_of body.now.tree.now) }
     ensures { OnOk result (EmitsSteps (site_of body.now)
         (word_at_steps reference location ++ (Holds (word_in_hl location) ∷ []))
         emission.old emission.new) }
@@ -202,6 +212,7 @@ fn load_word(
     body: &Body<'_>,
     reference: Reference,
 ) -> Result<(), AllocError>
+    requires { NumbersRise (nodes_of body.now.tree.now) }
     ensures { OnOk result (EmitsSteps (site_of body.now)
         (load_word_steps (knowing (site_of body.now) emission.old.facts) reference)
         emission.old emission.new) }
@@ -227,6 +238,7 @@ fn jump_on(
     goes_on: bool,
     label: LabelNumber,
 ) -> Result<(), AllocError>
+    requires { NumbersRise (nodes_of body.now.tree.now) }
     ensures { OnOk result (EmitsSteps (site_of body.now)
         (jump_on_steps goes_on label) emission.old emission.new) }
 {
@@ -245,6 +257,7 @@ fn turn(
     other: LabelNumber,
     end: LabelNumber,
 ) -> Result<(), AllocError>
+    requires { NumbersRise (nodes_of body.now.tree.now) }
     ensures { OnOk result (EmitsSteps (site_of body.now)
         (jump_on_steps goes_on end ++ (Mark other ∷ [])) emission.old emission.new) }
 {
@@ -252,7 +265,7 @@ fn turn(
     add(emission, body, Step::Mark(other))
 }
 
-/// Adds the code of a step that holds no statement, at the given end of the code. Any other step is refused.
+/// Adds the code of a step that holds no statement, at the given end of the code.
 #[tactic(auto, unfolding(crate::specs::internal::Generated::carried_steps), using(exprgen8080::proofs::Emitting::emits_nothing))]
 pub(crate) fn carry(
     emission: &mut Emission,
@@ -260,10 +273,11 @@ pub(crate) fn carry(
     goes_on: bool,
     step: Planned,
 ) -> Result<(), AllocError>
-    ensures emits { OnOk result (EmitsSteps (site_of body.now)
+    requires rise { NumbersRise (nodes_of body.now.tree.now) }
+    requires alone { HoldsNoStatement step }
+    ensures { OnOk result (EmitsSteps (site_of body.now)
         (carried_steps (site_of body.now) (record { facts = emission.old.facts; goes_on = goes_on }) step)
         emission.old emission.new) }
-    ensures alone { OnOk result (HoldsNoStatement step) }
 {
     match step {
         Planned::Code(step) => add(emission, body, step),
@@ -274,6 +288,6 @@ pub(crate) fn carry(
         Planned::Meet(label) => add(emission, body, Step::Mark(label)),
         Planned::Again { label, .. } => add(emission, body, Step::Mark(label)),
         Planned::Jumped { .. } | Planned::Reaches(_) => Ok(()),
-        Planned::Statement(_) | Planned::List(_) => Err(AllocError),
+        Planned::Statement(_) | Planned::List(_) => unreachable!(),
     }
 }

@@ -1,7 +1,8 @@
 //! Emission of planned code of statements.
 
 ghost use Rattle.std.specs.Prelude.{◌≡◌, ◌<◌, ◌+◌, [], ◌++◌, drop, take, length, slice_get, Some, IfOk, OnOk};
-ghost use Rattle.treecode.specs.Nodes.{item_of};
+ghost use Rattle.treecode.specs.Nodes.{item_of, nodes_of};
+ghost use Rattle.treecode.specs.Rising.{NumbersRise};
 ghost use Rattle.steps8080.specs.Step.{label_after};
 ghost use Rattle.exprgen8080.specs.internal.Emitted.{IsEmpty};
 ghost use Rattle.exprgen8080.specs.internal.Emission.{knowing};
@@ -101,8 +102,9 @@ impl Generator {
         step: Planned,
         waiting: Option<Facts>,
     ) -> Result<Option<Facts>, AllocError>
-        ensures added { IfOk result (λ waits. AddsStep body.now step waiting self.old self.new waits) }
-        ensures alone { OnOk result (HoldsNoStatement step) }
+        requires rise { NumbersRise (nodes_of body.now.tree.now) }
+        requires alone { HoldsNoStatement step }
+        ensures { IfOk result (λ waits. AddsStep body.now step waiting self.old self.new waits) }
     {
         let here = self.here();
         carry(&mut self.emission, body, here.goes_on, step)?;
@@ -136,6 +138,7 @@ impl Generator {
     // rules out.
     #[cycle(statement)]
     fn statement(&mut self, body: &Body<'_>, number: StatementNumber) -> Result<(), AllocError>
+        requires { NumbersRise (nodes_of body.now.tree.now) }
         ensures code { OnOk result (AddsStatement body.now number self.old self.new) }
         ensures plan { OnOk result (self.new.plan.list.items ≡ self.old.plan.list.items) }
     {
@@ -159,6 +162,7 @@ impl Generator {
         waiting: Option<Facts>,
         bound: u32,
     ) -> Result<Option<Facts>, AllocError>
+        requires { NumbersRise (nodes_of body.now.tree.now) }
         ensures { IfOk result (λ waits. CarriesOut body.now step waiting self.old self.new waits) }
     {
         match step {
@@ -186,6 +190,7 @@ impl Generator {
         start: usize,
         bound: u32,
     ) -> Result<(), AllocError>
+        requires { NumbersRise (nodes_of body.now.tree.now) }
         ensures code { OnOk result
             (AddsPlanned body.now (drop start self.old.plan.list.items) self.old self.new) }
         ensures plan { OnOk result (self.new.plan.list.items ≡ take start self.old.plan.list.items) }
@@ -209,6 +214,7 @@ impl Generator {
         list: Range,
         bound: u32,
     ) -> Result<(), AllocError>
+        requires { NumbersRise (nodes_of body.now.tree.now) }
         ensures code { OnOk result (AddsList body.now list self.old self.new) }
         ensures plan { OnOk result (self.new.plan.list.items ≡ self.old.plan.list.items) }
     {

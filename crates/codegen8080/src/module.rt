@@ -1,7 +1,9 @@
 //! Generation of object modules from modules of tree code.
 
-ghost use Rattle.std.specs.Prelude.{◌≡◌, false, slice_index_or, Some, IfOk, OnOk};
+ghost use Rattle.std.specs.Prelude.{◌≡◌, false, length, slice_index_or, Some, IfOk, OnOk};
 ghost use Rattle.failure.specs.Failure.{IfFault};
+ghost use Rattle.treecode.specs.Nodes.{nodes_of};
+ghost use Rattle.treecode.specs.Rising.{NumbersRise};
 ghost use Rattle.codegen8080.specs.internal.Modules.{IsCodeWritten, IsGenerated, all_routines, content_items, contents_items, has_main};
 ghost use Rattle.codegen8080.specs.internal.Refusals.{IsNoSegment, MayRefuse};
 ghost use Rattle.codegen8080.specs.internal.Bodies.{AddsCalled, AddsCodeOfMain, AddsOwnCode, AddsProcedures, AddsRoutines, first_routines, last_routines, next_routines};
@@ -70,6 +72,7 @@ fn put_procedures(
     tree: &TreeModule,
     procedures: &[TreeProcedure],
 ) -> Result<(), AllocError>
+    requires { NumbersRise (nodes_of tree.now) }
     ensures { OnOk result (AddsProcedures tree.now 0 procedures.now generator.old generator.new) }
 {
     let mut left = procedures;
@@ -90,6 +93,7 @@ fn put_main_if_any(
     tree: &TreeModule,
     start: LabelNumber,
 ) -> Result<(), AllocError>
+    requires { NumbersRise (nodes_of tree.now) }
     ensures { OnOk result (AddsCodeOfMain tree.now start.index generator.old generator.new) }
 {
     if is_main(tree) {
@@ -180,6 +184,7 @@ fn put_own_code(
     generator: &mut Generator,
     tree: &TreeModule,
 ) -> Result<LabelNumber, AllocError>
+    requires { NumbersRise (nodes_of tree.now) }
     ensures { IfOk result (λ start. AddsOwnCode tree.now start.index generator.old generator.new) }
 {
     put_contents(&mut generator.emission.writer, tree.constants.as_slice())?;
@@ -191,6 +196,7 @@ fn put_own_code(
 
 /// The code segment of a module: its constants, its main program, its procedures and the routines that these call.
 pub(crate) fn code_of(alloc: Global, tree: &TreeModule) -> Result<ModuleCode, AllocError>
+    requires { NumbersRise (nodes_of tree.now) }
     ensures { IfOk result (λ code. IsCodeWritten tree.now code.start.index code.writer) }
 {
     let mut generator = Generator::new(alloc, tree)?;
@@ -214,6 +220,7 @@ fn variables_of(
     ensures items { IfOk result (λ written. numbered written (contents_items tree.now.variables.items)
         ≡ Some written.code.items) }
     ensures externals { IfOk result (λ written. Extends externals written.externals) }
+    ensures count { IfOk result (λ written. length written.externals ≡ length externals) }
     ensures names { IfOk result (λ written. NumbersNames externals written.externals
         (contents_items tree.now.variables.items)) }
 {
@@ -257,10 +264,11 @@ fn names_of(
     externals: &Externals,
     code: &Finished,
 ) -> Result<ListedNames, AllocError>
+    requires { length externals.now ≡ length tree.now.externals.items }
     ensures { IfOk result (λ names. AreNamesOf tree.now externals.now code.now.bytes code.now.labels.items
         names.numbers.items names.names) }
 {
-    let listed = listed_names(alloc, tree.externals.as_slice(), externals.numbers())?;
+    let listed = listed_names(alloc, tree.externals.as_slice(), externals)?;
     let listed = with_publics(listed, tree, code)?;
     Ok(listed)
 }
@@ -269,6 +277,7 @@ fn names_of(
 /// its PUBLIC names, and the EXTERNAL names that it refers to. A module is refused only if its code or its data exceed
 /// 65535 bytes.
 pub fn generate(alloc: Global, tree: &TreeModule) -> Result<ObjectModule, Failure<Fault>>
+    requires { NumbersRise (nodes_of tree.now) }
     ensures made { IfOk result (λ object. IsGenerated tree.now object) }
     ensures refused { IfFault result (λ fault. MayRefuse tree.now fault) }
 {

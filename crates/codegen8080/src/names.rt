@@ -1,13 +1,14 @@
 //! The PUBLIC and EXTERNAL names of a module in its object module.
 
-ghost use Rattle.std.specs.Prelude.{◌≡◌, ◌+◌, [], ◌++◌, true, Some, slice_get, IfOk, IsTrue};
+ghost use Rattle.std.specs.Prelude.{◌≡◌, ◌+◌, ◌<◌, [], ◌++◌, length, set, IfNone, IfOk, IfSome, IsTrue};
+ghost use Rattle.steps8080.specs.Externals.{IsNumbering};
 ghost use Rattle.object_modules.specs.Module.{may_have_publics};
 ghost use Rattle.object_modules.specs.Views.{owned_public_view};
-ghost use Rattle.codegen8080.specs.internal.Modules.{IsAtPlace};
-ghost use Rattle.codegen8080.specs.internal.Listing.{AreListed, ArePublicsIn, IsPlaceAfter, IsPublicIn, used_name};
+ghost use Rattle.codegen8080.specs.internal.Modules.{IsAtPlace, used_names};
+ghost use Rattle.codegen8080.specs.internal.Listing.{AreListed, ArePublicsIn, FollowPlaces, IsPublicIn, used_name};
 
 use crate::linkage::LinkageNames;
-use exprgen8080::{Finished, LabelNumber};
+use exprgen8080::{Externals, Finished, LabelNumber};
 use object_modules::{Name, OwnedPublic, Segment};
 use std::alloc::{AllocError, Global};
 use treecode::{ExternalName, Place, PublicName, PublicPlace, TreeModule};
@@ -29,59 +30,37 @@ impl ListedNames {
     }
 }
 
-// Sets the place of a name, by its number in the code.
-fn set_place(places: &mut Vec<u16>, number: u16, place: u16) {
-    if let Some(entry) = places.get_mut(number as usize) {
-        *entry = place;
-    }
-}
-
-// The next place. Fails past the greatest one.
-fn next_place(place: u16) -> Result<u16, AllocError>
-    ensures { IfOk result (λ next. next ≡ place + 1) }
+// Sets the place of a name by its number, if the code has one for it. Returns the next place.
+fn with_place(places: &mut Vec<u16>, number: Option<u16>, place: u16) -> u16
+    requires known { IfSome number (λ number. number < length places.old.items) }
+    requires more { IfSome number (λ number. place + 1 < 65536) }
+    ensures none { IfNone number (places.new.items ≡ places.old.items) }
+    ensures same { IfNone number (result ≡ place) }
+    ensures placed { IfSome number (λ number. places.new.items ≡ set places.old.items number place) }
+    ensures next { IfSome number (λ number. result ≡ place + 1) }
 {
-    match place.checked_add(1) {
-        Some(next) => Ok(next),
-        None => Err(AllocError),
+    match number {
+        Some(number) => {
+            places[number as usize] = place;
+            place + 1
+        }
+        None => place,
     }
 }
 
 // The place of each EXTERNAL name that code refers to, by its number in the code.
-fn places_of(alloc: Global, numbers: &[Option<u16>]) -> Result<Vec<u16>, AllocError> {
-    let mut places = vec![in alloc; 0; numbers.len()]?;
+fn places_of(alloc: Global, numbers: &[Option<u16>], count: u16) -> Result<Vec<u16>, AllocError>
+    requires { IsNumbering count numbers.now }
+    ensures { IfOk result (λ places. FollowPlaces places.items 0 numbers.now) }
+{
+    let mut places = vec![in alloc; 0; count as usize]?;
+    let mut left = numbers;
     let mut place = 0;
-    for number in numbers {
-        if let Some(number) = *number {
-            set_place(&mut places, number, place);
-            place = next_place(place)?;
-        }
+    while let [number, more @ ..] = left {
+        place = with_place(&mut places, *number, place);
+        left = more;
     }
     Ok(places)
-}
-
-// Whether the table has this place for the number of a name.
-fn has_place(places: &[u16], number: u16, place: u16) -> bool
-    ensures { result ≡ true → slice_get places.now number ≡ Some place }
-{
-    match places.get(number as usize) {
-        Some(found) => *found == place,
-        None => false,
-    }
-}
-
-// The place after that of a name, if the code has a number for it. Fails if the table has another place for it: no two
-// names share a number.
-fn place_after(places: &[u16], number: Option<u16>, place: u16) -> Result<u16, AllocError>
-    ensures { IfOk result (λ next. IsPlaceAfter places.now number place next) }
-{
-    let Some(number) = number else {
-        return Ok(place);
-    };
-    if has_place(places, number, place) {
-        next_place(place)
-    } else {
-        Err(AllocError)
-    }
 }
 
 // Adds a name, if code refers to it.
@@ -101,24 +80,23 @@ fn with_used(
     }
 }
 
-// The names that code refers to, each at its place in a table.
-fn names_at(
+// The names that code refers to.
+fn names_with(
     alloc: Global,
     externals: &[ExternalName],
     numbers: &[Option<u16>],
-    places: &[u16],
 ) -> Result<LinkageNames, AllocError>
-    ensures { IfOk result (λ names. AreListed externals.now numbers.now places.now names) }
+    requires { length numbers.now ≡ length externals.now }
+    ensures names { IfOk result (λ names. names.externals ≡ used_names numbers.now externals.now) }
+    ensures publics { IfOk result (λ names. names.publics ≡ []) }
 {
     let mut names = LinkageNames::new(alloc);
     let mut left = numbers;
     let mut rest = externals;
-    let mut place = 0;
     while let [number, more @ ..] = left {
         let [external, others @ ..] = rest else {
-            return Err(AllocError);
+            unreachable!()
         };
-        place = place_after(places, *number, place)?;
         names = with_used(names, *external, *number)?;
         left = more;
         rest = others;
@@ -126,16 +104,21 @@ fn names_at(
     Ok(names)
 }
 
-/// The names that code refers to, from all EXTERNAL names of a module and their numbers in the code.
+/// The names that code refers to, of all EXTERNAL names of a module. Fails if more are in use than there are numbers.
 pub(crate) fn listed_names(
     alloc: Global,
     externals: &[ExternalName],
-    numbers: &[Option<u16>],
+    numbered: &Externals,
 ) -> Result<ListedNames, AllocError>
-    ensures { IfOk result (λ listed. AreListed externals.now numbers.now listed.numbers.items listed.names) }
+    requires { length numbered.now ≡ length externals.now }
+    ensures { IfOk result (λ listed. AreListed externals.now numbered.now listed.numbers.items listed.names) }
 {
-    let places = places_of(alloc, numbers)?;
-    let names = names_at(alloc, externals, numbers, places.as_slice())?;
+    let Some(count) = numbered.count() else {
+        return Err(AllocError);
+    };
+    let numbers = numbered.numbers();
+    let places = places_of(alloc, numbers, count)?;
+    let names = names_with(alloc, externals, numbers)?;
     Ok(ListedNames {
         names,
         numbers: places,

@@ -182,14 +182,14 @@ fn plan_popped_argument(plan: &mut Plan, parameter: Parameter) -> Result<(), All
     plan_argument(plan, parameter)
 }
 
-// Pops the argument of the parameter at an index.
+// Pops the argument of the parameter at an index, if there is one.
 #[tactic(auto, unfolding(crate::specs::internal::Procedures::popped_at))]
 fn plan_popped_at(plan: &mut Plan, parameters: &[Parameter], index: usize) -> Result<(), AllocError>
     ensures { OnOk result (PlanAdds plan.old plan.new (popped_at parameters.now index)) }
 {
     match parameters.get(index).copied() {
         Some(parameter) => plan_popped_argument(plan, parameter),
-        None => Err(AllocError),
+        None => Ok(()),
     }
 }
 

@@ -19,9 +19,18 @@ same_fault result fault other e f = cc
 
 -- sources of which there would be another answer if they were too many
 module _ (sources : List Source) where
+  few_if : (MOST_SOURCES < length sources → ⊥) → length sources ≤ MOST_SOURCES
+  few_if none =
+      ⊎_elim (λ (more : MOST_SOURCES < length sources). absurd (none more))
+      (λ (few : length sources ≤ MOST_SOURCES). few) (cases_lt MOST_SOURCES (length sources))
+
+  pub few_sources : {A : Type 0} (built : A) (failure : Failure ToolFault)
+      → (MOST_SOURCES < length sources → Ok built ≡ Err failure) → length sources ≤ MOST_SOURCES
+  few_sources built failure past = few_if (λ more. no_failure built failure (past more))
+
   few_texts : (MOST_SOURCES < length sources → ⊥) → length (texts_of sources) ≤ MOST_SOURCES
   few_texts none = subst (λ (count : ℕ). count ≤ MOST_SOURCES) (sym (length-map sources (λ (s : Source). s.text.now)))
-      (⊎_elim (λ (more : MOST_SOURCES < length sources). absurd (none more)) (λ (few : length sources ≤ MOST_SOURCES). few) (cases_lt MOST_SOURCES (length sources)))
+      (few_if none)
 
   pub few_built : {A : Type 0} (built : A) (failure : Failure ToolFault) → (MOST_SOURCES < length sources → Ok built ≡ Err failure) → length (texts_of sources) ≤ MOST_SOURCES
   few_built built failure past = few_texts (λ more. no_failure built failure (past more))

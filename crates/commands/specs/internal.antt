@@ -6,3 +6,4 @@ pub mod InputPorts
 pub mod SourceRuns
 pub mod Outcomes
 pub mod RunOrders
+pub mod Shown

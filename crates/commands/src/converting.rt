@@ -154,6 +154,7 @@ fn form_of(alloc: Global, text: &[u8]) -> Result<Form, AllocError>
     match read_source(alloc, text) {
         Ok(_) => Ok(Form::Module),
         Err(Failure::Fault(fault)) => Ok(form_of_fault(fault)),
+        // Memory ran out while it was read.
         Err(Failure::Memory) => Err(AllocError),
     }
 }

@@ -44,24 +44,26 @@ fn spelled_line(alloc: Global, name: &Name, number: u32) -> Result<String, Alloc
 }
 
 // The module of a number, if there is one.
-fn module_at(program: &Joined, number: u32) -> Option<&Typed>
+fn module_at(program: &Joined, number: usize) -> Option<&Typed>
     ensures { IfSome result (λ typed. slice_get (modules_of program.now) number ≡ Some typed.now) }
 {
-    program.modules().get(number as usize)
+    program.modules().get(number)
 }
 
-/// The name of the module of a line, and its number. It is out of memory where there is no such module.
+/// The name of the module of a line, and its number.
 pub(crate) fn line_text(
     alloc: Global,
     program: &Joined,
-    line: SourceLine,
+    number_of_module: usize,
+    line: u32,
 ) -> Result<String, AllocError>
     ensures { IfOk result (λ text. NamesLine (module_names program.now) text.bytes.items) }
 {
-    let Some(typed) = module_at(program, line.module) else {
+    let Some(typed) = module_at(program, number_of_module) else {
+        // Each line is one of a module of the program: no clause of `code_lines` or `stack_marks` says so.
         return Err(AllocError);
     };
-    spelled_line(alloc, &typed.name, line.line)
+    spelled_line(alloc, &typed.name, line)
 }
 
 impl Places<'_> {
@@ -96,7 +98,7 @@ impl Places<'_> {
             return address_text(alloc, stand.address);
         };
         match known_line(lines, stand) {
-            Some(line) => line_text(alloc, program, line),
+            Some(line) => line_text(alloc, program, line.module as usize, line.line),
             None => address_text(alloc, stand.address),
         }
     }

@@ -1,12 +1,14 @@
 //! Listings and symbols of files that are placed.
 
-ghost use Rattle.std.specs.Prelude.{◌≡◌, ◌⊎◌, IfOk, false, map};
+ghost use Rattle.std.specs.Prelude.{◌≡◌, ◌≤◌, ◌⊎◌, IfOk, false, length, map, true};
 ghost use Rattle.command_line.specs.Command.{place_in};
 ghost use Rattle.host.specs.Files.{KeepsFiles};
 ghost use Rattle.host.specs.Refusals.{TellsOther, TellsRefusal};
-ghost use Rattle.sources.specs.Programs.{text_of, texts_of};
+ghost use Rattle.sources.specs.Programs.{IsProgramOf, program_modules, text_of, texts_of};
+ghost use Rattle.sources.specs.declared.sources.TheConstants.{MOST_SOURCES};
 ghost use Rattle.commands.specs.Refusing.{RefusesFor};
 ghost use Rattle.commands.specs.Showing.{PrintsBuilt, PrintsShown, PrintsTextsBy, RefusesShown, RefusesTextsBy, ShowsProgram, StopsShowing, begins_object, is_object, takes_object};
+ghost use Rattle.commands.specs.internal.Shown.{is_shown};
 
 use crate::programs::{name_at, refuse_sources, sources_of};
 use crate::reports::print_text;
@@ -60,6 +62,7 @@ pub(crate) fn show_files<F: Files, O: Write, E: Write>(
     out: &mut O,
     err: &mut E,
 ) -> Ending
+    requires shown { is_shown order.now.action ≡ true }
     ensures unchanged { KeepsFiles (F.files files.old) (F.files files.new) }
     ensures printed { result ≡ Ending.Done → PrintsShown order.now.action (F.files files.old)
         (place_in order.now).files plan.now (O.contents out.old) (O.contents out.new) }
@@ -90,6 +93,7 @@ fn show_texts<O: Write, E: Write>(
     out: &mut O,
     err: &mut E,
 ) -> Ending
+    requires shown { is_shown order.now.action ≡ true }
     ensures printed { result ≡ Ending.Done → PrintsTextsBy
         (takes_object order.now.action (map (λ text. text.items) texts.now)) order.now.action plan.now
         (map (λ text. text.items) texts.now) (O.contents out.old) (O.contents out.new) }
@@ -130,6 +134,7 @@ fn show_sources<O: Write, E: Write>(
     out: &mut O,
     err: &mut E,
 ) -> Ending
+    requires shown { is_shown order.now.action ≡ true }
     ensures printed { result ≡ Ending.Done → PrintsTextsBy false order.now.action plan.now
         (texts_of sources.now) (O.contents out.old) (O.contents out.new) }
     ensures ending { (result ≡ Ending.Done) ⊎ (result ≡ Ending.Refused) }
@@ -146,19 +151,22 @@ fn show_sources<O: Write, E: Write>(
     }
 }
 
-// What an order wants of a program that was built from sources. One that wants something else has no text.
+// What an order wants of a program that was built from sources.
 fn text_of_program(
     alloc: Global,
     action: PlaceAction,
     built: &Built,
     sources: &[Source],
 ) -> Result<Vec<u8>, AllocError>
+    requires shown { is_shown action ≡ true }
+    requires few { length sources.now ≤ MOST_SOURCES }
+    requires program { IsProgramOf (texts_of sources.now) (program_modules built.now.program) }
     ensures { IfOk result (λ text. ShowsProgram action (texts_of sources.now) built.now text.items) }
 {
     match action {
         PlaceAction::Listing => listing_of(alloc, built, sources),
         PlaceAction::Symbols => symbols_of(alloc, built, sources),
-        PlaceAction::Locate | PlaceAction::Hex => Err(AllocError),
+        PlaceAction::Locate | PlaceAction::Hex => unreachable!(),
     }
 }
 
@@ -171,6 +179,9 @@ fn show_built<O: Write, E: Write>(
     out: &mut O,
     err: &mut E,
 ) -> Ending
+    requires shown { is_shown action ≡ true }
+    requires few { length sources.now ≤ MOST_SOURCES }
+    requires program { IsProgramOf (texts_of sources.now) (program_modules built.now.program) }
     ensures printed { result ≡ Ending.Done → PrintsBuilt action (texts_of sources.now) built.now
         (O.contents out.old) (O.contents out.new) }
     ensures ending { (result ≡ Ending.Done) ⊎ (result ≡ Ending.Refused) }

@@ -34,7 +34,7 @@ impl<'a> Model for Frames<'a> {
     ghost invariant = { λ frames. AreFrames frames.current frames.callers.items frames.bytes.items };
 }
 
-// Adds `count` zeros.
+// Adds `count` zeros. Fails past the greatest usize, which is out of memory.
 fn add_zeros(bytes: &mut Vec<u8>, count: usize) -> Result<(), AllocError>
     ensures { MatchResult result (λ _. bytes.new.items ≡ bytes.old.items ++ replicate count 0)
         (λ _. bytes.new.items ≡ bytes.old.items) }

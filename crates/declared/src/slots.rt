@@ -48,7 +48,7 @@ impl Model for FrameSlots {
     ghost invariant = { λ slots. AreSlots slots.objects.items slots.frame_sizes.items };
 }
 
-// How many bytes the members of a structure take together.
+// How many bytes the members of a structure take together. Fails past the greatest usize, which is out of memory.
 fn size_of_members(members: &Members) -> Result<usize, AllocError>
     ensures { IfOk result (λ size. size ≡ sum_by size_of_member members.now) }
 {
@@ -64,7 +64,7 @@ fn size_of_members(members: &Members) -> Result<usize, AllocError>
     Ok(size)
 }
 
-// How many bytes an object takes.
+// How many bytes an object takes. Fails past the greatest usize, which is out of memory.
 fn exact_size(object: &TypedObject) -> Result<usize, AllocError>
     ensures { IfOk result (λ size. size ≡ size_of_object (object_view object.now)) }
 {
@@ -127,7 +127,7 @@ impl FrameSlots {
         Ok(())
     }
 
-    // Adds an object of `size` bytes in the frame of a procedure.
+    // Adds an object of `size` bytes in the frame of a procedure. Fails past the greatest usize, which is out of memory.
     fn add_inside(&mut self, procedure: usize, size: usize) -> Result<(), AllocError>
         ensures { OnOk result (self.new ≡ record self.old {
           objects = self.old.objects ++ record { procedure = Some procedure; size = size } ∷ [];

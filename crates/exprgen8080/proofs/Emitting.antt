@@ -1,8 +1,9 @@
 -- The code of steps as it is written step by step.
-use Rattle.exprgen8080.proofs.Prelude.{◌≡◌, ◌==◌, ◌||◌, ◌⊎◌, inl, inr, ℕ, ◌+◌, ◌≤◌, ◌<◌, zero, suc, Bool, true, false, set, slice_index_or, List, [], ◌∷◌, ◌++◌, length, Some, None, slice_get, drop, take, refl, sym, ap, subst, ◌∙◌, arith, append_assoc, append-nil, list_any-append, drop_at, drop_all, take_at, Item, CallTo, TreeModule, Facts, Part, Step, AddsWithLabels, label_after, Writes, jump_item, Site, Emission, AreWritten, IsWritten, NoneWritten, PlainWritten, WordWritten, JumpWritten, MarkWritten, RoutineWritten, CallWritten, TestWritten, HoldsWritten, ChangeWritten, PartWritten, Planned, call_items, call_routine, calls_label, has_routine, module_label_of_routine, module_routine_label, index_of_routine, knowing, test_items, AddsItems, Emits, EmitsSteps, HasAll, IsAlone, NotesCalled, NotesOnly, after_step, step_items, task_labels, task_steps, AreLabelled, IsLabelled, drop_found}
+use Rattle.exprgen8080.proofs.Prelude.{◌≡◌, ◌==◌, ◌||◌, ◌⊎◌, inl, inr, ℕ, ◌+◌, ◌≤◌, ◌<◌, zero, suc, Bool, true, false, set, slice_index_or, List, [], ◌∷◌, ◌++◌, length, Some, None, slice_get, drop, take, refl, sym, ap, subst, ◌∙◌, arith, append_assoc, append-nil, list_any-append, drop_at, drop_all, take_at, Item, CallTo, TreeModule, Facts, Part, Step, AddsWithLabels, label_after, Writes, jump_item, Site, Emission, AreWritten, IsWritten, NoneWritten, PlainWritten, WordWritten, JumpWritten, MarkWritten, RoutineWritten, CallWritten, TestWritten, HoldsWritten, ChangeWritten, PartWritten, Planned, call_items, call_routine, calls_label, has_routine, module_label_of_routine, module_routine_label, index_of_routine, knowing, test_items, AddsItems, Emits, EmitsSteps, HasAll, IsAlone, NotesCalled, NotesOnly, after_step, step_items, task_labels, task_steps, AreLabelled, IsLabelled, drop_found, AreBelow, rank, NumbersRise, nodes_of}
 use Rattle.runtime8080.specs.declared.routine.Routine.{Routine}
 use Rattle.steps8080.specs.declared.step.Step.TheVariants as steps
 use Rattle.steps8080.proofs.Numbered.{either_true, is_itself, writes_nothing, writes_then}
+use Rattle.exprgen8080.proofs.Ranks.Tasks.{next_below, parts_below}
 
 -- a table marks all that it marks
 pub has_itself : (called : List Bool) → HasAll called called
@@ -315,6 +316,7 @@ pub record IsWriting (site : Site) (part : Part) (before now : Emission) (index 
   pub notes : NotesCalled site.tree.now before.is_called.items now.is_called.items list
   pub begins : take (length before.steps.list.items) now.steps.list.items ≡ before.steps.list.items
   pub count : length now.steps.list.items ≡ end
+  pub below : AreBelow site.tree.now (rank site.tree.now part.task) (drop index now.steps.list.items)
 
 module _ (site : Site) (part : Part) (before now : Emission) where
   -- all steps of a part remain
@@ -323,9 +325,10 @@ module _ (site : Site) (part : Part) (before now : Emission) where
       → AddsWithLabels before.steps planned.steps
       (task_labels (knowing site before.facts) part) (task_steps (knowing site before.facts) part)
       → planned.steps.labels < 4294967296
+      → NumbersRise (nodes_of site.tree.now)
       → length planned.steps.list.items ≡ end
       → IsWriting site part before planned (length before.steps.list.items) end
-  writing_begins planned end same adds small count =
+  writing_begins planned end same adds small rises count =
       let first : List Step = before.steps.list.items in
       let label : ℕ = before.steps.labels in
       let list : List Step = task_steps (knowing site before.facts) part label in
@@ -351,6 +354,8 @@ module _ (site : Site) (part : Part) (before now : Emission) where
             (sym same) (λ routine given. inl given);
         begins = ap (take (length first)) adds.added ∙ take_at first list (length first) refl;
         count = count;
+        below = subst (AreBelow site.tree.now (rank site.tree.now part.task)) (sym is_left)
+            (parts_below (knowing site before.facts) part label rises);
       }
 
   module _ (next : Emission) (index end : ℕ) (so_far : IsWriting site part before now index end) where
@@ -383,6 +388,9 @@ module _ (site : Site) (part : Part) (before now : Emission) where
               so_far.notes emits.notes;
           begins = ap (take (length before.steps.list.items)) emits.steps ∙ so_far.begins;
           count = ap length emits.steps ∙ so_far.count;
+          below = subst (λ (at : List Step). AreBelow site.tree.now (rank site.tree.now part.task) (drop (index + 1) at))
+              (sym emits.steps)
+              (next_below site.tree.now (rank site.tree.now part.task) steps_now index step so_far.below is);
         }
 
   -- all steps are written
@@ -454,4 +462,5 @@ none_passed site part before now index end so_far none = record {
   notes = so_far.notes;
   begins = so_far.begins;
   count = so_far.count;
+  below = subst (AreBelow site.tree.now (rank site.tree.now part.task)) (none_is now.steps.list.items index none) so_far.below;
 }

@@ -1,5 +1,6 @@
 mod Prelude
 pub mod Arguments
 pub mod PlansWithoutLabels
+pub mod Ranks
 pub mod Emitting
 pub mod CodeLaws

@@ -1,6 +1,7 @@
 -- Definitions that only the generator and its laws cite.
 pub mod Halves
 pub mod ByteShifts
+pub mod Routines
 pub mod ByteOperators
 pub mod Calls
 pub mod Bytes
@@ -9,6 +10,7 @@ pub mod WordOperators
 pub mod Words
 pub mod Effects
 pub mod Forms
+pub mod Ranks
 pub mod Emission
 pub mod Labelled
 pub mod Emitted

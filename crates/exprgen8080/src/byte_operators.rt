@@ -5,7 +5,8 @@ ghost use Rattle.steps8080.specs.Step.{Adds};
 ghost use Rattle.exprgen8080.specs.internal.ByteOperators.{added_steps, byte_binary_steps, byte_operation_steps, commutes, form_from_register, form_of, from_number_steps, immediate_steps, product_byte_steps, quotient_byte_steps, remainder_byte_steps, with_e_steps, with_memory_steps, with_number_steps, with_stack_steps};
 
 use crate::byte_shifts::plan_low_byte_shifted_right;
-use crate::halves::{plan_byte_number, plan_low_of_word};
+use crate::halves::plan_byte_number;
+use crate::routines::{plan_computed_product, plan_division};
 use isa8080::{Instr, Operand, Operation, Register, StackPair};
 use operands8080::{plan_byte_product, plan_pair, plan_relation_value};
 use runtime8080::Routine;
@@ -263,12 +264,11 @@ pub(crate) fn plan_byte_operation(
 #[tactic(auto, unfolding(crate::specs::internal::ByteOperators::product_byte_steps))]
 fn plan_product_byte(
     site: &Site<'_>,
-    number: ExpressionNumber,
     operands: Operands,
     pushed: u16,
     steps: &mut Steps,
 ) -> Result<(), AllocError>
-    ensures { OnOk result (Adds steps.old steps.new (product_byte_steps site.now number operands pushed)) }
+    ensures { OnOk result (Adds steps.old steps.new (product_byte_steps site.now operands pushed)) }
 {
     if let Some(factor) = site.low_number(operands.right) {
         return plan_byte_product(operands.left, factor, pushed, steps);
@@ -276,23 +276,26 @@ fn plan_product_byte(
     if let Some(factor) = site.low_number(operands.left) {
         return plan_byte_product(operands.right, factor, pushed, steps);
     }
-    plan_low_of_word(number, pushed, steps)
+    plan_computed_product(site, operands, pushed, steps)?;
+    steps.plain(copy(Register::A, Register::L))
 }
 
 // Puts the low byte of a quotient into A.
 #[tactic(auto, unfolding(crate::specs::internal::ByteOperators::quotient_byte_steps))]
 fn plan_quotient_byte(
     site: &Site<'_>,
-    number: ExpressionNumber,
     operands: Operands,
     pushed: u16,
     steps: &mut Steps,
 ) -> Result<(), AllocError>
-    ensures { OnOk result (Adds steps.old steps.new (quotient_byte_steps site.now number operands pushed)) }
+    ensures { OnOk result (Adds steps.old steps.new (quotient_byte_steps site.now operands pushed)) }
 {
     match site.power(operands.right) {
         Some(power) => plan_low_byte_shifted_right(site, operands.left, power, pushed, steps),
-        None => plan_low_of_word(number, pushed, steps),
+        None => {
+            plan_division(site, operands, pushed, steps)?;
+            steps.plain(copy(Register::A, Register::L))
+        }
     }
 }
 
@@ -336,10 +339,10 @@ pub(crate) fn plan_byte_binary(
         BinaryOperator::Or => Operation::Or,
         BinaryOperator::Xor => Operation::ExclusiveOr,
         BinaryOperator::Multiply => {
-            return plan_product_byte(site, number, operands, pushed, steps);
+            return plan_product_byte(site, operands, pushed, steps);
         }
         BinaryOperator::Divide => {
-            return plan_quotient_byte(site, number, operands, pushed, steps);
+            return plan_quotient_byte(site, operands, pushed, steps);
         }
         BinaryOperator::Modulo => return plan_remainder_byte(site, operands, pushed, steps),
         BinaryOperator::Equal

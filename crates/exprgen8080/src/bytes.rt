@@ -7,7 +7,7 @@ ghost use Rattle.exprgen8080.specs.internal.Bytes.{byte_form_steps, byte_functio
 use crate::byte_operators::{Operands, plan_byte_binary};
 use crate::byte_shifts::{Shifted, plan_byte_shift};
 use crate::calls::plan_call;
-use crate::halves::{plan_byte_number, plan_high_byte, plan_low_of_word};
+use crate::halves::{plan_byte_number, plan_high_byte};
 use asm8080::WordForm;
 use isa8080::{Instr, Operand, Pair, Register};
 use operands8080::plan_byte_in_memory;
@@ -182,10 +182,12 @@ fn plan_byte_form(
             arguments,
         } => plan_called_byte(site, number, procedure, arguments, pushed, steps),
         ExpressionForm::Input(port) => steps.plain(Instr::In(port)),
-        ExpressionForm::Number(_)
-        | ExpressionForm::Value(_)
-        | ExpressionForm::Location(_)
-        | ExpressionForm::List(_) => plan_low_of_word(number, pushed, steps),
+        ExpressionForm::Location(reference) => {
+            steps.part(Task::Address(reference), pushed)?;
+            steps.plain(copy(Register::A, Register::L))
+        }
+        // Numbers and constant lists are known, and values are in memory.
+        ExpressionForm::Number(_) | ExpressionForm::Value(_) | ExpressionForm::List(_) => Ok(()),
     }
 }
 

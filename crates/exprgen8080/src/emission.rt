@@ -3,10 +3,12 @@
 ghost use Rattle.std.specs.Prelude.{◌≡◌, ◌∷◌, ◌<◌, [], true, false, slice_index_or, IfOk, OnOk};
 ghost use Rattle.asm8080.specs.declared.item.Item.TheVariants.{Plain, Mark};
 ghost use Rattle.asm8080.specs.declared.item.WordForm.TheVariants.{CallTo};
+ghost use Rattle.treecode.specs.Nodes.{nodes_of};
+ghost use Rattle.treecode.specs.Rising.{NumbersRise};
 ghost use Rattle.steps8080.specs.Facts.{after, after_form, after_word, no_facts};
 ghost use Rattle.steps8080.specs.Writer.{jump_item, word_item};
 ghost use Rattle.exprgen8080.specs.internal.Emission.{after_test, has_routine, index_of_routine, knowing, module_call_items, module_label_of_routine, module_routine_label, test_items};
-ghost use Rattle.exprgen8080.specs.internal.Emitted.{AddsItems, Emits, EmitsSteps, HasAll, IsAlone, IsEmpty, NotesCalled, NotesOnly, after_step, step_items};
+ghost use Rattle.exprgen8080.specs.internal.Emitted.{AddsItems, Emits, EmitsSteps, HasAll, IsAlone, IsEmpty, IsNoPart, NotesCalled, NotesOnly, after_step, step_items};
 
 use crate::forms::plan_task;
 use asm8080::WordForm;
@@ -53,18 +55,6 @@ pub struct Emission {
     pub facts: Facts,
     /// Whether the code calls each routine.
     pub is_called: Vec<bool>,
-}
-
-// The rank of a part, which must be below another one. Fails if it is not.
-fn rank_below(site: &Site<'_>, part: Part, rank: u64) -> Result<u64, AllocError>
-    ensures { IfOk result (λ below. below < rank) }
-{
-    let below = site.rank(part.task);
-    if below < rank {
-        Ok(below)
-    } else {
-        Err(AllocError)
-    }
 }
 
 impl Emission {
@@ -206,9 +196,10 @@ impl Emission {
         }
     }
 
-    // Adds the code of a step that is not a part. A part is refused.
+    // Adds the code of a step that is not a part.
     #[tactic(auto, using(crate::proofs::Emitting::none_noted))]
     fn step(&mut self, tree: &TreeModule, step: Step) -> Result<(), AllocError>
+        requires { IsNoPart step }
         ensures items { OnOk result (AddsItems self.old self.new
             (step_items tree.now self.old.facts step) (after_step self.old.facts step)) }
         ensures alone { OnOk result (IsAlone self.new.is_called.items step) }
@@ -231,13 +222,15 @@ impl Emission {
                 self.facts = self.facts.without_memory();
                 Ok(())
             }
-            Step::Part(_) => Err(AllocError),
+            Step::Part(_) => unreachable!(),
         }
     }
 
     /// Adds the code of a step, in the body of the given site. The facts of that site are not used.
+    #[cycle(parts)]
     #[tactic(auto, using(crate::proofs::Emitting::emits_step, crate::proofs::Emitting::emits_part))]
     pub fn add(&mut self, site: &Site<'_>, step: Step) -> Result<(), AllocError>
+        requires { NumbersRise (nodes_of site.now.tree.now) }
         ensures { OnOk result (EmitsSteps site.now (step ∷ []) self.old self.new) }
     {
         match step {
@@ -246,32 +239,10 @@ impl Emission {
         }
     }
 
-    /// Adds the code of a part. Fails if a part of it does not rank below it, which the tree code of `lower` rules out.
+    /// Adds the code of a part. Each part of it ranks below it, so that this ends.
+    #[cycle(parts)]
     pub fn emit(&mut self, site: &Site<'_>, part: Part) -> Result<(), AllocError>
-        ensures { OnOk result (Emits site.now part self.old self.new) }
-    {
-        let rank = site.rank(part.task);
-        self.emit_ranked(site, part, rank)
-    }
-
-    // Adds the code of a step. If it is a part, it must rank below `rank`.
-    #[cycle(parts)]
-    #[tactic(auto, using(crate::proofs::Emitting::emits_step, crate::proofs::Emitting::emits_part))]
-    fn add_below(&mut self, site: &Site<'_>, step: Step, rank: u64) -> Result<(), AllocError>
-        ensures { OnOk result (EmitsSteps site.now (step ∷ []) self.old self.new) }
-    {
-        match step {
-            Step::Part(part) => {
-                let below = rank_below(site, part, rank)?;
-                self.emit_ranked(site, part, below)
-            }
-            step => self.step(site.tree, step),
-        }
-    }
-
-    // Adds the code of a part of this rank.
-    #[cycle(parts)]
-    fn emit_ranked(&mut self, site: &Site<'_>, part: Part, rank: u64) -> Result<(), AllocError>
+        requires { NumbersRise (nodes_of site.now.tree.now) }
         ensures { OnOk result (Emits site.now part self.old self.new) }
     {
         let start = self.steps.count();
@@ -280,7 +251,7 @@ impl Emission {
         let end = self.steps.count();
         for index in start..end {
             if let Some(step) = self.steps.get(index) {
-                self.add_below(site, step, rank)?;
+                self.add(site, step)?;
             }
         }
         self.steps.truncate(start);

@@ -9,6 +9,7 @@ mod effects;
 mod emission;
 mod forms;
 mod halves;
+mod routines;
 mod word_operators;
 mod word_shifts;
 mod words;

@@ -2,19 +2,17 @@
 
 ghost use Rattle.std.specs.Prelude.{OnOk, ◌≡◌};
 ghost use Rattle.steps8080.specs.Step.{Adds};
-ghost use Rattle.exprgen8080.specs.internal.WordOperators.{difference_steps, division_steps, half_steps, high_half_steps, logic_steps, logic_with_byte_steps, logic_with_number_steps, logic_with_simple_steps, product_word_steps, quotient_steps, remainder_steps, simple_operand, sum_steps, taken_from_number_steps, with_pair_steps, with_simple, with_word_steps, word_binary_steps};
+ghost use Rattle.exprgen8080.specs.internal.WordOperators.{difference_steps, half_steps, high_half_steps, logic_steps, logic_with_byte_steps, logic_with_number_steps, logic_with_simple_steps, product_word_steps, quotient_steps, remainder_steps, simple_operand, sum_steps, taken_from_number_steps, with_pair_steps, with_simple, with_word_steps, word_binary_steps};
 
 use crate::byte_operators::{Operands, plan_byte_operation, plan_with_number};
 use crate::halves::plan_high_byte;
+use crate::routines::{plan_computed_product, plan_division};
 use crate::word_shifts::plan_word_shifted_right;
 use asm8080::WordForm;
 use isa8080::{Instr, Operation, Pair, Register};
-use operands8080::{PairOrder, plan_addition, plan_pair, plan_pair_in_order, plan_product};
-use runtime8080::Routine;
+use operands8080::{PairOrder, plan_addition, plan_pair, plan_product};
 use std::alloc::AllocError;
-use steps8080::{
-    Site, Step, Steps, Task, clear_a, copy, high, low, plan_extension, set, with_register,
-};
+use steps8080::{Site, Steps, Task, clear_a, copy, high, low, plan_extension, set, with_register};
 use treecode::{ExpressionNumber, Place};
 use trees::BinaryOperator;
 
@@ -323,8 +321,8 @@ fn plan_logic(
     plan_with_pair(order, operation, operation, steps)
 }
 
-// Puts a product into HL. The routine is faster if DE is below 256.
-#[tactic(auto, unfolding(crate::specs::internal::WordOperators::product_word_steps, crate::specs::internal::WordOperators::product_order))]
+// Puts a product into HL.
+#[tactic(auto, unfolding(crate::specs::internal::WordOperators::product_word_steps))]
 fn plan_product_word(
     site: &Site<'_>,
     operands: Operands,
@@ -340,28 +338,7 @@ fn plan_product_word(
     if let Some(number) = site.number(left) {
         return plan_product(right, number, pushed, steps);
     }
-    let wish = match (site.fits_byte(left), site.fits_byte(right)) {
-        (false, true) => Some(PairOrder::LeftInHl),
-        (true, false) => Some(PairOrder::RightInHl),
-        (true, true) | (false, false) => None,
-    };
-    let _ = plan_pair_in_order(site, left, right, wish, pushed, steps)?;
-    steps.push(Step::CallRoutine(Routine::Multiply))
-}
-
-// Divides one operand by the other one: puts the quotient into HL, and the remainder into DE.
-#[tactic(auto, unfolding(crate::specs::internal::WordOperators::division_steps))]
-fn plan_division(
-    site: &Site<'_>,
-    operands: Operands,
-    pushed: u16,
-    steps: &mut Steps,
-) -> Result<(), AllocError>
-    ensures { OnOk result (Adds steps.old steps.new (division_steps site.now operands pushed)) }
-{
-    let Operands { left, right } = operands;
-    let _ = plan_pair(site, left, right, true, pushed, steps)?;
-    steps.push(Step::CallRoutine(Routine::Divide))
+    plan_computed_product(site, operands, pushed, steps)
 }
 
 // Puts a quotient into HL.

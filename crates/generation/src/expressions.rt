@@ -2,6 +2,8 @@
 #![tactic(auto)]
 
 ghost use Rattle.std.specs.Prelude.{IfOk};
+ghost use Rattle.treecode.specs.Nodes.{nodes_of};
+ghost use Rattle.treecode.specs.Rising.{NumbersRise};
 ghost use Rattle.generation.specs.internal.Doing.{CodeDoes};
 
 use exprgen8080::Emission;
@@ -12,6 +14,7 @@ use steps8080::{Part, Site};
 /// site, as the task of the part says. Wherever that stands the machine does what the expression or location means, if calls
 /// of all procedures do with less of the budget. A refusal drops the code.
 pub fn emit_expression(code: Emission, site: &Site<'_>, part: Part) -> Result<Emission, AllocError>
+    requires { NumbersRise (nodes_of site.now.tree.now) }
     ensures { IfOk result (λ after. CodeDoes site.now part code after) }
 {
     let mut code = code;

@@ -1,5 +1,8 @@
 -- The modules of a program, one after another.
-use Rattle.listings.proofs.Prelude.{◌≡◌, ℕ, zero, suc, ◌+◌, ◌≤◌, List, [], ◌∷◌, ◌++◌, length, map, slice_get, take, Some, refl, ap, sym, ◌∙◌, arith, length-map, take_all, none-some, same_Some, program_modules, texts_of, Source, Construction, IsConstruction, ModuleView, AreFirstViews, AreViews, Follow, IsViewAt, code_size, data_size, object_of, placed_of, text_of, typed_of, map_push}
+use Rattle.std.{specs.Prelude.{◌*◌}, proofs.lemmas.{List.{get_or-map}, Option.{get_or_from_slice_get, slice_get_within}}}
+use Rattle.typed_trees.specs.TypedTrees.{TypedModule}
+use Rattle.sources.specs.{Programs.{AreSourcesOf, IsProgramOf}, Reading.{IsSource}}
+use Rattle.listings.proofs.Prelude.{◌≡◌, ℕ, zero, suc, ◌+◌, ◌<◌, ◌≤◌, List, [], ◌∷◌, ◌++◌, length, map, get_or, slice_get, take, Some, refl, ap, sym, subst, ◌∙◌, arith, All, AllByRecursion, All-from_recursion, length-map, take_all, none-some, same_Some, program_modules, texts_of, Source, Construction, IsConstruction, ModuleView, AreFirstViews, AreViews, Follow, IsViewAt, code_size, data_size, object_of, placed_of, text_of, typed_of, map_push}
 
 -- the first elements of a list, and the one after them
 taken : {A : Type 0} (xs : List A) (n : ℕ) (x : A) → slice_get xs n ≡ Some x → take n xs ++ x ∷ [] ≡ take (suc n) xs
@@ -24,27 +27,45 @@ follow_more code_base data_base (first ∷ views) view code next_data code_end d
   follow_more (code_base + code_size first) (data_base + data_size first) views view code next_data code_end data_end are.2 code_at data_at code_is data_is,
 )
 
-pub no_views : (texts : List (List ℕ)) (built : Construction) (code next_data : ℕ) → code ≡ built.plan.code → next_data ≡ built.plan.data_base → AreFirstViews texts built 0 code next_data []
-no_views texts built code next_data code_is data_is = record {
+pub no_views : (texts : List (List ℕ)) (built : Construction) (code next_data : ℕ)
+    → code ≡ built.plan.code → next_data ≡ built.plan.data_base
+    → code ≤ 65535 → next_data ≤ 65535
+    → AreFirstViews texts built 0 code next_data []
+no_views texts built code next_data code_is data_is code_low data_low = record {
   text_of_each = refl;
   typed_of_each = refl;
   object_of_each = refl;
   placed_of_each = refl;
   follow = (sym code_is, sym data_is);
+  code_within = omega (arith, code_low);
+  data_within = omega (arith, data_low);
 }
 
-pub view_added : (texts : List (List ℕ)) (built : Construction) (count next code next_data code_end data_end : ℕ) (now new : List ModuleView) (view : ModuleView) → AreFirstViews texts built count code next_data now
-    → IsViewAt texts built count code next_data view → code_end ≡ code + code_size view → data_end ≡ next_data + data_size view → new ≡ now ++ view ∷ [] → next ≡ count + 1
+pub view_added : (texts : List (List ℕ)) (built : Construction)
+    (count next code next_data code_end data_end : ℕ) (now new : List ModuleView) (view : ModuleView)
+    → AreFirstViews texts built count code next_data now
+    → IsViewAt texts built count code next_data view
+    → code_end ≡ code + code_size view → data_end ≡ next_data + data_size view
+    → code_size view ≤ 65535 → data_size view ≤ 65535
+    → new ≡ now ++ view ∷ [] → next ≡ count + 1
     → AreFirstViews texts built next code_end data_end new
-view_added texts built count next code next_data code_end data_end now new view so_far here code_is data_is is counted =
+view_added texts built count next code next_data code_end data_end now new view so_far here
+    code_is data_is code_small data_small is counted =
     let after : next ≡ suc count = omega (arith, counted) in
     rw (is, after) (record {
       text_of_each = mapped text_of now view texts count so_far.text_of_each here.text;
       typed_of_each = mapped typed_of now view (program_modules built.program) count so_far.typed_of_each here.typed;
       object_of_each = mapped object_of now view built.objects count so_far.object_of_each here.object;
       placed_of_each = mapped placed_of now view built.placement.modules count so_far.placed_of_each here.placed;
-      follow = follow_more built.plan.code built.plan.data_base now view code next_data code_end data_end so_far.follow here.code here.data_at code_is data_is;
+      follow = follow_more built.plan.code built.plan.data_base now view code next_data code_end data_end
+          so_far.follow here.code here.data_at code_is data_is;
+      code_within = within code (code_size view) code_end so_far.code_within code_small code_is;
+      data_within = within next_data (data_size view) data_end so_far.data_within data_small data_is;
     })
+  where
+    within : (from size end : ℕ) → from ≤ 65535 * suc count → size ≤ 65535 → end ≡ from + size
+        → end ≤ 65535 * suc (suc count)
+    within from size end low small e = omega (arith, low, small, e)
 
 -- all modules
 pub all_views : (sources : List Source) (built : Construction) (count code next_data : ℕ) (views : List ModuleView) → AreFirstViews (texts_of sources) built count code next_data views → IsConstruction built
@@ -63,3 +84,41 @@ all_views sources built count code next_data views are construction given counte
       placed_of_each = are.placed_of_each ∙ take_all count built.placement.modules placed;
       follow = are.follow;
     }
+
+-- the sources of a program
+are_sources : (texts : List (List ℕ)) (modules : List TypedModule) → AreSourcesOf texts modules → AllByRecursion IsSource texts
+are_sources [] [] are = tt
+are_sources [] (typed ∷ modules) are = absurd are
+are_sources (text ∷ texts) [] are = absurd are
+are_sources (text ∷ texts) (typed ∷ modules) are =
+    (record { typed = typed; source = are.0 }, are_sources texts modules are.1)
+
+pub program_sources : (texts : List (List ℕ)) (modules : List TypedModule) → IsProgramOf texts modules → All IsSource texts
+program_sources texts modules program = All-from_recursion IsSource texts (are_sources texts modules program.sources)
+
+pub source_at : (sources : List Source) (index : ℕ) (d : Source) → All IsSource (texts_of sources) → index < length sources
+    → IsSource (get_or sources index d).text.now
+source_at sources index d each below =
+    subst IsSource (get_or-map (λ (source : Source). source.text.now) sources index d [] below)
+    (each index [] (simp length-map below))
+
+pub source_there : (sources : List Source) (number : ℕ) (source : Source) → All IsSource (texts_of sources)
+    → slice_get sources number ≡ Some source → IsSource source.text.now
+source_there sources number source each found =
+    subst (λ (s : Source). IsSource s.text.now) (get_or_from_slice_get sources number source source found)
+    (source_at sources number source each (slice_get_within sources number source found))
+
+-- there are as many as the program has modules, and object modules
+same_count : (texts : List (List ℕ)) (modules : List TypedModule) → AreSourcesOf texts modules → length texts ≡ length modules
+same_count [] [] are = refl
+same_count [] (typed ∷ modules) are = absurd are
+same_count (text ∷ texts) [] are = absurd are
+same_count (text ∷ texts) (typed ∷ modules) are = ap suc (same_count texts modules are.1)
+
+pub as_many : (sources : List Source) (built : Construction)
+    → IsProgramOf (texts_of sources) (program_modules built.program) → IsConstruction built
+    → length sources ≡ length built.objects
+as_many sources built program construction =
+    sym (length-map sources (λ (s : Source). s.text.now))
+    ∙ same_count (texts_of sources) (program_modules built.program) program.sources
+    ∙ sym construction.objects

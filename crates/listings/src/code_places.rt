@@ -17,8 +17,7 @@ pub(crate) fn address_of(code_base: u32, place: u32) -> u16
     ((code_base as u64 + place as u64) % 65_536) as u16
 }
 
-/// Fails unless a place is in the code of a module, after its constants, or just past that code. Those in the marks of the
-/// module's own source are.
+/// Fails unless a place is in the code of a module, after its constants, or just past that code.
 #[tactic(auto, using(crate::proofs::ProcedureCodes::in_code))]
 pub(crate) fn expect_in_code(view: &ModuleView, place: u32) -> Result<(), AllocError>
     ensures { OnOk result (IsInCode (constant_bytes (typed_of view.now)) (code_size view.now) place) }
@@ -27,6 +26,7 @@ pub(crate) fn expect_in_code(view: &ModuleView, place: u32) -> Result<(), AllocE
     if constant_size(view.typed) <= place && place <= length {
         Ok(())
     } else {
+        // The marks of the module's own source are in its code: no clause of `code_marks` says so.
         Err(AllocError)
     }
 }

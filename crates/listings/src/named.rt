@@ -76,7 +76,7 @@ fn is_private(visibility: Visibility) -> bool
 fn private_name(typed: &Typed, number: u32) -> Option<NameText>
     ensures { IfSome result (λ text. Contains (names_in_code (module_view typed.now)) (text_of_name text)) }
 {
-    let procedure = procedure_at(typed, number)?;
+    let procedure = procedure_at(typed, number as usize)?;
     if is_private(procedure.visibility) {
         Some(NameText::Declared(procedure.name))
     } else {

@@ -1,5 +1,9 @@
 //! From which lines of its sources the code of a program comes, by address.
 
+ghost use Rattle.std.specs.Prelude.{◌≤◌, length};
+ghost use Rattle.sources.specs.Programs.{IsProgramOf, program_modules, texts_of};
+ghost use Rattle.sources.specs.declared.sources.TheConstants.{MOST_SOURCES};
+
 use crate::views::{ModuleView, all_marks, views_of};
 use codegen8080::CodePart;
 use mem80::MEMORY_SIZE;
@@ -103,13 +107,13 @@ fn origins_of(alloc: Global, views: &[ModuleView]) -> Result<Vec<CodeOrigin>, Al
     Ok(origins)
 }
 
-/// From which lines of these sources the code of a program comes that was built from them. For other sources it may be out of
-/// memory. No definition says which line a statement has.
-pub fn code_lines(
-    alloc: Global,
-    built: &Built,
-    sources: &[Source],
-) -> Result<CodeLines, AllocError> {
+/// From which lines of these sources the code of a program comes that was built from them. No definition says which line a
+/// statement has.
+#[tactic(auto, using(crate::proofs::ViewsMade::program_sources))]
+pub fn code_lines(alloc: Global, built: &Built, sources: &[Source]) -> Result<CodeLines, AllocError>
+    requires few { length sources.now ≤ MOST_SOURCES }
+    requires program { IsProgramOf (texts_of sources.now) (program_modules built.now.program) }
+{
     let marks = all_marks(alloc, sources)?;
     let views = views_of(alloc, built, sources, marks.as_slice())?;
     let origins = origins_of(alloc, views.as_slice())?;

@@ -19,11 +19,11 @@ use tool::SourceMark;
 use typed_trees::{Typed, TypedProcedure, Visibility};
 
 /// The procedure of a number, if there is one.
-pub(crate) fn procedure_at(typed: &Typed, number: u32) -> Option<&TypedProcedure>
+pub(crate) fn procedure_at(typed: &Typed, number: usize) -> Option<&TypedProcedure>
     ensures { IfSome result (λ procedure. slice_get (module_view typed.now).procedures number
         ≡ Some (procedure_view procedure.now)) }
 {
-    typed.procedures.get(number as usize)
+    typed.procedures.get(number)
 }
 
 // Whether a segment is that of the code.
@@ -83,6 +83,7 @@ fn marked_place(marks: &[SourceMark], number: u32) -> Result<u32, AllocError> {
             return Ok(mark.place as u32);
         }
     }
+    // The marks of the module's own source have each of its procedures: no clause of `code_marks` says so.
     Err(AllocError)
 }
 
@@ -120,8 +121,7 @@ pub(crate) struct ProcedureCode {
     pub(crate) size: u32,
 }
 
-/// The code of the procedure of a number. Fails if that is not in the code of the module, as it is with the module's own
-/// source.
+/// The code of the procedure of a number.
 #[tactic(auto, using(crate::proofs::ProcedureCodes::code_between))]
 pub(crate) fn code_of(
     view: &ModuleView,

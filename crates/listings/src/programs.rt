@@ -1,7 +1,8 @@
 //! The listing of a program.
 
-ghost use Rattle.std.specs.Prelude.{IfOk};
-ghost use Rattle.sources.specs.Programs.{texts_of};
+ghost use Rattle.std.specs.Prelude.{◌≤◌, IfOk, length};
+ghost use Rattle.sources.specs.Programs.{IsProgramOf, program_modules, texts_of};
+ghost use Rattle.sources.specs.declared.sources.TheConstants.{MOST_SOURCES};
 ghost use Rattle.listings.specs.Programs.{ListsProgram};
 ghost use Rattle.listings.specs.internal.Programs.{IsListingOf};
 
@@ -24,6 +25,7 @@ fn listing_in(alloc: Global, built: &Built, views: &[ModuleView]) -> Result<Vec<
     let mut lines = Vec::new(alloc);
     let mut rest = views;
     while let [view, more @ ..] = rest {
+        // This is an `AllocError`: a write into a vector has no other error.
         let Ok(()) = put_module(alloc, &mut lines, shared, view) else {
             return Err(AllocError);
         };
@@ -32,10 +34,11 @@ fn listing_in(alloc: Global, built: &Built, views: &[ModuleView]) -> Result<Vec<
     Ok(lines)
 }
 
-/// The listing of a program that was built from these sources: their lines, each with the code of what begins there. For other
-/// sources it may be out of memory.
-#[tactic(auto, using(crate::proofs::ProgramLists::program_listed))]
+/// The listing of a program that was built from these sources: their lines, each with the code of what begins there.
+#[tactic(auto, using(crate::proofs::ViewsMade::program_sources, crate::proofs::ProgramLists::program_listed))]
 pub fn listing_of(alloc: Global, built: &Built, sources: &[Source]) -> Result<Vec<u8>, AllocError>
+    requires few { length sources.now ≤ MOST_SOURCES }
+    requires program { IsProgramOf (texts_of sources.now) (program_modules built.now.program) }
     ensures listed { IfOk result (λ lines. ListsProgram (texts_of sources.now) built.now lines.items) }
 {
     let marks = all_marks(alloc, sources)?;

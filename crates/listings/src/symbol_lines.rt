@@ -1,9 +1,11 @@
 //! The symbols of a program: its procedures, its variables and the lines of its code, with their addresses.
 
-ghost use Rattle.std.specs.Prelude.{◌≡◌, ◌++◌, ◌∷◌, [], IfOk, None, OnOk, codes, false};
+ghost use Rattle.std.specs.Prelude.{◌≡◌, ◌≤◌, ◌++◌, ◌∷◌, [], IfOk, None, OnOk, codes, false, length};
 ghost use Rattle.layout.specs.Placement.{kind_of};
 ghost use Rattle.object_commands.specs.Placing.{range_line};
 ghost use Rattle.typed_trees.specs.Views.{object_view, procedure_view};
+ghost use Rattle.sources.specs.Programs.{IsProgramOf, program_modules, texts_of};
+ghost use Rattle.sources.specs.declared.sources.TheConstants.{MOST_SOURCES};
 ghost use Rattle.listings.specs.Symbols.{IsOwnerBy, IsOwnerOf, SymbolsOfProgram, is_own, object_line, source_line};
 ghost use Rattle.listings.specs.internal.Adding.{Adds};
 ghost use Rattle.listings.specs.internal.Programs.{typed_of};
@@ -273,6 +275,7 @@ fn symbols_in(alloc: Global, views: &[ModuleView]) -> Result<Vec<u8>, AllocError
     let mut lines = Vec::new(alloc);
     let mut rest = views;
     while let [view, more @ ..] = rest {
+        // This is an `AllocError`: a write into a vector has no other error.
         let Ok(()) = put_module(alloc, &mut lines, view) else {
             return Err(AllocError);
         };
@@ -281,10 +284,11 @@ fn symbols_in(alloc: Global, views: &[ModuleView]) -> Result<Vec<u8>, AllocError
     Ok(lines)
 }
 
-/// The symbols of a program that was built from these sources: its procedures, its variables and the lines of its code. For
-/// other sources it may be out of memory.
-#[tactic(auto, using(crate::proofs::SymbolTexts::program_symbols))]
+/// The symbols of a program that was built from these sources: its procedures, its variables and the lines of its code.
+#[tactic(auto, using(crate::proofs::ViewsMade::program_sources, crate::proofs::SymbolTexts::program_symbols))]
 pub fn symbols_of(alloc: Global, built: &Built, sources: &[Source]) -> Result<Vec<u8>, AllocError>
+    requires few { length sources.now ≤ MOST_SOURCES }
+    requires program { IsProgramOf (texts_of sources.now) (program_modules built.now.program) }
     ensures symbols { IfOk result (λ lines. SymbolsOfProgram built.now lines.items) }
 {
     let marks = all_marks(alloc, sources)?;

@@ -1,7 +1,9 @@
 //! Modules of a program that was built.
 
-ghost use Rattle.std.specs.Prelude.{◌≡◌, ◌+◌, IfOk, IfSome};
-ghost use Rattle.sources.specs.Programs.{texts_of};
+ghost use Rattle.std.specs.Prelude.{◌≡◌, ◌<◌, ◌≤◌, All, IfOk, length};
+ghost use Rattle.sources.specs.Programs.{IsProgramOf, program_modules, texts_of};
+ghost use Rattle.sources.specs.Reading.{IsSource};
+ghost use Rattle.sources.specs.declared.sources.TheConstants.{MOST_SOURCES};
 ghost use Rattle.listings.specs.internal.Programs.{AreViews, IsViewAt};
 
 use object_modules::{ObjectModule, Segment};
@@ -24,7 +26,10 @@ pub(crate) struct ModuleView<'s, 'b, 'm> {
 }
 
 /// Where the code of each source comes from, in the order of the sources.
-pub(crate) fn all_marks(alloc: Global, sources: &[Source]) -> Result<Vec<SourceMarks>, AllocError> {
+pub(crate) fn all_marks(alloc: Global, sources: &[Source]) -> Result<Vec<SourceMarks>, AllocError>
+    requires sources { All IsSource (texts_of sources.now) }
+    ensures { IfOk result (λ all. length all.items ≡ length sources.now) }
+{
     let mut all = Vec::new(alloc);
     for source in sources {
         all.push(marks_of(alloc, source.text)?)?;
@@ -32,7 +37,7 @@ pub(crate) fn all_marks(alloc: Global, sources: &[Source]) -> Result<Vec<SourceM
     Ok(all)
 }
 
-// The module of a number, whose segments lie at these addresses, if there is one.
+// The module of a number, whose segments lie at these addresses.
 fn view_of<'s, 'b, 'm>(
     built: &'b Built,
     sources: &[Source<'s>],
@@ -40,32 +45,24 @@ fn view_of<'s, 'b, 'm>(
     number: usize,
     code_base: u32,
     data_base: u32,
-) -> Option<ModuleView<'s, 'b, 'm>>
-    ensures { IfSome result (IsViewAt (texts_of sources.now) built.now number code_base data_base) }
+) -> ModuleView<'s, 'b, 'm>
+    requires number { number < length built.now.objects }
+    requires as_many { length sources.now ≡ length built.now.objects }
+    requires marked { length marks.now ≡ length sources.now }
+    ensures { IsViewAt (texts_of sources.now) built.now number code_base data_base result }
 {
-    Some(ModuleView {
-        text: sources.get(number)?.text,
-        typed: built.program().modules().get(number)?,
-        object: built.objects().get(number)?,
-        placed: built.placement().modules().get(number)?,
-        marks: marks.get(number)?,
+    ModuleView {
+        text: sources[number].text,
+        typed: &built.program().modules()[number],
+        object: &built.objects()[number],
+        placed: &built.placement().modules()[number],
+        marks: &marks[number],
         code_base,
         data_base,
-    })
-}
-
-// The address after so many bytes.
-fn address_after(address: u32, count: u16) -> Result<u32, AllocError>
-    ensures { IfOk result (λ next. next ≡ address + count) }
-{
-    match address.checked_add(count as u32) {
-        Some(next) => Ok(next),
-        None => Err(AllocError),
     }
 }
 
-/// The modules of a program, in their order. Their segments follow one another from the addresses of the plan on. It is out of
-/// memory if there are not as many sources, or if an address passes 32 bits, which that of no program does.
+/// The modules of a program, in their order. Their segments follow one another from the addresses of the plan on.
 #[tactic(auto, using(crate::proofs::ViewsMade::no_views, crate::proofs::ViewsMade::view_added, crate::proofs::ViewsMade::all_views))]
 pub(crate) fn views_of<'s, 'b, 'm>(
     alloc: Global,
@@ -73,22 +70,19 @@ pub(crate) fn views_of<'s, 'b, 'm>(
     sources: &[Source<'s>],
     marks: &'m [SourceMarks],
 ) -> Result<Vec<ModuleView<'s, 'b, 'm>>, AllocError>
+    requires few { length sources.now ≤ MOST_SOURCES }
+    requires program { IsProgramOf (texts_of sources.now) (program_modules built.now.program) }
+    requires marked { length marks.now ≡ length sources.now }
     ensures { IfOk result (λ views. AreViews (texts_of sources.now) built.now views.items) }
 {
-    let count = built.objects().len();
-    if sources.len() != count {
-        return Err(AllocError);
-    }
     let plan = built.plan();
     let mut code_base = plan.code as u32;
     let mut data_base = plan.data_base as u32;
     let mut views = Vec::new(alloc);
-    for number in 0..count {
-        let Some(view) = view_of(built, sources, marks, number, code_base, data_base) else {
-            return Err(AllocError);
-        };
-        code_base = address_after(code_base, view.object.length(Segment::Code))?;
-        data_base = address_after(data_base, view.object.length(Segment::Data))?;
+    for number in 0..built.objects().len() {
+        let view = view_of(built, sources, marks, number, code_base, data_base);
+        code_base += view.object.length(Segment::Code) as u32;
+        data_base += view.object.length(Segment::Data) as u32;
         views.push(view)?;
     }
     Ok(views)

@@ -2,7 +2,7 @@
 -- what each object of a program of them stands for.
 use Rattle.meaning_laws.proofs.Prelude.{◌≡◌, ℕ, List, Some, Ok, slice_get, sym, subst, All, All-weaker, ModuleTree, Elsewhere, TypedObject, TypedModule, typing_of, Program, HasAddress, IsWhole, IsPlaceable, PublicsLie, StandsForBytes}
 use Rattle.meaning_laws.proofs.Places as of_programs
-use Rattle.meaning_laws.specs.Publics.{HasTree}
+use Rattle.meaning_laws.specs.internal.Publics.{HasTree}
 use Rattle.meaning_laws.proofs.PublicsOfTexts.{typing_is_placeable}
 
 -- in a module that has a typing each PUBLIC object has a place, and each value of INITIAL and DATA that locates an

@@ -2,4 +2,4 @@ pub mod Meant
 pub mod Named
 pub mod Places
 pub mod Defaults
-pub mod Publics
+pub mod internal

@@ -1,6 +1,7 @@
 pub mod Fitting
 pub mod Pieces
 pub mod ExpressionParts
+pub mod Planning
 pub mod KnownValues
 pub mod Singles
 pub mod Targets

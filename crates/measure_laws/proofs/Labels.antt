@@ -1,12 +1,3 @@
-pub mod Joining
-pub mod Operands
-pub mod Relations
-pub mod Bytes
-pub mod Words
-pub mod Tasks
-pub mod Going
-pub mod Branches
-pub mod LabelsOfItems
 pub mod Planning
 pub mod Carried
 pub mod Assigning

@@ -1,5 +1,5 @@
 mod Prelude
-pub mod Sizes
+pub mod Footprints
 pub mod Heights
 pub mod Bounds
 pub mod Labels

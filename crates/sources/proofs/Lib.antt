@@ -1,4 +1,5 @@
 mod Prelude
 pub mod ReadLemmas
+pub mod OneSource
 pub mod Programs
 pub mod SoundSources

@@ -1,11 +1,12 @@
 -- Every module that a source text is is soundly typed, and so are those of a program.
 use Rattle.sources.proofs.Prelude.{ℕ, List, All-cons, All-nil, All-weaker, ListsGlobals, TypedModule, IsSourceOf, AreSourcesOf, HasTyping, IsSoundlyTyped}
 use Rattle.std.specs.Prelude.{[], ◌∷◌, All}
+use Rattle.typing_rules.proofs.ModulesTyped.{module_is}
 use Rattle.typed_laws.proofs.Formed.{derived_is_soundly_typed}
 
 pub typed_text_is_soundly_typed : (text : List ℕ) (typed : TypedModule) → HasTyping text typed → IsSoundlyTyped typed
 typed_text_is_soundly_typed text typed has =
-    derived_is_soundly_typed has.read.output has.tree typed has.read.derived has.typing
+    derived_is_soundly_typed has.read.output has.tree typed has.read.derived (module_is has.typing)
 
 pub source_is_soundly_typed : (text : List ℕ) (typed : TypedModule) → IsSourceOf text typed → IsSoundlyTyped typed
 source_is_soundly_typed text typed source = typed_text_is_soundly_typed text typed source.typing

@@ -12,7 +12,7 @@ use Rattle.grammar.specs.Symbols.{symbols_of}
 use Rattle.trees.specs.Trees.{ModuleTree}
 use Rattle.typed_trees.specs.TypedTrees.{TypedModule}
 use Rattle.typing.specs.declared.fault.Fault as typing_fault
-use Rattle.typing.specs.Typing.{typing_of}
+use Rattle.typing_rules.specs.ModuleFaults.{ModuleFault}
 use Rattle.layout.specs.declared.fault.Fault as storage_fault
 use Rattle.layout.specs.Storage.{storage_of}
 use Rattle.sources.specs.declared.read.ReadFault.{ReadFault}
@@ -44,11 +44,11 @@ pub record HasSyntaxFault (text : List ℕ) (fault : syntax_fault.Fault) : Type 
   pub expansion : IsExpansionOf text output
   pub wrong : IsSyntaxFault output fault
 
--- a text is a module that has no typing, with this fault
+-- a text is a module that has no typing, with this fault by the rules
 pub record HasTypingFault (text : List ℕ) (fault : typing_fault.Fault) : Type 0 where
   pub tree : ModuleTree
   pub read : IsText text tree
-  pub wrong : typing_of tree ≡ Err fault
+  pub wrong : ModuleFault tree fault
 
 -- a text is a module that has no storage, with this fault
 pub record HasStorageFault (text : List ℕ) (fault : storage_fault.Fault) : Type 0 where

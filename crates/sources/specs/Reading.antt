@@ -6,7 +6,7 @@ use Rattle.literally.specs.Expansion.{Expands}
 use Rattle.grammar.specs.Derivation.{Derives}
 use Rattle.trees.specs.Trees.{ModuleTree}
 use Rattle.typed_trees.specs.TypedTrees.{TypedModule}
-use Rattle.typing.specs.Typing.{typing_of}
+use Rattle.typing_rules.specs.Modules.{ModuleTyping}
 use Rattle.layout.specs.Storage.{storage_of, storage_with}
 
 -- a text that is not too long spells these words
@@ -26,13 +26,18 @@ pub record IsText (text : List ℕ) (tree : ModuleTree) : Type 0 where
   pub expansion : IsExpansionOf text output
   pub derived : Derives output tree
 
--- a text is a module with this typing
+-- a text is a module with this typing by the rules
 pub record HasTyping (text : List ℕ) (typed : TypedModule) : Type 0 where
   pub tree : ModuleTree
   pub read : IsText text tree
-  pub typing : typing_of tree ≡ Ok typed
+  pub typing : ModuleTyping tree typed
 
 -- a text is the source of this module, whose objects and constants have a place each in its segments
 pub record IsSourceOf (text : List ℕ) (typed : TypedModule) : Type 0 where
   pub typing : HasTyping text typed
   pub storage : storage_of typed ≡ Ok (storage_with typed)
+
+-- a text is the source of a module
+pub record IsSource (text : List ℕ) : Type 0 where
+  pub typed : TypedModule
+  pub source : IsSourceOf text typed

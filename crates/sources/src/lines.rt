@@ -1,18 +1,14 @@
 //! Where the statements and the procedures of a source begin, and what its procedures declare.
 
-ghost use Rattle.std.specs.Prelude.{◌≤◌, length};
-ghost use Rattle.words.specs.declared.limits.TheConstants.{LONGEST_SOURCE};
-ghost use Rattle.failure.specs.Failure.{IfFault};
-ghost use Rattle.sources.specs.Causes.{HasReadCause};
+ghost use Rattle.sources.specs.Reading.{IsSource};
 
-use crate::read::{ReadFault, parse_text};
+use crate::read::parse_text;
 use failure::Failure;
 use std::alloc::{AllocError, Global};
 use trees::{
     Block, Declaration, Element, IfThen, Module, Procedure, Statement, StatementKind, Subject,
 };
 use types::place_of_kind;
-use words::LONGEST_SOURCE;
 
 /// Lines of a source, counted from 1.
 #[derive(Drop)]
@@ -25,12 +21,12 @@ pub struct SourceLines {
     /// program. In a body a statement comes after its parts and before the next statement, and a label is a statement.
     pub statements: Vec<u32>,
     /// Of each object, by its number in the typed module, the procedure in which it is declared, if it is.
-    pub owners: Vec<Option<u32>>,
+    pub owners: Vec<Option<usize>>,
 }
 
 impl SourceLines {
     /// The procedures in which the objects are declared.
-    pub fn into_owners(self) -> Vec<Option<u32>> {
+    pub fn into_owners(self) -> Vec<Option<usize>> {
         let SourceLines {
             module: _,
             procedures: _,
@@ -47,7 +43,7 @@ struct LineWalk {
     alloc: Global,
     procedures: Vec<u32>,
     bodies: Vec<Vec<u32>>,
-    owners: Vec<Option<u32>>,
+    owners: Vec<Option<usize>>,
 }
 
 impl LineWalk {
@@ -62,24 +58,22 @@ impl LineWalk {
     }
 
     // Begins a procedure whose name stands in a line, and gives its number.
-    fn begin(&mut self, line: u32) -> Result<u32, AllocError> {
-        let Ok(number) = u32::try_from(self.procedures.len()) else {
-            return Err(AllocError);
-        };
+    fn begin(&mut self, line: u32) -> Result<usize, AllocError> {
+        let number = self.procedures.len();
         self.procedures.push(line)?;
         self.bodies.push(Vec::new(self.alloc))?;
         Ok(number)
     }
 
     // Gives a procedure the lines of its statements.
-    fn complete(&mut self, number: u32, lines: Vec<u32>) {
-        if let Some(body) = self.bodies.get_mut(number as usize) {
+    fn complete(&mut self, number: usize, lines: Vec<u32>) {
+        if let Some(body) = self.bodies.get_mut(number) {
             *body = lines;
         }
     }
 
     // Goes through the names of an item, which a procedure declares.
-    fn subject(&mut self, owner: Option<u32>, subject: &Subject) -> Result<(), AllocError> {
+    fn subject(&mut self, owner: Option<usize>, subject: &Subject) -> Result<(), AllocError> {
         let count = match subject {
             Subject::Single { .. } => 1,
             Subject::Group(names) => names.len(),
@@ -91,7 +85,7 @@ impl LineWalk {
     }
 
     // Goes through the elements of a DECLARE.
-    fn elements(&mut self, owner: Option<u32>, elements: &[Element]) -> Result<(), AllocError> {
+    fn elements(&mut self, owner: Option<usize>, elements: &[Element]) -> Result<(), AllocError> {
         for element in elements {
             if let Element::Item(item) = element {
                 self.subject(owner, &item.subject)?;
@@ -104,7 +98,7 @@ impl LineWalk {
     #[cycle(walk)]
     fn block(
         &mut self,
-        owner: Option<u32>,
+        owner: Option<usize>,
         block: &Block,
         lines: &mut Vec<u32>,
     ) -> Result<(), AllocError> {
@@ -116,7 +110,7 @@ impl LineWalk {
     #[cycle(walk)]
     fn declarations(
         &mut self,
-        owner: Option<u32>,
+        owner: Option<usize>,
         declarations: &[Declaration],
     ) -> Result<(), AllocError> {
         for declaration in declarations {
@@ -129,7 +123,7 @@ impl LineWalk {
     #[cycle(walk)]
     fn declaration(
         &mut self,
-        owner: Option<u32>,
+        owner: Option<usize>,
         declaration: &Declaration,
     ) -> Result<(), AllocError> {
         match declaration {
@@ -152,7 +146,7 @@ impl LineWalk {
     #[cycle(walk)]
     fn statements(
         &mut self,
-        owner: Option<u32>,
+        owner: Option<usize>,
         statements: &[Statement],
         lines: &mut Vec<u32>,
     ) -> Result<(), AllocError> {
@@ -166,7 +160,7 @@ impl LineWalk {
     #[cycle(walk)]
     fn statement(
         &mut self,
-        owner: Option<u32>,
+        owner: Option<usize>,
         statement: &Statement,
         lines: &mut Vec<u32>,
     ) -> Result<(), AllocError> {
@@ -182,7 +176,7 @@ impl LineWalk {
     #[cycle(walk)]
     fn kind(
         &mut self,
-        owner: Option<u32>,
+        owner: Option<usize>,
         kind: &StatementKind,
         lines: &mut Vec<u32>,
     ) -> Result<(), AllocError> {
@@ -205,7 +199,7 @@ impl LineWalk {
     #[cycle(walk)]
     fn branch(
         &mut self,
-        owner: Option<u32>,
+        owner: Option<usize>,
         branch: &IfThen,
         lines: &mut Vec<u32>,
     ) -> Result<(), AllocError> {
@@ -246,15 +240,24 @@ fn lines_of(alloc: Global, module: &Module) -> Result<SourceLines, AllocError> {
     walk.finish(module.place.line, main)
 }
 
-/// The lines of a source, which `read_source` accepts: numbers of procedures, statements and objects are those of its typed
-/// module. It is refused as `read_source` refuses it, but not for the rules of names and types.
-pub fn source_lines(alloc: Global, text: &[u8]) -> Result<SourceLines, Failure<ReadFault>>
-    ensures refused { IfFault result (λ fault. HasReadCause fault text.now) }
+// The module of a source.
+#[tactic(auto, using(crate::proofs::OneSource::is_short, crate::proofs::OneSource::no_cause))]
+fn module_of(alloc: Global, text: &[u8]) -> Result<Module, AllocError>
+    requires source { IsSource text.now }
 {
-    if text.len() > LONGEST_SOURCE {
-        return Err(Failure::Fault(ReadFault::TooLong));
+    match parse_text(alloc, text) {
+        Ok(module) => Ok(module),
+        // A source has no fault, so that memory ran out.
+        Err(Failure::Memory) => Err(AllocError),
+        Err(Failure::Fault(_)) => unreachable!(),
     }
-    let module = parse_text(alloc, text)?;
+}
+
+/// The lines of a text that is a source: numbers of procedures, statements and objects are those of its typed module.
+pub fn source_lines(alloc: Global, text: &[u8]) -> Result<SourceLines, AllocError>
+    requires source { IsSource text.now }
+{
+    let module = module_of(alloc, text)?;
     let lines = lines_of(alloc, &module)?;
     Ok(lines)
 }

@@ -16,7 +16,7 @@ ghost use Rattle.typed_trees.specs.Numbers.{NumbersFitInModule};
 ghost use Rattle.layout.specs.Storage.{storage_with};
 ghost use Rattle.layout.specs.Views.{layout_view};
 ghost use Rattle.layout.specs.Sound.{IsSoundlyTyped};
-ghost use Rattle.sources.specs.Reading.{HasTyping, IsSourceOf, IsText};
+ghost use Rattle.sources.specs.Reading.{HasTyping, IsSource, IsSourceOf, IsText};
 ghost use Rattle.sources.specs.Causes.{HasReadCause, IsSyntaxFault};
 ghost use Rattle.sources.specs.internal.Steps.{failure_as};
 
@@ -110,8 +110,9 @@ pub struct SourceModule {
     pub storage: Layout,
 }
 
-/// The typed module that a text is, with its storage. It is soundly typed.
-#[tactic(auto, using(crate::proofs::ReadLemmas::is_source, crate::proofs::ReadLemmas::stored))]
+/// The typed module that a text is, with its storage. It is soundly typed. A text that is a source is not refused, unless memory
+/// runs out.
+#[tactic(auto, using(crate::proofs::ReadLemmas::is_source, crate::proofs::ReadLemmas::stored, crate::proofs::OneSource::source_accepted))]
 pub fn read_source(alloc: Global, text: &[u8]) -> Result<SourceModule, Failure<ReadFault>>
     ensures source { IfOk result (λ read. IsSourceOf text.now (module_view read.typed)) }
     ensures sound { IfOk result (λ read. IsSoundlyTyped (module_view read.typed)) }
@@ -125,6 +126,7 @@ pub fn read_source(alloc: Global, text: &[u8]) -> Result<SourceModule, Failure<R
     ensures frames { IfOk result (λ read. FramesFit (module_view read.typed)) }
     ensures parameters { IfOk result (λ read. ParametersFit (module_view read.typed)) }
     ensures refused { IfFault result (λ fault. HasReadCause fault text.now) }
+    ensures accepted { IfFault result (λ fault. IsSource text.now → ⊥) }
     ensures too_long { LONGEST_SOURCE < length text.now → result ≡ Err (Failure.Fault ReadFault.TooLong) }
 {
     if text.len() > LONGEST_SOURCE {

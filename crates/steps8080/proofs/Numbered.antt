@@ -1,6 +1,6 @@
 -- Items with the code's numbers for labels and names: numbers that were given before stay.
-use Rattle.steps8080.proofs.Prelude.{◌≡◌, ℕ, zero, suc, ◌==◌, ◌⊎◌, inl, inr, Bool, true, false, ◌||◌, List, [], ◌∷◌, ◌++◌, set, refl, ap, sym, subst, ◌∙◌, append_assoc, append-nil, Option, Some, None, option_map, unwrap_or, eq-eqb, list_any-append, InSegment, External, Item, Plain, WithWord, Byte, Address, Gap, Mark, Reference, AtLabel, AtTarget, AtNumber, Assembly, NumbersNames, Written, Writes, in_front, numbered, numbered_item, numbered_reference, use_name, uses_name}
-use Rattle.steps8080.specs.Externals.{AddsOnly, Extends, entry}
+use Rattle.steps8080.proofs.Prelude.{◌≡◌, ℕ, zero, suc, ◌+◌, ◌<◌, ◌==◌, ◌⊎◌, inl, inr, Bool, true, false, ◌||◌, List, [], ◌∷◌, ◌++◌, length, min, replicate, set, arith, refl, ap, sym, subst, ◌∙◌, append_assoc, append-nil, Option, Some, None, option_map, unwrap_or, eq-eqb, list_any-append, InSegment, External, Item, Plain, WithWord, Byte, Address, Gap, Mark, Reference, AtLabel, AtTarget, AtNumber, Assembly, NumbersNames, Written, Writes, in_front, numbered, numbered_item, numbered_reference, use_name, uses_name}
+use Rattle.steps8080.specs.Externals.{AddsOnly, AreDifferent, Extends, IsNumbering, entries, entry}
 
 -- a value that is found stays found
 map_stays :
@@ -123,6 +123,101 @@ items_followed written (item ∷ others) later made more given followed =
     given
     (λ found is. items_followed written others later found more is followed)
 
+-- a table with one more number
+pub entry_of_set : (table : List (Option ℕ)) (index added number found : ℕ)
+    → entry (set table index (Some added)) number ≡ Some found
+    → (entry table number ≡ Some found) ⊎ ((number ≡ index) × (found ≡ added))
+entry_of_set [] index added number found given = inl given
+entry_of_set (first ∷ others) zero added zero found given = inr (refl, ap (λ one. unwrap_or one found) (sym given))
+entry_of_set (first ∷ others) zero added (suc number) found given = inl given
+entry_of_set (first ∷ others) (suc index) added zero found given = inl given
+entry_of_set (first ∷ others) (suc index) added (suc number) found given =
+    elim (entry_of_set others index added number found given) [
+      | inl old ↦ inl old
+      | inr new ↦ inr (ap suc new.0, new.1)
+    ]
+
+-- it is not in the table twice
+pub different_set : (table : List (Option ℕ)) (index added : ℕ)
+    → AreDifferent table
+    → ((number : ℕ) → entry table number ≡ Some added → ⊥)
+    → AreDifferent (set table index (Some added))
+different_set table index added different new number other found given also =
+    apart (entry_of_set table index added number found given) (entry_of_set table index added other found also)
+  where
+    At : (number : ℕ) → Type 0
+    At number = (entry table number ≡ Some found) ⊎ ((number ≡ index) × (found ≡ added))
+
+    not_new : (number : ℕ) → entry table number ≡ Some found → found ≡ added → ⊥
+    not_new number old same = new number (old ∙ ap (λ one. Some one) same)
+
+    apart : At number → At other → number ≡ other
+    apart (inl old) (inl too) = different number other found old too
+    apart (inl old) (inr added) = absurd (not_new number old added.1)
+    apart (inr added) (inl old) = absurd (not_new other old added.1)
+    apart (inr added) (inr too) = added.0 ∙ sym too.0
+
+-- it has one entry more
+entries_set : (table : List (Option ℕ)) (name number : ℕ)
+    → name < length table
+    → ((found : ℕ) → entry table name ≡ Some found → ⊥)
+    → entries (set table name (Some number)) ≡ suc (entries table)
+entries_set [] name number low none = absurd (omega (arith, low))
+entries_set (None ∷ others) zero number low none = refl
+entries_set (Some found ∷ others) zero number low none = absurd (none found refl)
+entries_set (None ∷ others) (suc name) number low none =
+    entries_set others name number (omega (arith, low)) none
+entries_set (Some found ∷ others) (suc name) number low none =
+    ap suc (entries_set others name number (omega (arith, low)) none)
+
+-- no name has a number
+none_counted : (count : ℕ) → entries (replicate count None) ≡ 0
+none_counted zero = refl
+none_counted (suc count) = none_counted count
+
+pub nothing_there : (count name number : ℕ) → entry (replicate count None) name ≡ Some number → ⊥
+nothing_there zero name number given = let bad : None ≡ Some number = given in cc
+nothing_there (suc count) zero number given = let bad : None ≡ Some number = given in cc
+nothing_there (suc count) (suc name) number given = nothing_there count name number given
+
+pub no_numbering : (table : List (Option ℕ)) (count : ℕ) → table ≡ replicate count None → IsNumbering 0 table
+no_numbering table count same = subst (IsNumbering 0) (sym same) (record {
+  counted = none_counted count;
+  below = λ name number given. absurd (nothing_there count name number given);
+  different = λ name other number given also. absurd (nothing_there count name number given);
+})
+
+-- one more name has a number, as long as there is one
+pub numbering_more : (table after : List (Option ℕ)) (used more name number : ℕ)
+    → (used < 65536 → IsNumbering used table)
+    → name < length table
+    → ((found : ℕ) → entry table name ≡ Some found → ⊥)
+    → number ≡ min used 65535
+    → more ≡ min (used + 1) 4294967295
+    → after ≡ set table name (Some number)
+    → more < 65536
+    → IsNumbering more after
+numbering_more table after used more name number numbering low none number_is more_is same few =
+    subst (IsNumbering more) (sym same) (record {
+      counted =
+          entries_set table name number low none ∙ ap suc old.counted ∙ one_more;
+      below = λ other found given. elim (entry_of_set table name number other found given) [
+        | inl kept ↦ let under : found < used = old.below other found kept in omega (arith, under, one_more)
+        | inr new ↦ let is : found ≡ number = new.1 in omega (arith, is, is_used, one_more)
+      ];
+      different = different_set table name number old.different (λ other kept.
+          let under : number < used = old.below other number kept in omega (arith, under, is_used));
+    })
+  where
+    one_more : suc used ≡ more
+    one_more = omega (arith, more_is, few)
+
+    is_used : number ≡ used
+    is_used = omega (arith, number_is, more_is, few)
+
+    old : IsNumbering used table
+    old = numbering (omega (arith, more_is, few))
+
 -- no name gets a number
 pub same_names : (name : ℕ) (table : List (Option ℕ)) → AddsOnly name table table
 same_names name table = λ other found given. inl given
@@ -196,6 +291,7 @@ writes_nothing written = record {
   labels = λ number found given. given;
   externals = λ number found given. given;
   names = λ name number given. inl given;
+  count = refl;
 }
 
 -- items are added one after another
@@ -218,6 +314,7 @@ writes_then before between after items later first second = record {
   externals = λ number found given. second.externals number found (first.externals number found given);
   names =
       names_then before.externals between.externals after.externals items later first.names second.names;
+  count = second.count ∙ first.count;
 }
 
 -- one item is added, and the numbers of labels and names may change
@@ -228,9 +325,10 @@ pub writes_one :
     → Extends inside.labels after.labels
     → Extends inside.externals after.externals
     → NumbersNames inside.externals after.externals (item ∷ [])
+    → length after.externals ≡ length inside.externals
     → numbered_item after item ≡ Some made
     → Writes before after (item ∷ [])
-writes_one inside before after item made same added labels externals names named =
+writes_one inside before after item made same added labels externals names count named =
     subst (λ old. Writes old after (item ∷ [])) same (record {
       made = made ∷ [];
       added = added;
@@ -238,6 +336,7 @@ writes_one inside before after item made same added labels externals names named
       labels = labels;
       externals = externals;
       names = names;
+      count = count;
     })
 
 -- one item is added, and they do not change
@@ -255,6 +354,7 @@ writes_known inside before after item made same added labels externals named =
     (λ number found given. ap (λ table. entry table number) labels ∙ given)
     (λ number found given. ap (λ table. entry table number) externals ∙ given)
     (names_same inside.externals after.externals (item ∷ []) externals)
+    (ap (λ table. length table) externals)
     named
 
 -- one item is added, and a name gets a number
@@ -265,13 +365,15 @@ pub writes_named :
     → after.labels ≡ inside.labels
     → Extends inside.externals after.externals
     → AddsOnly name inside.externals after.externals
+    → length after.externals ≡ length inside.externals
     → use_name name (item ∷ []) ≡ true
     → numbered_item after item ≡ Some made
     → Writes before after (item ∷ [])
-writes_named inside before after item made name same added labels externals only used named =
+writes_named inside before after item made name same added labels externals only count used named =
     writes_one inside before after item made same
     (ap (λ (code : Assembly). code.items) added)
     (λ number found given. ap (λ table. entry table number) labels ∙ given)
     externals
     (name_used name inside.externals after.externals (item ∷ []) only used)
+    count
     named

@@ -1,8 +1,8 @@
 -- The names that the proofs of this crate cite, passed on from one place. Declares nothing.
-pub use Rattle.std.proofs.{Common.{Bool, Err, IsTrue, List, None, Result, [], ap, append-nil, append_assoc, arith, drop, false, inl, inr, length, map, not, refl, replicate, rules, set, slice_index_or, subst, suc, sym, true, zero, ℕ, ⊎_elim, ◌%◌, ◌*◌, ◌++◌, ◌+◌, ◌-◌, ◌<◌, ◌==◌, ◌^◌, ◌||◌, ◌∙◌, ◌∷◌, ◌≡◌, ◌≤◌, ◌⊎◌}, lemmas.Bool.{cases_lt, eq-eqb, or_from}, lemmas.List.{get_or_past}, lemmas.List.Folds.{list_any-append}, lemmas.Nat.{pow_below}}
+pub use Rattle.std.proofs.{Common.{Bool, Err, IsTrue, List, None, Ok, Result, [], ap, append-nil, append_assoc, arith, drop, false, inl, inr, length, map, min, not, refl, replicate, rules, set, slice_index_or, subst, suc, sym, take, true, zero, ℕ, ◌%◌, ◌*◌, ◌++◌, ◌+◌, ◌-◌, ◌<◌, ◌==◌, ◌^◌, ◌||◌, ◌∙◌, ◌∷◌, ◌≡◌, ◌≢◌, ◌≤◌, ◌⊎◌}, lemmas.Bool.{eq-eqb, lt-ltb, or_from}, lemmas.List.{length-set}, lemmas.List.Folds.{list_any-append}, lemmas.Nat.{pow_below}}
 pub use Rattle.std.specs.{Option.{option_map_or}, Prelude.{Option, Some, if◌then◌else◌, option_map, unwrap_or}}
 pub use Rattle.object_modules.specs.declared.segment.Target.TheVariants.{External, InSegment}
-pub use Rattle.asm8080.proofs.{ItemLemmas.{unbound_from}, Loops.{not_equal}}
+pub use Rattle.asm8080.proofs.Loops.{not_equal}
 pub use Rattle.asm8080.specs.{Assembled.{IsFinished}, Items.{Assembly, IsAssembly, is_bound, marks}, declared.fault.Fault.{Fault}, declared.item.Item.{Item, TheVariants.{Address, Byte, Gap, Mark, Plain, WithWord}}, declared.item.Reference.{Reference, TheVariants.{AtLabel, AtNumber, AtTarget}}}
 pub use Rattle.steps8080.specs.Step.{plain, repeat_steps}
 pub use Rattle.steps8080.specs.Widths.{power_from}

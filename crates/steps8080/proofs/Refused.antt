@@ -1,7 +1,25 @@
--- The reasons for which code cannot be finished.
-use Rattle.steps8080.proofs.Prelude.{◌≡◌, Result, Err, subst, Fault, IsFinished, Written}
+-- Code that is finished, and the reasons for which it cannot be.
+use Rattle.steps8080.proofs.Prelude.{◌≡◌, Bool, List, Result, Err, Ok, subst, Fault, IsAssembly, IsFinished, Written}
+use Rattle.asm8080.specs.Assembled.{Assembled}
 use Rattle.failure.specs.{declared.Failure.{Failure}, Failure.{IfFault}}
 use Rattle.failure.specs.declared.Failure.TheVariants as failures
+use Rattle.steps8080.specs.Writer.{Finishes}
+use Rattle.steps8080.specs.internal.Labels.{AreKept}
+use Rattle.steps8080.proofs.Labels.{all_known}
+
+-- code that is finished, with its labels
+pub finished : (inside written : Written) (flags : List Bool) (bytes : Assembled)
+    → inside ≡ written
+    → AreKept inside.labels flags inside.code
+    → IsAssembly inside.code
+    → IsFinished inside.code (Ok bytes)
+    → Finishes written bytes inside.labels
+finished inside written flags bytes same kept is done =
+    subst (λ (to : Written). Finishes to bytes inside.labels) same (record {
+      assembles = done.2;
+      is_assembly = is;
+      known = all_known inside.labels inside.code kept.of_code;
+    })
 
 -- a fault of code is a fault of the items that were written
 pub refused_for :

@@ -1,6 +1,6 @@
 -- Code as it is written. Its items name labels and EXTERNAL names by their numbers in the module; the code
 -- numbers both in the order of their first use.
-use Rattle.std.specs.Prelude.{◌≡◌, ◌==◌, ◌⊎◌, ℕ, Bool, true, false, if◌then◌else◌, nat_lt, List, [], ◌∷◌, ◌++◌, map, Option, Some, None, option_map}
+use Rattle.std.specs.Prelude.{◌≡◌, ◌==◌, ◌⊎◌, ℕ, Bool, true, false, if◌then◌else◌, nat_lt, List, [], ◌∷◌, ◌++◌, length, map, Option, Some, None, option_map}
 use Rattle.std.specs.List.{list_any}
 use Rattle.object_modules.specs.declared.segment.Segment.TheVariants as segments
 use Rattle.object_modules.specs.declared.segment.Target.TheVariants.{InSegment, External}
@@ -70,7 +70,7 @@ NumbersNames before after items =
     → entry after name ≡ Some number
     → (entry before name ≡ Some number) ⊎ (use_name name items ≡ true)
 
--- Items are appended to code. Numbers that were given before stay.
+-- Items are appended to code. Numbers that were given before stay, and the table of names keeps its length.
 pub record Writes (before after : Written) (items : List Item) : Type 0 where
   pub made : List Item
   pub added : after.code.items ≡ before.code.items ++ made
@@ -78,6 +78,7 @@ pub record Writes (before after : Written) (items : List Item) : Type 0 where
   pub labels : Extends before.labels after.labels
   pub externals : Extends before.externals after.externals
   pub names : NumbersNames before.externals after.externals items
+  pub count : length after.externals ≡ length before.externals
 
 -- A routine is appended to code, with a label of the module at its start. The module has no numbers for the
 -- routine's own labels.

@@ -1,7 +1,7 @@
 //! The EXTERNAL names that code refers to.
 
-ghost use Rattle.std.specs.Prelude.{◌≡◌, None, Some, replicate, IfOk};
-ghost use Rattle.steps8080.specs.Externals.{AddsOnly, Extends, entry};
+ghost use Rattle.std.specs.Prelude.{◌≡◌, None, Some, length, replicate, IfOk, IfSome};
+ghost use Rattle.steps8080.specs.Externals.{AddsOnly, Extends, IsNumbering, entry};
 
 use std::alloc::{AllocError, Global};
 use std::marker::Model;
@@ -10,15 +10,20 @@ use std::marker::Model;
 pub struct Externals {
     /// The number of each name in use, by its index among the external names of the module.
     numbers: Vec<Option<u16>>,
-    used: u16,
+    /// How many names are in use.
+    used: u32,
 }
 
 impl Model for Externals {
-    ghost use Rattle.std.specs.Prelude.{ℕ, List, Option};
+    ghost use Rattle.std.specs.Prelude.{◌<◌, ℕ, List, Option};
+    ghost use Rattle.steps8080.specs.Externals.{IsNumbering};
 
     ghost Value = { List (Option ℕ) };
 
     ghost view = { λ externals. externals.numbers.items };
+
+    ghost invariant = { λ externals.
+        externals.used < 65536 → IsNumbering externals.used externals.numbers.items };
 }
 
 impl Externals {
@@ -33,12 +38,13 @@ impl Externals {
     }
 
     /// Returns the number of the name with this index, and numbers it at its first use. Fails if the index is out of
-    /// range. A segment has places for fewer than 65536 uses, so the numbers do not run out.
+    /// range. Names after the first 65535 share a number.
     #[tactic(auto, using(crate::proofs::Numbered::same_names, crate::proofs::Numbered::one_name_more))]
     pub fn number(&mut self, name: u32) -> Result<u16, AllocError>
         ensures found { IfOk result (λ number. entry self.new name ≡ Some number) }
         ensures kept { Extends self.old self.new }
         ensures only { AddsOnly name self.old self.new }
+        ensures count { length self.new ≡ length self.old }
     {
         let index = name as usize;
         if index >= self.numbers.len() {
@@ -47,10 +53,20 @@ impl Externals {
         if let Some(number) = self.numbers[index] {
             return Ok(number);
         }
-        let number = self.used;
+        let number = u16::try_from(self.used).unwrap_or(u16::MAX);
         self.used = self.used.saturating_add(1);
         self.numbers[index] = Some(number);
         Ok(number)
+    }
+
+    /// How many names are in use, if each has a number of its own.
+    pub fn count(&self) -> Option<u16>
+        ensures { IfSome result (λ count. IsNumbering count self.now) }
+    {
+        match u16::try_from(self.used) {
+            Ok(count) => Some(count),
+            Err(_) => None,
+        }
     }
 
     /// The number of each name in use, by its index among the external names of the module.

@@ -1,18 +1,16 @@
 //! Code with numbered labels and EXTERNAL names.
 
-ghost use Rattle.std.specs.Prelude.{◌≡◌, [], ◌∷◌, ◌++◌, None, Some, drop, length, map, replicate, IfOk, IsTrue, OnErr, OnOk, Err};
+ghost use Rattle.std.specs.Prelude.{◌≡◌, [], ◌∷◌, ◌++◌, ◌<◌, None, Some, drop, length, replicate, IfOk, IsTrue, OnErr, OnOk, Err};
 ghost use Rattle.failure.specs.Failure.{IfFault};
 ghost use Rattle.asm8080.specs.declared.item.Item.TheVariants.{Plain, WithWord, Byte, Address, Gap, Mark};
 ghost use Rattle.asm8080.specs.declared.item.Reference.TheVariants.{AtTarget, AtNumber};
 ghost use Rattle.object_modules.specs.declared.segment.Target.TheVariants.{External, InSegment};
 ghost use Rattle.object_modules.specs.Module.{is_movable};
 ghost use Rattle.asm8080.specs.Assembled.{IsFinished};
-ghost use Rattle.asm8080.specs.Items.{IsAssembly, size_of_items};
-ghost use Rattle.runtime8080.specs.Routines.{AddsRoutine};
+ghost use Rattle.asm8080.specs.Items.{size_of_items};
 ghost use Rattle.steps8080.specs.Externals.{Extends, entry};
 ghost use Rattle.steps8080.specs.Instructions.{high, low};
-ghost use Rattle.steps8080.specs.Writer.{Finishes, Writes, WritesRoutine, address_items, external_call_item, jump_item, known_label, place_of_known, stack_end_item, word_item};
-ghost use Rattle.steps8080.specs.internal.Labels.{Follows};
+ghost use Rattle.steps8080.specs.Writer.{Finishes, Writes, WritesRoutine, address_items, external_call_item, jump_item, place_of_known, stack_end_item, word_item};
 
 use crate::externals::Externals;
 use crate::step::LabelNumber;
@@ -29,16 +27,16 @@ use treecode::Place;
 /// to.
 pub struct Writer {
     code: Code,
-    /// Whether each label of the code has its place.
-    is_bound: Vec<bool>,
     /// The label of the code for each label number in use.
-    labels: Vec<Option<usize>>,
+    labels: Vec<Option<Label>>,
+    /// Whether each label has its place, by its label number.
+    is_marked: Vec<bool>,
     externals: Externals,
 }
 
 impl Model for Writer {
     ghost use Rattle.steps8080.specs.Writer.{Written};
-    ghost use Rattle.steps8080.specs.internal.Labels.{Follows};
+    ghost use Rattle.steps8080.specs.internal.Labels.{AreKept};
 
     ghost Value = { Written };
 
@@ -48,7 +46,7 @@ impl Model for Writer {
       externals = writer.externals;
     } };
 
-    ghost invariant = { λ writer. Follows writer.is_bound.items writer.code };
+    ghost invariant = { λ writer. AreKept writer.labels.items writer.is_marked.items writer.code };
 }
 
 impl Writer {
@@ -74,8 +72,8 @@ impl Writer {
     {
         Writer {
             code: Code::new(alloc),
-            is_bound: Vec::new(alloc),
             labels: Vec::new(alloc),
+            is_marked: Vec::new(alloc),
             externals,
         }
     }
@@ -215,74 +213,62 @@ impl Writer {
         self.code.size_from(first)
     }
 
-    // Makes a new label of the code.
-    fn new_label(&mut self) -> Result<usize, AllocError>
-        ensures items { OnOk result (self.new.code.items ≡ self.old.code.items) }
-        ensures labels { self.new.labels ≡ self.old.labels }
+    // Makes the tables of labels long enough for a label number.
+    fn reach(&mut self, number: LabelNumber) -> Result<(), AllocError>
+        ensures reached { OnOk result (number.index < length self.new.labels) }
+        ensures code { self.new.code ≡ self.old.code }
+        ensures labels { Extends self.old.labels self.new.labels }
         ensures externals { self.new.externals ≡ self.old.externals }
     {
-        let index = self.code.label_count();
-        self.is_bound.push(false)?;
-        let _ = self.code.label()?;
-        Ok(index)
+        let index = number.index as usize;
+        if index < self.labels.len() {
+            return Ok(());
+        }
+        self.is_marked.resize(index + 1, false)?;
+        self.labels.resize(index + 1, None)?;
+        Ok(())
     }
 
     // The label of the code for a label number; a new one at its first use.
-    fn label_of(&mut self, number: LabelNumber) -> Result<usize, AllocError>
-        ensures found { IfOk result (λ index. entry self.new.labels number.index ≡ Some index) }
+    #[tactic(auto, using(crate::proofs::Labels::label_made))]
+    fn label_of(&mut self, number: LabelNumber) -> Result<Label, AllocError>
+        ensures reached { OnOk result (number.index < length self.new.labels) }
+        ensures found { IfOk result (λ label. entry self.new.labels number.index ≡ Some label) }
         ensures items { OnOk result (self.new.code.items ≡ self.old.code.items) }
         ensures labels { OnOk result (Extends self.old.labels self.new.labels) }
         ensures externals { OnOk result (self.new.externals ≡ self.old.externals) }
     {
-        let entry = number.index as usize;
-        if entry >= self.labels.len() {
-            self.labels.resize(entry + 1, None)?;
+        self.reach(number)?;
+        let index = number.index as usize;
+        if let Some(label) = self.labels[index] {
+            return Ok(label);
         }
-        if let Some(index) = self.labels[entry] {
-            return Ok(index);
-        }
-        let index = self.new_label()?;
-        if let Some(label) = self.labels.get_mut(entry) {
-            *label = Some(index);
-        }
-        Ok(index)
+        let label = self.code.label()?;
+        self.labels[index] = Some(label);
+        Ok(label)
     }
 
     /// Adds a jump to a label, or another instruction with its place.
     pub fn jump(&mut self, form: WordForm, number: LabelNumber) -> Result<(), AllocError>
         ensures { OnOk result (Writes self.old self.new (jump_item form number ∷ [])) }
     {
-        let index = self.label_of(number)?;
-        let Some(label) = self.code.known(index) else {
-            return Err(AllocError);
-        };
+        let label = self.label_of(number)?;
         self.code.jump(form, label)?;
         Ok(())
     }
 
-    // Gives a label of the code its place here. Fails if it has one.
-    fn bind(&mut self, index: usize) -> Result<(), AllocError>
-        ensures items { OnOk result (self.new.code.items ≡ self.old.code.items ++ Mark index ∷ []) }
-        ensures labels { self.new.labels ≡ self.old.labels }
-        ensures externals { self.new.externals ≡ self.old.externals }
-    {
-        let Some(label) = self.code.known(index) else {
-            return Err(AllocError);
-        };
-        let Some(false) = self.is_bound.get(index) else {
-            return Err(AllocError);
-        };
-        self.code.bind(label)?;
-        self.is_bound[index] = true;
-        Ok(())
-    }
-
     /// Gives a label its place here. Fails if it has one: no label is placed twice.
+    #[tactic(auto, using(crate::proofs::Labels::label_placed))]
     pub fn mark(&mut self, number: LabelNumber) -> Result<(), AllocError>
         ensures { OnOk result (Writes self.old self.new (Mark number.index ∷ [])) }
     {
-        let index = self.label_of(number)?;
-        self.bind(index)?;
+        let label = self.label_of(number)?;
+        let index = number.index as usize;
+        if self.is_marked[index] {
+            return Err(AllocError);
+        }
+        self.code.bind(label)?;
+        self.is_marked[index] = true;
         Ok(())
     }
 
@@ -297,15 +283,15 @@ impl Writer {
         self.mark(number)?;
         let Writer {
             code,
-            is_bound,
             labels,
+            is_marked,
             externals,
         } = self;
-        let (code, is_bound) = add_routine(code, is_bound, routine)?;
+        let code = emit_routine(code, routine)?;
         Ok(Writer {
             code,
-            is_bound,
             labels,
+            is_marked,
             externals,
         })
     }
@@ -318,64 +304,18 @@ impl Writer {
     {
         let Writer {
             code,
-            is_bound: _,
-            labels: numbers,
+            labels,
+            is_marked: _,
             externals,
         } = self;
-        let labels = known_labels(&code, numbers)?;
+        // A look at the count says that the code is valid.
+        let _ = code.label_count();
         match code.finish() {
             Ok(bytes) => Ok((Finished { bytes, labels }, externals)),
             Err(Failure::Fault(fault)) => Err(Failure::Fault(fault)),
             Err(Failure::Memory) => Err(Failure::Memory),
         }
     }
-}
-
-// The label of the code with this number, if the code has that many.
-fn known_label(code: &Code, number: Option<usize>) -> Result<Option<Label>, AllocError>
-    ensures { IfOk result (λ label. label ≡ known_label code.now.labels number) }
-{
-    let Some(number) = number else {
-        return Ok(None);
-    };
-    if number >= code.label_count() {
-        return Ok(None);
-    }
-    match code.known(number) {
-        Some(label) => Ok(Some(label)),
-        None => Err(AllocError),
-    }
-}
-
-// The labels of the code for the label numbers in use.
-fn known_labels(code: &Code, numbers: Vec<Option<usize>>) -> Result<Vec<Option<Label>>, AllocError>
-    ensures known { IfOk result (λ labels. labels.items ≡ map (known_label code.now.labels) numbers.items) }
-    ensures is_assembly { IsAssembly code.now }
-{
-    let _ = code.label_count();
-    let alloc = *numbers.allocator();
-    let mut labels = Vec::new(alloc);
-    for number in numbers.iter() {
-        labels.push(known_label(code, *number)?)?;
-    }
-    Ok(labels)
-}
-
-// Appends a routine to the code, and the flags of the routine's own labels to `is_bound`.
-fn add_routine(
-    code: Code,
-    is_bound: Vec<bool>,
-    routine: Routine,
-) -> Result<(Code, Vec<bool>), AllocError>
-    requires { Follows is_bound.items code }
-    ensures follows { IfOk result (λ both. Follows both.1.items both.0) }
-    ensures added { IfOk result (λ both. AddsRoutine routine code both.0) }
-{
-    let mut is_bound = is_bound;
-    is_bound.resize(code.label_count(), false)?;
-    let code = emit_routine(code, routine)?;
-    is_bound.resize(code.label_count(), true)?;
-    Ok((code, is_bound))
 }
 
 /// The bytes of code, and its labels.
@@ -409,8 +349,8 @@ impl Drop for Writer {
     fn drop(self) {
         let Writer {
             code: _,
-            is_bound: _,
             labels: _,
+            is_marked: _,
             externals: _,
         } = self;
     }

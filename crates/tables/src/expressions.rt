@@ -1,5 +1,9 @@
 //! The code of expressions, each carried out by itself.
 
+ghost use Rattle.std.specs.Prelude.{IfSome};
+ghost use Rattle.treecode.specs.Nodes.{nodes_of};
+ghost use Rattle.treecode.specs.Rising.{NumbersRise};
+
 use crate::page::Page;
 use crate::runs::put_bytes;
 use asm8080::CodeBytes;
@@ -31,7 +35,9 @@ fn assigned(tree: &TreeModule, index: u32) -> Option<ExpressionNumber> {
 }
 
 // The code of a task.
-fn code_of(alloc: Global, tree: &TreeModule, task: Task) -> Option<CodeBytes> {
+fn code_of(alloc: Global, tree: &TreeModule, task: Task) -> Option<CodeBytes>
+    requires { NumbersRise (nodes_of tree.now) }
+{
     let frame = FramePlan::empty(alloc);
     let site = Site {
         tree,
@@ -46,7 +52,9 @@ fn code_of(alloc: Global, tree: &TreeModule, task: Task) -> Option<CodeBytes> {
 }
 
 // The registers after the code of a task, which stands at 0100H. It has 20 instructions at most, and after it stand NOPs.
-fn task_done(alloc: Global, tree: &TreeModule, task: Task) -> Option<Registers> {
+fn task_done(alloc: Global, tree: &TreeModule, task: Task) -> Option<Registers>
+    requires { NumbersRise (nodes_of tree.now) }
+{
     let code = code_of(alloc, tree, task)?;
     let mut memory = Memory::new(alloc).ok()?;
     put_bytes(&mut memory, 0, &DATA);
@@ -57,7 +65,9 @@ fn task_done(alloc: Global, tree: &TreeModule, task: Task) -> Option<Registers> 
 }
 
 // The tree code of the source.
-fn tree_of(alloc: Global) -> Option<TreeModule> {
+fn tree_of(alloc: Global) -> Option<TreeModule>
+    ensures { IfSome result (λ tree. NumbersRise (nodes_of tree)) }
+{
     match read_source(alloc, TEXT) {
         Ok(source) => lower(alloc, &source.typed, &source.storage).ok(),
         Err(_) => None,

@@ -3,6 +3,7 @@
 ghost use Rattle.std.specs.Prelude.{IfOk};
 ghost use Rattle.typed_trees.specs.Jumps.{JumpsAreSound};
 ghost use Rattle.typed_trees.specs.Views.{module_view};
+ghost use Rattle.sources.specs.Reading.{IsSource};
 
 use codegen8080::{CodePart, Mark, code_marks};
 use failure::Failure;
@@ -25,7 +26,7 @@ pub struct SourceMarks {
     /// The parts of its code after the constants, in the order of the code.
     pub marks: Vec<SourceMark>,
     /// Of each object, by its number, the number of the procedure in which it is declared, if it is in one.
-    pub owners: Vec<Option<u32>>,
+    pub owners: Vec<Option<usize>>,
 }
 
 // An entry of a table of lines, or 0.
@@ -72,35 +73,34 @@ fn places_of(alloc: Global, source: &SourceModule) -> Result<Vec<Mark>, AllocErr
     drop(tree);
     match places {
         Ok(places) => Ok(places),
+        // Memory ran out: a fault (G1) is one of `generate` too, which made the object module. No law says that both are of the
+        // same code.
         Err(_) => Err(AllocError),
     }
 }
 
 // A source that is read.
 fn read(alloc: Global, text: &[u8]) -> Result<SourceModule, AllocError>
+    requires source { IsSource text.now }
     ensures { IfOk result (λ read. JumpsAreSound (module_view read.typed)) }
 {
     match read_source(alloc, text) {
         Ok(source) => Ok(source),
-        Err(_) => Err(AllocError),
+        // A source has no fault, so that memory ran out.
+        Err(Failure::Memory) => Err(AllocError),
+        Err(Failure::Fault(_)) => unreachable!(),
     }
 }
 
-// The lines of a source.
-fn lines_of(alloc: Global, text: &[u8]) -> Result<SourceLines, AllocError> {
-    match source_lines(alloc, text) {
-        Ok(lines) => Ok(lines),
-        Err(_) => Err(AllocError),
-    }
-}
-
-/// Where the parts of the code that `build` makes of a source begin. The source is one of a program that was built: for any
-/// other it may be out of memory.
-pub fn marks_of(alloc: Global, text: &[u8]) -> Result<SourceMarks, AllocError> {
+/// Where the parts of the code that `build` makes of a source begin. The source is one of a program that was built: for one
+/// whose code is longer than a segment it is out of memory.
+pub fn marks_of(alloc: Global, text: &[u8]) -> Result<SourceMarks, AllocError>
+    requires source { IsSource text.now }
+{
     let source = read(alloc, text)?;
     let places = places_of(alloc, &source)?;
     drop(source);
-    let lines = lines_of(alloc, text)?;
+    let lines = source_lines(alloc, text)?;
     let marks = with_lines(alloc, &lines, places.as_slice())?;
     Ok(SourceMarks {
         marks,

@@ -4,8 +4,7 @@ use Rattle.treecode.proofs.Prelude.{◌≡◌, ℕ, zero, suc, ◌+◌, ◌<◌,
 use Rattle.treecode.specs.declared.reference.Subscript.{Subscript}
 use Rattle.treecode.specs.declared.reference.Target.TheVariants as targets
 use Rattle.treecode.specs.declared.statement.Statement.TheVariants as statements
-use Rattle.treecode.specs.Queries.{number_bound, reference_bound, subscript_bound, target_bound}
-pub use Rattle.treecode.specs.internal.Rising.{PartsAreBelow, ReferenceIsBelow, SubscriptIsBelow, TargetIsBelow}
+pub use Rattle.treecode.specs.Rising.{PartsAreBelow, ReferenceIsBelow, SubscriptIsBelow, TargetIsBelow}
 use Rattle.treecode.proofs.AddedExpressions.{parts_below}
 
 -- each of the statements of a range is in the table of lists, and has a number below a bound
@@ -118,28 +117,3 @@ pub body_below : {nodes : Nodes} {storage : Storage} {procedure : TreeProcedure}
     → HasBody nodes storage procedure tree
     → ItemsAreBelow nodes (length nodes.statements) procedure.body
 body_below has_body = list_below has_body.body
-
--- the bounds for the ranks of tasks: that of a part is at most the number of the whole
-pub number_bound_below : (number : ExpressionNumber) (bound : ℕ) → number.index < bound → number_bound number ≤ bound
-number_bound_below number bound below = omega arith
-
-subscript_bound_below : (subscript : Option Subscript) (bound : ℕ) → SubscriptIsBelow bound subscript
-    → subscript_bound subscript ≤ bound
-subscript_bound_below None bound below = omega arith
-subscript_bound_below (Some subscript) bound below = number_bound_below subscript.index bound below
-
-pub reference_bound_below : (reference : Reference) (bound : ℕ) → ReferenceIsBelow bound reference
-    → reference_bound reference ≤ bound
-reference_bound_below reference bound below =
-    let first : _ = subscript_bound_below reference.subscript bound below.0 in
-    let second : _ = subscript_bound_below reference.member_subscript bound below.1 in
-    omega arith
-
-pub target_bound_below : (target : Target) (bound : ℕ) → TargetIsBelow bound target → target_bound target ≤ bound
-target_bound_below (targets.Stored from to reference) bound below = reference_bound_below reference bound below
-target_bound_below (targets.Sent from port) bound below = omega arith
-
--- a number that is at most that of an expression is below its own bound, unless the table is full
-pub below_own_bound : (number : ExpressionNumber) (bound : ℕ) → number.index < 4294967295 → bound ≤ number.index
-    → bound < number_bound number
-below_own_bound number bound room below = omega arith

@@ -46,6 +46,6 @@ pub use Rattle.treecode.specs.internal.Gathered.{Gathered, all_gathered, gathere
 pub use Rattle.treecode.specs.internal.Growth.{Grows, Holds}
 pub use Rattle.treecode.specs.internal.Numbers.{number_in, reaching, with_number}
 pub use Rattle.treecode.specs.internal.Placed.{Heading, HeadingsAre, PlacedSoFar, all_placed, heading_at, heading_in, heading_of, headings_after, headings_in, headings_of, home_in, placed_in, variable_number, variable_of, with_all_parameters, with_parameters, with_placed, with_variable, with_variable_in}
-pub use Rattle.treecode.specs.internal.Rising.{ArgumentsAreBelow, NumbersRise, PartsAreBelow, ReferenceIsBelow, SubscriptIsBelow, TargetIsBelow}
+pub use Rattle.treecode.specs.Rising.{ArgumentsAreBelow, NumbersRise, PartsAreBelow, ReferenceIsBelow, SubscriptIsBelow, TargetIsBelow}
 pub use Rattle.treecode.specs.internal.Sound.{AreSound, Leads}
 pub use Rattle.treecode.specs.internal.Walking.{Items, Walk, assigned_in, begun, call_in, either_ends, else_in, goal_with, goals_in, height_of_move, items_after, items_in, iteration_in, label_in, list_in, moved_in, noted, number_of_added, numbered, optional_in, put_case, put_do, put_if, put_iterate, put_list, put_statement, put_targets, put_while, returned_in, statement_in, statements_in, targets_in, value_in, with_label}

@@ -8,6 +8,7 @@ pub mod Known
 pub mod Traits
 pub mod Queries
 pub mod Contents
+pub mod Rising
 pub mod Lowered
 pub mod Resolved
 pub mod internal

@@ -33,6 +33,7 @@ use Rattle.treecode.specs.Contents.{constants_of, publics_of, variables_of}
 use Rattle.treecode.specs.Homes.{externals_of, frame_variables, homes_of, kind_of, parameters_of}
 use Rattle.treecode.specs.Known.{known_number, known_value, offset_of_list}
 use Rattle.treecode.specs.Nodes.{Nodes, nodes_of}
+use Rattle.treecode.specs.Rising.{NumbersRise}
 use Rattle.treecode.specs.Traits.{KeepTraits}
 
 mutual
@@ -365,3 +366,4 @@ pub record IsLowered (typed : TypedModule) (storage : Storage) (tree : TreeModul
   pub main_frame_bytes : tree.main.frame_bytes ≡ 0
   pub main_result : tree.main.result ≡ None
   pub traits : KeepTraits (nodes_of tree)
+  pub order : NumbersRise (nodes_of tree)

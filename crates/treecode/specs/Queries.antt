@@ -1,5 +1,5 @@
 -- Queries about places, and about the nodes of a module.
-use Rattle.std.specs.Prelude.{ℕ, ◌+◌, min, max, Option, Some, None, slice_get}
+use Rattle.std.specs.Prelude.{ℕ, Option, slice_get}
 use Rattle.std.specs.Option.{option_map_or}
 use Rattle.trees.specs.declared.declaration.ScalarType.{ScalarType}
 use Rattle.typed_trees.specs.declared.parts.UnaryFunction.TheVariants.{Low, Double}
@@ -11,7 +11,6 @@ use Rattle.treecode.specs.declared.expression.ExpressionForm.{ExpressionForm}
 use Rattle.treecode.specs.declared.expression.ExpressionForm.TheVariants.{Conversion, Function}
 use Rattle.treecode.specs.declared.expression.ExpressionNumber.{ExpressionNumber}
 use Rattle.treecode.specs.declared.reference.Reference.{Reference}
-use Rattle.treecode.specs.declared.reference.Subscript.{Subscript}
 use Rattle.treecode.specs.declared.reference.Target.{Target}
 use Rattle.treecode.specs.declared.reference.Target.TheVariants.{Stored, Sent}
 use Rattle.treecode.specs.declared.statement.Statement.{Statement}
@@ -80,25 +79,6 @@ traits tree number = kept.traits_at (nodes_of tree) number
 -- the value of an expression, if it is known as a number
 abbrev pub tree_number : TreeModule → ExpressionNumber → Option ℕ
 tree_number tree number = kept.number_at (nodes_of tree) number
-
--- the number of an expression plus 1
-abbrev pub number_bound : ExpressionNumber → ℕ
-number_bound number = min (number.index + 1) 4294967295
-
--- the number of the index of a subscript plus 1; 0 if absent
-abbrev pub subscript_bound : Option Subscript → ℕ
-subscript_bound None = 0
-subscript_bound (Some subscript) = number_bound subscript.index
-
--- the greatest number of an expression in a reference plus 1; 0 if it has no expression
-abbrev pub reference_bound : Reference → ℕ
-reference_bound reference =
-    max (subscript_bound reference.subscript) (subscript_bound reference.member_subscript)
-
--- the greatest number of an expression in a target plus 1; 0 if it has no expression
-abbrev pub target_bound : Target → ℕ
-target_bound (Stored from to reference) = reference_bound reference
-target_bound (Sent from port) = 0
 
 -- the type of the value that is assigned to a target
 abbrev pub source : Target → ScalarType

@@ -1,5 +1,4 @@
 pub mod Growth
-pub mod Rising
 pub mod Numbers
 pub mod Adding
 pub mod Walking

@@ -1,7 +1,6 @@
 //! Expressions as numbered nodes.
 
 ghost use Rattle.std.specs.Prelude.{◌≡◌};
-ghost use Rattle.treecode.specs.Queries.{number_bound};
 
 use crate::lists::Range;
 use crate::reference::{Reference, Target};
@@ -71,13 +70,4 @@ pub enum ExpressionForm {
 pub struct Expression {
     pub form: ExpressionForm,
     pub traits: Traits,
-}
-
-impl ExpressionNumber {
-    /// The number plus 1.
-    pub fn bound(self) -> u32
-        ensures { result ≡ number_bound self }
-    {
-        self.index.saturating_add(1)
-    }
 }

@@ -138,6 +138,7 @@ impl Lowering {
                 self.label_count = count;
                 Ok(())
             }
+            // More labels than can be counted: out of memory.
             None => Err(AllocError),
         }
     }

@@ -1,7 +1,7 @@
 //! References to objects and parts of objects, and targets of assignments.
 
 ghost use Rattle.std.specs.Prelude.{◌≡◌};
-ghost use Rattle.treecode.specs.Queries.{reference_bound, source, subscript_bound, target_bound};
+ghost use Rattle.treecode.specs.Queries.{source};
 
 use crate::expression::ExpressionNumber;
 use trees::ScalarType;
@@ -41,36 +41,7 @@ pub enum Target {
     },
 }
 
-// The number of the index of a subscript plus 1; 0 if absent.
-fn subscript_bound(subscript: Option<Subscript>) -> u32
-    ensures { result ≡ subscript_bound subscript }
-{
-    match subscript {
-        Some(subscript) => subscript.index.bound(),
-        None => 0,
-    }
-}
-
-impl Reference {
-    /// The greatest number of an expression in it plus 1; 0 if it has no expression.
-    pub fn bound(&self) -> u32
-        ensures { result ≡ reference_bound self.now }
-    {
-        subscript_bound(self.subscript).max(subscript_bound(self.member_subscript))
-    }
-}
-
 impl Target {
-    /// The greatest number of an expression in it plus 1; 0 if it has no expression.
-    pub fn bound(&self) -> u32
-        ensures { result ≡ target_bound self.now }
-    {
-        match self {
-            Target::Stored { reference, .. } => reference.bound(),
-            Target::Sent { .. } => 0,
-        }
-    }
-
     /// The type of the value that is assigned to it.
     pub fn source(&self) -> ScalarType
         ensures { result ≡ source self.now }

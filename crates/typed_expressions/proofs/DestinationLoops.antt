@@ -1,6 +1,6 @@
 -- Destinations that are typed one after another.
 use Rattle.typed_expressions.proofs.Prelude.{◌≡◌, ℕ, ◌+◌, ◌<◌, ◌≤◌, List, [], ◌∷◌, ◌++◌, length, map, drop, get_or, Option, Ok, refl, ap, sym, ◌∙◌, Reference, reference_tree, Constants, Fault, Checked, ◌>>=◌, Destination, destination_of, destinations, FailsBy, made_goes_on, made_fails, made_ended, fails_more, CodeKnown, after_destinations, given, destination_view, known_view}
-use Rattle.typing.specs.Results.{in_front}
+use Rattle.typing.specs.internal.Results.{in_front}
 use Rattle.typed_expressions.specs.declared.known.Destination.{Destination as CodeDestination}
 use Rattle.typed_expressions.proofs.GivenParts.{given_is}
 

@@ -3,12 +3,11 @@
 ghost use Rattle.std.specs.Prelude.{◌≡◌, IfOk, Ok, slice_get};
 ghost use Rattle.trees.specs.Views.{argument_trees};
 ghost use Rattle.typed_trees.specs.Views.{arguments_view, expression_view, procedure_view};
-ghost use Rattle.typing.specs.Expressions.{arguments};
-ghost use Rattle.typing.specs.Functions.{built_in_value, call_arguments, call_of, input_value, number_of_variable};
-ghost use Rattle.typing.specs.Functions.{shift_function, unary_function};
+ghost use Rattle.typing.specs.internal.Expressions.{arguments};
+ghost use Rattle.typing.specs.internal.Functions.{built_in_value, call_arguments, call_of, input_value, number_of_variable, shift_function, unary_function};
 ghost use Rattle.typing.specs.Nodes.{arguments_as as converted};
 ghost use Rattle.typed_expressions.specs.internal.Given.{as_given, given};
-ghost use Rattle.typing.specs.Results.{Answers, Gives};
+ghost use Rattle.typing.specs.internal.Results.{Answers, Gives};
 ghost use Rattle.typed_expressions.specs.Views.{constants_view, known_view};
 
 use crate::checks::{refuse, require};

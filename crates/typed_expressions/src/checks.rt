@@ -1,8 +1,8 @@
 //! Conditions that have to hold, and faults of a cause.
 
 ghost use Rattle.std.specs.Prelude.{◌≡◌, Some};
-ghost use Rattle.typing.specs.Checks.{require};
-ghost use Rattle.typing.specs.Results.{Answers, fault_in};
+ghost use Rattle.typing.specs.internal.Checks.{require};
+ghost use Rattle.typing.specs.internal.Results.{Answers, fault_in};
 
 use failure::Failure;
 use trees::Place;

@@ -2,9 +2,9 @@
 
 ghost use Rattle.std.specs.Prelude.{◌≡◌, ◌++◌, map, IfOk};
 ghost use Rattle.trees.specs.Views.{constant_tree, offset_tree};
-ghost use Rattle.typing.specs.Constants.{place_of_constant as place_in_constant, moved_by as sum_moved_by, number_of_characters as characters_number, number_of_constant as constant_number, with_offsets as sum_with_offsets};
-ghost use Rattle.typing.specs.Constants.{bytes_of_constant, bytes_of_constants as list_bytes, bytes_of_number};
-ghost use Rattle.typing.specs.Results.{Answers};
+ghost use Rattle.typing.specs.Constants.{place_of_constant as place_in_constant, moved_by as sum_moved_by, number_of_characters as characters_number, bytes_of_constant, bytes_of_constants as list_bytes, bytes_of_number};
+ghost use Rattle.typing.specs.internal.ConstantChecks.{number_of_constant as constant_number, with_offsets as sum_with_offsets};
+ghost use Rattle.typing.specs.internal.Results.{Answers};
 
 use crate::checks::refuse;
 use failure::Failure;

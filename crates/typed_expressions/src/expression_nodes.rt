@@ -3,13 +3,12 @@
 ghost use Rattle.std.specs.Prelude.{◌≡◌, IfOk, Ok};
 ghost use Rattle.typed_trees.specs.TypedTrees.{NumberNode, ValueNode, LocationNode, ListNode, AssignmentNode, CallNode};
 ghost use Rattle.typed_trees.specs.TypedTrees.{FunctionNode, InputNode};
-ghost use Rattle.typing.specs.Nodes.{as_type as converted_to, unary_node, binary_node, shift_node};
+ghost use Rattle.typing.specs.Nodes.{as_type as converted_to, binary_node, shift_node, target_of as target_for, common_type as common, type_of_operands as operand_type, type_of_shift as shift_type};
+ghost use Rattle.typing.specs.internal.Expressions.{unary_node};
 ghost use Rattle.typed_trees.specs.Views.{Makes, expression_view, reference_view, target_view, arguments_view};
 ghost use Rattle.typing.specs.Constants.{type_of_number as number_type};
-ghost use Rattle.typing.specs.Nodes.{target_of as target_for};
 ghost use Rattle.typed_expressions.specs.Views.{destination_view};
-ghost use Rattle.typing.specs.Results.{Answers};
-ghost use Rattle.typing.specs.Nodes.{common_type as common, type_of_operands as operand_type, type_of_shift as shift_type};
+ghost use Rattle.typing.specs.internal.Results.{Answers};
 
 use crate::known::Destination;
 use failure::Failure;

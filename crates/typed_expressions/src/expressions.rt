@@ -4,12 +4,12 @@ ghost use Rattle.std.specs.Prelude.{map};
 ghost use Rattle.trees.specs.Trees.{ListLeaf};
 ghost use Rattle.trees.specs.Views.{argument_trees, constant_tree, expression_tree, reference_tree, target_trees};
 ghost use Rattle.typed_trees.specs.Views.{arguments_view, expression_view, object_view, subscript_view, type_view};
-ghost use Rattle.typing.specs.Expressions.{arguments, expression, given_reference, number_node};
-ghost use Rattle.typing.specs.References.{destination_of, location_of, part_of, part_with_member, scalar_part};
-ghost use Rattle.typing.specs.Functions.{value_of};
-ghost use Rattle.typing.specs.Statements.{destinations};
+ghost use Rattle.typing.specs.internal.Expressions.{arguments, expression, given_reference, number_node};
+ghost use Rattle.typing.specs.internal.ReferenceChecks.{destination_of, location_of, part_of, part_with_member, scalar_part};
+ghost use Rattle.typing.specs.internal.Functions.{value_of};
+ghost use Rattle.typing.specs.internal.StatementChecks.{destinations};
 ghost use Rattle.typed_expressions.specs.internal.Given.{GivesScalar, extent_view, given, part_view};
-ghost use Rattle.typing.specs.Results.{Answers, Gives};
+ghost use Rattle.typing.specs.internal.Results.{Answers, Gives};
 ghost use Rattle.typed_expressions.specs.Views.{constants_view, destination_view, known_view};
 
 use crate::checks::{refuse, require};

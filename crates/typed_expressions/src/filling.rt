@@ -6,9 +6,10 @@ ghost use Rattle.typed_trees.specs.Sizes.{scalars_of_elements};
 ghost use Rattle.typed_trees.specs.Views.{home_view, type_view};
 ghost use Rattle.names.specs.declared.entity.Binding.TheVariants.{Declared};
 ghost use Rattle.names.specs.declared.entity.Entity.TheVariants.{Object};
-ghost use Rattle.typing.specs.Filling.{AsListed, at_address, contents, enough_elements as elements_enough, fill_characters as characters_filled, fill_scalar as scalar_filled, fill_string as string_filled, fill_value as value_filled, place_of_origin as origin_place, restricted_value, scalars_at_most as most_scalars, static_bound, static_object, with_address as home_address};
+ghost use Rattle.typing.specs.Filling.{AsListed, enough_elements as elements_enough, place_of_origin as origin_place, scalars_at_most as most_scalars};
+ghost use Rattle.typing.specs.internal.FillingChecks.{at_address, contents, fill_characters as characters_filled, fill_scalar as scalar_filled, fill_string as string_filled, fill_value as value_filled, restricted_value, static_bound, static_object, with_address as home_address};
 ghost use Rattle.typed_expressions.specs.internal.Fillings.{elements_listed, filled_view, left_of, onto, reach_view, value_view, values_filled};
-ghost use Rattle.typing.specs.Results.{Answers, Leaves};
+ghost use Rattle.typing.specs.internal.Results.{Answers, Leaves};
 ghost use Rattle.typed_expressions.specs.Views.{contents_view, extents_view, known_view};
 
 use crate::checks::refuse;

@@ -5,7 +5,7 @@ ghost use Rattle.std.specs.Prelude.{Ok};
 ghost use Rattle.typed_trees.specs.Sizes.{size_of_element, size_of_object};
 ghost use Rattle.typed_trees.specs.Views.{object_view, type_view};
 ghost use Rattle.typed_expressions.specs.internal.Given.{member_place as place_of, place_view};
-ghost use Rattle.typing.specs.Results.{Answers};
+ghost use Rattle.typing.specs.internal.Results.{Answers};
 
 use crate::checks::refuse;
 use failure::Failure;

@@ -4,11 +4,10 @@ ghost use Rattle.std.specs.Prelude.{◌≡◌, None, Ok, IfOk, IfSome, IfNone};
 ghost use Rattle.trees.specs.Trees.{MoreArguments, NoArguments};
 ghost use Rattle.trees.specs.Views.{argument_trees, expression_tree};
 ghost use Rattle.typed_trees.specs.Views.{arguments_view, home_view, object_view, subscript_view, type_view};
-ghost use Rattle.typing.specs.References.{number_of_arguments, takes_subscripts as do_take, subscript_of as subscript_for, whole_part as whole};
-ghost use Rattle.typing.specs.References.{has_location as located, is_constant as constant, is_writable, port_from, port_of, port_of_character as character_port};
-ghost use Rattle.typing.specs.References.{scalar_of as scalar_in, without_member};
+ghost use Rattle.typing.specs.References.{number_of_arguments, has_location as located, is_constant as constant, scalar_of as scalar_in};
+ghost use Rattle.typing.specs.internal.ReferenceChecks.{takes_subscripts as do_take, subscript_of as subscript_for, whole_part as whole, is_writable, port_from, port_of, port_of_character as character_port, without_member};
 ghost use Rattle.typed_expressions.specs.internal.Given.{extent_view, given_selector, member_part, only_tree, part_view, place_view};
-ghost use Rattle.typing.specs.Results.{Answers};
+ghost use Rattle.typing.specs.internal.Results.{Answers};
 
 use crate::checks::{refuse, require};
 use crate::expression_nodes::boxed_as_type;

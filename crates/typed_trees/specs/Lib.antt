@@ -12,4 +12,5 @@ pub mod internal
 pub mod Storable
 pub mod Frames
 pub mod Globals
+pub mod Everywhere
 pub mod Numbers

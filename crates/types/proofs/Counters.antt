@@ -2,7 +2,7 @@
 use Rattle.types.proofs.Prelude.{◌≡◌, ℕ, ◌&&◌, Option, is_none, Ok, Err, ap, sym, refl, ◌∙◌, subst, ScalarType, Identifier, Object, NoCounter, Fault, Checked, ◌>>=◌, require, place_of, FailsBy, fails_more}
 use Rattle.names.specs.declared.entity.Binding.TheVariants.{Declared}
 use Rattle.typed_trees.specs.TypedTrees.{TypedObject}
-use Rattle.typing.specs.{Checks.{found}, Items.{is_not_based}, References.{Known, is_writable, object_of, scalar_of}, Statements.{Counter, counter_bound}}
+use Rattle.typing.specs.{Items.{is_not_based}, References.{Known, scalar_of}, internal.Checks.{found}, internal.ReferenceChecks.{is_writable, object_of}, internal.StatementChecks.{Counter, counter_bound}}
 use Rattle.types.specs.internal.Walking.{counter_type}
 
 -- three checks, the last of which gives something

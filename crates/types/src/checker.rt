@@ -1,7 +1,7 @@
 //! How far a text is typed.
 
 ghost use Rattle.std.specs.Prelude.{◌≡◌};
-ghost use Rattle.typing.specs.Results.{as_fault};
+ghost use Rattle.typing.specs.internal.Results.{as_fault};
 
 use failure::Failure;
 use names::Scopes;
@@ -22,7 +22,7 @@ pub(crate) struct Checker {
 }
 
 impl Checker {
-    ghost use Rattle.typing.specs.Typing.{at_the_beginning};
+    ghost use Rattle.typing.specs.Modules.{at_the_beginning};
     ghost use Rattle.types.specs.internal.Views.{progress_view};
 
     /// A checker at the start of a module.

@@ -9,12 +9,13 @@ ghost use Rattle.trees.specs.declared.identifier.Number.{Number as TheNumber};
 ghost use Rattle.typing.specs.Blocks.{declares_parameter as parameter_in};
 ghost use Rattle.typed_trees.specs.declared.limits.TheConstants.{OBJECT_LIMIT as object_limit};
 ghost use Rattle.typing.specs.declared.fault.Cause.TheVariants.{TooLarge};
-ghost use Rattle.typing.specs.Checks.{require as required};
+ghost use Rattle.typing.specs.internal.Checks.{require as required};
 ghost use Rattle.typed_trees.specs.Views.{home_view, object_view, type_view};
 ghost use Rattle.names.specs.Uses.{declared_by};
 ghost use Rattle.typing.specs.Items as items;
+ghost use Rattle.typing.specs.internal.ItemChecks as checks;
 ghost use Rattle.types.specs.internal.DeclareItems.{base_named, base_numbered, bytes_with, fitting_item, item_placed, listed_extents, object_listed, placed_item, structure_of, with_last_object, with_names};
-ghost use Rattle.typing.specs.Results.{Answers, Leaves};
+ghost use Rattle.typing.specs.internal.Results.{Answers, Leaves};
 ghost use Rattle.typed_expressions.specs.Views.{constants_view, contents_view, extents_view, known_view};
 ghost use Rattle.types.specs.internal.Views.{block_view, owner_view, progress_view, typed_item_view};
 
@@ -61,7 +62,7 @@ fn typed_base(
     subject: &Subject,
 ) -> Result<Option<u32>, Failure<Fault>>
     ensures { Answers (λ base. base) result
-        (items.typed_base (known_view known.now) (block_view block.entry) (subject_tree subject.now)
+        (checks.typed_base (known_view known.now) (block_view block.entry) (subject_tree subject.now)
         (items.base_of (subject_tree subject.now))) }
 {
     match subject {
@@ -108,7 +109,7 @@ fn typed_at(
     block: Block<'_>,
     item: &Item,
 ) -> Result<Option<AtAddress>, Failure<Fault>>
-    ensures { Answers (λ at. at) result (items.typed_at (known_view known.now) (block_view block.entry)
+    ensures { Answers (λ at. at) result (checks.typed_at (known_view known.now) (block_view block.entry)
         (item_tree item.now) (item_tree item.now).at) }
 {
     match &item.at {
@@ -129,7 +130,7 @@ fn typed_contents(
     extents: Extents,
 ) -> Result<Contents, Failure<Fault>>
     ensures { Answers contents_view result
-        (items.typed_contents (known_view known.now) (block_view block.entry) (item_tree item.now)
+        (checks.typed_contents (known_view known.now) (block_view block.entry) (item_tree item.now)
         (type_view object_type.now) (extents_view extents) (item_tree item.now).value_list) }
 {
     let place = place_of_item(item);
@@ -146,7 +147,7 @@ fn typed_contents(
 // An item as it is for each of its names.
 fn typed_item(known: &Known, block: Block<'_>, item: &Item) -> Result<TypedItem, Failure<Fault>>
     ensures { Answers typed_item_view result
-        (items.typed_item (known_view known.now) (block_view block.entry) (item_tree item.now)) }
+        (checks.typed_item (known_view known.now) (block_view block.entry) (item_tree item.now)) }
 {
     let base = typed_base(known, block, &item.subject)?;
     let extents = extents_of(block, item)?;
@@ -194,7 +195,7 @@ fn fitting_item(known: &Known, block: Block<'_>, item: &Item) -> Result<TypedIte
 
 // The type of an item.
 fn typed_type(known: &Known, block: Block<'_>, item: &Item) -> Result<ObjectType, Failure<Fault>>
-    ensures { Answers type_view result (items.typed_type (block_view block.entry) (item_tree item.now)
+    ensures { Answers type_view result (checks.typed_type (block_view block.entry) (item_tree item.now)
         (item_tree item.now).item_type) }
 {
     match &item.item_type {
@@ -418,7 +419,7 @@ fn is_base(object: &TypedObject) -> bool
 
 // The object that a name is bound to.
 fn object_bound(binding: Binding, place: Place) -> Result<u32, Failure<Fault>>
-    ensures { Answers (λ number. number) result (items.object_bound binding place) }
+    ensures { Answers (λ number. number) result (checks.object_bound binding place) }
 {
     match binding {
         Binding::Declared(Entity::Object(number)) => Ok(number),
@@ -430,7 +431,7 @@ fn object_bound(binding: Binding, place: Place) -> Result<u32, Failure<Fault>>
 // name, and with INITIAL or DATA.
 fn extents_of(block: Block<'_>, item: &Item) -> Result<Extents, Failure<Fault>>
     ensures { Answers extents_view result
-        (items.extents_of (block_view block.entry) (item_tree item.now) (item_tree item.now).dimension) }
+        (checks.extents_of (block_view block.entry) (item_tree item.now) (item_tree item.now).dimension) }
 {
     let is_scalar = !names_parameter(block, &item.subject);
     match item.dimension {
@@ -478,7 +479,7 @@ fn is_based(subject: &Subject) -> bool
 // PUBLIC and EXTERNAL stand at the level of the module, and not with BASED.
 fn check_linkage(block: Block<'_>, item: &Item) -> Result<(), Failure<Fault>>
     ensures { Answers (λ _. tt) result
-        (items.check_linkage (block_view block.entry) (item_tree item.now) (item_tree item.now).linkage) }
+        (checks.check_linkage (block_view block.entry) (item_tree item.now) (item_tree item.now).linkage) }
 {
     match item.linkage {
         Some(linkage) => {
@@ -564,7 +565,7 @@ fn home_of(
 
 // The members of a structure, which differ from each other.
 fn typed_members(alloc: Global, members: &[Member]) -> Result<Members, Failure<Fault>>
-    ensures { Answers (λ made. made) result (items.typed_members [] members.now) }
+    ensures { Answers (λ made. made) result (checks.typed_members [] members.now) }
 {
     let mut typed = Members::new(alloc);
     for member in members {
@@ -575,7 +576,7 @@ fn typed_members(alloc: Global, members: &[Member]) -> Result<Members, Failure<F
 
 // Adds a member to those before it.
 fn add_member(typed: &mut Members, member: Member) -> Result<(), Failure<Fault>>
-    ensures { Leaves result typed.new (items.typed_members typed.old (member ∷ [])) }
+    ensures { Leaves result typed.new (checks.typed_members typed.old (member ∷ [])) }
 {
     let place = member.name.place;
     let dimension = member.dimension;
@@ -614,7 +615,7 @@ impl Checker {
         elements: &[Element],
     ) -> Result<(), Failure<Fault>>
         ensures { Leaves result (progress_view self.new)
-            (items.declare_elements (block_view block.entry) (map element_tree elements.now) (progress_view self.old)) }
+            (checks.declare_elements (block_view block.entry) (map element_tree elements.now) (progress_view self.old)) }
     {
         for element in elements {
             self.declare_element(block, element)?;
@@ -625,7 +626,7 @@ impl Checker {
     // Declares an element of a DECLARE.
     fn declare_element(&mut self, block: Block<'_>, element: &Element) -> Result<(), Failure<Fault>>
         ensures { Leaves result (progress_view self.new)
-            (items.declare_element (block_view block.entry) (element_tree element.now) (progress_view self.old)) }
+            (checks.declare_element (block_view block.entry) (element_tree element.now) (progress_view self.old)) }
     {
         match element {
             Element::Literally(definition) => self.declare_definition(block, definition.name),
@@ -640,7 +641,7 @@ impl Checker {
         name: Identifier,
     ) -> Result<(), Failure<Fault>>
         ensures { Leaves result (progress_view self.new)
-            (items.declare_definition (block_view block.entry) name (progress_view self.old)) }
+            (checks.declare_definition (block_view block.entry) name (progress_view self.old)) }
     {
         let place = name.place;
         let owner = block.owner;
@@ -699,7 +700,7 @@ impl Checker {
         name: Identifier,
     ) -> Result<(), Failure<Fault>>
         ensures { Leaves result (progress_view self.new)
-            (items.with_objects (block_view block.entry) (typed_item_view item) (name ∷ []) (progress_view self.old)) }
+            (checks.with_objects (block_view block.entry) (typed_item_view item) (name ∷ []) (progress_view self.old)) }
     {
         let linkage = item.linkage;
         let object = object_named(block, item, name.name)?;
@@ -733,7 +734,7 @@ impl Checker {
         subject: &Subject,
     ) -> Result<(), Failure<Fault>>
         ensures { Leaves result (progress_view self.new)
-            (items.with_objects (block_view block.entry) (typed_item_view item) (declared_by (subject_tree subject.now))
+            (checks.with_objects (block_view block.entry) (typed_item_view item) (declared_by (subject_tree subject.now))
             (progress_view self.old)) }
     {
         match subject {
@@ -750,7 +751,7 @@ impl Checker {
         names: &[Identifier],
     ) -> Result<(), Failure<Fault>>
         ensures { Leaves result (progress_view self.new)
-            (items.with_objects (block_view block.entry) (typed_item_view item.now) names.now (progress_view self.old)) }
+            (checks.with_objects (block_view block.entry) (typed_item_view item.now) names.now (progress_view self.old)) }
     {
         for name in names {
             self.add_copy(block, item, *name)?;
@@ -766,7 +767,7 @@ impl Checker {
         name: Identifier,
     ) -> Result<(), Failure<Fault>>
         ensures { Leaves result (progress_view self.new)
-            (items.with_objects (block_view block.entry) (typed_item_view item.now) (name ∷ []) (progress_view self.old)) }
+            (checks.with_objects (block_view block.entry) (typed_item_view item.now) (name ∷ []) (progress_view self.old)) }
     {
         let copy = item.copy()?;
         self.add_object(block, copy, name)
@@ -775,7 +776,7 @@ impl Checker {
     // Declares an item. It is typed by the names before it, but a name of its own that is declared twice is refused first.
     fn declare_item(&mut self, block: Block<'_>, item: &Item) -> Result<(), Failure<Fault>>
         ensures { Leaves result (progress_view self.new)
-            (items.declare_item (block_view block.entry) (item_tree item.now) (progress_view self.old)) }
+            (checks.declare_item (block_view block.entry) (item_tree item.now) (progress_view self.old)) }
     {
         let typed = fitting_item(&self.known, block, item);
         self.declare_names(block, &item.subject)?;

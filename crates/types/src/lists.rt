@@ -2,8 +2,8 @@
 
 ghost use Rattle.std.specs.Prelude.{◌≡◌, Ok, OnOk, IfOk, length};
 ghost use Rattle.failure.specs.Failure.{IfFault};
-ghost use Rattle.typing.specs.Statements.{declare_labels, without_label};
-ghost use Rattle.typing.specs.Results.{Answers, Leaves};
+ghost use Rattle.typing.specs.internal.StatementChecks.{declare_labels, without_label};
+ghost use Rattle.typing.specs.internal.Results.{Answers, Leaves};
 ghost use Rattle.types.specs.internal.Walking.{label_declared};
 ghost use Rattle.types.specs.internal.Lists.{listed_view, with_label, with_labels, with_statement};
 

@@ -9,8 +9,9 @@ ghost use Rattle.names.specs.Uses.{declared_by};
 ghost use Rattle.typed_trees.specs.Views.{list_view, procedure_view};
 ghost use Rattle.typing.specs.Blocks.{is_external, is_reentrant};
 ghost use Rattle.typing.specs.Statements.{place_of_kind, place_of_statement, place_of_targets};
-ghost use Rattle.typing.specs.Procedures.{check_body, check_reentrant, check_visibility, declare_parameters, empty_list, no_more_parameters, open_procedure, parameter_object, parameter_objects, parameter_types, procedure_with, scalar_in_block, scalar_in_declaration, scalar_in_element, scalar_in_elements, scalar_of_type, visibility_of};
-ghost use Rattle.typing.specs.Results.{Answers, Leaves};
+ghost use Rattle.typing.specs.internal.ProcedureChecks.{check_body, check_reentrant, check_visibility, declare_parameters, no_more_parameters, open_procedure, parameter_object, parameter_objects};
+ghost use Rattle.typing.specs.Procedures.{empty_list, parameter_types, procedure_with, scalar_in_block, scalar_in_declaration, scalar_in_element, scalar_in_elements, scalar_of_type, visibility_of};
+ghost use Rattle.typing.specs.internal.Results.{Answers, Leaves};
 ghost use Rattle.types.specs.internal.Views.{block_view, owner_view, progress_view};
 ghost use Rattle.types.specs.internal.Walking.{heading_opened, names_among, parameter_declared, parameters_opened, procedure_closed, procedure_declared};
 

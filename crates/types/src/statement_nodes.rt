@@ -6,7 +6,7 @@ ghost use Rattle.typed_trees.specs.TypedTrees.{AssignmentStatement, CallStatemen
 ghost use Rattle.typed_trees.specs.TypedTrees.{IfStatement, DoStatement, WhileStatement, IterateStatement, CaseStatement};
 ghost use Rattle.typed_trees.specs.Views.{expression_view, target_view, arguments_view, statement_view};
 ghost use Rattle.typed_trees.specs.Views.{iteration_view, else_view, list_view, statements_view};
-ghost use Rattle.typing.specs.Results.{Answers};
+ghost use Rattle.typing.specs.internal.Results.{Answers};
 
 use failure::Failure;
 use std::alloc::Global;

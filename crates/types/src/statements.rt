@@ -8,11 +8,12 @@ ghost use Rattle.names.specs.declared.entity.Binding.TheVariants.{BuiltInName, D
 ghost use Rattle.names.specs.declared.entity.BuiltIn.TheVariants.{Move};
 ghost use Rattle.names.specs.declared.entity.Entity.TheVariants.{Object, Procedure};
 ghost use Rattle.typed_trees.specs.Views.{arguments_view, expression_view, iteration_view, object_view, statement_view, target_view};
-ghost use Rattle.typing.specs.Expressions.{arguments};
+ghost use Rattle.typing.specs.internal.Expressions.{arguments};
 ghost use Rattle.typing.specs.Nodes.{as_type as converted};
 ghost use Rattle.typing.specs.References.{number_of_arguments};
-ghost use Rattle.typing.specs.Statements.{assigned, assignment, call, call_bound, counter_bound, destinations, goto, goto_bound, iteration, moved, return_from, return_with, step, value};
-ghost use Rattle.typing.specs.Results.{Answers, Gives};
+ghost use Rattle.typing.specs.Statements.{assigned};
+ghost use Rattle.typing.specs.internal.StatementChecks.{assignment, call, call_bound, counter_bound, destinations, goto, goto_bound, iteration, moved, return_from, return_with, step, value};
+ghost use Rattle.typing.specs.internal.Results.{Answers, Gives};
 ghost use Rattle.types.specs.internal.Walking.{call_statement, counter_type, counter_view, given_in, targets_for};
 ghost use Rattle.typed_expressions.specs.Views.{constants_view, destination_view, known_view};
 ghost use Rattle.types.specs.internal.Views.{owner_view, progress_view};

@@ -5,7 +5,8 @@ ghost use Rattle.failure.specs.Failure.{IfFault};
 ghost use Rattle.trees.specs.Views.{block_declarations, block_statements, declaration_tree, declaration_trees, else_tree, kind_tree, module_tree, statement_tree, statement_trees};
 ghost use Rattle.names.specs.internal.TreesOfParts.{case_tree, do_tree, if_tree, iterate_tree, procedure_parts, while_tree};
 ghost use Rattle.typed_trees.specs.Views.{else_view, list_view, module_view, procedure_view, statement_view, statements_view};
-ghost use Rattle.typing.specs.Statements.{list_of, places_from};
+ghost use Rattle.typing.specs.internal.StatementChecks.{list_of};
+ghost use Rattle.typing.specs.Statements.{places_from};
 ghost use Rattle.typed_trees.specs.Frames.{FramesFit, ParametersFit};
 ghost use Rattle.typed_trees.specs.Globals.{ListsGlobals};
 ghost use Rattle.typed_trees.specs.Jumps.{JumpsAreSound};
@@ -13,8 +14,11 @@ ghost use Rattle.typed_trees.specs.Storable.{IsStorable};
 ghost use Rattle.typed_trees.specs.WellTyped.{IsWellTyped};
 ghost use Rattle.typed_trees.specs.Numbers.{NumbersFitInModule};
 ghost use Rattle.typing.specs.Untyped.{GivesBack};
-ghost use Rattle.typing.specs.Typing.{alone, cases, declaration, declarations, else_part, entered, kind, left, main_procedure, module_with, statements, typing_of};
-ghost use Rattle.typing.specs.Results.{Answers, Gives, Leaves};
+ghost use Rattle.typing.specs.internal.Typing.{alone, cases, declaration, declarations, else_part, kind, statements, typing_of};
+ghost use Rattle.typing.specs.Modules.{entered, left, main_procedure, module_with};
+ghost use Rattle.typing.specs.internal.Results.{Answers, Gives, Leaves};
+ghost use Rattle.typing_rules.specs.Modules.{ModuleTyping};
+ghost use Rattle.typing_rules.specs.ModuleFaults.{ModuleFault};
 ghost use Rattle.types.specs.Declares.{Declares};
 ghost use Rattle.types.specs.internal.Views.{block_view, progress_view};
 ghost use Rattle.types.specs.internal.Walking.{inside_view, list_left, listing, module_body, procedure_inside, statement_with_labels};
@@ -424,7 +428,8 @@ fn typed(alloc: Global, parsed: &Module) -> Result<Typed, Failure<Fault>>
 }
 
 /// Types a module: resolves its names, gives each expression its type and writes each conversion out. Refuses a module
-/// that breaks a rule of names, types, attributes or constants, with the first fault in the text.
+/// that breaks a rule of names, types, attributes or constants, with the first fault in the text. The rules say which
+/// typing or fault that is (`rules`, `broken`).
 ///
 /// Without its conversions the typing gives back the statements of the text (`given_back`), and its tables have what the text
 /// declares (`declared`). It does not keep parentheses, places, the names of labels, or which names were declared together:
@@ -432,6 +437,8 @@ fn typed(alloc: Global, parsed: &Module) -> Result<Typed, Failure<Fault>>
 pub fn check(alloc: Global, parsed: Module) -> Result<Typed, Failure<Fault>>
     ensures ok { IfOk result (λ typed. typing_of (module_tree parsed) ≡ Ok (module_view typed)) }
     ensures fault { IfFault result (λ fault. typing_of (module_tree parsed) ≡ Err fault) }
+    ensures rules { IfOk result (λ typed. ModuleTyping (module_tree parsed) (module_view typed)) }
+    ensures broken { IfFault result (ModuleFault (module_tree parsed)) }
     ensures given_back { IfOk result (λ typed. GivesBack (module_tree parsed) (module_view typed)) }
     ensures declared { IfOk result (λ typed. Declares (module_tree parsed) (module_view typed)) }
     ensures jumps { IfOk result (λ typed. JumpsAreSound (module_view typed)) }

@@ -5,10 +5,9 @@ use Rattle.trees.specs.declared.declaration.ScalarType.{ScalarType}
 use Rattle.trees.specs.declared.declaration.ScalarType.TheVariants.{Byte, Address}
 use Rattle.trees.specs.declared.expression.BinaryOperator.{BinaryOperator}
 use Rattle.trees.specs.declared.expression.BinaryOperator.TheVariants.{Multiply, Divide, Modulo}
-use Rattle.trees.specs.declared.expression.UnaryOperator.{UnaryOperator}
 use Rattle.typed_trees.specs.declared.parts.ShiftFunction.{ShiftFunction}
 use Rattle.typed_trees.specs.declared.parts.ShiftFunction.TheVariants.{RotateLeft, RotateRight}
-use Rattle.typed_trees.specs.TypedTrees.{TypedExpression, ConversionNode, AssignmentNode, UnaryNode, BinaryNode, ShiftNode, TypedReference, TypedTarget, StoredIn, SentTo, TypedArguments, MoreArguments}
+use Rattle.typed_trees.specs.TypedTrees.{TypedExpression, ConversionNode, BinaryNode, ShiftNode, TypedReference, TypedTarget, StoredIn, SentTo, TypedArguments, MoreArguments}
 use Rattle.typed_trees.specs.ExpressionTypes.{type_of}
 
 -- an expression of one type as one of another: itself if they are the same
@@ -40,10 +39,6 @@ abbrev pub binary_node : BinaryOperator → TypedExpression → TypedExpression 
 binary_node operator left right =
     on_operands (type_of_operands operator (type_of left) (type_of right)) operator left right
 
--- NOT and the minus sign preserve the type
-abbrev pub unary_node : UnaryOperator → TypedExpression → TypedExpression
-unary_node operator operand = UnaryNode (type_of operand) operator operand
-
 -- a shift preserves the type of the value, and a rotation works on its low byte; the count is its low byte
 abbrev pub type_of_shift : ShiftFunction → ScalarType → ScalarType
 type_of_shift RotateLeft value = Byte
@@ -70,6 +65,3 @@ pub data Destination : Type 0 where
 abbrev pub target_of : Destination → (from : ScalarType) → TypedTarget
 target_of (Variable scalar reference) from = StoredIn from scalar reference
 target_of (Port port) from = SentTo from port
-
-abbrev pub assignment_node : Destination → TypedExpression → TypedExpression
-assignment_node destination value = AssignmentNode (target_of destination (type_of value)) value

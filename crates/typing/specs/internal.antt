@@ -1,3 +1,16 @@
+pub mod Checks
+pub mod ConstantChecks
+pub mod ReferenceChecks
+pub mod Functions
+pub mod Expressions
+pub mod FillingChecks
+pub mod ItemChecks
+pub mod StatementChecks
+pub mod ProcedureChecks
+pub mod Typing
+pub mod Results
+pub mod Members
+pub mod NameFaults
 pub mod Samples
 pub mod Examples
 pub mod Measures

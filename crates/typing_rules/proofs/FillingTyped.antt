@@ -7,9 +7,12 @@ use Rattle.trees.specs.Trees.{OriginTree, ConstantOrigin, LocationOrigin, Offset
 use Rattle.typed_trees.specs.TypedTrees.{Home, InData, InConstants, Placed, BasedOn, Elsewhere, Nowhere, InFrame}
 use Rattle.typed_trees.specs.Sizes.{scalars_of_element, scalars_of_elements}
 use Rattle.typing.specs.declared.fault.Cause.TheVariants.{ImpliedWithoutValues, NotByte, TooManyValues}
-use Rattle.typing.specs.Constants.{moved_by, with_offsets}
-use Rattle.typing.specs.Filling.{Reach, ThisModule, OtherModulesToo, with_address, static_bound, RestrictedValue, ANumber, FromObject, restricted_value, Filled, fill_scalar, fill_characters, fill_string, place_of_origin, fill_value, fill, Extents, NoArray, Elements, AsListed, Contents, enough_elements, contents}
-use Rattle.typing_rules.specs.Filling.{HasAddress, in_data, in_constants, placed, elsewhere, OffsetsTyping, no_offsets, next_offset, RestrictedTyping, from_number, from_object, FillsScalar, a_byte, a_word, a_location, CharactersFill, no_characters, next_character, StringFills, at_the_end, at_byte, at_an_address, IsNoString, a_number, located, moved, ValueFills, a_string, a_value, ListFills, no_more_values, and_then, used_of, ContentsTyping, of_no_array, of_elements, as_long, NoAddress, in_frame, based, of_other_module, nowhere, NumberFault, string_is_no_number, OffsetsFault, in_first_offset, in_other_offsets, RestrictedFault, in_number, after_number, unknown_origin, origin_is_procedure, origin_is_no_variable, no_address, after_location, ScalarFault, number_for_byte, location_for_byte, no_scalar_left, CharactersFault, no_byte_left, meets_an_address, in_other_characters, StringFault, string_at_the_end, string_at_byte, string_at_an_address, FillFault, in_string, in_restricted, in_scalar, FillsFault, in_first_fill, in_other_fills, ContentsFault, in_no_array, in_elements, in_as_listed, list_holds_nothing}
+use Rattle.typing.specs.Constants.{moved_by}
+use Rattle.typing.specs.internal.ConstantChecks.{with_offsets}
+use Rattle.typing.specs.Filling.{Reach, ThisModule, OtherModulesToo, RestrictedValue, ANumber, FromObject, Filled, place_of_origin, Extents, NoArray, Elements, AsListed, Contents, enough_elements}
+use Rattle.typing.specs.internal.FillingChecks.{with_address, static_bound, restricted_value, fill_scalar, fill_characters, fill_string, fill_value, fill, contents}
+use Rattle.typing_rules.specs.Filling.{HasAddress, in_data, in_constants, placed, elsewhere, OffsetsTyping, no_offsets, next_offset, RestrictedTyping, from_number, from_object, FillsScalar, a_byte, a_word, a_location, CharactersFill, no_characters, next_character, StringFills, at_the_end, at_byte, at_an_address, IsNoString, a_number, located, moved, ValueFills, a_string, a_value, ListFills, no_more_values, and_then, used_of, ContentsTyping, of_no_array, of_elements, as_long}
+use Rattle.typing_rules.specs.FillingFaults.{NoAddress, in_frame, based, of_other_module, nowhere, NumberFault, string_is_no_number, OffsetsFault, in_first_offset, in_other_offsets, RestrictedFault, in_number, after_number, unknown_origin, origin_is_procedure, origin_is_no_variable, no_address, after_location, ScalarFault, number_for_byte, location_for_byte, no_scalar_left, CharactersFault, no_byte_left, meets_an_address, in_other_characters, StringFault, string_at_the_end, string_at_byte, string_at_an_address, FillFault, in_string, in_restricted, in_scalar, FillsFault, in_first_fill, in_other_fills, ContentsFault, in_no_array, in_elements, in_as_listed, list_holds_nothing}
 use Rattle.typing_rules.proofs.Judged.{Judged, judged_ok, judged_fault, then_judged, judged_more, then_when, is_found, then_found, fault_of, then_ok, then_fault, passed, failed, got, got_none}
 use Rattle.typing_rules.proofs.ReferencesJudged.{is_no_variable}
 use Rattle.typing_rules.proofs.ExpressionsJudged.{string_is_number, string_is_none}

@@ -15,8 +15,9 @@ use Rattle.typed_trees.specs.Sizes.{has_member}
 use Rattle.typing.specs.declared.fault.Cause.TheVariants.{DeclaredTwice, ParameterNotScalar, NoBase, MisplacedLinkage, MisplacedAt, MisplacedValues, BasedParameter, ImpliedForGroup, ExternalContents, ZeroDimension, ImpliedWithoutValues, TooLarge}
 use Rattle.typing.specs.Blocks.{Block, Progress, is_external, is_module_level, declares_parameter, place_of_linkage}
 use Rattle.typing.specs.Filling.{ThisModule, Extents, Contents}
-use Rattle.typing.specs.Items.{declare_names, is_group, names_parameter, base_of, place_of_item, is_base, object_bound, typed_base, extents_of, member_dimension, typed_members, typed_type, check_linkage, is_plain, typed_at, place_of_storage, typed_contents, TypedItem, object_named, with_typed_object, with_objects, typed_item, size_of_item, declare_element, declare_elements}
-use Rattle.typing.specs.References.{object_of}
+use Rattle.typing.specs.internal.ItemChecks.{declare_names, object_bound, typed_base, extents_of, member_dimension, typed_members, typed_type, check_linkage, typed_at, typed_contents, with_objects, typed_item, declare_element, declare_elements}
+use Rattle.typing.specs.Items.{is_group, names_parameter, base_of, place_of_item, is_base, is_plain, place_of_storage, TypedItem, object_named, with_typed_object, size_of_item}
+use Rattle.typing.specs.internal.ReferenceChecks.{object_of}
 use Rattle.typing_rules.specs.Items.{AreNewNames, no_names, next_name, BaseTyping, no_base, a_base, ExtentsTyping, no_extents, counted, implied, DimensionTyping, no_elements, some_elements, MembersTyping, no_members, next_member, TypeTyping, scalar_type, structure_type, ItemLinkageStands, private_item, shared_item, AtTyping, not_placed, is_placed, ListTypingOf, without_list, with_list_of, ItemTyping, an_item, ObjectsTyping, no_objects, next_object, ElementTyping, a_definition, of_item, ElementsTyping, no_more_elements, next_element}
 use Rattle.typing_rules.specs.ItemFaults.{NamesFault, name_again, external_contents, in_other_names, BaseFault, based_parameter, unknown_base, base_is_no_variable, wrong_base, ExtentsFault, zero_dimension, array_parameter, implied_parameter, implied_for_group, implied_without_list, DimensionFault, zero_of_member, MembersFault, member_again, in_dimension, in_other_members, TypeFault, structure_parameter, in_members, ItemLinkageFault, misplaced_item_linkage, AtFault, misplaced_at, in_at, ListFaultOf, in_no_list, misplaced_values, in_values_of_list, ItemFault, in_base, in_extents, in_type, in_linkage, in_place, in_list_of_item, ObjectsFault, frame_too_large, in_other_objects, ElementFault, definition_again, external_definition, in_names, in_item, item_too_large, in_objects, ElementsFault, in_first_element, in_other_elements}
 use Rattle.typing_rules.proofs.Judged.{Judged, judged_ok, judged_fault, then_judged, judged_more, then_when, then_found, fault_of, then_ok, then_fault, passed, failed, got, got_none}

@@ -3,7 +3,7 @@ use Rattle.std.proofs.Common.{◌≡◌, Bool, true, false, Option, Some, None, 
 use Rattle.trees.specs.declared.identifier.Place.{Place}
 use Rattle.typing.specs.declared.fault.Cause.{Cause}
 use Rattle.typing.specs.declared.fault.Fault.{Fault}
-use Rattle.typing.specs.Checks.{Checked, ◌>>=◌, require, found}
+use Rattle.typing.specs.internal.Checks.{Checked, ◌>>=◌, require, found}
 
 -- what a check gives is so, or else its fault is
 pub record Judged {A : Type 0} (P : A → Type 0) (Q : Fault → Type 0) (checked : Checked A) : Type 0 where

@@ -6,9 +6,10 @@ use Rattle.failure.specs.declared.Failure.TheVariants as failures
 use Rattle.failure.specs.Failure.{IfFault}
 use Rattle.trees.specs.Trees.{ModuleTree}
 use Rattle.typed_trees.specs.TypedTrees.{TypedModule}
-use Rattle.typing.specs.Results.{Answers}
-use Rattle.typing.specs.Typing.{typing_of}
-use Rattle.typing_rules.specs.Laws.{FollowsTheRules, IsJudgedOnce}
+use Rattle.typing.specs.internal.Results.{Answers}
+use Rattle.typing.specs.internal.Typing.{typing_of}
+use Rattle.typing_rules.specs.internal.Following.{FollowsTheRules}
+use Rattle.typing_rules.specs.Laws.{IsJudgedOnce}
 use Rattle.typing_rules.specs.Modules.{ModuleTyping}
 use Rattle.typing_rules.specs.ModuleFaults.{ModuleFault}
 use Rattle.typing_rules.proofs.ModulesJudged.{module_judged}

@@ -7,8 +7,10 @@ use Rattle.names.specs.Environment.{into_list}
 use Rattle.names.specs.Events.{labels_of}
 use Rattle.typing.specs.Blocks.{Block, Progress}
 use Rattle.typing.specs.Procedures.{own_block}
-use Rattle.typing.specs.Statements.{with_here, with_constants, list_of}
-use Rattle.typing.specs.Typing.{inner_block, entered, kind, alone, else_part, cases, statements, declaration, declarations, module_block, at_the_beginning, typing_of}
+use Rattle.typing.specs.Statements.{with_here, with_constants}
+use Rattle.typing.specs.internal.StatementChecks.{list_of}
+use Rattle.typing.specs.Modules.{inner_block, entered, module_block, at_the_beginning}
+use Rattle.typing.specs.internal.Typing.{kind, alone, else_part, cases, statements, declaration, declarations, typing_of}
 use Rattle.typing_rules.specs.Modules.{StatementTyping, null, assignment, halt, if_then, simple_do, do_while, iterative_do, do_case, AloneTyping, unlabelled, ElseTyping, no_else, with_else, CasesTyping, no_case, next_case, StatementsTyping, no_statement, next_statement, ListTyping, list, DeclarationTyping, declare, procedure, DeclarationsTyping, no_declaration, next_declaration, ModuleTyping, whole}
 use Rattle.typing_rules.specs.ModuleFaults.{StatementFault, in_targets, in_source, call_of_unknown, in_condition, in_then, in_else, in_declarations_of_do, in_do, in_while_condition, in_while, in_head, in_iterated, in_choice, in_cases, AloneFault, misplaced_label, in_alone, ElseFault, after_else, CasesFault, in_first_case, in_other_cases, StatementsFault, in_labels, in_first_statement, in_other_statements, ListFault, in_list, DeclarationFault, in_declare, in_heading, in_own_declarations, in_parameters, with_body, in_body, DeclarationsFault, in_first_declaration, in_other_declarations, ModuleFault, in_declarations, in_statements}
 use Rattle.typing_rules.proofs.Judged.{Judged, judged_ok, judged_fault, then_judged, judged_more, then_found}

@@ -7,8 +7,9 @@ use Rattle.names.specs.declared.entity.BuiltIn.TheVariants as built_ins
 use Rattle.names.specs.Environment.{Here}
 use Rattle.typing.specs.declared.fault.Cause.TheVariants.{ReturnOutside, UnknownLabel as NoLabel}
 use Rattle.typing.specs.Blocks.{Owner, TheModule, Block, Progress}
-use Rattle.typing.specs.Statements.{with_constants, value, destinations, call_bound, return_from, goto_bound, counter_bound, step, iteration, declare_labels, list_of}
-use Rattle.typing.specs.Typing.{kind, alone, else_part, cases, statements, declaration, declarations, typing_of}
+use Rattle.typing.specs.Statements.{with_constants}
+use Rattle.typing.specs.internal.StatementChecks.{value, destinations, call_bound, return_from, goto_bound, counter_bound, step, iteration, declare_labels, list_of}
+use Rattle.typing.specs.internal.Typing.{kind, alone, else_part, cases, statements, declaration, declarations, typing_of}
 use Rattle.typing_rules.specs.ModuleFaults.{StatementFault, in_targets, in_source, call_of_unknown, call_of_no_procedure, call_of_typed, call_with_wrong_count, in_argument_of_call, move_with_wrong_count, in_argument_of_move, return_outside, value_for_no_type, no_value_for_type, in_returned_value, unknown_label, in_condition, in_then, in_else, in_declarations_of_do, in_do, in_while_condition, in_while, in_head, in_iterated, in_choice, in_cases, AloneFault, misplaced_label, in_alone, ElseFault, after_else, CasesFault, in_first_case, in_other_cases, StatementsFault, in_labels, in_first_statement, in_other_statements, ListFault, in_list, DeclarationFault, in_declare, in_heading, in_own_declarations, in_parameters, with_body, in_body, DeclarationsFault, in_first_declaration, in_other_declarations, ModuleFault, in_declarations, in_statements}
 use Rattle.typing_rules.specs.StatementFaults.{TargetsFault, in_first_target, in_other_targets, CounterFault, unknown_counter, counter_of_no_variable, counter_with_data, counter_in_array, based_counter, counter_with_members, StepFault, in_step, IterationFault, in_counter, in_first_value, in_last_value, in_step_value, LabelsFault, label_again, in_other_labels}
 use Rattle.typing_rules.proofs.Judged.{fault_of, then_ok, then_fault, passed, failed, got, got_none}

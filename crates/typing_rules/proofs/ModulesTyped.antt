@@ -5,8 +5,9 @@ use Rattle.trees.specs.Trees.{HeadingTree, IterationTree, StatementTree, Stateme
 use Rattle.names.specs.Environment.{Here}
 use Rattle.typed_trees.specs.TypedTrees.{TypedIteration, TypedStatement, TypedElse, TypedStatements, TypedList, TypedModule}
 use Rattle.typing.specs.Blocks.{Owner, OfProcedure, Block, Progress}
-use Rattle.typing.specs.Statements.{with_constants, value, destinations, return_with, return_from, goto_bound, counter_bound, step, iteration, declare_labels, list_of}
-use Rattle.typing.specs.Typing.{kind, alone, else_part, cases, statements, declaration, declarations, typing_of}
+use Rattle.typing.specs.Statements.{with_constants}
+use Rattle.typing.specs.internal.StatementChecks.{value, destinations, return_with, return_from, goto_bound, counter_bound, step, iteration, declare_labels, list_of}
+use Rattle.typing.specs.internal.Typing.{kind, alone, else_part, cases, statements, declaration, declarations, typing_of}
 use Rattle.typing_rules.specs.Modules.{StatementTyping, null, assignment, call, move, return, return_value, halt, goto, if_then, simple_do, do_while, iterative_do, do_case, AloneTyping, unlabelled, ElseTyping, no_else, with_else, CasesTyping, no_case, next_case, StatementsTyping, no_statement, next_statement, ListTyping, list, DeclarationTyping, declare, procedure, DeclarationsTyping, no_declaration, next_declaration, ModuleTyping, whole}
 use Rattle.typing_rules.specs.Statements.{TargetsTyping, no_targets, next_target, IsCounter, StepTyping, no_step, a_step, IterationTyping, iterates, AreNewLabels, no_labels, next_label}
 use Rattle.typing_rules.proofs.Judged.{then_ok, passed, got}

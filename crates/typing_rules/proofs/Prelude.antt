@@ -22,12 +22,14 @@ pub use Rattle.typed_trees.specs.TypedTrees.{TypedExpression, CallNode, Function
 pub use Rattle.typing.specs.declared.fault.Cause.{Cause}
 pub use Rattle.typing.specs.declared.fault.Cause.TheVariants.{ArgumentCount, CallOfNoProcedure, ConstantWritten, MemberMismatch, NoLocation, NoVariable, NotMeasurable, PortNotConstant, PortTooLarge, StringNotNumber, SubscriptMismatch, UnknownName, ValueOfUntyped}
 pub use Rattle.typing.specs.declared.fault.Fault.{Fault}
-pub use Rattle.typing.specs.Checks.{Checked, ◌>>=◌, require, found}
-pub use Rattle.typing.specs.Constants.{number_of_characters, number_of_constant}
-pub use Rattle.typing.specs.Expressions.{number_node, expression, given_reference, given_member, arguments}
-pub use Rattle.typing.specs.Functions.{call_arguments, call_of, Measured, measured_member, measured_object, measure_of, measurement, number_of_variable, function_of, unary_function, shift_of, shift_function, input_value, built_in_value, value_of_bound, value_of}
+pub use Rattle.typing.specs.internal.Checks.{Checked, ◌>>=◌, require, found}
+pub use Rattle.typing.specs.Constants.{number_of_characters}
+pub use Rattle.typing.specs.internal.ConstantChecks.{number_of_constant}
+pub use Rattle.typing.specs.internal.Expressions.{number_node, expression, given_reference, given_member, arguments}
+pub use Rattle.typing.specs.internal.Functions.{call_arguments, call_of, measured_member, measured_object, measure_of, measurement, number_of_variable, function_of, unary_function, shift_of, shift_function, input_value, built_in_value, value_of_bound, value_of}
+pub use Rattle.typing.specs.References.{Measured, Known, Extent, AnElement, AlsoTheWhole, number_of_arguments, members_of, scalar_of, has_location, is_constant}
 pub use Rattle.typing.specs.Nodes.{as_type, arguments_as, shift_node, Destination, Variable, Port, target_of}
-pub use Rattle.typing.specs.References.{Known, Given, GivenMember, GivenReference, Extent, AnElement, AlsoTheWhole, number_of_arguments, takes_subscripts, subscript_of, members_of, scalar_of, FoundPart, whole_part, part_with_member, part_of, scalar_part, has_location, location_of_bound, location_of, port_of, port_of_character, without_member, is_constant, destination_of_bound, destination_of}
+pub use Rattle.typing.specs.internal.ReferenceChecks.{Given, GivenMember, GivenReference, takes_subscripts, subscript_of, FoundPart, whole_part, part_with_member, part_of, scalar_part, location_of_bound, location_of, port_of, port_of_character, without_member, destination_of_bound, destination_of}
 pub use Rattle.typing_rules.specs.Constants.{IsNumber, digits, one_character, two_characters, IsPort, port_number, port_character}
 pub use Rattle.typing_rules.specs.Names.{StandsFor, IsUnknown, IsVariable, IsProcedure, IsBuiltIn, IsNoVariable, IsNoProcedure, at_name}
 pub use Rattle.typing_rules.specs.Expressions.{named_function, named_shift, named_measure, IsMember, IsMeasured, a_variable, a_member, IsMeasure, a_length, a_last, a_size, ExpressionTyping, constant, scalar_value, typed_call, input, function_call, shift_call, measure_call, location, constant_list, parenthesized, embedded_assignment, unary, binary, ValuesTyping, no_values, next_value, SubscriptTyping, no_array, element, whole_array, PartTyping, without_member as has_no_member, with_member as has_member, TargetTyping, scalar_target, output}

@@ -11,9 +11,10 @@ use Rattle.names.specs.Environment.{Here, into_body, with_procedure, with_parame
 use Rattle.typed_trees.specs.declared.limits.TheConstants.{PARAMETER_LIMIT}
 use Rattle.typing.specs.declared.fault.Cause.TheVariants.{DeclaredTwice, ParameterNotDeclared, MisplacedLinkage, NestedProcedure, ReentrantExternal, ExternalContents, TooManyParameters}
 use Rattle.typing.specs.Blocks.{Block, Progress, is_external_linkage, place_of_linkage, is_reentrant, is_external, is_module_level}
-use Rattle.typing.specs.Procedures.{declare_parameters, no_more_parameters, check_visibility, check_reentrant, open_procedure, parameter_object, parameter_objects, check_body}
+use Rattle.typing.specs.internal.ProcedureChecks.{declare_parameters, no_more_parameters, check_visibility, check_reentrant, open_procedure, parameter_object, parameter_objects, check_body}
 use Rattle.typing.specs.Statements.{place_of_statement}
-use Rattle.typing_rules.specs.Procedures.{AreNewParameters, no_parameters, next_parameter, LinkageStands, no_linkage, at_module_level, ReentrantStands, not_reentrant, not_external, HeadingTyping, heading_stands, AreParameters, none_declared, next_declared, BodyStands, no_body, own_body, ParametersFault, parameter_again, in_other_parameters, HeadingFault, procedure_again, nested, in_heading_parameters, too_many_parameters, misplaced_linkage, reentrant_external, ParameterFault, not_declared, later_parameter, BodyFault, external_body}
+use Rattle.typing_rules.specs.Procedures.{AreNewParameters, no_parameters, next_parameter, LinkageStands, no_linkage, at_module_level, ReentrantStands, not_reentrant, not_external, HeadingTyping, heading_stands, AreParameters, none_declared, next_declared, BodyStands, no_body, own_body}
+use Rattle.typing_rules.specs.ProcedureFaults.{ParametersFault, parameter_again, in_other_parameters, HeadingFault, procedure_again, nested, in_heading_parameters, too_many_parameters, misplaced_linkage, reentrant_external, ParameterFault, not_declared, later_parameter, BodyFault, external_body}
 use Rattle.typing_rules.specs.Names.{at_name}
 use Rattle.typing_rules.proofs.Judged.{Judged, judged_ok, judged_fault, then_judged, judged_more, then_when, fault_of, then_ok, then_fault, passed, failed}
 

@@ -11,7 +11,8 @@ use Rattle.typed_trees.specs.declared.parts.TypedMember.{TypedMember}
 use Rattle.typing.specs.declared.fault.Cause.TheVariants.{DeclaredTwice, CallOfTyped, NoCounter}
 use Rattle.typing.specs.Blocks.{Owner, TheModule, OfProcedure, Block, Progress}
 use Rattle.typing.specs.Items.{is_not_based}
-use Rattle.typing.specs.Statements.{with_constants, value, destinations, moved, call_bound, return_with, return_from, goto_bound, counter_bound, step, iteration, declare_labels}
+use Rattle.typing.specs.Statements.{with_constants}
+use Rattle.typing.specs.internal.StatementChecks.{value, destinations, moved, call_bound, return_with, return_from, goto_bound, counter_bound, step, iteration, declare_labels}
 use Rattle.typing_rules.specs.Modules.{StatementTyping, call, move, return, return_value, goto}
 use Rattle.typing_rules.specs.ModuleFaults.{StatementFault, call_of_no_procedure, call_of_typed, call_with_wrong_count, in_argument_of_call, move_with_wrong_count, in_argument_of_move, return_outside, value_for_no_type, no_value_for_type, in_returned_value, unknown_label}
 use Rattle.typing_rules.specs.Statements.{TargetsTyping, no_targets, next_target, IsCounter, StepTyping, no_step, a_step, IterationTyping, iterates, AreNewLabels, no_labels, next_label}

@@ -22,9 +22,8 @@ use Rattle.typed_trees.specs.declared.parts.TypedMember.{TypedMember}
 use Rattle.typed_trees.specs.declared.parts.UnaryFunction.{UnaryFunction}
 use Rattle.typed_trees.specs.Sizes.{size_of_element, member_named}
 use Rattle.typed_trees.specs.TypedTrees.{TypedExpression, TypedReference, Subscript, ScalarObject, StructureObject, TypedObject, TypedProcedure, Constants}
-use Rattle.typing.specs.Functions.{Measured}
+use Rattle.typing.specs.References.{Measured, Known, Extent, AnElement, AlsoTheWhole, number_of_arguments, has_location, is_constant}
 use Rattle.typing.specs.Nodes.{Destination}
-use Rattle.typing.specs.References.{Known, Extent, AnElement, AlsoTheWhole, number_of_arguments, has_location, is_constant}
 use Rattle.typing_rules.specs.Constants.{IsPort}
 use Rattle.typing_rules.specs.Expressions.{named_function, named_shift, named_measure, IsMember, IsMeasured, ExpressionTyping, SubscriptTyping, PartTyping, TargetTyping}
 use Rattle.typing_rules.specs.Names.{StandsFor, IsUnknown, IsVariable, IsProcedure, IsBuiltIn, IsNoVariable, at_name}

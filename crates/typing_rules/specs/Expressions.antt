@@ -22,11 +22,9 @@ use Rattle.typed_trees.specs.declared.parts.UnaryFunction.TheVariants as functio
 use Rattle.typed_trees.specs.ExpressionTypes.{type_of}
 use Rattle.typed_trees.specs.Sizes.{size_of_scalar, size_of_member, size_of_element, size_of_object, member_named}
 use Rattle.typed_trees.specs.TypedTrees.{TypedExpression, NumberNode, ValueNode, LocationNode, ListNode, AssignmentNode as TypedAssignment, UnaryNode as TypedUnary, CallNode, FunctionNode, InputNode, TypedReference, PartOf, Subscript, NoSubscript, At, TypedArguments, NoArguments as NoTyped, MoreArguments as MoreTyped, StructureObject, TypedObject, TypedProcedure, Constants}
-use Rattle.typing.specs.Constants.{type_of_number}
-use Rattle.typing.specs.Expressions.{origin_of, with_list}
-use Rattle.typing.specs.Functions.{Measured}
+use Rattle.typing.specs.Constants.{type_of_number, origin_of, with_list}
+use Rattle.typing.specs.References.{Measured, Known, Extent, AnElement, AlsoTheWhole, number_of_arguments, scalar_of, has_location, is_constant}
 use Rattle.typing.specs.Nodes.{as_type, binary_node, shift_node, arguments_as, Destination, Variable, Port, target_of}
-use Rattle.typing.specs.References.{Known, Extent, AnElement, AlsoTheWhole, number_of_arguments, scalar_of, has_location, is_constant}
 use Rattle.typing_rules.specs.Constants.{IsNumber, IsPort}
 use Rattle.typing_rules.specs.Names.{IsVariable, IsProcedure, IsBuiltIn}
 

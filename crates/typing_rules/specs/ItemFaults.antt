@@ -21,7 +21,7 @@ use Rattle.typing.specs.Blocks.{Block, Progress, is_external, is_module_level, d
 use Rattle.typing.specs.Filling.{ThisModule, Extents}
 use Rattle.typing.specs.Items.{is_group, names_parameter, base_of, is_base, is_plain, TypedItem, object_named, with_typed_object, size_of_item, place_of_item, place_of_storage}
 use Rattle.typing.specs.References.{Known}
-use Rattle.typing_rules.specs.Filling.{RestrictedFault, ContentsFault}
+use Rattle.typing_rules.specs.FillingFaults.{RestrictedFault, ContentsFault}
 use Rattle.typing_rules.specs.Items.{AreNewNames, BaseTyping, ExtentsTyping, DimensionTyping, TypeTyping, ItemLinkageStands, AtTyping, ItemTyping, ElementTyping}
 use Rattle.typing_rules.specs.Names.{IsUnknown, IsVariable, IsNoVariable, at_name}
 

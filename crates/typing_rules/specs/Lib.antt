@@ -5,7 +5,9 @@ pub mod ExpressionFaults
 pub mod Statements
 pub mod StatementFaults
 pub mod Procedures
+pub mod ProcedureFaults
 pub mod Filling
+pub mod FillingFaults
 pub mod Items
 pub mod ItemFaults
 pub mod Modules

@@ -19,13 +19,14 @@ use Rattle.typing.specs.References.{number_of_arguments}
 use Rattle.typing.specs.Blocks.{TheModule, OfProcedure, Block, Progress}
 use Rattle.typing.specs.Statements.{with_here, with_constants}
 use Rattle.typing.specs.Procedures.{own_block}
-use Rattle.typing.specs.Typing.{inner_block, entered, module_block, at_the_beginning}
+use Rattle.typing.specs.Modules.{inner_block, entered, module_block, at_the_beginning}
 use Rattle.typing_rules.specs.Expressions.{ExpressionTyping}
 use Rattle.typing_rules.specs.ExpressionFaults.{ExpressionFault, ValuesFault}
 use Rattle.typing_rules.specs.ItemFaults.{ElementsFault}
 use Rattle.typing_rules.specs.Modules.{StatementTyping, AloneTyping, DeclarationTyping, DeclarationsTyping}
 use Rattle.typing_rules.specs.Names.{IsUnknown, IsProcedure, IsBuiltIn, IsNoProcedure, at_name}
-use Rattle.typing_rules.specs.Procedures.{HeadingTyping, AreParameters, BodyStands, HeadingFault, ParameterFault, BodyFault}
+use Rattle.typing_rules.specs.Procedures.{HeadingTyping, AreParameters, BodyStands}
+use Rattle.typing_rules.specs.ProcedureFaults.{HeadingFault, ParameterFault, BodyFault}
 use Rattle.typing_rules.specs.StatementFaults.{TargetsFault, IterationFault, LabelsFault}
 use Rattle.typing_rules.specs.Statements.{TargetsTyping, IterationTyping, AreNewLabels}
 

@@ -20,7 +20,7 @@ use Rattle.typing.specs.References.{number_of_arguments}
 use Rattle.typing.specs.Blocks.{OfProcedure, Block, Progress}
 use Rattle.typing.specs.Statements.{with_here, with_constants, assigned, after_labels, places_from}
 use Rattle.typing.specs.Procedures.{own_block, close_procedure}
-use Rattle.typing.specs.Typing.{inner_block, entered, left, module_block, at_the_beginning, module_with}
+use Rattle.typing.specs.Modules.{inner_block, entered, left, module_block, at_the_beginning, module_with}
 use Rattle.typing_rules.specs.Expressions.{ExpressionTyping, ValuesTyping}
 use Rattle.typing_rules.specs.Items.{ElementsTyping}
 use Rattle.typing_rules.specs.Names.{IsProcedure, IsBuiltIn}

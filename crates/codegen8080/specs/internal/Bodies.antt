@@ -1,5 +1,5 @@
 -- Relations for the parts of a module's code that are added.
-use Rattle.std.specs.Prelude.{◌≡◌, ℕ, Bool, true, false, List, [], ◌∷◌, ◌++◌, None, slice_index_or}
+use Rattle.std.specs.Prelude.{◌≡◌, ℕ, Bool, true, false, List, [], ◌∷◌, ◌++◌, length, None, slice_index_or}
 use Rattle.asm8080.specs.declared.item.Item.{Item}
 use Rattle.runtime8080.specs.declared.routine.Routine.{Routine}
 use Rattle.runtime8080.specs.declared.routine.Routine.TheVariants as names
@@ -137,6 +137,7 @@ pub record AddsRoutines
   pub labels : Extends before.labels after.labels
   pub externals : Extends before.externals after.externals
   pub no_names : Extends after.externals before.externals
+  pub count : length after.externals ≡ length before.externals
 
 -- the routines in three parts
 abbrev pub first_routines : List Routine

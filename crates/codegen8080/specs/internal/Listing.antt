@@ -30,6 +30,12 @@ FollowsPlace places (Some number) place next =
 pub record IsPlaceAfter (places : List ℕ) (number : Option ℕ) (place next : ℕ) : Type 0 where
   pub follows : FollowsPlace places number place next
 
+-- a table has the place of each number, from this place on
+abbrev pub FollowPlaces : (places : List ℕ) → (place : ℕ) → (numbers : List (Option ℕ)) → Type 0
+FollowPlaces places place [] = Unit {0}
+FollowPlaces places place (number ∷ numbers) =
+    (next : ℕ) × IsPlaceAfter places number place next × FollowPlaces places next numbers
+
 -- a table has the place of each name for which code has a number, from this place on
 abbrev pub HavePlaces :
     (places : List ℕ) → (place : ℕ) → (numbers : List (Option ℕ)) → List ExternalName → Type 0

@@ -5,6 +5,7 @@ ghost use Rattle.host.specs.Endings.{status_of};
 ghost use Rattle.command_line.specs.Settings.{values_in};
 ghost use Rattle.command_line.specs.declared.orders.Action.TheVariants.{Interpret};
 ghost use Rattle.interpreter.specs.Runs.{stop_of};
+ghost use Rattle.sources.specs.Programs.{IsProgramOf, program_modules, texts_of};
 ghost use Rattle.tool.specs.Execution.{source_of};
 ghost use Rattle.commands.specs.Ends.{GivesInput, source_status, source_word};
 ghost use Rattle.commands.specs.Running.{PrintsBuilt, StopsBuilt};
@@ -40,6 +41,7 @@ pub(crate) fn print_meaning<O: Write>(
     outputs: &mut Vec<Vec<u8>>,
     out: &mut O,
 ) -> Result<Ending, Failure<WriteFault>>
+    requires program { IsProgramOf (texts_of sources.now) (program_modules built.now.program) }
     ensures ok { IfOk result (λ ending. PrintsBuilt Interpret [] (values_in settings.now) built.now
         (status_of ending) (map (λ output. output.items) outputs.new.items)
         (O.contents out.old) (O.contents out.new)) }
@@ -75,6 +77,7 @@ fn print_interpreted<P: RunPorts + Drop, O: Write>(
     outputs: &mut Vec<Vec<u8>>,
     out: &mut O,
 ) -> Result<Ending, Failure<WriteFault>>
+    requires program { IsProgramOf (texts_of sources.now) (program_modules built.now.program) }
     requires start { IsStart (values_in settings.now) memory }
     requires gives { GivesInput (values_in settings.now).input (P.script ports) }
     requires none { P.events ports ≡ [] }
@@ -103,6 +106,7 @@ fn outcome_of<P: RunPorts>(
     memory: Memory,
     ports: &mut P,
 ) -> Result<Outcome, AllocError>
+    requires program { IsProgramOf (texts_of sources.now) (program_modules built.now.program) }
     requires dry { settings.now.watch.until_dry ≡ P.until_dry }
     ensures { IfOk result (λ outcome. EndsAsSource (module_names built.now.program) (values_in settings.now)
         (P.script ports.old) (source_of built.now memory (P.script ports.old) (P.events ports.old))
@@ -191,6 +195,7 @@ fn interpret_built<P: Ports>(
             used: budget.saturating_sub(left),
             at,
         }),
+        // Memory ran out while it was interpreted.
         Err(RunFault::Memory) => Err(AllocError),
     }
 }

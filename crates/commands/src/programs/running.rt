@@ -1,9 +1,11 @@
 //! What is printed of programs that are run or interpreted.
 
-ghost use Rattle.std.specs.Prelude.{◌≡◌, [], IfOk, OnErr, map};
+ghost use Rattle.std.specs.Prelude.{◌≡◌, ◌≤◌, [], IfOk, OnErr, length, map};
 ghost use Rattle.host.specs.Endings.{status_of};
 ghost use Rattle.command_line.specs.Settings.{values_in};
 ghost use Rattle.command_line.specs.declared.orders.Action.TheVariants.{Run};
+ghost use Rattle.sources.specs.Programs.{IsProgramOf, program_modules, texts_of};
+ghost use Rattle.sources.specs.declared.sources.TheConstants.{MOST_SOURCES};
 ghost use Rattle.commands.specs.Map.{map_if};
 ghost use Rattle.commands.specs.Running.{PrintsBuilt, StopsBuilt};
 ghost use Rattle.commands.specs.internal.Outcomes.{EndsRun};
@@ -31,6 +33,8 @@ pub(crate) fn print_built<O: Write>(
     outputs: &mut Vec<Vec<u8>>,
     out: &mut O,
 ) -> Result<Ending, Failure<WriteFault>>
+    requires few { length sources.now ≤ MOST_SOURCES }
+    requires program { IsProgramOf (texts_of sources.now) (program_modules built.now.program) }
     ensures ok { IfOk result (λ ending. PrintsBuilt order.now.action
         (map_if order.now.map built.now) (values_in settings.now) built.now
         (status_of ending) (map (λ output. output.items) outputs.new.items)
@@ -57,6 +61,8 @@ fn print_program<O: Write>(
     outputs: &mut Vec<Vec<u8>>,
     out: &mut O,
 ) -> Result<Ending, Failure<WriteFault>>
+    requires few { length sources.now ≤ MOST_SOURCES }
+    requires program { IsProgramOf (texts_of sources.now) (program_modules built.now.program) }
     ensures ok { IfOk result (λ ending. PrintsBuilt action [] (values_in settings.now) built.now
         (status_of ending) (map (λ output. output.items) outputs.new.items)
         (O.contents out.old) (O.contents out.new)) }
@@ -81,6 +87,8 @@ fn print_run<O: Write>(
     outputs: &mut Vec<Vec<u8>>,
     out: &mut O,
 ) -> Result<Ending, Failure<WriteFault>>
+    requires few { length sources.now ≤ MOST_SOURCES }
+    requires program { IsProgramOf (texts_of sources.now) (program_modules built.now.program) }
     ensures ok { IfOk result (λ ending. PrintsBuilt Run [] (values_in settings.now) built.now
         (status_of ending) (map (λ output. output.items) outputs.new.items)
         (O.contents out.old) (O.contents out.new)) }

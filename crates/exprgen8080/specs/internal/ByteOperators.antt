@@ -4,7 +4,7 @@ use Rattle.isa8080.specs.declared.instr.Instr.TheVariants.{AccumulateImmediate, 
 use Rattle.isa8080.specs.declared.instr.Operand.TheVariants.{Of}
 use Rattle.isa8080.specs.declared.instr.Operation.{Operation}
 use Rattle.isa8080.specs.declared.instr.Operation.TheVariants.{Add, Subtract, And, ExclusiveOr, Or}
-use Rattle.isa8080.specs.declared.instr.Register.TheVariants.{A, B, E}
+use Rattle.isa8080.specs.declared.instr.Register.TheVariants.{A, B, E, L}
 use Rattle.isa8080.specs.declared.instr.StackPair.TheVariants.{Psw, StackBc}
 use Rattle.runtime8080.specs.declared.routine.Routine.TheVariants as routines
 use Rattle.trees.specs.declared.expression.BinaryOperator.{BinaryOperator}
@@ -25,8 +25,9 @@ use Rattle.operands8080.specs.internal.Relations.{relation_value_steps}
 use Rattle.exprgen8080.specs.declared.byte_operators.ByteForm.{ByteForm}
 use Rattle.exprgen8080.specs.declared.byte_operators.ByteForm.TheVariants.{RightInMemory, LeftInMemory, LeftFree, RightFree, Pushed}
 use Rattle.exprgen8080.specs.declared.byte_operators.Operands.{Operands}
-use Rattle.exprgen8080.specs.internal.Halves.{byte_number_steps, low_of_word_steps}
+use Rattle.exprgen8080.specs.internal.Halves.{byte_number_steps}
 use Rattle.exprgen8080.specs.internal.ByteShifts.{low_byte_shifted_right_steps}
+use Rattle.exprgen8080.specs.internal.Routines.{computed_product_steps, division_steps}
 
 -- whether the operands of an operation may be exchanged
 unfoldable pub commutes : Operation → Bool
@@ -158,20 +159,20 @@ byte_operation_steps site operation operands pushed = elim (low_number site oper
 ]
 
 -- puts the low byte of a product into A
-unfoldable pub product_byte_steps : Site → (number : ExpressionNumber) → Operands → (pushed : ℕ) → List Step
-product_byte_steps site number operands pushed = elim (low_number site operands.right) [
+unfoldable pub product_byte_steps : Site → Operands → (pushed : ℕ) → List Step
+product_byte_steps site operands pushed = elim (low_number site operands.right) [
   | Some factor ↦ byte_product_steps operands.left factor pushed
   | None ↦ elim (low_number site operands.left) [
     | Some factor ↦ byte_product_steps operands.right factor pushed
-    | None ↦ low_of_word_steps number pushed
+    | None ↦ computed_product_steps site operands pushed ++ (Plain (copy A L) ∷ [])
   ]
 ]
 
 -- puts the low byte of a quotient into A
-unfoldable pub quotient_byte_steps : Site → (number : ExpressionNumber) → Operands → (pushed : ℕ) → List Step
-quotient_byte_steps site number operands pushed = elim (power site operands.right) [
+unfoldable pub quotient_byte_steps : Site → Operands → (pushed : ℕ) → List Step
+quotient_byte_steps site operands pushed = elim (power site operands.right) [
   | Some count ↦ low_byte_shifted_right_steps site operands.left count pushed
-  | None ↦ low_of_word_steps number pushed
+  | None ↦ division_steps site operands pushed ++ (Plain (copy A L) ∷ [])
 ]
 
 -- the value of an expression, if it is known as a power of 2
@@ -200,9 +201,7 @@ byte_binary_steps site number operators.And operands pushed = byte_operation_ste
 byte_binary_steps site number operators.Or operands pushed = byte_operation_steps site Or operands pushed
 byte_binary_steps site number operators.Xor operands pushed =
     byte_operation_steps site ExclusiveOr operands pushed
-byte_binary_steps site number operators.Multiply operands pushed =
-    product_byte_steps site number operands pushed
-byte_binary_steps site number operators.Divide operands pushed =
-    quotient_byte_steps site number operands pushed
+byte_binary_steps site number operators.Multiply operands pushed = product_byte_steps site operands pushed
+byte_binary_steps site number operators.Divide operands pushed = quotient_byte_steps site operands pushed
 byte_binary_steps site number operators.Modulo operands pushed = remainder_byte_steps site operands pushed
 byte_binary_steps site number operator operands pushed = relation_value_steps site number pushed

@@ -27,7 +27,7 @@ use Rattle.steps8080.specs.declared.sites.site.Site.{Site}
 use Rattle.steps8080.specs.Site.{expression, scalar}
 use Rattle.steps8080.specs.Queries.{known, memory}
 use Rattle.operands8080.specs.internal.Loads.{byte_in_memory_steps}
-use Rattle.exprgen8080.specs.internal.Halves.{byte_number_steps, high_byte_steps, low_of_word_steps}
+use Rattle.exprgen8080.specs.internal.Halves.{byte_number_steps, high_byte_steps}
 use Rattle.exprgen8080.specs.internal.ByteOperators.{byte_binary_steps}
 use Rattle.exprgen8080.specs.internal.ByteShifts.{byte_shift_steps}
 use Rattle.exprgen8080.specs.internal.Calls.{call_steps, value_task}
@@ -76,7 +76,8 @@ byte_of_two_steps site number (forms.Shift function value count) pushed =
     byte_shift_steps site number (record { function = function; value = value; count = count }) pushed
 byte_of_two_steps site number form pushed = []
 
--- puts the low byte of an expression that is neither known nor in memory into A
+-- puts the low byte of an expression that is neither known nor in memory into A; numbers and constant lists are
+-- known, and values are in memory
 unfoldable pub byte_form_steps :
     Site → (number : ExpressionNumber) → ExpressionForm → (pushed : ℕ) → List Step
 byte_form_steps site number (forms.Conversion inner) pushed = part (tasks.Byte inner) pushed ∷ []
@@ -92,7 +93,9 @@ byte_form_steps site number (forms.Assignment target value) pushed =
 byte_form_steps site number (forms.Call procedure arguments) pushed =
     called_byte_steps site number procedure arguments pushed
 byte_form_steps site number (forms.Input port) pushed = Plain (In port) ∷ []
-byte_form_steps site number form pushed = low_of_word_steps number pushed
+byte_form_steps site number (forms.Location reference) pushed =
+    part (tasks.Address reference) pushed ∷ Plain (copy A L) ∷ []
+byte_form_steps site number form pushed = []
 
 -- puts the low byte of the value of an expression into A, whatever its type
 unfoldable pub byte_steps : Site → (number : ExpressionNumber) → (pushed : ℕ) → List Step

@@ -61,6 +61,11 @@ after_step facts (steps.Holds held) = with_facts facts held
 after_step facts steps.MemoryChanged = without_memory facts
 after_step facts (steps.Part part) = facts
 
+-- a step is not a part
+abbrev pub IsNoPart : Step → Type 0
+IsNoPart (steps.Part part) = ⊥
+IsNoPart step = Unit {0}
+
 -- a step is not a part, and a table marks the routine that it calls
 abbrev pub IsAlone : (called : List Bool) → Step → Type 0
 IsAlone called (steps.CallRoutine routine) = has_routine called routine ≡ true

@@ -1,5 +1,5 @@
 -- The code of operators with the result in HL.
-use Rattle.std.specs.Prelude.{ℕ, ◌+◌, ◌-◌, ◌%◌, ◌==◌, nat_lt, Bool, true, false, ◌&&◌, ◌||◌, List, [], ◌∷◌, ◌++◌, Option, Some, None, if◌then◌else◌}
+use Rattle.std.specs.Prelude.{ℕ, ◌+◌, ◌-◌, ◌%◌, ◌==◌, nat_lt, Bool, false, ◌&&◌, ◌||◌, List, [], ◌∷◌, ◌++◌, Option, Some, None, if◌then◌else◌}
 use Rattle.isa8080.specs.declared.instr.Instr.TheVariants.{AccumulateImmediate, Cma, Dad, Xchg}
 use Rattle.isa8080.specs.declared.instr.Operation.{Operation}
 use Rattle.isa8080.specs.declared.instr.Operation.TheVariants.{And, ExclusiveOr, Or, Subtract, SubtractWithBorrow}
@@ -7,7 +7,6 @@ use Rattle.isa8080.specs.declared.instr.Pair.TheVariants.{De}
 use Rattle.isa8080.specs.declared.instr.Register.{Register}
 use Rattle.isa8080.specs.declared.instr.Register.TheVariants.{A, D, E, H, L}
 use Rattle.asm8080.specs.declared.item.WordForm.TheVariants.{LoadA}
-use Rattle.runtime8080.specs.declared.routine.Routine.TheVariants as routines
 use Rattle.trees.specs.declared.expression.BinaryOperator.{BinaryOperator}
 use Rattle.trees.specs.declared.expression.BinaryOperator.TheVariants as operators
 use Rattle.treecode.specs.declared.expression.ExpressionNumber.{ExpressionNumber}
@@ -15,7 +14,7 @@ use Rattle.treecode.specs.declared.place.Place.{Place}
 use Rattle.treecode.specs.declared.place.Place.TheVariants.{Number}
 use Rattle.treecode.specs.Homes.{place_after}
 use Rattle.steps8080.specs.declared.step.Step.{Step}
-use Rattle.steps8080.specs.declared.step.Step.TheVariants.{CallRoutine, Plain, Word}
+use Rattle.steps8080.specs.declared.step.Step.TheVariants.{Plain, Word}
 use Rattle.steps8080.specs.declared.step.Task.TheVariants as tasks
 use Rattle.steps8080.specs.Instructions.{clear_a, copy, high, low, set, with_register}
 use Rattle.steps8080.specs.Step.{extension_steps, part, plain}
@@ -25,13 +24,14 @@ use Rattle.steps8080.specs.Widths.{direct_word, fits_byte, is_word_in_hl, power}
 use Rattle.operands8080.specs.declared.pairs.PairOrder.{PairOrder}
 use Rattle.operands8080.specs.declared.pairs.PairOrder.TheVariants.{LeftInHl, RightInHl}
 use Rattle.operands8080.specs.internal.Addresses.{addition_steps}
-use Rattle.operands8080.specs.internal.Pairs.{pair_in_order_steps, pair_order, pair_steps}
+use Rattle.operands8080.specs.internal.Pairs.{pair_order, pair_steps}
 use Rattle.operands8080.specs.internal.Products.{product_steps}
 use Rattle.exprgen8080.specs.declared.byte_operators.Operands.{Operands}
 use Rattle.exprgen8080.specs.declared.word_operators.Simple.{Simple}
 use Rattle.exprgen8080.specs.declared.word_operators.Simple.TheVariants as simple
 use Rattle.exprgen8080.specs.internal.Halves.{high_byte_steps}
 use Rattle.exprgen8080.specs.internal.ByteOperators.{byte_operation_steps, number_of_two, with_number_steps}
+use Rattle.exprgen8080.specs.internal.Routines.{computed_product_steps, division_steps}
 use Rattle.exprgen8080.specs.internal.WordShifts.{word_shifted_right_steps}
 
 -- puts a sum into HL: a known operand is added last; else one operand is put into DE
@@ -206,29 +206,15 @@ logic_steps site operation operands pushed = elim (number_of site operands.right
   ]
 ]
 
--- the wanted order of the operands of a product: the routine is faster if DE is below 256
-unfoldable pub product_order : (left_fits right_fits : Bool) → Option PairOrder
-product_order false true = Some LeftInHl
-product_order true false = Some RightInHl
-product_order left_fits right_fits = None
-
 -- puts a product into HL
 unfoldable pub product_word_steps : Site → Operands → (pushed : ℕ) → List Step
 product_word_steps site operands pushed = elim (number_of site operands.right) [
   | Some number ↦ product_steps operands.left number pushed
   | None ↦ elim (number_of site operands.left) [
     | Some number ↦ product_steps operands.right number pushed
-    | None ↦
-        pair_in_order_steps site operands.left operands.right
-        (product_order (fits_byte site operands.left) (fits_byte site operands.right)) pushed
-        ++ (CallRoutine routines.Multiply ∷ [])
+    | None ↦ computed_product_steps site operands pushed
   ]
 ]
-
--- divides one operand by the other one: puts the quotient into HL, and the remainder into DE
-unfoldable pub division_steps : Site → Operands → (pushed : ℕ) → List Step
-division_steps site operands pushed =
-    pair_steps site operands.left operands.right true pushed ++ (CallRoutine routines.Divide ∷ [])
 
 -- puts a quotient into HL
 unfoldable pub quotient_steps : Site → Operands → (pushed : ℕ) → List Step

@@ -1,5 +1,5 @@
 -- Modules of a program as the code keeps them.
-use Rattle.std.specs.Prelude.{◌≡◌, ◌⊎◌, ℕ, ◌+◌, ◌++◌, List, [], ◌∷◌, flat_map, map, slice_get, take, Some}
+use Rattle.std.specs.Prelude.{◌≡◌, ◌≤◌, ◌⊎◌, ℕ, suc, ◌+◌, ◌*◌, ◌++◌, List, [], ◌∷◌, flat_map, map, slice_get, take, Some}
 use Rattle.std.specs.List.{AllByRecursion}
 use Rattle.layout.specs.Placement.{ModulePlacement}
 use Rattle.mem80.specs.declared.range.Piece.{Piece}
@@ -67,7 +67,7 @@ pub record IsViewAt (texts : List (List ℕ)) (built : Construction) (number cod
   pub code : view.code_base ≡ code_base
   pub data_at : view.data_base ≡ data_base
 
--- the first modules of a program, so many, whose segments end before these addresses
+-- the first modules of a program, so many, whose segments end before these addresses, each after at most 65535 bytes
 pub record AreFirstViews (texts : List (List ℕ)) (built : Construction) (count code_end data_end : ℕ)
     (views : List ModuleView) : Type 0 where
   pub text_of_each : map text_of views ≡ take count texts
@@ -75,6 +75,8 @@ pub record AreFirstViews (texts : List (List ℕ)) (built : Construction) (count
   pub object_of_each : map object_of views ≡ take count built.objects
   pub placed_of_each : map placed_of views ≡ take count built.placement.modules
   pub follow : Follow built.plan.code built.plan.data_base views code_end data_end
+  pub code_within : code_end ≤ 65535 * suc count
+  pub data_within : data_end ≤ 65535 * suc count
 
 -- all modules of a program of these texts
 pub record AreViews (texts : List (List ℕ)) (built : Construction) (views : List ModuleView) : Type 0 where

@@ -1,7 +1,7 @@
 -- The code of a module takes at most its code bound, and its data take as many bytes as its storage has. So a
 -- module is refused for its size only if that bound exceeds the limit of a segment.
-use Rattle.measure_laws.proofs.Prelude.{◌≡◌, ℕ, ◌+◌, ◌≤◌, Some, ap, sym, subst, arith, Code, SEGMENT_LIMIT, ObjectModule, length_of, TypedModule, code_bound, Storage, data_bytes, size_of_items, TreeModule, IsLowered, Written, numbered, TooLong, IsCodeWritten, IsGenerated, contents_items, CodeIsNone, DataAreNone, MayRefuse, IsSound}
-use Rattle.measure_laws.proofs.{Sizes.PartSizes.{part_size}, Bounds.Constants.{variables_fit}, Bounds.Modules.{code_segment_fits, module_fits}, Bounds.Numbering.{numbered_size}}
+use Rattle.measure_laws.proofs.Prelude.{◌≡◌, ℕ, ◌+◌, ◌≤◌, Some, ap, arith, Code, SEGMENT_LIMIT, ObjectModule, length_of, TypedModule, code_bound, Storage, data_bytes, size_of_items, TreeModule, IsLowered, Written, numbered, TooLong, IsCodeWritten, IsGenerated, contents_items, CodeIsNone, DataAreNone, MayRefuse, IsSound}
+use Rattle.measure_laws.proofs.{Bounds.Constants.{variables_fit}, Bounds.Modules.{code_segment_fits, module_fits}, Bounds.Numbering.{numbered_size}}
 
 -- the code as it was written
 pub code_is_within_its_bound :
@@ -11,8 +11,7 @@ pub code_is_within_its_bound :
     → IsCodeWritten tree start written
     → size_of_items written.code.items ≤ code_bound typed
 code_is_within_its_bound typed storage tree start written sound lowered is =
-    module_fits typed storage tree start written sound lowered
-    (λ site called same. part_size site storage called) is
+    module_fits typed storage tree start written sound lowered is
 
 -- the code segment of an object module
 pub segment_is_within_its_bound :
@@ -22,8 +21,7 @@ pub segment_is_within_its_bound :
     → IsGenerated tree object
     → length_of object Code ≤ code_bound typed
 segment_is_within_its_bound typed storage tree object sound lowered is =
-    code_segment_fits typed storage tree object sound lowered
-    (λ site called same. part_size site storage called) is
+    code_segment_fits typed storage tree object sound lowered is
 
 -- the data as they were written
 pub data_are_within_their_bytes :

@@ -1,12 +1,16 @@
 -- DO CASE.
-use Rattle.measure_laws.proofs.Prelude.{◌≡◌, ℕ, zero, suc, ◌+◌, ◌-◌, ◌*◌, ◌%◌, ◌<◌, ◌≤◌, Bool, true, false, if◌then◌else◌, nat_eq, nat_lt, List, [], ◌∷◌, ◌++◌, slice_get, Option, Some, None, refl, sym, ap, subst, ◌∙◌, arith, option_and_then, eqb-false, eqb-true, ltb-true, same_Some, NoCarry, AccumulateImmediate, Dad, Pchl, Xchg, Compare, De, Hl, A, D, E, Jump, JumpWhere, LoadPair, ScalarType, Byte, Address, ListsStandInCases, TypedExpression, TypedStatements, weight_of_expression, weight_of_statement, weight_of_statements, Storage, ExpressionNumber, Range, StatementNumber, IsExpressionIn, nodes_of, item, LabelNumber, copy, set, label_of, Site, scalar, number, Body, Planned, JumpOn, Reaches, Statement, case_steps, cases_end_steps, choice_at_steps, choice_steps, computed_case_steps, entry_of, into_table_steps, known_case_steps, number_in_de_steps, statement_at, statements_steps, table_at, table_steps, all, jump, label_at, mark, nth_label, part, plain, steps_from, less_steps, site_of, PartsFit, bytes_for, StepsFit}
+use Rattle.measure_laws.proofs.Prelude.{◌≡◌, ℕ, zero, suc, ◌+◌, ◌-◌, ◌*◌, ◌%◌, ◌<◌, ◌≤◌, Bool, true, false, if◌then◌else◌, nat_eq, nat_lt, List, [], ◌∷◌, ◌++◌, slice_get, Option, Some, None, refl, sym, ap, subst, ◌∙◌, arith, option_and_then, eqb-false, eqb-true, ltb-true, same_Some, NoCarry, AccumulateImmediate, Dad, Pchl, Xchg, Compare, De, Hl, A, D, E, Jump, JumpWhere, LoadPair, ScalarType, Byte, Address, ListsStandInCases, TypedExpression, TypedStatements, weight_of_expression, weight_of_statement, weight_of_statements, ExpressionNumber, Range, StatementNumber, item, LabelNumber, copy, set, label_of, Site, scalar, number, Body, Planned, JumpOn, Reaches, Statement, case_steps, cases_end_steps, choice_at_steps, choice_steps, computed_case_steps, entry_of, into_table_steps, known_case_steps, number_in_de_steps, statement_at, statements_steps, table_at, table_steps, all, jump, label_at, mark, nth_label, part, plain, steps_from, less_steps, bytes_for, Source, PlanFootprint}
 use Rattle.steps8080.specs.declared.step.Task.TheVariants as tasks
-use Rattle.measure_laws.proofs.{Bounds.Fitting.{both_fit, less_fits, none_fit, then_fit}, Bounds.Iterations.{less_steps_fit}, Bounds.Lists.{AllFit, MoreFit, NoneFit, case_step_fits, no_label_weighs, statement_step_fits}, Bounds.ExpressionParts.{byte_fits, effects_fit, word_fits}, Bounds.Pieces.{plain_fits, plains_fit}, Bounds.Ranges.{item_there}}
+use Rattle.measure_laws.proofs.{Bounds.Iterations.{less_steps_fit}, Bounds.Lists.{AllFit, MoreFit, NoneFit, case_step_fits, no_label_weighs, statement_step_fits}, Bounds.Ranges.{item_there}}
+use Rattle.measure_laws.specs.internal.Footprints.{IsWithin}
+use Rattle.measure_laws.proofs.Bounds.Planning.{code_fits, less_if, both_fit, byte_fits, effects_fit, less_fits, none_fit, plain_fits, plains_fit, then_fit, word_fits}
+use Rattle.steps8080.specs.declared.step.Step.TheVariants as steps
 
 -- the jumps of a table, three bytes each
 table_from_fits :
-    {body : Body} {called : List Bool} (list : Range) (first end : LabelNumber) (index left : ℕ)
-    → StepsFit body called (steps_from (table_at body list first end) index left) (3 * left)
+    {body : Body} {called : List Bool} {source : Source body.tree.now} {level : ℕ} {counts : Type 0} (list : Range)
+    (first end : LabelNumber) (index left : ℕ)
+    → PlanFootprint body called source level counts (steps_from (table_at body list first end) index left) (3 * left)
 unfolding table_at
 table_from_fits list first end index zero = less_fits none_fit (omega arith)
 table_from_fits {body = body} list first end index (suc left) =
@@ -17,23 +21,24 @@ table_from_fits {body = body} list first end index (suc left) =
     (omega arith)
 
 table_fits :
-    {body : Body} {called : List Bool} (list : Range) (first end : LabelNumber)
-    → StepsFit body called (table_steps body list first end) (3 * list.count)
+    {body : Body} {called : List Bool} {source : Source body.tree.now} {level : ℕ} {counts : Type 0} (list : Range) (first end : LabelNumber)
+    → PlanFootprint body called source level counts (table_steps body list first end) (3 * list.count)
 unfolding table_steps
 table_fits list first end = table_from_fits list first end 0 list.count
 
 -- a statement at its label, and the jump after it
 jump_on_fits :
-    {body : Body} {called : List Bool} (end : LabelNumber) (more : Bool)
-    → StepsFit body called (if more then JumpOn end ∷ [] else []) 3
+    {body : Body} {called : List Bool} {source : Source body.tree.now} {level : ℕ} {counts : Type 0} (end : LabelNumber) (more : Bool)
+    → PlanFootprint body called source level counts (if more then JumpOn end ∷ [] else []) 3
 jump_on_fits end true = plains_fit (JumpOn end ∷ []) refl
 jump_on_fits end false = less_fits none_fit (omega arith)
 
 statement_if_own_fits :
-    {body : Body} {called : List Bool} (list : Range) (first end : LabelNumber) (index : ℕ) (found : StatementNumber)
+    {body : Body} {called : List Bool} {source : Source body.tree.now} {level : ℕ} {counts : Type 0} (list : Range)
+    (first end : LabelNumber) (index : ℕ) (found : StatementNumber)
     (most : ℕ) (own : Bool)
-    → StepsFit body called (Statement found ∷ []) most
-    → StepsFit body called
+    → PlanFootprint body called source level counts (Statement found ∷ []) most
+    → PlanFootprint body called source level counts
     (if own
     then mark (label_at first index)
     ∷ Statement found
@@ -48,13 +53,14 @@ statement_if_own_fits list first end index found most true fit =
 statement_if_own_fits list first end index found most false fit = less_fits none_fit (omega arith)
 
 statement_at_fits :
-    {body : Body} {called : List Bool} (list : Range) (first end : LabelNumber) (index : ℕ) (found : StatementNumber)
+    {body : Body} {called : List Bool} {source : Source body.tree.now} {level : ℕ} {counts : Type 0} (list : Range)
+    (first end : LabelNumber) (index : ℕ) (found : StatementNumber)
     (most : ℕ)
     → item body.tree.now list index ≡ Some found
-    → StepsFit body called (Statement found ∷ []) most
-    → StepsFit body called (statement_at body list first end index) (most + 3)
-statement_at_fits {body = body} {called = called} list first end index found most is fit =
-    subst (λ (given : Option StatementNumber). StepsFit body called
+    → PlanFootprint body called source level counts (Statement found ∷ []) most
+    → PlanFootprint body called source level counts (statement_at body list first end index) (most + 3)
+statement_at_fits {body = body} {called = called} {source = source} {level = level} {counts = counts} list first end index found most is fit =
+    subst (λ (given : Option StatementNumber). PlanFootprint body called source level counts
     (elim given as (λ (one : Option StatementNumber). List Planned) [
       | Some there ↦
           if nat_eq (entry_of body list index (label_at first index) end).index (label_at first index).index
@@ -68,24 +74,27 @@ statement_at_fits {body = body} {called = called} list first end index found mos
     (nat_eq (entry_of body list index (label_at first index) end).index (label_at first index).index) fit)
 
 -- as many statements of a DO CASE as `count` leave five bytes free each
-record CasesFit (body : Body) (called : List Bool) (steps : List Planned) (count : ℕ) (trees : TypedStatements) : Type 0 where
+record CasesFit
+    (body : Body) (called : List Bool) (source : Source body.tree.now) (level : ℕ) (counts : Type 0)
+    (steps : List Planned) (count : ℕ) (trees : TypedStatements) : Type 0 where
   pub most : ℕ
-  pub fit : StepsFit body called steps most
-  pub enough : most + 5 * count ≤ bytes_for (weight_of_statements trees)
+  pub fit : PlanFootprint body called source level counts steps most
+  pub enough : counts → most + 5 * count ≤ bytes_for (weight_of_statements trees)
 
 statements_from_fit :
-    {body : Body} {called : List Bool} {place left : ℕ} {trees : TypedStatements}
+    {body : Body} {called : List Bool} {source : Source body.tree.now} {level : ℕ} {counts : Type 0} {place left : ℕ} {trees : TypedStatements}
     (list : Range) (first end : LabelNumber) (index : ℕ)
     → place ≡ list.first + index
     → index + left ≡ list.count
-    → ListsStandInCases trees
-    → AllFit body called place left trees
-    → CasesFit body called (steps_from (statement_at body list first end) index left) left trees
+    → (counts → ListsStandInCases trees)
+    → AllFit body called level counts place left trees
+    → CasesFit body called source level counts (steps_from (statement_at body list first end) index left) left trees
 statements_from_fit list first end index same count stand NoneFit =
-    record { most = 0; fit = none_fit; enough = omega arith }
-statements_from_fit {body = body} list first end index same count stand (MoreFit {first = place} {count = left} {number = number} {tree = tree} there fit others) =
-    let rest = statements_from_fit list first end (suc index) (omega (arith, same)) (omega (arith, count)) stand.2 others in
-    let weighs = no_label_weighs tree stand.0 in
+    record { most = 0; fit = none_fit; enough = λ c. omega arith }
+statements_from_fit {body = body} {called = called} {source = source} {level = level} {counts = counts} list first end index same count stand (MoreFit {first = place} {count = left} {number = number} {tree = tree} there fit others) =
+    let rest = statements_from_fit {body = body} {called = called} {source = source} {level = level}
+    {counts = counts} list first end (suc index) (omega (arith, same)) (omega (arith, count)) (λ c. (stand c).2)
+    others in
     let is : item body.tree.now list index ≡ Some number =
     item_there body.tree.now.lists.items list index place number same (omega (arith, count)) there in
     record {
@@ -93,36 +102,36 @@ statements_from_fit {body = body} list first end index same count stand (MoreFit
       fit =
           both_fit
           (statement_at_fits list first end index number (bytes_for (weight_of_statement tree) - 8) is
-          (case_step_fits stand.0 fit))
+          (case_step_fits (λ c. (stand c).0) fit))
           rest.fit;
-      enough = omega (arith, weighs, rest.enough);
+      enough = λ c. omega (arith, no_label_weighs tree (stand c).0, rest.enough c);
     }
 
 -- one of the statements
 one_fits :
-    {body : Body} {called : List Bool} {first count : ℕ} {trees : TypedStatements}
-    → AllFit body called first count trees
+    {body : Body} {called : List Bool} {source : Source body.tree.now} {level : ℕ} {counts : Type 0} {first count : ℕ} {trees : TypedStatements}
+    → AllFit body called level counts first count trees
     → (place : ℕ) (found : StatementNumber)
     → first ≤ place
     → place < first + count
     → slice_get body.tree.now.lists.items place ≡ Some found
-    → StepsFit body called (Statement found ∷ []) (bytes_for (weight_of_statements trees))
+    → PlanFootprint body called source level counts (Statement found ∷ []) (bytes_for (weight_of_statements trees))
 one_fits NoneFit place found low high is = absurd (omega (arith, low, high))
-one_fits {body = body} {called = called} (MoreFit {first = first} {count = count} {number = number} {tree = tree} {others = more} there fit others) place found low high is =
+one_fits {body = body} {called = called} {source = source} {level = level} {counts = counts} (MoreFit {first = first} {count = count} {number = number} {tree = tree} {others = more} there fit others) place found low high is =
     by (nat_eq first place) refl
     (λ above within. one_fits others place found above within is)
   where
     by :
         (same : Bool) → nat_eq first place ≡ same
         → (suc first ≤ place → place < suc first + count
-        → StepsFit body called (Statement found ∷ []) (bytes_for (weight_of_statements more)))
-        → StepsFit body called (Statement found ∷ []) (bytes_for (weight_of_statement tree + weight_of_statements more))
+        → PlanFootprint body called source level counts (Statement found ∷ []) (bytes_for (weight_of_statements more)))
+        → PlanFootprint body called source level counts (Statement found ∷ []) (bytes_for (weight_of_statement tree + weight_of_statements more))
     by true same further =
         let place_is = eqb-true first place same in
         let number_is : number ≡ found =
         same_Some number found (sym there ∙ ap (λ (n : ℕ). slice_get body.tree.now.lists.items n) place_is ∙ is) in
         less_fits
-        (subst (λ (n : StatementNumber). StepsFit body called (Statement n ∷ []) (bytes_for (weight_of_statement tree)))
+        (subst (λ (n : StatementNumber). PlanFootprint body called source level counts (Statement n ∷ []) (bytes_for (weight_of_statement tree)))
         number_is (statement_step_fits fit))
         (omega arith)
     by false differ further =
@@ -130,12 +139,13 @@ one_fits {body = body} {called = called} (MoreFit {first = first} {count = count
         less_fits (further (omega (arith, low, other)) (omega (arith, high))) (omega arith)
 
 known_by_fits :
-    {body : Body} {called : List Bool} {trees : TypedStatements} (list : Range) (known : ℕ)
-    → AllFit body called list.first list.count trees
+    {body : Body} {called : List Bool} {source : Source body.tree.now} {level : ℕ} {counts : Type 0}
+    {trees : TypedStatements} (list : Range) (known : ℕ)
+    → AllFit body called level counts list.first list.count trees
     → (within : Bool) (found : Option StatementNumber)
     → nat_lt known list.count ≡ within
     → option_and_then (slice_get body.tree.now.lists.items) (if within then Some (list.first + known) else None) ≡ found
-    → StepsFit body called
+    → PlanFootprint body called source level counts
     (elim found as (λ (one : Option StatementNumber). List Planned) [
       | Some there ↦ Statement there ∷ []
       | None ↦ []
@@ -147,87 +157,93 @@ known_by_fits list known all true (Some found) test is =
 known_by_fits list known all false (Some found) test is = let never : ⊥ = cc in absurd never
 
 known_case_fits :
-    {body : Body} {called : List Bool} {trees : TypedStatements} (list : Range) (known : ℕ)
-    → AllFit body called list.first list.count trees
-    → StepsFit body called (known_case_steps body list known) (bytes_for (weight_of_statements trees))
+    {body : Body} {called : List Bool} {source : Source body.tree.now} {level : ℕ} {counts : Type 0}
+    {trees : TypedStatements} (list : Range) (known : ℕ)
+    → AllFit body called level counts list.first list.count trees
+    → PlanFootprint body called source level counts (known_case_steps body list known) (bytes_for (weight_of_statements trees))
 known_case_fits {body = body} list known all =
     known_by_fits list known all (nat_lt known list.count) (item body.tree.now list known) refl refl
 
 -- puts the number into DE
 byte_bound_fits :
-    {body : Body} {called : List Bool} (count : ℕ) (end : LabelNumber) (few : Bool)
-    → StepsFit body called
+    {body : Body} {called : List Bool} {source : Source body.tree.now} {level : ℕ} {counts : Type 0} (count : ℕ) (end : LabelNumber) (few : Bool)
+    → PlanFootprint body called source level counts
     (if few then plain (AccumulateImmediate Compare (count % 256)) ∷ jump (JumpWhere NoCarry) end ∷ [] else []) 6
 byte_bound_fits count end true =
     plains_fit (plain (AccumulateImmediate Compare (count % 256)) ∷ jump (JumpWhere NoCarry) end ∷ []) refl
 byte_bound_fits count end false = less_fits none_fit (omega arith)
 
 word_bound_fits :
-    {body : Body} {called : List Bool} (count : ℕ) (end : LabelNumber) (few : Bool)
-    → StepsFit body called (if few then less_steps count ++ (jump (JumpWhere NoCarry) end ∷ []) else []) 15
+    {body : Body} {called : List Bool} {source : Source body.tree.now} {level : ℕ} {counts : Type 0} (count : ℕ) (end : LabelNumber) (few : Bool)
+    → PlanFootprint body called source level counts (if few then less_steps count ++ (jump (JumpWhere NoCarry) end ∷ []) else []) 15
 word_bound_fits count end true = both_fit (less_steps_fit count) (plains_fit (jump (JumpWhere NoCarry) end ∷ []) refl)
 word_bound_fits count end false = less_fits none_fit (omega arith)
 
 module _
-    (body : Body) (called : List Bool) (storage : Storage) (parts : PartsFit (site_of body) storage called)
+    (body : Body) (called : List Bool) (source : Source body.tree.now) (level : ℕ) (counts : Type 0)
     {tree : TypedExpression} {trees : TypedStatements} (site : Site) (choice : ExpressionNumber)
-    (is : IsExpressionIn (nodes_of body.tree.now) storage choice tree) (list : Range)
-    (all_fit : AllFit body called list.first list.count trees) (stand : ListsStandInCases trees)
+    (is : IsWithin body.tree.now source level choice tree) (list : Range)
+    (all_fit : AllFit body called level counts list.first list.count trees) (stand : counts → ListsStandInCases trees)
   where
     number_in_de_fits :
         (kind : ScalarType) (count : ℕ) (end : LabelNumber)
-        → StepsFit body called (number_in_de_steps kind choice count end) (bytes_for (weight_of_expression tree) + 18)
+        → PlanFootprint body called source level counts (number_in_de_steps kind choice count end) (bytes_for (weight_of_expression tree) + 18)
     unfolding number_in_de_steps
     number_in_de_fits Byte count end =
         less_fits
-        (then_fit (byte_fits body called storage parts choice 0 is)
+        (then_fit (byte_fits body called source level counts choice 0 is)
         (both_fit (byte_bound_fits count end (nat_lt count 256)) (plains_fit (all (copy E A ∷ set D 0 ∷ [])) refl)))
         (omega arith)
     number_in_de_fits Address count end =
         less_fits
-        (then_fit (word_fits body called storage parts choice 0 is)
+        (then_fit (word_fits body called source level counts choice 0 is)
         (both_fit (word_bound_fits count end (nat_lt count 65536)) (plains_fit (plain Xchg ∷ []) refl)))
         (omega arith)
 
-    into_table_fits : (table : LabelNumber) → StepsFit body called (into_table_steps table) 15
+    entered : PlanFootprint body called source level counts (all (Dad De ∷ Dad De ∷ Dad De ∷ Pchl ∷ [])) 12
+    entered =
+        both_fit (plains_fit (all (Dad De ∷ Dad De ∷ Dad De ∷ [])) refl)
+        (code_fits (steps.Plain Pchl) refl (omega arith, refl))
+
+    into_table_fits : (table : LabelNumber) → PlanFootprint body called source level counts (into_table_steps table) 15
     unfolding into_table_steps
     into_table_fits table =
         less_fits
         (then_fit (plain_fits (jump (LoadPair Hl) table) refl)
-        (both_fit (plains_fit (all (Dad De ∷ Dad De ∷ Dad De ∷ Pchl ∷ [])) refl) (plains_fit (mark table ∷ []) refl)))
+        (both_fit entered (plains_fit (mark table ∷ []) refl)))
         (omega arith)
 
-    end_fits : (end : LabelNumber) → StepsFit body called (cases_end_steps end) 0
+    end_fits : (end : LabelNumber) → PlanFootprint body called source level counts (cases_end_steps end) 0
     unfolding cases_end_steps
     end_fits end = plains_fit (mark end ∷ Reaches true ∷ []) refl
 
-    statements_fit : (first end : LabelNumber) → CasesFit body called (statements_steps body list first end) list.count trees
+    statements_fit : (first end : LabelNumber) → CasesFit body called source level counts (statements_steps body list first end) list.count trees
     unfolding statements_steps
     statements_fit first end = statements_from_fit list first end 0 (omega arith) (omega arith) stand all_fit
 
     choice_at_fits :
         (table end own : LabelNumber)
-        → StepsFit body called (choice_at_steps body site choice list table end own)
+        → PlanFootprint body called source level counts (choice_at_steps body site choice list table end own)
         (bytes_for (weight_of_expression tree) + bytes_for (weight_of_statements trees) + 33)
     unfolding choice_at_steps
     choice_at_fits table end own =
         let cases = statements_fit own end in
-        less_fits
+        less_if
         (both_fit (number_in_de_fits (scalar site choice) list.count end)
         (both_fit (into_table_fits table) (both_fit (table_fits list own end) (both_fit cases.fit (end_fits end)))))
-        (omega (arith, cases.enough))
+        (λ c. omega (arith, cases.enough c))
 
     computed_by_fits :
         (first : ℕ) (empty : Bool)
-        → StepsFit body called
+        → PlanFootprint body called source level counts
         (if empty then part (tasks.Effects choice) 0 ∷ [] else choice_steps body site choice list first)
         (bytes_for (weight_of_expression tree) + bytes_for (weight_of_statements trees) + 33)
-    computed_by_fits first true = less_fits (effects_fit body called storage parts choice 0 is) (omega arith)
+    computed_by_fits first true = less_fits (effects_fit body called source level counts choice 0 is) (omega arith)
     computed_by_fits first false = choice_at_fits (label_of first) (nth_label first 1) (nth_label first 2)
 
     case_by_fits :
         (first : ℕ) (found : Option ℕ)
-        → StepsFit body called
+        → PlanFootprint body called source level counts
         (elim found as (λ (one : Option ℕ). List Planned) [
           | Some known ↦ known_case_steps body list known
           | None ↦ computed_case_steps body site choice list first
@@ -238,6 +254,6 @@ module _
 
     pub case_fits :
         (first : ℕ)
-        → StepsFit body called (case_steps body site choice list first)
+        → PlanFootprint body called source level counts (case_steps body site choice list first)
         (bytes_for (weight_of_expression tree) + bytes_for (weight_of_statements trees) + 33)
     case_fits first = case_by_fits first (number site choice)

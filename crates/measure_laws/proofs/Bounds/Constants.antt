@@ -1,6 +1,6 @@
 -- The constants of a module take as many bytes as its objects with DATA and its constant lists, and its data as many as
 -- its objects without AT and DATA.
-use Rattle.measure_laws.proofs.Prelude.{◌≡◌, ℕ, suc, ◌+◌, ◌-◌, ◌≤◌, ◌==◌, Bool, true, false, ◌&&◌, min, if◌then◌else◌, nat_le, nat_lt, List, [], ◌∷◌, ◌++◌, length, map, slice_get, sum_by, Option, Some, None, refl, arith, All, option_map_or, eqb-true, sum_by-cons, ConstantItem, ConstantObject, ConstantList, InitialValue, ByteValue, WordValue, LocationValue, size_of_object, IsStorable, bytes_filled, size_of_value, TypedHome, InData, InConstants, Placed, BasedOn, Elsewhere, Nowhere, InFrame, TypedObject, TypedModule, constant_bytes, size_of_constant, bytes_in_data, data_bytes, size_of_items, Content, Word, Gap, Home, constant_object, constants_from, constants_of, content_of, bytes_of_value, with_constant, with_gap, with_gap_if_any, with_object, static_object, variables_from, variables_of, contents_items, same_sizes, holds_for_item}
+use Rattle.measure_laws.proofs.Prelude.{◌≡◌, ℕ, suc, ◌+◌, ◌-◌, ◌≤◌, ◌==◌, Bool, true, false, ◌&&◌, min, if◌then◌else◌, nat_le, nat_lt, List, [], ◌∷◌, ◌++◌, length, map, slice_get, sum_by, Option, Some, None, refl, arith, All, option_map_or, eqb-true, sum_by-cons, ConstantItem, ConstantObject, ConstantList, InitialValue, ByteValue, WordValue, LocationValue, size_of_object, IsStorable, bytes_filled, size_of_value, TypedHome, InData, InConstants, TypedObject, TypedModule, constant_bytes, size_of_constant, bytes_in_data, data_bytes, size_of_items, Content, Word, Gap, Home, constant_object, constants_from, constants_of, content_of, bytes_of_value, with_constant, with_gap, with_gap_if_any, with_object, static_object, variables_from, variables_of, contents_items, same_sizes, holds_for_item}
 use Rattle.treecode.specs.declared.module.Content.TheVariants.{Byte}
 use Rattle.treecode.specs.declared.place.Place.TheVariants as places
 
@@ -90,12 +90,7 @@ constant_object_takes :
     → bytes_filled home ≤ size_of_object object
     → bytes_of_contents (constant_object starts object home before) ≤ bytes_of_contents before + size_of_object object
 constant_object_takes starts object (InConstants values) before filled = object_takes starts object values before filled
-constant_object_takes starts object (InData values) before filled = omega arith
-constant_object_takes starts object (Placed address) before filled = omega arith
-constant_object_takes starts object (BasedOn base) before filled = omega arith
-constant_object_takes starts object Elsewhere before filled = omega arith
-constant_object_takes starts object Nowhere before filled = omega arith
-constant_object_takes starts object (InFrame procedure) before filled = omega arith
+constant_object_takes starts object other before filled = omega arith
 
 -- a constant list
 bytes_take : (bytes : List ℕ) → bytes_of_contents (map Byte bytes) ≡ length bytes
@@ -161,12 +156,7 @@ static_object_takes :
     → bytes_filled home ≤ size_of_object object
     → bytes_of_contents (static_object starts object home before) ≤ bytes_of_contents before + bytes_in_data home object
 static_object_takes starts object (InData values) before filled = object_takes starts object values before filled
-static_object_takes starts object (InConstants values) before filled = omega arith
-static_object_takes starts object (Placed address) before filled = omega arith
-static_object_takes starts object (BasedOn base) before filled = omega arith
-static_object_takes starts object Elsewhere before filled = omega arith
-static_object_takes starts object Nowhere before filled = omega arith
-static_object_takes starts object (InFrame procedure) before filled = omega arith
+static_object_takes starts object other before filled = omega arith
 
 variables_from_take :
     (starts : List Home) (objects : List TypedObject) (before : List Content)

@@ -3,6 +3,7 @@ use Rattle.measure_laws.proofs.Prelude.{◌≡◌, ℕ, ◌≤◌, ◌==◌, Boo
 use Rattle.steps8080.specs.declared.step.Step.TheVariants as steps
 use Rattle.steps8080.specs.declared.step.Task.TheVariants as tasks
 use Rattle.measure_laws.proofs.{Bounds.ExpressionParts.{task_fits}, Bounds.Pieces.{steps_within}}
+use Rattle.measure_laws.specs.internal.Footprints.{PartIsOf}
 
 -- if an expression is known as a number, its value is that number
 pub record IsKnown (site : Site) (value : ExpressionNumber) (number : ℕ) : Type 0 where
@@ -89,12 +90,14 @@ known_anywhere site facts value = refl
 pub known_word_fits :
     {body : Body} {called : List Bool} (value : ExpressionNumber) (given pushed : ℕ)
     → number (site_of body) value ≡ Some given
+    → PartIsOf body.tree.now (tasks.Word value)
     → StepsFit body called (part (tasks.Word value) pushed ∷ []) 3
 unfolding task_steps steps_of
-known_word_fits {body = body} {called = called} value given pushed is =
+known_word_fits {body = body} {called = called} value given pushed is of =
     let there = number_known (site_of body) value given is in
     task_fits (tasks.Word value) pushed 3
     (λ facts last list written. by facts there.place (known_anywhere (site_of body) facts value ∙ there.known_is) written)
+    of
   where
     by :
         (facts : Facts) {last : Facts} {list : List Item} (place : Place)
@@ -107,13 +110,15 @@ known_word_fits {body = body} {called = called} value given pushed is =
 pub known_byte_fits :
     {body : Body} {called : List Bool} (value : ExpressionNumber) (given pushed : ℕ)
     → number (site_of body) value ≡ Some given
+    → PartIsOf body.tree.now (tasks.Byte value)
     → StepsFit body called (part (tasks.Byte value) pushed ∷ []) 3
 unfolding task_steps steps_of
-known_byte_fits {body = body} {called = called} value given pushed is =
+known_byte_fits {body = body} {called = called} value given pushed is of =
     let there = number_known (site_of body) value given is in
     task_fits (tasks.Byte value) pushed 3
     (λ facts last list written.
     by facts there.place (known_anywhere (site_of body) facts value ∙ there.known_is) there.number_is written)
+    of
   where
     by :
         (facts : Facts) {last : Facts} {list : List Item} (place : Place)

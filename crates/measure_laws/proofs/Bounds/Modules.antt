@@ -1,9 +1,9 @@
 -- The code of a module takes at most as many bytes as its bound.
-use Rattle.measure_laws.proofs.Prelude.{◌≡◌, ℕ, suc, ◌+◌, ◌*◌, ◌≤◌, Bool, true, false, List, [], ◌∷◌, ◌++◌, length, slice_get, sum_by, Some, refl, sym, ap, subst, ◌∙◌, arith, sum_by-cons, HasParameters, BodyIsSound, TypedModule, TypedProcedure, TypesHoldInList, TypesHoldInProcedure, Within, WithinMain, WithinProcedure, code_bound, constant_bytes, weight_of, weight_of_list, Storage, Code, ObjectModule, length_of, Hlt, Item, set_bytes, size_of_items, size_in_parts, places_length, set_length, Routine, size_of_routine, TreeModule, ProcedureKind, TreeProcedure, HasBody, IsList, IsLowered, IsProcedure, labels_numbered_in_list, nodes_of, has_frame, parameter_count, has_parameters, numbered_at, Written, has_routine, Body, Here, site_of, AreCodeOf, AreRoutines, IsCodeOf, IsCodeOfMain, IsCodeOfRoutine, IsCodeWritten, IsEndCode, IsGenerated, IsOwnCode, IsProcedureCode, all_routines, contents_items, has_main, with_targets, bytes_for, IsSound, AllPartsFit, ListFits, holds_for_item}
+use Rattle.measure_laws.proofs.Prelude.{◌≡◌, ℕ, suc, ◌+◌, ◌*◌, ◌≤◌, Bool, true, false, List, [], ◌∷◌, ◌++◌, length, slice_get, sum_by, Some, refl, sym, ap, subst, ◌∙◌, arith, sum_by-cons, HasParameters, BodyIsSound, TypedModule, TypedProcedure, TypesHoldInList, TypesHoldInProcedure, Within, WithinMain, WithinProcedure, code_bound, constant_bytes, weight_of, weight_of_list, Storage, Code, ObjectModule, length_of, Hlt, Item, set_bytes, size_of_items, size_in_parts, places_length, set_length, Routine, size_of_routine, TreeModule, ProcedureKind, TreeProcedure, HasBody, IsList, IsLowered, IsProcedure, labels_numbered_in_list, nodes_of, has_frame, parameter_count, has_parameters, numbered_at, Written, has_routine, Body, Here, AreCodeOf, AreRoutines, IsCodeOf, IsCodeOfMain, IsCodeOfRoutine, IsCodeWritten, IsEndCode, IsGenerated, IsOwnCode, IsProcedureCode, all_routines, contents_items, has_main, with_targets, bytes_for, IsSound, ListFits, holds_for_item, FRAME_LIMIT, height_of_list, Source}
 use Rattle.typed_trees.specs.Weight.{weight_of_procedure}
 use Rattle.asm8080.specs.declared.item.Item.TheVariants as items
 use Rattle.treecode.specs.declared.procedure.ProcedureKind.TheVariants as kinds
-use Rattle.measure_laws.proofs.{Bounds.Constants.{constants_fit}, Bounds.Entries.{entry_fits}, Bounds.Numbering.{numbered_size}, Bounds.Returns.{end_fits}, Bounds.Statements.{whole_list_fits}}
+use Rattle.measure_laws.proofs.{Bounds.Constants.{constants_fit}, Bounds.Entries.{entry_fits}, Bounds.Numbering.{numbered_size}, Bounds.Returns.{end_fits}, Bounds.Statements.{whole_list_fits}, Heights.Modules.{frame_is_small, source_of}}
 
 -- the routines that are called
 bytes_of_routines : List Routine → ℕ
@@ -39,25 +39,64 @@ few_routines : bytes_of_routines all_routines ≤ 274
 unfolding bytes_of_routines
 few_routines = omega arith
 
+-- a procedure has few parameters
 module _
     (typed : TypedModule) (storage : Storage) (tree : TreeModule) (called : List Bool) (sound : IsSound typed)
-    (lowered : IsLowered typed storage tree) (fit : AllPartsFit tree storage)
+    (number : ℕ) (procedure : TreeProcedure) (heading : TypedProcedure)
+    (found : slice_get typed.procedures number ≡ Some heading)
+    (is : IsProcedure typed (nodes_of tree) storage number procedure heading)
+  where
+    has : HasParameters typed number heading
+    has = has_parameters typed number heading sound.parameters found
+
+    as_many : length procedure.parameters.items ≡ length heading.parameters
+    as_many =
+        parameter_count typed number heading (nodes_of tree).homes procedure.parameters.items has
+        is.has_body.parameters
+
+    few_in_frame :
+        (list : List Item) (code : IsProcedureCode tree called number procedure list) (kind : ProcedureKind)
+        → procedure.kind ≡ kind
+        → code.body.frame.now.parameter_count ≤ length procedure.parameters.items
+    few_in_frame list code kinds.Reentrant same =
+        let plan =
+        code.frame.planned same
+        (has_frame typed (nodes_of tree) storage number procedure heading sound.parameters sound.frames found is) in
+        omega (arith, plan.parameter_count)
+    few_in_frame list code kinds.Static same =
+        let none = code.frame.empty (λ other. let never : ⊥ = cc in never) in omega (arith, none.parameter_count)
+    few_in_frame list code (kinds.External name) same =
+        let none = code.frame.empty (λ other. let never : ⊥ = cc in never) in omega (arith, none.parameter_count)
+
+    pub few_parameters :
+        (list : List Item) (code : IsProcedureCode tree called number procedure list)
+        → code.body.frame.now.parameter_count ≤ 16
+    few_parameters list code =
+        let few = few_in_frame list code procedure.kind refl in omega (arith, few, as_many, has.count)
+
+module _
+    (typed : TypedModule) (storage : Storage) (tree : TreeModule) (called : List Bool) (sound : IsSound typed)
+    (lowered : IsLowered typed storage tree)
   where
     -- the statements of a body
     body_fits :
         (body : Body) (within : Within) (procedure : TreeProcedure) (heading : TypedProcedure)
         → body.tree.now ≡ tree
         → body.frame.now.parameter_count ≤ 16
+        → body.frame.now.variable_bytes ≤ FRAME_LIMIT
         → HasBody (nodes_of tree) storage procedure heading
         → TypesHoldInList typed within heading.body
         → BodyIsSound heading.body
         → ListFits body called procedure.body heading.body
-    body_fits body within procedure heading tree_is few has types jumps =
-        whole_list_fits body called storage (fit (site_of body) called tree_is) few typed within
-        (labels_numbered_in_list heading.body) procedure.body
+    body_fits body within procedure heading tree_is few small has types jumps =
+        (whole_list_fits body called
+        (source_of typed storage body.tree.now sound.parameters
+        (subst (λ (one : TreeModule). IsLowered typed storage one) (sym tree_is) lowered) within)
+        (2 + 2 * height_of_list heading.body) (Unit {0}) (λ c. few) small (labels_numbered_in_list heading.body)
+        procedure.body
         (subst (λ (one : TreeModule). IsList (nodes_of one) storage (labels_numbered_in_list heading.body)
         (length (nodes_of tree).statements) procedure.body heading.body) (sym tree_is) has.body)
-        types jumps.stands
+        types (λ c. jumps.stands) (omega arith)).fit tt
 
     -- the main program
     main_within :
@@ -68,61 +107,51 @@ module _
     main_within start true list is =
         let size = ap size_of_items is.list_is in
         let statements =
-        (body_fits is.body WithinMain tree.main typed.main is.tree_is (omega (arith, is.frame.parameter_count)) lowered.main
+        (body_fits is.body WithinMain tree.main typed.main is.tree_is (omega (arith, is.frame.parameter_count))
+        (omega (arith, is.frame.variable_bytes)) lowered.main
         sound.types.main sound.jumps.main).fits is.written in
         omega (arith, size, size_in_parts is.statements (items.Plain Hlt ∷ []), statements)
 
     -- a procedure
     end_within :
         (body : Body) (here : Here) (is_reached : Bool) (list : List Item)
+        → Source body.tree.now
+        → body.frame.now.variable_bytes ≤ FRAME_LIMIT
         → IsEndCode body called here is_reached list
         → size_of_items list ≤ 33 + 3 * body.frame.now.parameter_count
-    end_within body here true list is = (end_fits body).fits is.1
-    end_within body here false list is = let size = ap size_of_items is in omega (arith, size)
+    end_within body here true list source small is = ((end_fits body called source 0 (Unit {0}) small).fit tt).fits is.1
+    end_within body here false list source small is = let size = ap size_of_items is in omega (arith, size)
 
     module _
         (number : ℕ) (procedure : TreeProcedure) (heading : TypedProcedure)
         (found : slice_get typed.procedures number ≡ Some heading)
         (is : IsProcedure typed (nodes_of tree) storage number procedure heading)
       where
-        has : HasParameters typed number heading
-        has = has_parameters typed number heading sound.parameters found
-
-        as_many : length procedure.parameters.items ≡ length heading.parameters
-        as_many =
-            parameter_count typed number heading (nodes_of tree).homes procedure.parameters.items has
-            is.has_body.parameters
-
-        few_in_frame :
-            (list : List Item) (code : IsProcedureCode tree called number procedure list) (kind : ProcedureKind)
-            → procedure.kind ≡ kind
-            → code.body.frame.now.parameter_count ≤ length procedure.parameters.items
-        few_in_frame list code kinds.Reentrant same =
-            let plan =
-            code.frame.planned same
-            (has_frame typed (nodes_of tree) storage number procedure heading sound.parameters sound.frames found is) in
-            omega (arith, plan.parameter_count)
-        few_in_frame list code kinds.Static same =
-            let none = code.frame.empty (λ other. let never : ⊥ = cc in never) in omega (arith, none.parameter_count)
-        few_in_frame list code (kinds.External name) same =
-            let none = code.frame.empty (λ other. let never : ⊥ = cc in never) in omega (arith, none.parameter_count)
-
         own_within :
             (list : List Item)
             → IsProcedureCode tree called number procedure list
             → size_of_items list ≤ bytes_for (weight_of_procedure heading)
         own_within list code =
-            let few = few_in_frame list code procedure.kind refl in
+            let few = few_in_frame typed storage tree called sound number procedure heading found is list code procedure.kind refl in
+            let many = as_many typed storage tree called sound number procedure heading found is in
             let size = ap size_of_items code.list_is in
             let begins = (entry_fits code.body code.first).fits code.begins in
             let given = ap (λ (one : TreeProcedure). length one.parameters.items) code.procedure_is in
+            let small =
+            frame_is_small typed storage tree number procedure heading code.body sound.frames sound.parameters found is
+            code.frame in
             let statements =
             (body_fits code.body (WithinProcedure number heading.result) procedure heading code.tree_is
-            (omega (arith, few, as_many, has.count)) is.has_body
+            (few_parameters typed storage tree called sound number procedure heading found is list code)
+            small is.has_body
             (numbered_at (TypesHoldInProcedure typed) typed.procedures number heading sound.types.procedures found)
             (holds_for_item (λ (one : TypedProcedure). BodyIsSound one.body) typed.procedures number heading
             sound.jumps.procedures found)).fits code.written in
-            let ends = end_within code.body code.last procedure.reaches_its_end code.ending code.ends in
+            let ends =
+            end_within code.body code.last procedure.reaches_its_end code.ending
+            (source_of typed storage code.body.tree.now sound.parameters
+            (subst (λ (one : TreeModule). IsLowered typed storage one) (sym code.tree_is) lowered)
+            (WithinProcedure number heading.result)) small code.ends in
             omega (
               arith,
               size,
@@ -133,7 +162,7 @@ module _
               statements,
               ends,
               few,
-              as_many,
+              many,
             )
 
         code_within :
@@ -214,13 +243,12 @@ pub module_fits :
     (typed : TypedModule) (storage : Storage) (tree : TreeModule) (start : ℕ) (written : Written)
     → IsSound typed
     → IsLowered typed storage tree
-    → AllPartsFit tree storage
     → IsCodeWritten tree start written
     → size_of_items written.code.items ≤ code_bound typed
 unfolding code_bound
-module_fits typed storage tree start written sound lowered fit is =
+module_fits typed storage tree start written sound lowered is =
     let size = ap size_of_items is.items_are in
-    let own = own_code_within typed storage tree is.called sound lowered fit start is.own is.own_is in
+    let own = own_code_within typed storage tree is.called sound lowered start is.own is.own_is in
     let listed = routines_within tree is.called written all_routines is.listed is.listed_are in
     omega (
       arith,
@@ -237,10 +265,9 @@ pub code_segment_fits :
     (typed : TypedModule) (storage : Storage) (tree : TreeModule) (object : ObjectModule)
     → IsSound typed
     → IsLowered typed storage tree
-    → AllPartsFit tree storage
     → IsGenerated tree object
     → length_of object Code ≤ code_bound typed
-code_segment_fits typed storage tree object sound lowered fit is =
+code_segment_fits typed storage tree object sound lowered is =
     let segment = is.code_segment in
     let moved = with_targets is.to is.code_bytes in
     let places : length object.code.places ≡ length is.code_bytes.bytes =
@@ -251,5 +278,5 @@ code_segment_fits typed storage tree object sound lowered fit is =
       arith,
       places,
       segment.assembles.size,
-      module_fits typed storage tree is.start_label is.code sound lowered fit is.code_is,
+      module_fits typed storage tree is.start_label is.code sound lowered is.code_is,
     )

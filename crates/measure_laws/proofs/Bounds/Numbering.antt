@@ -20,13 +20,11 @@ mark_size (Some label) made is = ap size_of (sym (same_Some (items.Mark label) m
 mark_size None made is = let never : ⊥ = cc in absurd never
 
 item_size : (written : Written) (item made : Item) → numbered_item written item ≡ Some made → size_of made ≡ size_of item
-item_size written (items.Plain instruction) made is = ap size_of (sym (same_Some (items.Plain instruction) made is))
 item_size written (items.WithWord form reference) made is =
     with_word_size form (numbered_reference written reference) made is
-item_size written (items.Byte value) made is = ap size_of (sym (same_Some (items.Byte value) made is))
 item_size written (items.Address reference) made is = address_size (numbered_reference written reference) made is
-item_size written (items.Gap count) made is = ap size_of (sym (same_Some (items.Gap count) made is))
 item_size written (items.Mark label) made is = mark_size (entry written.labels label) made is
+item_size written item made is = ap size_of (sym (same_Some item made is))
 
 front_size :
     (item : Item) (others made : List Item) (one : Option Item) (rest : Option (List Item))

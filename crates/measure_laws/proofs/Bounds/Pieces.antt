@@ -1,9 +1,10 @@
 -- Single planned steps: instructions and labels, and parts of expressions.
-use Rattle.measure_laws.proofs.Prelude.{◌≡◌, ℕ, zero, suc, ◌+◌, ◌*◌, ◌≤◌, Bool, true, false, List, [], ◌∷◌, ◌++◌, replicate, Option, Some, None, slice_get, if◌then◌else◌, refl, arith, Instr, Item, size_of_items, size_in_parts, TreeModule, ProcedureKind, TreeProcedure, Facts, Step, Site, AreWritten, CallWritten, ChangeWritten, HoldsWritten, JumpWritten, MarkWritten, NoneWritten, PlainWritten, RoutineWritten, TestWritten, WordWritten, call_items, items_of_call, test_items, Body, Planned, plain, Here, AreCarriedOut, HoldsNoStatement, ListCarriedOut, StatementCarriedOut, StepCarriedOut, carried_steps, jump_on_steps, site_of, LabelNumber, Jump, StepsFit}
-use Rattle.treecode.specs.declared.procedure.ProcedureKind.TheVariants as kinds
+use Rattle.measure_laws.proofs.Prelude.{◌≡◌, ℕ, zero, suc, ◌+◌, ◌*◌, ◌≤◌, Bool, true, false, List, [], ◌∷◌, ◌++◌, replicate, Option, if◌then◌else◌, refl, arith, Instr, Item, size_of_items, size_in_parts, TreeModule, Facts, Step, Site, AreWritten, CallWritten, ChangeWritten, HoldsWritten, JumpWritten, MarkWritten, NoneWritten, PlainWritten, RoutineWritten, TestWritten, WordWritten, call_items, test_items, Body, Planned, plain, Here, AreCarriedOut, HoldsNoStatement, ListCarriedOut, StatementCarriedOut, StepCarriedOut, carried_steps, jump_on_steps, site_of, LabelNumber, Jump, StepsFit, PlanHas}
 use Rattle.steps8080.specs.declared.step.Step.TheVariants as steps
 use Rattle.statements8080.specs.declared.plan.Planned.TheVariants as planned
-use Rattle.measure_laws.proofs.{Bounds.Fitting.{less_fits, no_size, none_fit, then_fit}, Sizes.Addresses.{instruction_small}}
+use Rattle.measure_laws.proofs.{Bounds.Fitting.{less_fits, no_size, none_fit, then_fit}, Footprints.Addresses.{instruction_small}}
+use Rattle.measure_laws.proofs.Footprints.Items.{size_of_call}
+use Rattle.measure_laws.specs.internal.Plans.{StepHas}
 
 -- the greatest size of steps without parts in bytes
 abbrev pub bytes_of_step : Step → ℕ
@@ -24,19 +25,6 @@ IsNoPart step = Unit {0}
 abbrev pub HoldNoPart : List Step → Type 0
 HoldNoPart [] = Unit {0}
 HoldNoPart (step ∷ others) = IsNoPart step × HoldNoPart others
-
-called_within : (tree : TreeModule) (procedure : ℕ) (found : Option TreeProcedure)
-    → size_of_items (elim found as (λ (given : Option TreeProcedure). List Item) [
-      | Some one ↦ items_of_call procedure one.kind
-      | None ↦ []
-    ]) ≤ 3
-called_within tree procedure None = omega arith
-called_within tree procedure (Some found) = by found.kind
-  where
-    by : (kind : ProcedureKind) → size_of_items (items_of_call procedure kind) ≤ 3
-    by (kinds.External name) = omega arith
-    by kinds.Reentrant = omega arith
-    by kinds.Static = omega arith
 
 tested_within : (shown : Bool) (facts : Facts) → facts.zero_shows_a ≡ shown → size_of_items (test_items facts) ≤ 3
 tested_within true facts is = rw is (omega arith)
@@ -63,7 +51,7 @@ steps_within {site = site} (steps.CallProcedure procedure ∷ others) none (Call
     omega (
       arith,
       size_in_parts (call_items site procedure) more,
-      called_within site.tree.now procedure (slice_get site.tree.now.procedures.items procedure),
+      size_of_call site procedure,
       steps_within others none.1 rest,
     )
 steps_within (steps.TestA ∷ others) {facts = facts} none (TestWritten {more = more} rest) =
@@ -84,8 +72,10 @@ pub step_fits :
     → ((here : Here) (known : Facts) (list : List Item)
     → AreWritten (site_of body) called here.facts (carried_steps (site_of body) here step) list known
     → size_of_items list ≤ most)
+    → PlanHas body.tree.now (step ∷ [])
     → StepsFit body called (step ∷ []) most
-step_fits {body = body} {called = called} step most ok within = record { fits = λ done. by step ok within done }
+step_fits {body = body} {called = called} step most ok within has =
+    record { fits = λ done. by step ok within done; has = has }
   where
     by :
         (one : Planned) → HoldsNoStatement one
@@ -128,18 +118,8 @@ carried_within :
     → is_plain (planned.Code step) ≡ true
     → AreWritten site called facts (step ∷ []) list known
     → size_of_items list ≤ bytes_of_step step
-carried_within (steps.Plain i) is written = omega (arith, steps_within (steps.Plain i ∷ []) (tt, tt) written)
-carried_within (steps.Word form place) is written = omega (arith, steps_within (steps.Word form place ∷ []) (tt, tt) written)
-carried_within (steps.Jump form label) is written = omega (arith, steps_within (steps.Jump form label ∷ []) (tt, tt) written)
-carried_within (steps.Mark label) is written = omega (arith, steps_within (steps.Mark label ∷ []) (tt, tt) written)
-carried_within (steps.CallRoutine routine) is written =
-    omega (arith, steps_within (steps.CallRoutine routine ∷ []) (tt, tt) written)
-carried_within (steps.CallProcedure procedure) is written =
-    omega (arith, steps_within (steps.CallProcedure procedure ∷ []) (tt, tt) written)
-carried_within steps.TestA is written = omega (arith, steps_within (steps.TestA ∷ []) (tt, tt) written)
-carried_within (steps.Holds held) is written = omega (arith, steps_within (steps.Holds held ∷ []) (tt, tt) written)
-carried_within steps.MemoryChanged is written = omega (arith, steps_within (steps.MemoryChanged ∷ []) (tt, tt) written)
 carried_within (steps.Part part) is written = let never : ⊥ = cc in absurd never
+carried_within step is written = omega (arith, steps_within (step ∷ []) (tt, tt) written)
 
 jumped_within :
     {site : Site} {called : List Bool} {facts known : Facts} {list : List Item} (goes_on : Bool) (label : LabelNumber)
@@ -169,26 +149,31 @@ mark_within :
     → size_of_items list ≤ 0
 mark_within {label = label} written = omega (arith, steps_within (steps.Mark label ∷ []) (tt, tt) written)
 
+has_none : (tree : TreeModule) (step : Step) → is_plain (planned.Code step) ≡ true → StepHas tree (planned.Code step)
+has_none tree (steps.Part part) is = let never : ⊥ = cc in absurd never
+has_none tree step is = tt
+
 -- such a step
 pub plain_fits :
     {body : Body} {called : List Bool} (step : Planned)
     → is_plain step ≡ true
     → StepsFit body called (step ∷ []) (bytes_of_planned step)
 unfolding carried_steps
-plain_fits (planned.Code step) is =
+plain_fits {body = body} (planned.Code step) is =
     step_fits (planned.Code step) (bytes_of_step step) tt (λ here known list written. carried_within step is written)
+    (has_none body.tree.now step is, tt)
 plain_fits (planned.Jumped alone) is =
-    step_fits (planned.Jumped alone) 0 tt (λ here known list written. none_within written)
+    step_fits (planned.Jumped alone) 0 tt (λ here known list written. none_within written) (tt, tt)
 plain_fits (planned.JumpOn label) is =
-    step_fits (planned.JumpOn label) 3 tt (λ here known list written. jumped_within here.goes_on label written)
+    step_fits (planned.JumpOn label) 3 tt (λ here known list written. jumped_within here.goes_on label written) (tt, tt)
 plain_fits (planned.Turn other end) is =
-    step_fits (planned.Turn other end) 3 tt (λ here known list written. turned_within here.goes_on end other written)
+    step_fits (planned.Turn other end) 3 tt (λ here known list written. turned_within here.goes_on end other written) (tt, tt)
 plain_fits (planned.Meet label) is =
-    step_fits (planned.Meet label) 0 tt (λ here known list written. mark_within written)
+    step_fits (planned.Meet label) 0 tt (λ here known list written. mark_within written) (tt, tt)
 plain_fits (planned.Again label facts is_entered) is =
-    step_fits (planned.Again label facts is_entered) 0 tt (λ here known list written. mark_within written)
+    step_fits (planned.Again label facts is_entered) 0 tt (λ here known list written. mark_within written) (tt, tt)
 plain_fits (planned.Reaches goes_on) is =
-    step_fits (planned.Reaches goes_on) 0 tt (λ here known list written. none_within written)
+    step_fits (planned.Reaches goes_on) 0 tt (λ here known list written. none_within written) (tt, tt)
 plain_fits (planned.Statement number) is = let never : ⊥ = cc in absurd never
 plain_fits (planned.List list) is = let never : ⊥ = cc in absurd never
 plain_fits (planned.LoadByte reference) is = let never : ⊥ = cc in absurd never

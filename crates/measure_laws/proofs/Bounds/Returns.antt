@@ -1,104 +1,227 @@
 -- The returns of procedures.
-use Rattle.measure_laws.proofs.Prelude.{◌≡◌, ℕ, ◌+◌, ◌-◌, ◌*◌, ◌/◌, ◌%◌, Bool, true, false, min, if◌then◌else◌, nat_eq, nat_le, List, [], ◌∷◌, ◌++◌, replicate, Option, Some, None, refl, arith, leb-true, Instr, Dad, Inx, Lxi, Pchl, Pop, Push, Ret, Sphl, Xchg, Hl, Sp, StackBc, StackDe, StackHl, ScalarType, Byte, Address, ProcedureKind, clear_a, Body, plain, drop_steps, end_steps, kept_steps, pops_steps, return_of_frame_steps, return_over_any_steps, return_over_steps, return_steps, return_steps_by, zero_result_steps, StepsFit}
+use Rattle.measure_laws.proofs.Prelude.{◌≡◌, ℕ, zero, suc, ◌+◌, ◌-◌, ◌*◌, ◌/◌, ◌%◌, ◌≤◌, nat_eq, nat_le, min, Bool, true, false, if◌then◌else◌, List, [], ◌∷◌, ◌++◌, replicate, Option, Some, None, refl, sym, ap, subst, ◌∙◌, arith, leb-true, Instr, Dad, Inx, Lxi, Pchl, Pop, Push, Ret, Sphl, Xchg, Hl, Sp, StackBc, StackDe, StackHl, Item, ScalarType, Byte, Address, FRAME_LIMIT, ProcedureKind, Facts, clear_a, Site, AreWritten, NoneWritten, PlainWritten, Body, Planned, plain, Here, AreCarriedOut, StepCarriedOut, carried_steps, drop_steps, end_steps, kept_steps, pops_steps, return_of_frame_steps, return_over_any_steps, return_over_steps, return_steps, return_steps_by, zero_result_steps, BytesDropped, FindsRoom, StepsRun, Source, PlanMeasured, PlanFootprint}
+use Rattle.asm8080.specs.declared.item.Item.TheVariants as items
 use Rattle.treecode.specs.declared.procedure.ProcedureKind.TheVariants as kinds
-use Rattle.measure_laws.proofs.{Bounds.Fitting.{both_fit, less_fits, none_fit, then_fit}, Bounds.Pieces.{plain_fits, plains_fit, repeated_fit}}
+use Rattle.steps8080.specs.declared.step.Step.TheVariants as steps
+use Rattle.measure_laws.proofs.Bounds.Pieces as pieces
+use Rattle.measure_laws.proofs.{Bounds.Planning.{both_fit, code_fits, less_fits, none_fit, plains_fit, then_fit}, Heights.Planning.{none_room}}
 
--- drops words from the stack
-pops_fit : {body : Body} {called : List Bool} (words : ℕ) → StepsFit body called (pops_steps words) (3 * words)
-unfolding pops_steps
-pops_fit words = repeated_fit (Pop StackBc) words
+-- an instruction with others after it
+record Followed
+    (body : Body) (called : List Bool) (i : Instr) (others : List Planned) (list : List Item) (last : Here) :
+    Type 0 where
+  pub here : Here
+  pub waiting : Option Facts
+  pub more : List Item
+  pub rest : AreCarriedOut body called here waiting others more last
+  pub same : list ≡ items.Plain i ∷ more
 
--- keeps HL in DE during three instructions
-kept_fit :
-    {body : Body} {called : List Bool} (result : Option ScalarType) (one next last : Instr)
-    → StepsFit body called (kept_steps result (one ∷ next ∷ last ∷ [])) 15
-unfolding kept_steps
-kept_fit (Some Address) one next last =
-    less_fits
-    (plains_fit (plain Xchg ∷ plain one ∷ plain next ∷ plain last ∷ plain Xchg ∷ []) refl)
-    (omega arith)
-kept_fit (Some Byte) one next last = less_fits (plains_fit (plain one ∷ plain next ∷ plain last ∷ []) refl) (omega arith)
-kept_fit None one next last = less_fits (plains_fit (plain one ∷ plain next ∷ plain last ∷ []) refl) (omega arith)
+none_written :
+    {site : Site} {called : List Bool} {facts last : Facts} {list : List Item}
+    → AreWritten site called facts [] list last
+    → list ≡ []
+none_written NoneWritten = refl
 
--- drops bytes from the stack
-drop_by_fits :
-    {body : Body} {called : List Bool} (bytes : ℕ) (result : Option ScalarType) (few : Bool)
-    → nat_le bytes 12 ≡ few
-    → StepsFit body called
-    (if few then pops_steps (bytes / 2) ++ replicate (bytes % 2) (plain (Inx Sp))
-    else kept_steps result (Lxi Hl bytes ∷ Dad Sp ∷ Sphl ∷ [])) 21
-drop_by_fits bytes result true is =
-    let small = leb-true bytes 12 is in
-    less_fits (both_fit (pops_fit (bytes / 2)) (repeated_fit (Inx Sp) (bytes % 2))) (omega (arith, small))
-drop_by_fits bytes result false is = less_fits (kept_fit result (Lxi Hl bytes) (Dad Sp) Sphl) (omega arith)
+plain_written :
+    {site : Site} {called : List Bool} {facts last : Facts} {list : List Item} (i : Instr)
+    → AreWritten site called facts (steps.Plain i ∷ []) list last
+    → list ≡ items.Plain i ∷ []
+plain_written i (PlainWritten rest) = ap (λ (list : List Item). items.Plain i ∷ list) (none_written rest)
 
-drop_fits :
-    {body : Body} {called : List Bool} (bytes : ℕ) (result : Option ScalarType)
-    → StepsFit body called (drop_steps bytes result) 21
-unfolding drop_steps
-drop_fits bytes result = drop_by_fits bytes result (nat_le bytes 12) refl
+plain_first :
+    {body : Body} {called : List Bool} {here last : Here} {waiting : Option Facts} {list : List Item}
+    (i : Instr)
+    (others : List Planned)
+    → AreCarriedOut body called here waiting (plain i ∷ others) list last
+    → Followed body called i others list last
+unfolding carried_steps
+plain_first i others (StepCarriedOut {more = more} ok written rest) = record {
+  here = _;
+  waiting = _;
+  more = more;
+  rest = rest;
+  same = ap (λ (list : List Item). list ++ more) (plain_written i written);
+}
 
--- a return over words
-return_over_fits :
-    {body : Body} {called : List Bool} (words : ℕ) (result : Option ScalarType)
-    → StepsFit body called (return_over_steps words result) (9 + 3 * words)
-unfolding return_over_steps
-return_over_fits words (Some Address) =
-    less_fits
-    (then_fit (plain_fits (plain (Pop StackDe)) refl)
-    (both_fit (pops_fit words) (plains_fit (plain (Push StackDe) ∷ plain Ret ∷ []) refl)))
-    (omega arith)
-return_over_fits words (Some Byte) =
-    less_fits
-    (then_fit (plain_fits (plain (Pop StackHl)) refl) (both_fit (pops_fit words) (plains_fit (plain Pchl ∷ []) refl)))
-    (omega arith)
-return_over_fits words None =
-    less_fits
-    (then_fit (plain_fits (plain (Pop StackHl)) refl) (both_fit (pops_fit words) (plains_fit (plain Pchl ∷ []) refl)))
-    (omega arith)
+-- steps that drop bytes
+record Drops
+    (body : Body) (called : List Bool) (source : Source body.tree.now) (level : ℕ) (counts : Type 0) (free : ℕ)
+    (planned : List Planned) (most : ℕ) : Type 0 where
+  pub after : ℕ
+  pub more : free ≤ after
+  pub fit : PlanMeasured body called source level counts free planned after most
 
-return_by_words_fits :
-    {body : Body} {called : List Bool} (words : ℕ) (result : Option ScalarType) (none : Bool)
-    → StepsFit body called (if none then plain Ret ∷ [] else return_over_steps words result) (9 + 3 * words)
-return_by_words_fits words result true = less_fits (plains_fit (plain Ret ∷ []) refl) (omega arith)
-return_by_words_fits words result false = return_over_fits words result
+module _ (body : Body) (called : List Bool) (source : Source body.tree.now) (level : ℕ) (counts : Type 0) where
+  repeated_drops :
+      (i : Instr) (bytes : ℕ)
+      → ((free : ℕ) → PlanMeasured body called source level counts free (plain i ∷ []) (free + bytes) 3)
+      → (count free : ℕ)
+      → Drops body called source level counts free (replicate count (plain i)) (3 * count)
+  repeated_drops i bytes one zero free =
+      record { after = free; more = omega arith; fit = less_fits none_fit (omega arith) }
+  repeated_drops i bytes one (suc count) free =
+      let rest = repeated_drops i bytes one count (free + bytes) in
+      record {
+        after = rest.after;
+        more = omega (arith, rest.more);
+        fit = less_fits (then_fit (one free) rest.fit) (omega arith);
+      }
 
-return_over_any_fits :
-    {body : Body} {called : List Bool} (words : ℕ) (result : Option ScalarType)
-    → StepsFit body called (return_over_any_steps words result) (9 + 3 * words)
-unfolding return_over_any_steps
-return_over_any_fits words result = return_by_words_fits words result (nat_eq words 0)
+  -- drops words from the stack
+  pops_drop : (words free : ℕ) → Drops body called source level counts free (pops_steps words) (3 * words)
+  unfolding pops_steps
+  pops_drop words free =
+      repeated_drops (Pop StackBc) 2 (λ free. code_fits (steps.Plain (Pop StackBc)) refl refl) words free
 
--- a return, from the number of parameters in the frame
-return_by_fits :
-    {called : List Bool} (kind : ProcedureKind) (body : Body)
-    → StepsFit body called (return_steps_by kind body) (30 + 3 * body.frame.now.parameter_count)
-unfolding return_steps_by return_of_frame_steps
-return_by_fits kinds.Reentrant body =
-    let count = body.frame.now.parameter_count in
-    less_fits
-    (both_fit
-    (drop_fits (min (body.frame.now.variable_bytes + (if nat_eq count 0 then 0 else 2)) 65535) body.procedure.now.result)
-    (return_over_any_fits (count - 1) body.procedure.now.result))
-    (omega arith)
-return_by_fits kinds.Static body = less_fits (plains_fit (plain Ret ∷ []) refl) (omega arith)
-return_by_fits (kinds.External name) body = less_fits (plains_fit (plain Ret ∷ []) refl) (omega arith)
+  -- by setting the stack pointer
+  sphl_room :
+      {here last : Here} {waiting : Option Facts} {list : List Item} (free bytes : ℕ)
+      → bytes ≤ FRAME_LIMIT + 2
+      → AreCarriedOut body called here waiting
+      (plain (Lxi Hl bytes) ∷ plain (Dad Sp) ∷ plain Sphl ∷ []) list last
+      → FindsRoom body.tree.now level free list (free + bytes)
+  sphl_room free bytes small done =
+      let first = plain_first (Lxi Hl bytes) (plain (Dad Sp) ∷ plain Sphl ∷ []) done in
+      let second = plain_first (Dad Sp) (plain Sphl ∷ []) first.rest in
+      let third = plain_first Sphl [] second.rest in
+      subst (λ (list : List Item). FindsRoom body.tree.now level free list (free + bytes))
+      (sym
+      (first.same
+      ∙ ap (λ (list : List Item). items.Plain (Lxi Hl bytes) ∷ list)
+      (second.same ∙ ap (λ (list : List Item). items.Plain (Dad Sp) ∷ list) third.same)))
+      (BytesDropped small (none_room third.rest))
 
-pub return_fits :
-    {called : List Bool} (body : Body)
-    → StepsFit body called (return_steps body) (30 + 3 * body.frame.now.parameter_count)
-return_fits body = return_by_fits body.procedure.now.kind body
+  sphl_run :
+      (free bytes : ℕ) → bytes ≤ FRAME_LIMIT + 2
+      → StepsRun body called level free (plain (Lxi Hl bytes) ∷ plain (Dad Sp) ∷ plain Sphl ∷ []) (free + bytes)
+  sphl_run free bytes small = record { room = λ done. sphl_room free bytes small done }
 
--- the end
-zero_fits :
-    {body : Body} {called : List Bool} (result : Option ScalarType) → StepsFit body called (zero_result_steps result) 3
-unfolding zero_result_steps
-zero_fits (Some Byte) = plains_fit (plain clear_a ∷ []) refl
-zero_fits (Some Address) = plains_fit (plain (Lxi Hl 0) ∷ []) refl
-zero_fits None = less_fits none_fit (omega arith)
+  sphl_fits :
+      (free bytes : ℕ) → bytes ≤ FRAME_LIMIT + 2
+      → PlanMeasured body called source level counts free
+      (plain (Lxi Hl bytes) ∷ plain (Dad Sp) ∷ plain Sphl ∷ []) (free + bytes) 9
+  sphl_fits free bytes small = record {
+    fit = λ c. pieces.plains_fit (plain (Lxi Hl bytes) ∷ plain (Dad Sp) ∷ plain Sphl ∷ []) refl;
+    run = sphl_run free bytes small;
+  }
 
-pub end_fits :
-    {called : List Bool} (body : Body)
-    → StepsFit body called (end_steps body) (33 + 3 * body.frame.now.parameter_count)
-unfolding end_steps
-end_fits body = less_fits (both_fit (zero_fits body.procedure.now.result) (return_fits body)) (omega arith)
+  kept_fits :
+      (free bytes : ℕ) (result : Option ScalarType) → bytes ≤ FRAME_LIMIT + 2
+      → PlanMeasured body called source level counts free
+      (kept_steps result (Lxi Hl bytes ∷ Dad Sp ∷ Sphl ∷ [])) (free + bytes) 15
+  unfolding kept_steps
+  kept_fits free bytes (Some Address) small =
+      then_fit (code_fits (steps.Plain Xchg) refl refl)
+      (both_fit (sphl_fits free bytes small) (code_fits (steps.Plain Xchg) refl refl))
+  kept_fits free bytes (Some Byte) small = less_fits (sphl_fits free bytes small) (omega arith)
+  kept_fits free bytes None small = less_fits (sphl_fits free bytes small) (omega arith)
+
+  -- drops bytes from the stack
+  drop_by_drops :
+      (free bytes : ℕ) (result : Option ScalarType) (few : Bool) → nat_le bytes 12 ≡ few → bytes ≤ FRAME_LIMIT + 2
+      → Drops body called source level counts free
+      (if few then pops_steps (bytes / 2) ++ replicate (bytes % 2) (plain (Inx Sp))
+      else kept_steps result (Lxi Hl bytes ∷ Dad Sp ∷ Sphl ∷ [])) 21
+  drop_by_drops free bytes result true is small =
+      let words = pops_drop (bytes / 2) free in
+      let odd =
+      repeated_drops (Inx Sp) 1 (λ free. code_fits (steps.Plain (Inx Sp)) refl refl) (bytes % 2) words.after in
+      let few = leb-true bytes 12 is in
+      record {
+        after = odd.after;
+        more = omega (arith, words.more, odd.more);
+        fit = less_fits (both_fit words.fit odd.fit) (omega (arith, few));
+      }
+  drop_by_drops free bytes result false is small = record {
+    after = free + bytes;
+    more = omega arith;
+    fit = less_fits (kept_fits free bytes result small) (omega arith);
+  }
+
+  drop_drops :
+      (free bytes : ℕ) (result : Option ScalarType) → bytes ≤ FRAME_LIMIT + 2
+      → Drops body called source level counts free (drop_steps bytes result) 21
+  unfolding drop_steps
+  drop_drops free bytes result small = drop_by_drops free bytes result (nat_le bytes 12) refl small
+
+  -- a return over words, if at least as many bytes are free as at the level
+  elsewhere_fits :
+      (words free : ℕ) → level ≤ free
+      → PlanMeasured body called source level counts free
+      (plain (Pop StackHl) ∷ (pops_steps words ++ (plain Pchl ∷ []))) level (9 + 3 * words)
+  elsewhere_fits words free enough =
+      let dropped = pops_drop words (free + 2) in
+      less_fits
+      (then_fit (code_fits (steps.Plain (Pop StackHl)) refl refl)
+      (both_fit dropped.fit (code_fits (steps.Plain Pchl) refl (omega (arith, enough, dropped.more), refl))))
+      (omega arith)
+
+  return_over_fits :
+      (words free : ℕ) (result : Option ScalarType) → level ≤ free
+      → PlanMeasured body called source level counts free (return_over_steps words result) level (9 + 3 * words)
+  unfolding return_over_steps
+  return_over_fits words free (Some Address) enough =
+      let dropped = pops_drop words (free + 2) in
+      less_fits
+      (then_fit (code_fits (steps.Plain (Pop StackDe)) refl refl)
+      (both_fit dropped.fit
+      (then_fit (code_fits (steps.Plain (Push StackDe)) refl (omega (arith, dropped.more), refl))
+      (code_fits (steps.Plain Ret) refl refl))))
+      (omega arith)
+  return_over_fits words free (Some Byte) enough = elsewhere_fits words free enough
+  return_over_fits words free None enough = elsewhere_fits words free enough
+
+  return_over_any_fits :
+      (words free : ℕ) (result : Option ScalarType) → level ≤ free
+      → PlanMeasured body called source level counts free (return_over_any_steps words result) level (9 + 3 * words)
+  unfolding return_over_any_steps
+  return_over_any_fits words free result enough = by (nat_eq words 0)
+    where
+      by : (none : Bool)
+          → PlanMeasured body called source level counts free
+          (if none then plain Ret ∷ [] else return_over_steps words result) level (9 + 3 * words)
+      by true = less_fits (code_fits (steps.Plain Ret) refl refl) (omega arith)
+      by false = return_over_fits words free result enough
+
+  -- a return
+  frame_fits :
+      (bytes : ℕ) (none : Bool) → bytes ≤ FRAME_LIMIT
+      → min (bytes + (if none then 0 else 2)) 65535 ≤ FRAME_LIMIT + 2
+  frame_fits bytes true small = omega (arith, small)
+  frame_fits bytes false small = omega (arith, small)
+
+  module _ (small : body.frame.now.variable_bytes ≤ FRAME_LIMIT) where
+    return_by_fits :
+        (kind : ProcedureKind)
+        → PlanFootprint body called source level counts (return_steps_by kind body)
+        (30 + 3 * body.frame.now.parameter_count)
+    unfolding return_steps_by return_of_frame_steps
+    return_by_fits kinds.Reentrant =
+        let count = body.frame.now.parameter_count in
+        let dropped =
+        drop_drops level (min (body.frame.now.variable_bytes + (if nat_eq count 0 then 0 else 2)) 65535)
+        body.procedure.now.result (frame_fits body.frame.now.variable_bytes (nat_eq count 0) small) in
+        less_fits
+        (both_fit dropped.fit
+        (return_over_any_fits (count - 1) dropped.after body.procedure.now.result dropped.more))
+        (omega arith)
+    return_by_fits kind = less_fits (code_fits (steps.Plain Ret) refl refl) (omega arith)
+
+    pub return_fits :
+        PlanFootprint body called source level counts (return_steps body)
+        (30 + 3 * body.frame.now.parameter_count)
+    return_fits = return_by_fits body.procedure.now.kind
+
+    -- the end
+    zero_fits :
+        (result : Option ScalarType) → PlanFootprint body called source level counts (zero_result_steps result) 3
+    unfolding zero_result_steps
+    zero_fits (Some Byte) = plains_fit (plain clear_a ∷ []) refl
+    zero_fits (Some Address) = plains_fit (plain (Lxi Hl 0) ∷ []) refl
+    zero_fits None = less_fits none_fit (omega arith)
+
+    pub end_fits :
+        PlanFootprint body called source level counts (end_steps body)
+        (33 + 3 * body.frame.now.parameter_count)
+    unfolding end_steps
+    end_fits = less_fits (both_fit (zero_fits body.procedure.now.result) return_fits) (omega arith)

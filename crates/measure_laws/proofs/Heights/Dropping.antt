@@ -1,6 +1,6 @@
 -- A word that is added to the stack pointer and exceeds the bytes of a frame and of a parameter, such as
 -- 65,534 to push two bytes, does not count as a drop.
-use Rattle.measure_laws.proofs.Prelude.{◌≡◌, ℕ, ◌+◌, ◌<◌, ◌≤◌, ◌⊎◌, inl, inr, Bool, true, false, List, [], ◌∷◌, ◌++◌, Option, Some, None, slice_get, refl, sym, ap, subst, ◌∙◌, true≢false, arith, false≢true, FRAME_LIMIT, Instr, Hl, Sp, Item, Plain, WithWord, TreeModule, ProcedureKind, TreeProcedure, items_of_call, module_call_items, BranchThere, ByteDropped, BytesDropped, CallThere, FindsRoom, HaltThere, InstructionThere, JumpThere, LabelThere, NothingThere, PopThere, PushThere, ReturnThere, RoutineThere, TableJumpThere, WordThere, keeps_stack}
+use Rattle.measure_laws.proofs.Prelude.{◌≡◌, ℕ, ◌+◌, ◌<◌, ◌≤◌, ◌⊎◌, inl, inr, Bool, true, false, List, [], ◌∷◌, ◌++◌, Option, Some, None, slice_get, refl, sym, ap, subst, ◌∙◌, true≢false, arith, false≢true, FRAME_LIMIT, Instr, Hl, Sp, Item, Plain, WithWord, TreeModule, ProcedureKind, TreeProcedure, items_of_call, module_call_items, ByteDropped, BytesDropped, CallThere, FindsRoom, HaltThere, InstructionThere, PopThere, PushThere, ReturnThere, TableJumpThere, WordThere, keeps_stack}
 use Rattle.isa8080.specs.declared.instr.Instr.TheVariants as instructions
 use Rattle.asm8080.specs.declared.item.Reference.{Reference}
 use Rattle.asm8080.specs.declared.item.WordForm.TheVariants as forms
@@ -59,7 +59,6 @@ module _
         → FindsRoom tree level free list after
         → list ≡ Plain i ∷ others
         → IsKept tree level i others after
-    first_kept NothingThere same = absurd cc
     first_kept (PushThere enough rest) same = absurd (true≢false (same_first same plain))
     first_kept (PopThere rest) same = absurd (true≢false (same_first same plain))
     first_kept (CallThere {others = more} procedure enough rest) same =
@@ -73,7 +72,6 @@ module _
             let first : WithWord forms.CallTo reference ∷ more ≡ Plain i ∷ others =
             ap (λ (call : List Item). call ++ more) (sym one) ∙ same in
             absurd cc
-    first_kept (RoutineThere routine enough rest) same = absurd cc
     first_kept (ByteDropped rest) same = absurd (true≢false (same_first same plain))
     first_kept (BytesDropped {bytes = bytes} small rest) same =
         let first : i ≡ instructions.Lxi Hl bytes = cc in absurd (great bytes small first)
@@ -85,13 +83,10 @@ module _
           free = free;
           room = subst (λ (list : List Item). FindsRoom tree level free list after) last rest;
         }
-    first_kept (WordThere kept rest) same = absurd cc
-    first_kept (JumpThere enough rest) same = absurd cc
-    first_kept (BranchThere enough rest) same = absurd cc
     first_kept (TableJumpThere enough rest) same = absurd (true≢false (same_first same plain))
     first_kept (ReturnThere rest) same = absurd (true≢false (same_first same plain))
     first_kept (HaltThere rest) same = absurd (true≢false (same_first same plain))
-    first_kept (LabelThere enough rest) same = absurd cc
+    first_kept other same = absurd cc
 
 -- items that begin with such a sum find no room, however much is free
 pub sum_finds_no_room :
@@ -122,9 +117,6 @@ module _ {tree : TreeModule} {level after : ℕ} {reference : Reference} {others
       → FindsRoom tree level free list after
       → list ≡ WithWord (forms.LoadPair Hl) reference ∷ others
       → IsLoaded tree level others after
-  load_kept NothingThere same = absurd cc
-  load_kept (PushThere enough rest) same = absurd cc
-  load_kept (PopThere rest) same = absurd cc
   load_kept (CallThere {others = more} procedure enough rest) same =
       by (of_call tree procedure) (λ others_are. load_kept rest others_are)
     where
@@ -136,22 +128,13 @@ module _ {tree : TreeModule} {level after : ℕ} {reference : Reference} {others
           let first : WithWord forms.CallTo to ∷ more ≡ WithWord (forms.LoadPair Hl) reference ∷ others =
           ap (λ (call : List Item). call ++ more) (sym one) ∙ same in
           absurd cc
-  load_kept (RoutineThere routine enough rest) same = absurd cc
-  load_kept (ByteDropped rest) same = absurd cc
-  load_kept (BytesDropped small rest) same = absurd cc
-  load_kept (InstructionThere kept rest) same = absurd cc
   load_kept (WordThere {free = free} {others = more} kept rest) same =
       let last : more ≡ others = cc in
       record {
         free = free;
         room = subst (λ (list : List Item). FindsRoom tree level free list after) last rest;
       }
-  load_kept (JumpThere enough rest) same = absurd cc
-  load_kept (BranchThere enough rest) same = absurd cc
-  load_kept (TableJumpThere enough rest) same = absurd cc
-  load_kept (ReturnThere rest) same = absurd cc
-  load_kept (HaltThere rest) same = absurd cc
-  load_kept (LabelThere enough rest) same = absurd cc
+  load_kept other same = absurd cc
 
 -- no word of an item is counted as a drop, whether it is a number or an address
 pub placed_sum_finds_no_room :

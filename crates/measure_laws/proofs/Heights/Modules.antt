@@ -1,11 +1,12 @@
 -- The code of a module pushes at most what heights and charges allow.
-use Rattle.measure_laws.proofs.Prelude.{◌≡◌, ℕ, suc, ◌+◌, ◌-◌, ◌*◌, ◌<◌, ◌≤◌, ◌⊎◌, inl, inr, get_or, Bool, true, false, List, [], ◌∷◌, ◌++◌, length, Option, Some, None, slice_get, refl, sym, ap, subst, ◌∙◌, arith, slice_get_cases, slice_get_within, option_map_or, ScalarType, FRAME_LIMIT, charge_of, count_of_arguments, height_of, height_of_arguments, height_of_list, height_of_reference, height_of_statement, height_of_target, AreParameters, FramesFit, ParametersFit, home_of_parameters, TypedModule, TypedProcedure, IsWellTyped, TypesHoldInList, TypesHoldInProcedure, Within, WithinMain, WithinProcedure, Storage, Item, Range, TreeModule, ProcedureKind, TreeProcedure, StatementNumber, HasBody, IsLowered, IsProcedure, labels_numbered_in_list, nodes_of, has_frame, parameter_count, frame_fits, has_parameters, numbered_at, Facts, Part, Task, Site, IsWritten, Body, Here, IsCarriedOut, IsListCarriedOut, IsEndCode, IsFrameOf, FindsRoom, NothingThere, PushesAtMost, taken_by, IsOfTree, Source}
+use Rattle.measure_laws.proofs.Prelude.{◌≡◌, ℕ, suc, ◌+◌, ◌-◌, ◌*◌, ◌<◌, ◌≤◌, ◌⊎◌, inl, inr, get_or, Bool, true, false, List, [], ◌∷◌, ◌++◌, length, Option, Some, None, slice_get, refl, sym, ap, subst, ◌∙◌, arith, slice_get_cases, slice_get_within, option_map_or, ScalarType, FRAME_LIMIT, charge_of, count_of_arguments, height_of, height_of_arguments, height_of_list, height_of_reference, height_of_statement, height_of_target, AreParameters, FramesFit, ParametersFit, home_of_parameters, TypedModule, TypedProcedure, IsWellTyped, TypesHoldInList, TypesHoldInProcedure, Within, WithinMain, WithinProcedure, Storage, Item, Range, TreeModule, ProcedureKind, TreeProcedure, StatementNumber, HasBody, IsLowered, IsProcedure, labels_numbered_in_list, nodes_of, has_frame, parameter_count, frame_fits, has_parameters, numbered_at, Facts, Part, Task, Site, IsWritten, Body, Here, IsCarriedOut, IsListCarriedOut, IsEndCode, IsFrameOf, FindsRoom, NothingThere, PushesAtMost, taken_by, Source}
 use Rattle.typed_trees.specs.TypedTrees.{Home}
 use Rattle.treecode.specs.declared.procedure.ProcedureKind.TheVariants as kinds
 use Rattle.frames.specs.Calls.{call_bytes}
 use Rattle.steps8080.specs.declared.step.Task.TheVariants as tasks
 use Rattle.measure_laws.specs.internal.Charges.{ListPushes, PushesWithinCharges, Setting, StatementPushes, TaskPushes}
-use Rattle.measure_laws.proofs.{Heights.Returns.{end_run}, Heights.Rooms.{room_joined}, Heights.Statements.{statement_run, whole_list_run}, Heights.Trees.{aim_holds, given}, Heights.HeightsOfItems.{part_room}}
+use Rattle.measure_laws.proofs.{Heights.Rooms.{room_joined}, Bounds.Returns.{end_fits}, Bounds.Statements.{statement_fits, whole_list_fits}, Footprints.Trees.{aim_holds, gives, needs}, Footprints.Parts.{part_written}}
+use Rattle.measure_laws.specs.internal.Footprints.{TaskIsOf, anywhere}
 
 -- there are as many parameter types as parameters
 types_many :
@@ -19,7 +20,7 @@ types_many typed home (scalar ∷ scalars) (parameter ∷ parameters) are =
     ap suc (types_many typed home scalars parameters are.1)
 
 -- a procedure takes a word for each of its parameters but the last
-takes_words :
+pub takes_words :
     (typed : TypedModule) (storage : Storage) (tree : TreeModule)
     → ParametersFit typed
     → IsLowered typed storage tree
@@ -53,7 +54,7 @@ takes_words typed storage tree fit lowered number heading stands =
         ∙ ap (λ n. 2 * (n - 1)) (counted found.0 found.2)
     by (inr past) less = let most = past.0 in absurd (omega (arith, less, most))
 
-abbrev source_of :
+abbrev pub source_of :
     (typed : TypedModule) (storage : Storage) (tree : TreeModule)
     → ParametersFit typed → IsLowered typed storage tree → Within → Source tree
 source_of typed storage tree fit lowered within = record {
@@ -67,25 +68,16 @@ abbrev setting_of : {tree : TreeModule} → Source tree → Setting
 setting_of source = record { typed = source.typed; storage = source.storage; within = source.within }
 
 task_pushes :
-    (tree : TreeModule) (source : Source tree) (task : Task) (list : List Item)
-    → ((free : ℕ) → IsOfTree tree source free free task → PushesAtMost tree free list)
-    → TaskPushes tree (setting_of source) task list
-task_pushes tree source (tasks.Byte number) list pushes = λ bound expression node types.
+    (site : Site) (source : Source site.tree.now) (task : Task) (list : List Item)
+    → ((free : ℕ) → TaskIsOf site.tree.now source free anywhere free task → PushesAtMost site.tree.now free list)
+    → TaskPushes site.tree.now (setting_of source) task list
+task_pushes site source (tasks.Branch condition label sense) list pushes = λ bound expression node types.
     pushes (2 * height_of expression)
-    (record { bound = bound; expression = expression; node = node; types = types; room = omega arith })
-task_pushes tree source (tasks.Word number) list pushes = λ bound expression node types.
-    pushes (2 * height_of expression)
-    (record { bound = bound; expression = expression; node = node; types = types; room = omega arith })
-task_pushes tree source (tasks.Effects number) list pushes = λ bound expression node types.
-    pushes (2 * height_of expression)
-    (record { bound = bound; expression = expression; node = node; types = types; room = omega arith })
-task_pushes tree source (tasks.Branch condition label sense) list pushes = λ bound expression node types.
-    pushes (2 * height_of expression)
-    (record { bound = bound; expression = expression; node = node; types = types; room = omega arith }, refl)
-task_pushes tree source (tasks.Address reference) list pushes = λ bound part node types.
+    (needs {source = source} node types (omega arith), refl, tt)
+task_pushes site source (tasks.Address reference) list pushes = λ bound part node types.
     pushes (2 * height_of_reference part)
     (record { bound = bound; part = part; node = node; types = types; room = omega arith })
-task_pushes tree source (tasks.Store target is_wanted) list pushes = λ bound scalar to node types.
+task_pushes site source (tasks.Store target is_wanted) list pushes = λ bound scalar to node types.
     pushes (2 + 2 * height_of_target to)
     (record {
       bound = bound;
@@ -94,9 +86,11 @@ task_pushes tree source (tasks.Store target is_wanted) list pushes = λ bound sc
       types = aim_holds source.typed source.within scalar to types;
       room = omega arith;
     })
-task_pushes tree source (tasks.Call procedure arguments) list pushes = λ bound result trees node takes types.
+task_pushes site source (tasks.Call procedure arguments) list pushes = λ bound result trees node takes types.
     pushes (2 * (1 + count_of_arguments trees + height_of_arguments trees))
-    (given {source = source} result node takes types (omega arith))
+    (gives {source = source} result node takes types (omega arith))
+task_pushes site source task list pushes = λ bound expression node types.
+    pushes (2 * height_of expression) (needs {source = source} node types (omega arith))
 
 -- an expression, and each other part of one
 pub part_pushes :
@@ -107,9 +101,9 @@ pub part_pushes :
     → IsWritten site called facts part list last
     → TaskPushes site.tree.now (record { typed = typed; storage = storage; within = within }) part.task list
 part_pushes typed storage within site called {part = part} {list = list} fit lowered written =
-    task_pushes site.tree.now (source_of typed storage site.tree.now fit lowered within) part.task list
+    task_pushes site (source_of typed storage site.tree.now fit lowered within) part.task list
     (λ free is.
-    part_room site (source_of typed storage site.tree.now fit lowered within) called free free written is)
+    (part_written site (source_of typed storage site.tree.now fit lowered within) called free free written is).room)
 
 -- a statement
 pub statement_pushes :
@@ -121,8 +115,9 @@ pub statement_pushes :
     → IsCarriedOut body called before number list after
     → StatementPushes body (record { typed = typed; storage = storage; within = within }) number list
 statement_pushes typed storage within body called number small fit lowered done = λ labels bound statement node types.
-    (statement_run body small called (source_of typed storage body.tree.now fit lowered within)
-    (2 + 2 * height_of_statement statement) labels number node types (omega arith)).room done
+    (statement_fits body called (source_of typed storage body.tree.now fit lowered within)
+    (2 + 2 * height_of_statement statement) ⊥ (λ none. absurd none) small labels number node types
+    (λ none. absurd none) (omega arith)).run.room done
 
 -- a list of statements
 pub list_pushes :
@@ -135,8 +130,9 @@ pub list_pushes :
     → IsListCarriedOut body called before range list after
     → ListPushes body (record { typed = typed; storage = storage; within = within }) range list
 list_pushes typed storage within body called range small fit lowered done = λ labels bound statements node types.
-    (whole_list_run body small called (source_of typed storage body.tree.now fit lowered within)
-    (2 + 2 * height_of_list statements) labels range node types (omega arith)).room done
+    (whole_list_fits body called (source_of typed storage body.tree.now fit lowered within)
+    (2 + 2 * height_of_list statements) ⊥ (λ none. absurd none) small labels range node types (λ none. absurd none)
+    (omega arith)).run.room done
 
 -- a body with its end
 end_room :
@@ -146,7 +142,7 @@ end_room :
     → body.frame.now.variable_bytes ≤ FRAME_LIMIT
     → IsEndCode body called here is_reached list
     → FindsRoom body.tree.now level level list level
-end_room body source called level here true list small is = (end_run body called source level small).room is.1
+end_room body source called level here true list small is = (end_fits body called source level ⊥ small).run.room is.1
 end_room body source called level here false list small is =
     subst (λ (items : List Item). FindsRoom body.tree.now level level items level) (sym is) NothingThere
 
@@ -166,12 +162,13 @@ body_room :
 body_room typed storage within body called bytes procedure heading is_reached ending {last = last} small fit lowered has types room written ends =
     let source = source_of typed storage body.tree.now fit lowered within in
     room_joined
-    ((whole_list_run body small called source bytes (labels_numbered_in_list heading.body) procedure.body has.body types room).room
+    ((whole_list_fits body called source bytes ⊥ (λ none. absurd none) small (labels_numbered_in_list heading.body)
+    procedure.body has.body types (λ none. absurd none) room).run.room
     written)
     (end_room body source called bytes last is_reached ending small ends)
 
 -- the frame of a body has at most as many bytes as a typed procedure may have
-frame_is_small :
+pub frame_is_small :
     (typed : TypedModule) (storage : Storage) (tree : TreeModule) (number : ℕ) (procedure : TreeProcedure)
     (heading : TypedProcedure) (body : Body)
     → FramesFit typed
@@ -230,8 +227,9 @@ pushes_within_charges typed storage tree types frames fit lowered = record {
       → HasBody (nodes_of one) storage tree.main typed.main
       → PushesAtMost one (charge_of typed.main) code.statements) code.tree_is
       (λ lowered has.
-      (whole_list_run code.body (omega (arith, code.frame.variable_bytes)) called (source_of typed storage code.body.tree.now fit lowered WithinMain)
-      (charge_of typed.main) (labels_numbered_in_list typed.main.body) tree.main.body has.body types.main
-      (main_charged typed.main)).room code.written)
+      (whole_list_fits code.body called (source_of typed storage code.body.tree.now fit lowered WithinMain)
+      (charge_of typed.main) ⊥ (λ none. absurd none) (omega (arith, code.frame.variable_bytes))
+      (labels_numbered_in_list typed.main.body) tree.main.body has.body types.main (λ none. absurd none)
+      (main_charged typed.main)).run.room code.written)
       lowered lowered.main;
 }

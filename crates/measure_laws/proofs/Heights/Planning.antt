@@ -1,12 +1,13 @@
 -- Planned steps find room if each of them does.
-use Rattle.measure_laws.proofs.Prelude.{◌≡◌, ℕ, Bool, true, false, List, [], ◌∷◌, ◌++◌, Option, if◌then◌else◌, refl, sym, ap, subst, ◌∙◌, arith, append_assoc, false≢true, Sp, Item, WordForm, TreeModule, Facts, LabelNumber, Step, Task, Body, Planned, part, Here, AreCarriedOut, HoldsNoStatement, ListCarriedOut, NoneCarriedOut, StatementCarriedOut, StepCarriedOut, carried_steps, jump_on_steps, site_of, FindsRoom, NothingThere, keeps_stack, keeps_stack_with, StepsRun, Go, GoesOnWithLabel, GoesOnWithWord, IsOfTree, Source}
+use Rattle.measure_laws.proofs.Prelude.{◌≡◌, ℕ, Bool, true, false, List, [], ◌∷◌, ◌++◌, Option, if◌then◌else◌, refl, sym, ap, subst, ◌∙◌, arith, append_assoc, false≢true, Sp, Item, WordForm, TreeModule, Facts, LabelNumber, Step, Task, Body, Planned, part, Here, AreCarriedOut, HoldsNoStatement, ListCarriedOut, NoneCarriedOut, StatementCarriedOut, StepCarriedOut, carried_steps, jump_on_steps, site_of, FindsRoom, NothingThere, keeps_stack, keeps_stack_with, StepsRun, GoesOnWithLabel, GoesOnWithWord, Source}
 use Rattle.asm8080.specs.declared.item.WordForm.TheVariants as word_forms
 use Rattle.steps8080.specs.declared.step.Step.TheVariants as steps
 use Rattle.statements8080.specs.declared.plan.Planned.TheVariants as planned
-use Rattle.measure_laws.proofs.{Heights.Joining.{kept_plain}, Heights.Rooms.{room_joined}, Heights.HeightsOfItems.{steps_room}}
+use Rattle.measure_laws.proofs.{Footprints.Items.{steps_measured}, Footprints.Joining.{kept_plain}, Footprints.Parts.{knows_anywhere}, Heights.Rooms.{room_joined}}
+use Rattle.measure_laws.specs.internal.Footprints.{Goes, TaskIsOf, anywhere}
 
 -- the code of steps with others after them
-record Parted
+pub record Parted
     (body : Body) (called : List Bool) (here : Here) (waiting : Option Facts) (one other : List Planned)
     (list : List Item) (last : Here) : Type 0 where
   pub first : List Item
@@ -21,7 +22,7 @@ further : (first : List Item) {more : List Item} (one other : List Item) → mor
 further first one other same =
     ap (λ (list : List Item). first ++ list) same ∙ sym (append_assoc first one other)
 
-parted :
+pub parted :
     {body : Body} {called : List Bool} (one other : List Planned)
     {here last : Here} {waiting : Option Facts} {list : List Item}
     → AreCarriedOut body called here waiting (one ++ other) list last
@@ -105,19 +106,22 @@ then_run first second = both_run first second
 pub step_run :
     {body : Body} {called : List Bool} {level free after : ℕ} (source : Source body.tree.now) (step : Planned)
     → HoldsNoStatement step
-    → ((here : Here) → Go body.tree.now source level free (carried_steps (site_of body) here step) after)
+    → ((here : Here) → Goes body.tree.now source level anywhere free (carried_steps (site_of body) here step) after)
     → StepsRun body called level free (step ∷ []) after
 step_run {body = body} {called = called} {level = level} {free = free} {after = after} source step ok go =
     record { room = λ done. by step ok go done }
   where
     by :
         (one : Planned) → HoldsNoStatement one
-        → ((here : Here) → Go body.tree.now source level free (carried_steps (site_of body) here one) after)
+        → ((here : Here) → Goes body.tree.now source level anywhere free (carried_steps (site_of body) here one) after)
         → {here last : Here} {waiting : Option Facts} {list : List Item}
         → AreCarriedOut body called here waiting (one ∷ []) list last
         → FindsRoom body.tree.now level free list after
     by one ok go {here = here} (StepCarriedOut also written rest) =
-        room_joined (steps_room (site_of body) source called level free after written (go here)) (none_room rest)
+        room_joined
+        (steps_measured (site_of body) source level anywhere called free after
+        (knows_anywhere (site_of body) called) written (go here) (λ label bound. tt)).room
+        (none_room rest)
     by one ok go (StatementCarriedOut done rest) = absurd ok
     by one ok go (ListCarriedOut done rest) = absurd ok
 
@@ -125,7 +129,7 @@ step_run {body = body} {called = called} {level = level} {free = free} {after = 
 pub task_run :
     {body : Body} {called : List Bool} {level free : ℕ} (source : Source body.tree.now) (task : Task)
     (pushed : ℕ)
-    → IsOfTree body.tree.now source level free task
+    → TaskIsOf body.tree.now source level anywhere free task
     → StepsRun body called level free (part task pushed ∷ []) free
 unfolding carried_steps
 task_run source task pushed is = step_run source (part task pushed) tt (λ here. (is, refl))
@@ -133,7 +137,7 @@ task_run source task pushed is = step_run source (part task pushed) tt (λ here.
 -- an expression step
 pub code_run :
     {body : Body} {called : List Bool} {level free after : ℕ} (source : Source body.tree.now) (step : Step)
-    → Go body.tree.now source level free (step ∷ []) after
+    → Goes body.tree.now source level anywhere free (step ∷ []) after
     → StepsRun body called level free (planned.Code step ∷ []) after
 unfolding carried_steps
 code_run source step go = step_run source (planned.Code step) tt (λ here. go)
@@ -188,28 +192,26 @@ label_keeps level form Rest kept rest = rest
 plain_goes :
     (tree : TreeModule) (source : Source tree) (level : ℕ) (step : Step)
     → is_plain_step step ≡ true
-    → Go tree source level level (step ∷ []) level
+    → Goes tree source level anywhere level (step ∷ []) level
 plain_goes tree source level (steps.Plain i) is = kept_plain level level i _ is refl
 plain_goes tree source level (steps.Word form place) is = word_keeps level form _ is refl
-plain_goes tree source level (steps.Jump form label) is = label_keeps level form _ is refl
+plain_goes tree source level (steps.Jump form label) is = (tt, label_keeps level form _ is refl)
 plain_goes tree source level (steps.Mark label) is = (omega arith, refl)
-plain_goes tree source level (steps.CallRoutine routine) is = absurd (false≢true is)
-plain_goes tree source level (steps.CallProcedure procedure) is = absurd (false≢true is)
 plain_goes tree source level steps.TestA is = refl
 plain_goes tree source level (steps.Holds held) is = refl
 plain_goes tree source level steps.MemoryChanged is = refl
-plain_goes tree source level (steps.Part part) is = absurd (false≢true is)
+plain_goes tree source level step is = absurd (false≢true is)
 
 jump_on_goes :
     (tree : TreeModule) (source : Source tree) (level : ℕ) (goes_on : Bool) (label : LabelNumber)
-    → Go tree source level level (jump_on_steps goes_on label) level
-jump_on_goes tree source level true label = (omega arith, refl)
+    → Goes tree source level anywhere level (jump_on_steps goes_on label) level
+jump_on_goes tree source level true label = (tt, (omega arith, refl))
 jump_on_goes tree source level false label = refl
 
 turn_goes :
     (tree : TreeModule) (source : Source tree) (level : ℕ) (goes_on : Bool) (end other : LabelNumber)
-    → Go tree source level level (jump_on_steps goes_on end ++ (steps.Mark other ∷ [])) level
-turn_goes tree source level true end other = (omega arith, (omega arith, refl))
+    → Goes tree source level anywhere level (jump_on_steps goes_on end ++ (steps.Mark other ∷ [])) level
+turn_goes tree source level true end other = (tt, (omega arith, (omega arith, refl)))
 turn_goes tree source level false end other = (omega arith, refl)
 
 pub plain_runs :

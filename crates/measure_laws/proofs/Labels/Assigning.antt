@@ -181,11 +181,5 @@ module _ {ok : ℕ → Type 0} {statement : StatementNumber → Type 0} {list : 
       (counter : Counter) (test : Test) (turn : LabelNumber)
       → ok turn.index → PlanGo ok statement list (test_steps counter test turn)
   unfolding test_steps
-  test_go counter tests.Always turn to = planned_go (to, tt)
-  test_go counter (tests.ByteBelow bound) turn to = planned_go (to, tt)
   test_go counter (tests.WordBelow bound) turn to = after_load (plans_then (less_go bound) (planned_go (to, tt)))
-  test_go counter (tests.Byte last) turn to = planned_go (to, tt)
-  test_go counter (tests.ByteWithWord last) turn to = planned_go (to, tt)
-  test_go counter (tests.WordWithPlace place) turn to = planned_go (to, tt)
-  test_go counter (tests.Word last) turn to = planned_go (to, tt)
-  test_go counter (tests.FrameWord last) turn to = planned_go (to, tt)
+  test_go counter test turn to = planned_go (to, tt)

@@ -2,11 +2,14 @@
 use Rattle.measure_laws.proofs.Prelude.{◌≡◌, inl, inr, refl, sym, ap, ◌∙◌, subst, ℕ, ◌-◌, ◌%◌, ◌<◌, nat_eq, nat_lt, Bool, true, false, if◌then◌else◌, List, [], ◌∷◌, Option, Some, None, arith, option_and_then, eq-eqb, ltb-true, none-some, Jump, ScalarType, Byte, Address, ExpressionNumber, Range, TreeStatement, StatementNumber, item, statement, LabelNumber, label_of, Site, scalar, number, Body, Planned, JumpOn, Statement, body_label, both_steps, branch, computed_if_steps, forever_steps, goto_label, goto_label_of, if_steps, statement_if_any, tested_if_steps, tested_while_steps, then_steps, while_steps, byte_bound_steps, case_steps, cases_end_steps, choice_at_steps, choice_steps, computed_case_steps, entry_of, entry_of_statement, into_table_steps, known_case_steps, number_in_de_steps, statement_at, statements_steps, table_at, table_steps, word_bound_steps, jump, label_at, mark, nth_label, part, ListGoes, PlanBinds, StatementGoes}
 use Rattle.treecode.specs.declared.statement.Statement.TheVariants as statements
 use Rattle.steps8080.specs.declared.step.Task.TheVariants as tasks
-use Rattle.measure_laws.proofs.{Labels.Planning.{PlanGo, after_byte, after_word, each_go, either_go, plan_at, plan_first, plan_later, planned_go, plans_then}, Labels.Assigning.{less_go}}
+use Rattle.measure_laws.proofs.{Labels.Planning.{Closed, PlanGo, after_byte, after_word, each_go, either_go, plan_at, plan_first, plan_later, planned_go, plans_then}, Labels.Assigning.{less_go}}
 
 -- planned steps of a body with statements and lists that refer to labels with a property
 abbrev pub BodyGo : (ok : ℕ → Type 0) → Body → (called : List Bool) → List Planned → Type 0
 BodyGo ok body called plan = PlanGo ok (StatementGoes ok body called) (ListGoes ok body called) plan
+
+abbrev pub ClosedGo : (ok : ℕ → Type 0) → Body → (called : List Bool) → List Planned → Type 0
+ClosedGo ok body called plan = Closed ok (StatementGoes ok body called) (ListGoes ok body called) plan
 
 -- a statement that may be absent
 abbrev pub AnyGoes : (ok : ℕ → Type 0) → Body → (called : List Bool) → Option StatementNumber → Type 0
@@ -16,15 +19,13 @@ AnyGoes ok body called (Some one) = StatementGoes ok body called one
 module _ (ok : ℕ → Type 0) (body : Body) (called : List Bool) (site : Site) (condition : ExpressionNumber) where
   module _ (then_part : StatementNumber) (then_is : StatementGoes ok body called then_part) (first : ℕ) where
     then_go :
-        ((label : ℕ) → PlanBinds label (then_steps site condition then_part first) → ok label)
-        → BodyGo ok body called (then_steps site condition then_part first)
+        ClosedGo ok body called (then_steps site condition then_part first)
     then_go own = planned_go (own first (inr (inr (inr (inl refl)))), (then_is, tt))
 
     both_go :
         (else_part : StatementNumber)
         → StatementGoes ok body called else_part
-        → ((label : ℕ) → PlanBinds label (both_steps site condition then_part else_part first) → ok label)
-        → BodyGo ok body called (both_steps site condition then_part else_part first)
+        → ClosedGo ok body called (both_steps site condition then_part else_part first)
     both_go else_part else_is own =
         planned_go (
           own first (inr (inr (inr (inl refl)))),
@@ -39,12 +40,7 @@ module _ (ok : ℕ → Type 0) (body : Body) (called : List Bool) (site : Site) 
         → StatementGoes ok body called else_part
         → (goes : Option LabelNumber)
         → goto_label body else_part ≡ goes
-        → ((label : ℕ) → PlanBinds label
-        (elim goes as (λ (given : Option LabelNumber). List Planned) [
-          | Some label ↦ branch condition label false ∷ Statement then_part ∷ []
-          | None ↦ both_steps site condition then_part else_part first
-        ]) → ok label)
-        → BodyGo ok body called
+        → ClosedGo ok body called
         (elim goes as (λ (given : Option LabelNumber). List Planned) [
           | Some label ↦ branch condition label false ∷ Statement then_part ∷ []
           | None ↦ both_steps site condition then_part else_part first
@@ -55,8 +51,7 @@ module _ (ok : ℕ → Type 0) (body : Body) (called : List Bool) (site : Site) 
     computed_go :
         (else_part : Option StatementNumber)
         → AnyGoes ok body called else_part
-        → ((label : ℕ) → PlanBinds label (computed_if_steps body site condition then_part else_part first) → ok label)
-        → BodyGo ok body called (computed_if_steps body site condition then_part else_part first)
+        → ClosedGo ok body called (computed_if_steps body site condition then_part else_part first)
     computed_go None else_is own = then_go own
     computed_go (Some else_part) else_is own = either_by else_part else_is (goto_label body else_part) refl own
 
@@ -71,12 +66,7 @@ module _ (ok : ℕ → Type 0) (body : Body) (called : List Bool) (site : Site) 
         → AnyGoes ok body called else_part
         → (goes : Option LabelNumber)
         → goto_label body then_part ≡ goes
-        → ((label : ℕ) → PlanBinds label
-        (elim goes as (λ (given : Option LabelNumber). List Planned) [
-          | Some label ↦ branch condition label true ∷ statement_if_any else_part
-          | None ↦ computed_if_steps body site condition then_part else_part first
-        ]) → ok label)
-        → BodyGo ok body called
+        → ClosedGo ok body called
         (elim goes as (λ (given : Option LabelNumber). List Planned) [
           | Some label ↦ branch condition label true ∷ statement_if_any else_part
           | None ↦ computed_if_steps body site condition then_part else_part first
@@ -89,12 +79,7 @@ module _ (ok : ℕ → Type 0) (body : Body) (called : List Bool) (site : Site) 
         (else_part : Option StatementNumber)
         → AnyGoes ok body called else_part
         → (found : Option ℕ)
-        → ((label : ℕ) → PlanBinds label
-        (elim found as (λ (given : Option ℕ). List Planned) [
-          | Some known ↦ if nat_eq (known % 2) 1 then Statement then_part ∷ [] else statement_if_any else_part
-          | None ↦ tested_if_steps body site condition then_part else_part first
-        ]) → ok label)
-        → BodyGo ok body called
+        → ClosedGo ok body called
         (elim found as (λ (given : Option ℕ). List Planned) [
           | Some known ↦ if nat_eq (known % 2) 1 then Statement then_part ∷ [] else statement_if_any else_part
           | None ↦ tested_if_steps body site condition then_part else_part first
@@ -106,14 +91,12 @@ module _ (ok : ℕ → Type 0) (body : Body) (called : List Bool) (site : Site) 
     pub if_go :
         (else_part : Option StatementNumber)
         → AnyGoes ok body called else_part
-        → ((label : ℕ) → PlanBinds label (if_steps body site condition then_part else_part first) → ok label)
-        → BodyGo ok body called (if_steps body site condition then_part else_part first)
+        → ClosedGo ok body called (if_steps body site condition then_part else_part first)
     if_go else_part else_is own = if_by else_part else_is (number site condition) own
 
   module _ (list : Range) (is : ListGoes ok body called list) (first : ℕ) where
     forever_go :
-        ((label : ℕ) → PlanBinds label (forever_steps list first) → ok label)
-        → BodyGo ok body called (forever_steps list first)
+        ClosedGo ok body called (forever_steps list first)
     forever_go own = planned_go (is, (own first (inr (inl refl)), tt))
 
     skipped_go :
@@ -124,8 +107,7 @@ module _ (ok : ℕ → Type 0) (body : Body) (called : List Bool) (site : Site) 
     skipped_go false to = planned_go tt
 
     tested_while_go :
-        ((label : ℕ) → PlanBinds label (tested_while_steps condition list first) → ok label)
-        → BodyGo ok body called (tested_while_steps condition list first)
+        ClosedGo ok body called (tested_while_steps condition list first)
     tested_while_go own =
         let skipped : List Planned = if nat_lt 0 list.count then jump Jump (nth_label first 1) ∷ [] else [] in
         plans_then
@@ -135,19 +117,13 @@ module _ (ok : ℕ → Type 0) (body : Body) (called : List Bool) (site : Site) 
 
     known_while_go :
         (holds : Bool)
-        → ((label : ℕ) → PlanBinds label (if holds then forever_steps list first else []) → ok label)
-        → BodyGo ok body called (if holds then forever_steps list first else [])
+        → ClosedGo ok body called (if holds then forever_steps list first else [])
     known_while_go true own = forever_go own
     known_while_go false own = planned_go tt
 
     while_by :
         (found : Option ℕ)
-        → ((label : ℕ) → PlanBinds label
-        (elim found as (λ (given : Option ℕ). List Planned) [
-          | Some known ↦ if nat_eq (known % 2) 1 then forever_steps list first else []
-          | None ↦ tested_while_steps condition list first
-        ]) → ok label)
-        → BodyGo ok body called
+        → ClosedGo ok body called
         (elim found as (λ (given : Option ℕ). List Planned) [
           | Some known ↦ if nat_eq (known % 2) 1 then forever_steps list first else []
           | None ↦ tested_while_steps condition list first
@@ -156,8 +132,7 @@ module _ (ok : ℕ → Type 0) (body : Body) (called : List Bool) (site : Site) 
     while_by None own = tested_while_go own
 
     pub while_go :
-        ((label : ℕ) → PlanBinds label (while_steps site condition list first) → ok label)
-        → BodyGo ok body called (while_steps site condition list first)
+        ClosedGo ok body called (while_steps site condition list first)
     while_go own = while_by (number site condition) own
 
 -- the index of an item is below the count
@@ -251,25 +226,7 @@ module _
             → ok (entry_of_statement body found (label_at first index) end).index
         statement_ok index one (statements.Goto label) there is = goto_ok index one label there is
         statement_ok index one statements.Null there is = to_end
-        statement_ok index one (statements.Label label) there is = own_ok index one (statements.Label label) there is refl
-        statement_ok index one (statements.Assignment targets value) there is =
-            own_ok index one (statements.Assignment targets value) there is refl
-        statement_ok index one (statements.Call procedure arguments) there is =
-            own_ok index one (statements.Call procedure arguments) there is refl
-        statement_ok index one (statements.Move count from to) there is =
-            own_ok index one (statements.Move count from to) there is refl
-        statement_ok index one (statements.Return value) there is =
-            own_ok index one (statements.Return value) there is refl
-        statement_ok index one statements.Halt there is = own_ok index one statements.Halt there is refl
-        statement_ok index one (statements.If condition then_part else_part) there is =
-            own_ok index one (statements.If condition then_part else_part) there is refl
-        statement_ok index one (statements.Do inner) there is = own_ok index one (statements.Do inner) there is refl
-        statement_ok index one (statements.While condition inner) there is =
-            own_ok index one (statements.While condition inner) there is refl
-        statement_ok index one (statements.Iterate head inner) there is =
-            own_ok index one (statements.Iterate head inner) there is refl
-        statement_ok index one (statements.Case choice inner) there is =
-            own_ok index one (statements.Case choice inner) there is refl
+        statement_ok index one found there is = own_ok index one found there is refl
 
         found_ok :
             (index : ℕ) (one : StatementNumber) (found : Option TreeStatement)
@@ -377,8 +334,7 @@ module _
 
     choice_at_go :
         (site : Site) (choice : ExpressionNumber) (table end first : LabelNumber)
-        → ((label : ℕ) → PlanBinds label (choice_at_steps body site choice list table end first) → ok label)
-        → BodyGo ok body called (choice_at_steps body site choice list table end first)
+        → ClosedGo ok body called (choice_at_steps body site choice list table end first)
     unfolding choice_at_steps
     choice_at_go site choice table end first own =
         let number_steps = number_in_de_steps (scalar site choice) choice list.count end in
@@ -416,9 +372,7 @@ module _
 
     computed_by :
         (site : Site) (choice : ExpressionNumber) (first : ℕ) (empty : Bool)
-        → ((label : ℕ) → PlanBinds label
-        (if empty then part (tasks.Effects choice) 0 ∷ [] else choice_steps body site choice list first) → ok label)
-        → BodyGo ok body called
+        → ClosedGo ok body called
         (if empty then part (tasks.Effects choice) 0 ∷ [] else choice_steps body site choice list first)
     computed_by site choice first true own = planned_go tt
     computed_by site choice first false own =
@@ -426,12 +380,7 @@ module _
 
     case_by :
         (site : Site) (choice : ExpressionNumber) (first : ℕ) (found : Option ℕ)
-        → ((label : ℕ) → PlanBinds label
-        (elim found as (λ (one : Option ℕ). List Planned) [
-          | Some known ↦ known_case_steps body list known
-          | None ↦ computed_case_steps body site choice list first
-        ]) → ok label)
-        → BodyGo ok body called
+        → ClosedGo ok body called
         (elim found as (λ (one : Option ℕ). List Planned) [
           | Some known ↦ known_case_steps body list known
           | None ↦ computed_case_steps body site choice list first
@@ -441,6 +390,5 @@ module _
 
     pub case_go :
         (site : Site) (choice : ExpressionNumber) (first : ℕ)
-        → ((label : ℕ) → PlanBinds label (case_steps body site choice list first) → ok label)
-        → BodyGo ok body called (case_steps body site choice list first)
+        → ClosedGo ok body called (case_steps body site choice list first)
     case_go site choice first own = case_by site choice first (number site choice) own

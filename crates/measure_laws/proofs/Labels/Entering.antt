@@ -2,7 +2,7 @@
 use Rattle.measure_laws.proofs.Prelude.{inl, inr, refl, ℕ, zero, suc, ◌-◌, ◌%◌, ◌/◌, nat_eq, nat_le, Bool, true, false, if◌then◌else◌, List, [], ◌∷◌, ◌++◌, length, replicate, take, slice_get, Lxi, Push, De, StackDe, ScalarType, Byte, Address, Range, Location, Parameter, ProcedureKind, StatementNumber, LabelNumber, label_of, Body, holds, plain, argument_step, below_return_steps, entry_steps, entry_steps_by, exchanged_steps, frame_entry_steps, is_address, last_argument_facts, odd_byte_steps, popped_at, popped_from, push_loop_steps, pushed_arguments_steps, pushes_steps, static_entry_steps, store_argument, stores_steps, zeros_steps, PlanBinds}
 use Rattle.treecode.specs.declared.procedure.ProcedureKind.TheVariants as kinds
 use Rattle.codegen8080.specs.internal.Procedures.{last_argument_steps}
-use Rattle.measure_laws.proofs.Labels.Planning.{PlanGo, after_plain, either_go, finding_go, plan_first, plan_later, planned_go, plans_then, repeated_go}
+use Rattle.measure_laws.proofs.Labels.Planning.{Closed, PlanGo, after_plain, either_go, finding_go, plan_first, plan_later, planned_go, plans_then, repeated_go}
 
 -- the loop that pushes zeros
 loop_bound : (turns : ℕ) (again : LabelNumber) → PlanBinds again.index (push_loop_steps turns again)
@@ -65,11 +65,7 @@ module _ {ok : ℕ → Type 0} {statement : StatementNumber → Type 0} {list : 
 
   pushes_by :
       (words first : ℕ) (few : Bool)
-      → ((label : ℕ) → PlanBinds label
-      (if few then replicate words (plain (Push StackDe))
-      else push_loop_steps (words / 4 % 256) (label_of first) ++ replicate (words % 4) (plain (Push StackDe)))
-      → ok label)
-      → PlanGo ok statement list
+      → Closed ok statement list
       (if few then replicate words (plain (Push StackDe))
       else push_loop_steps (words / 4 % 256) (label_of first) ++ replicate (words % 4) (plain (Push StackDe)))
   pushes_by words first true own = repeated_go (Push StackDe) words
@@ -83,8 +79,7 @@ module _ {ok : ℕ → Type 0} {statement : StatementNumber → Type 0} {list : 
 
   pushes_go :
       (words first : ℕ)
-      → ((label : ℕ) → PlanBinds label (pushes_steps words first) → ok label)
-      → PlanGo ok statement list (pushes_steps words first)
+      → Closed ok statement list (pushes_steps words first)
   unfolding pushes_steps
   pushes_go words first own = pushes_by words first (nat_le words 12) own
 
@@ -94,9 +89,7 @@ module _ {ok : ℕ → Type 0} {statement : StatementNumber → Type 0} {list : 
 
   zeros_by :
       (bytes first : ℕ) (none : Bool)
-      → ((label : ℕ) → PlanBinds label
-      (if none then [] else plain (Lxi De 0) ∷ (pushes_steps (bytes / 2) first ++ odd_byte_steps bytes)) → ok label)
-      → PlanGo ok statement list
+      → Closed ok statement list
       (if none then [] else plain (Lxi De 0) ∷ (pushes_steps (bytes / 2) first ++ odd_byte_steps bytes))
   zeros_by bytes first true own = planned_go tt
   zeros_by bytes first false own =
@@ -108,15 +101,13 @@ module _ {ok : ℕ → Type 0} {statement : StatementNumber → Type 0} {list : 
 
   zeros_go :
       (bytes first : ℕ)
-      → ((label : ℕ) → PlanBinds label (zeros_steps bytes first) → ok label)
-      → PlanGo ok statement list (zeros_steps bytes first)
+      → Closed ok statement list (zeros_steps bytes first)
   unfolding zeros_steps
   zeros_go bytes first own = zeros_by bytes first (nat_eq bytes 0) own
 
   frame_entry_go :
       (parameters : List Parameter) (bytes first : ℕ)
-      → ((label : ℕ) → PlanBinds label (frame_entry_steps parameters bytes first) → ok label)
-      → PlanGo ok statement list (frame_entry_steps parameters bytes first)
+      → Closed ok statement list (frame_entry_steps parameters bytes first)
   unfolding frame_entry_steps
   frame_entry_go parameters bytes first own =
       plans_then (last_go parameters)
@@ -129,8 +120,7 @@ module _ {ok : ℕ → Type 0} {statement : StatementNumber → Type 0} {list : 
 
   entry_by :
       (kind : ProcedureKind) (body : Body) (first : ℕ)
-      → ((label : ℕ) → PlanBinds label (entry_steps_by kind body first) → ok label)
-      → PlanGo ok statement list (entry_steps_by kind body first)
+      → Closed ok statement list (entry_steps_by kind body first)
   unfolding entry_steps_by
   entry_by kinds.Reentrant body first own =
       frame_entry_go body.procedure.now.parameters.items body.frame.now.variable_bytes first own
@@ -139,6 +129,5 @@ module _ {ok : ℕ → Type 0} {statement : StatementNumber → Type 0} {list : 
 
   pub entry_go :
       (body : Body) (first : ℕ)
-      → ((label : ℕ) → PlanBinds label (entry_steps body first) → ok label)
-      → PlanGo ok statement list (entry_steps body first)
+      → Closed ok statement list (entry_steps body first)
   entry_go body first own = entry_by body.procedure.now.kind body first own

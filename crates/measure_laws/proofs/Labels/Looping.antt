@@ -1,6 +1,6 @@
 -- Iterative DO refers to labels that it binds.
 use Rattle.measure_laws.proofs.Prelude.{◌≡◌, ◌⊎◌, inl, inr, refl, ℕ, ◌+◌, nat_le, Bool, true, false, ◌&&◌, not, if◌then◌else◌, List, [], ◌∷◌, ◌++◌, Option, Some, None, ScalarType, Byte, Address, ExpressionNumber, Range, Place, Stored, Iteration, StatementNumber, LabelNumber, label_of, Site, scalar, known, number, Body, Counter, Test, Planned, Again, ListOf, Meet, Reaches, counter_of, counter_place, counts_by_one, has_a_turn, add_de_steps, add_steps, add_word_to_byte_steps, asked_jump, asked_mark, asked_test_steps, below_steps, count_at_hl_steps, count_steps, counts_in_place, facts_of_turn, first_steps, first_test_steps, general_begin_steps, general_end_steps, general_steps, is_byte, is_byte_type, iteration_steps, loop_labels, next_byte_steps, next_steps, next_turn_steps, step_in_de_steps, step_steps, sum_of_byte_steps, sum_of_word_steps, test_label_steps, to_known_steps, turns_if_any, mark, nth_label, test_of, test_steps, PlanBinds}
-use Rattle.measure_laws.proofs.{Labels.Planning.{PlanGo, after_address, after_load, asking_go, either_go, finding_go, plan_first, plan_later, planned_go, plans_then}, Labels.Assigning.{less_go, single_go, test_go}}
+use Rattle.measure_laws.proofs.{Labels.Planning.{Closed, PlanGo, after_address, after_load, asking_go, either_go, finding_go, plan_first, plan_later, planned_go, plans_then}, Labels.Assigning.{less_go, single_go, test_go}}
 
 -- the place of the test is bound if it is asked for, or if an ADDRESS is counted by 1
 label_bound_by :
@@ -102,8 +102,7 @@ module _ {ok : ℕ → Type 0} {statement : StatementNumber → Type 0} {list : 
   to_known_go :
       (counter : Counter) (last : ℕ) (is_tested : Bool) (range : Range) (first : ℕ)
       → list range
-      → ((label : ℕ) → PlanBinds label (to_known_steps counter last is_tested range first) → ok label)
-      → PlanGo ok statement list (to_known_steps counter last is_tested range first)
+      → Closed ok statement list (to_known_steps counter last is_tested range first)
   unfolding to_known_steps
   to_known_go counter last is_tested range first is own =
       plans_then
@@ -235,8 +234,7 @@ module _ {ok : ℕ → Type 0} {statement : StatementNumber → Type 0} {list : 
   general_go :
       (site : Site) (counter : Counter) (head : Iteration) (is_tested : Bool) (range : Range) (first : ℕ)
       → list range
-      → ((label : ℕ) → PlanBinds label (general_steps site counter head is_tested range first) → ok label)
-      → PlanGo ok statement list (general_steps site counter head is_tested range first)
+      → Closed ok statement list (general_steps site counter head is_tested range first)
   unfolding general_steps
   general_go site counter head is_tested range first is own =
       let test = test_of site counter head.last in
@@ -257,10 +255,7 @@ module _ {ok : ℕ → Type 0} {statement : StatementNumber → Type 0} {list : 
       (site : Site) (counter : Counter) (head : Iteration) (is_tested : Bool) (range : Range) (first last : ℕ)
       (in_place : Bool)
       → list range
-      → ((label : ℕ) → PlanBinds label
-      (if in_place then to_known_steps counter last is_tested range first
-      else general_steps site counter head is_tested range first) → ok label)
-      → PlanGo ok statement list
+      → Closed ok statement list
       (if in_place then to_known_steps counter last is_tested range first
       else general_steps site counter head is_tested range first)
   in_place_by site counter head is_tested range first last true is own =
@@ -272,14 +267,7 @@ module _ {ok : ℕ → Type 0} {statement : StatementNumber → Type 0} {list : 
       (site : Site) (counter : Counter) (head : Iteration) (is_tested : Bool) (range : Range) (first : ℕ)
       (found : Option ℕ)
       → list range
-      → ((label : ℕ) → PlanBinds label
-      (elim found as (λ (given : Option ℕ). List Planned) [
-        | Some last ↦
-            if counts_in_place site counter head then to_known_steps counter last is_tested range first
-            else general_steps site counter head is_tested range first
-        | None ↦ general_steps site counter head is_tested range first
-      ]) → ok label)
-      → PlanGo ok statement list
+      → Closed ok statement list
       (elim found as (λ (given : Option ℕ). List Planned) [
         | Some last ↦
             if counts_in_place site counter head then to_known_steps counter last is_tested range first
@@ -294,8 +282,7 @@ module _ {ok : ℕ → Type 0} {statement : StatementNumber → Type 0} {list : 
   any_go :
       (has : Option Bool) (site : Site) (counter : Counter) (head : Iteration) (range : Range) (first : ℕ)
       → list range
-      → ((label : ℕ) → PlanBinds label (turns_if_any has site counter head range first) → ok label)
-      → PlanGo ok statement list (turns_if_any has site counter head range first)
+      → Closed ok statement list (turns_if_any has site counter head range first)
   any_go (Some false) site counter head range first is own = planned_go tt
   any_go (Some true) site counter head range first is own =
       turns_by site counter head false range first (number site head.last) is own
@@ -305,8 +292,7 @@ module _ {ok : ℕ → Type 0} {statement : StatementNumber → Type 0} {list : 
   pub iteration_go :
       (body : Body) (site : Site) (head : Iteration) (range : Range) (first : ℕ)
       → list range
-      → ((label : ℕ) → PlanBinds label (iteration_steps body site head range first) → ok label)
-      → PlanGo ok statement list (iteration_steps body site head range first)
+      → Closed ok statement list (iteration_steps body site head range first)
   iteration_go body site head range first is own =
       let counter = counter_of site head in
       plans_then (first_go body site counter head.first)

@@ -1,17 +1,16 @@
 -- The code of a module refers to labels that it binds, and to those of routines that are called.
-use Rattle.measure_laws.proofs.Prelude.{◌≡◌, inl, inr, refl, sym, ap, subst, ℕ, zero, suc, ◌+◌, Bool, true, false, List, [], ◌∷◌, ◌++◌, length, Option, Some, None, arith, slice_get, none-some, same_Some, BodyIsSound, JumpsAreSound, TypedModule, TypedProcedure, Storage, Hlt, Item, Content, TreeModule, Place, ProcedureKind, TreeProcedure, HasBody, IsList, IsLowered, labels_numbered_in_list, nodes_of, address_items, items_of_call, module_call_items, module_label_of_routine, Body, Here, site_of, AreCodeOf, IsCodeOf, IsCodeOfMain, IsEndCode, IsOwnCode, IsProcedureCode, content_items, contents_items, has_main, ItemsBind, ItemsGo, HasItsPlace, LabelsHavePlaces, ListGoes, holds_for_item}
+use Rattle.measure_laws.proofs.Prelude.{◌≡◌, inl, inr, refl, sym, ap, subst, ℕ, zero, suc, ◌+◌, Bool, true, false, List, [], ◌∷◌, ◌++◌, length, Option, Some, None, arith, slice_get, none-some, same_Some, BodyIsSound, TypedModule, TypedProcedure, Storage, Hlt, Item, Content, TreeModule, Place, ProcedureKind, TreeProcedure, HasBody, IsList, IsLowered, labels_numbered_in_list, nodes_of, address_items, items_of_call, module_call_items, module_label_of_routine, Body, Here, site_of, AreCodeOf, IsCodeOf, IsCodeOfMain, IsEndCode, IsOwnCode, IsProcedureCode, content_items, contents_items, has_main, ItemsBind, ItemsGo, HasItsPlace, LabelsHavePlaces, ListGoes, holds_for_item, IsSound, Within, WithinMain, WithinProcedure, TypesHoldInList, TypesHoldInProcedure, IsProcedure, numbered_at, ◌≤◌, FRAME_LIMIT, Source}
 use Rattle.asm8080.specs.declared.item.Item.TheVariants as items
 use Rattle.treecode.specs.declared.module.Content.TheVariants as contents
 use Rattle.treecode.specs.declared.place.Place.TheVariants as places
 use Rattle.treecode.specs.declared.procedure.ProcedureKind.TheVariants as kinds
-use Rattle.measure_laws.proofs.{Labels.Assigning.{end_go}, Labels.Carried.{plan_bound, plan_carried}, Labels.Entering.{entry_go}, Labels.Statements.{AroundGo, LabelsDiffer, list_goes}, Labels.LabelsOfItems.{Knows, bound_after, bound_first, items_both}}
+use Rattle.measure_laws.proofs.{Labels.Assigning.{end_go}, Labels.Carried.{plan_bound, plan_carried}, Labels.Entering.{entry_go}, Labels.Statements.{AroundGo, LabelsDiffer, list_goes}, Footprints.Items.{Knows, bound_after, bound_first, items_both}}
+use Rattle.measure_laws.proofs.{Bounds.Entries.{entry_fits}, Bounds.Modules.{few_parameters}, Bounds.Returns.{end_fits}, Heights.Modules.{frame_is_small, source_of}}
 
 -- a constant refers to no label
 address_goes : (ok : ℕ → Type 0) (place : Place) → ItemsGo ok (address_items place)
 address_goes ok (places.Number number) = (tt, (tt, tt))
-address_goes ok (places.Code offset) = (tt, tt)
-address_goes ok (places.Data offset) = (tt, tt)
-address_goes ok (places.External offset name) = (tt, tt)
+address_goes ok other = (tt, tt)
 
 content_goes : (ok : ℕ → Type 0) (content : Content) → ItemsGo ok (content_items content)
 content_goes ok (contents.Byte value) = (tt, tt)
@@ -80,7 +79,7 @@ none_around ok body labels number label named any = absurd (omega (arith, any.2)
 
 module _
     (typed : TypedModule) (storage : Storage) (tree : TreeModule) (called : List Bool) (start : ℕ) (own : List Item)
-    (lowered : IsLowered typed storage tree) (jumps : JumpsAreSound typed) (is : IsOwnCode tree called start own)
+    (lowered : IsLowered typed storage tree) (sound : IsSound typed) (is : IsOwnCode tree called start own)
     (differ : (procedure : TypedProcedure) (index : ℕ) → slice_get typed.procedures index ≡ Some procedure
     → LabelsDiffer (labels_numbered_in_list procedure.body))
     (main_differ : LabelsDiffer (labels_numbered_in_list typed.main.body))
@@ -153,16 +152,23 @@ module _
     statements_go :
         (body : Body) (procedure : TreeProcedure) (heading : TypedProcedure) (list : List Item)
         → body.tree.now ≡ tree
+        → (within : Within)
+        → body.frame.now.parameter_count ≤ 16
+        → body.frame.now.variable_bytes ≤ FRAME_LIMIT
         → HasBody (nodes_of tree) storage procedure heading
+        → TypesHoldInList typed within heading.body
         → BodyIsSound heading.body
         → LabelsDiffer (labels_numbered_in_list heading.body)
         → ListGoes ok body called procedure.body
-    statements_go body procedure heading list tree_is has sound differs =
-        list_goes ok body called storage (labels_numbered_in_list heading.body) (knows body tree_is) differs
+    statements_go body procedure heading list tree_is within few small has types stands differs =
+        list_goes ok body called
+        (source_of typed storage body.tree.now sound.parameters
+        (subst (λ (one : TreeModule). IsLowered typed storage one) (sym tree_is) lowered) within)
+        few small (labels_numbered_in_list heading.body) (knows body tree_is) differs
         procedure.body []
         (subst (λ (one : TreeModule). IsList (nodes_of one) storage (labels_numbered_in_list heading.body)
         (length (nodes_of tree).statements) procedure.body heading.body) (sym tree_is) has.body)
-        sound.stands sound.closed (none_around ok body (labels_numbered_in_list heading.body))
+        types stands.stands stands.closed (none_around ok body (labels_numbered_in_list heading.body))
 
     -- the main program
     main_goes :
@@ -177,7 +183,9 @@ module _
         (subst (λ given. ItemsBind label given) (sym main.list_is)
         (inr (inr (bound_first label main.statements (items.Plain Hlt ∷ []) here)))) in
         let all =
-        (statements_go main.body tree.main typed.main list main.tree_is lowered.main jumps.main main_differ).goes
+        (statements_go main.body tree.main typed.main list main.tree_is WithinMain
+        (omega (arith, main.frame.parameter_count))
+        (omega (arith, main.frame.variable_bytes)) lowered.main sound.types.main sound.jumps.main main_differ).goes
         main.written inside in
         subst (λ given. ItemsGo ok given) (sym main.list_is)
         (tt, (tt, items_both ok main.statements (items.Plain Hlt ∷ []) all (tt, tt)))
@@ -186,22 +194,25 @@ module _
     ending_goes :
         (body : Body) (here : Here) (is_reached : Bool) (list : List Item)
         → body.tree.now ≡ tree
+        → Source body.tree.now
+        → body.frame.now.variable_bytes ≤ FRAME_LIMIT
         → IsEndCode body called here is_reached list
         → ((label : ℕ) → ItemsBind label list → ok label)
         → ItemsGo ok list
-    ending_goes body here true list tree_is ends bound =
-        plan_carried ok body called (knows body tree_is) (end_go body).goes bound ends.1
-    ending_goes body here false list tree_is none bound = subst (λ given. ItemsGo ok given) (sym none) tt
+    ending_goes body here true list tree_is source small ends bound =
+        plan_carried ok body called (knows body tree_is) (end_go body).goes
+        ((end_fits body called source 0 (Unit {0}) small).fit tt).has bound ends.1
+    ending_goes body here false list tree_is source small none bound = subst (λ given. ItemsGo ok given) (sym none) tt
 
     own_goes :
         (number : ℕ) (procedure : TreeProcedure) (heading : TypedProcedure) (list : List Item)
-        → HasBody (nodes_of tree) storage procedure heading
-        → BodyIsSound heading.body
+        → slice_get typed.procedures number ≡ Some heading
+        → IsProcedure typed (nodes_of tree) storage number procedure heading
         → LabelsDiffer (labels_numbered_in_list heading.body)
         → ((label : ℕ) → ItemsBind label list → ok label)
         → IsProcedureCode tree called number procedure list
         → ItemsGo ok list
-    own_goes number procedure heading list has sound differs bound code =
+    own_goes number procedure heading list found has differs bound code =
         let inside : (label : ℕ) → ItemsBind label (code.beginning ++ (code.statements ++ code.ending)) → ok label =
         λ label here. bound label (subst (λ given. ItemsBind label given) (sym code.list_is) (inr here)) in
         let in_beginning : (label : ℕ) → ItemsBind label code.beginning → ok label =
@@ -218,10 +229,21 @@ module _
         plan_carried ok code.body called (knows code.body code.tree_is)
         (entry_go code.body code.first
         (λ label here. in_beginning label (plan_bound ok code.body called label code.begins here))).goes
-        in_beginning code.begins in
+        (entry_fits {called = called} code.body code.first).has in_beginning code.begins in
+        let small =
+        frame_is_small typed storage tree number procedure heading code.body sound.frames sound.parameters found has
+        code.frame in
         let statements =
-        (statements_go code.body procedure heading list code.tree_is has sound differs).goes code.written in_statements in
-        let ending = ending_goes code.body code.last procedure.reaches_its_end code.ending code.tree_is code.ends in_ending in
+        (statements_go code.body procedure heading list code.tree_is (WithinProcedure number heading.result)
+        (few_parameters typed storage tree called sound number procedure heading found has list code)
+        small has.has_body
+        (numbered_at (TypesHoldInProcedure typed) typed.procedures number heading sound.types.procedures found)
+        (holds_for_item (λ (one : TypedProcedure). BodyIsSound one.body) typed.procedures number heading
+        sound.jumps.procedures found) differs).goes code.written in_statements in
+        let ending = ending_goes code.body code.last procedure.reaches_its_end code.ending code.tree_is
+        (source_of typed storage code.body.tree.now sound.parameters
+        (subst (λ (one : TreeModule). IsLowered typed storage one) (sym code.tree_is) lowered)
+        (WithinProcedure number heading.result)) small code.ends in_ending in
         subst (λ given. ItemsGo ok given) (sym code.list_is) (
           tt,
           items_both ok code.beginning (code.statements ++ code.ending) beginning
@@ -230,17 +252,17 @@ module _
 
     code_goes :
         (number : ℕ) (procedure : TreeProcedure) (heading : TypedProcedure) (kind : ProcedureKind) (list : List Item)
-        → HasBody (nodes_of tree) storage procedure heading
-        → BodyIsSound heading.body
+        → slice_get typed.procedures number ≡ Some heading
+        → IsProcedure typed (nodes_of tree) storage number procedure heading
         → LabelsDiffer (labels_numbered_in_list heading.body)
         → ((label : ℕ) → ItemsBind label list → ok label)
         → IsCodeOf tree called number procedure kind list
         → ItemsGo ok list
-    code_goes number procedure heading kinds.Reentrant list has sound differs bound code =
-        own_goes number procedure heading list has sound differs bound code
-    code_goes number procedure heading kinds.Static list has sound differs bound code =
-        own_goes number procedure heading list has sound differs bound code
-    code_goes number procedure heading (kinds.External name) list has sound differs bound none =
+    code_goes number procedure heading kinds.Reentrant list found has differs bound code =
+        own_goes number procedure heading list found has differs bound code
+    code_goes number procedure heading kinds.Static list found has differs bound code =
+        own_goes number procedure heading list found has differs bound code
+    code_goes number procedure heading (kinds.External name) list found has differs bound none =
         subst (λ given. ItemsGo ok given) (sym none) tt
 
     procedures_go :
@@ -266,9 +288,7 @@ module _
         λ label given. bound label (subst (λ all. ItemsBind label all) (sym are.4) given) in
         let has = lowered.procedures number procedure heading tree_there typed_there in
         let one =
-        code_goes number procedure heading procedure.kind are.0 has.has_body
-        (holds_for_item (λ (one : TypedProcedure). BodyIsSound one.body) typed.procedures number heading
-        jumps.procedures typed_there)
+        code_goes number procedure heading procedure.kind are.0 typed_there has
         (differ heading number typed_there)
         (λ label given. inside label (bound_first label are.0 are.1 given)) are.2 in
         let rest =

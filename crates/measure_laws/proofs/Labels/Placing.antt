@@ -25,5 +25,5 @@ pub labels_have_places :
     → IsOwnCode tree called start own
     → LabelsHavePlaces tree called own
 labels_have_places typed storage tree called start own sound lowered is =
-    own_code_goes typed storage tree called start own lowered sound.jumps is
+    own_code_goes typed storage tree called start own lowered sound is
     (λ procedure index there. body_differs typed procedure index sound there) (main_differs typed sound)

@@ -1,5 +1,5 @@
 -- Planned steps one after another, and planned steps that depend on an optional value.
-use Rattle.measure_laws.proofs.Prelude.{◌≡◌, inl, inr, refl, ℕ, zero, suc, ◌+◌, ◌<◌, ◌≤◌, Bool, true, false, if◌then◌else◌, List, [], ◌∷◌, ◌++◌, Option, Some, None, replicate, arith, subst, cases_lt, Instr, ExpressionNumber, Range, Reference, StatementNumber, LabelNumber, Task, Planned, mark, part, plain, steps_from, PlanBinds, PlanGoes, TaskThen}
+use Rattle.measure_laws.proofs.Prelude.{◌≡◌, inl, inr, refl, ℕ, zero, suc, ◌+◌, ◌<◌, ◌≤◌, Bool, true, false, if◌then◌else◌, List, [], ◌∷◌, ◌++◌, Option, Some, None, replicate, arith, subst, cases_lt, Instr, ExpressionNumber, Range, Reference, StatementNumber, Task, Planned, part, plain, steps_from, PlanBinds, PlanGoes, TaskThen}
 use Rattle.steps8080.specs.declared.step.Step.TheVariants as steps
 use Rattle.steps8080.specs.declared.step.Task.TheVariants as tasks
 use Rattle.statements8080.specs.declared.plan.Planned.TheVariants as planned
@@ -9,15 +9,16 @@ pub record PlanGo
     Type 0 where
   pub goes : PlanGoes ok statement list plan
 
+-- planned steps refer to labels with a property, if those that they bind have it
+abbrev pub Closed :
+    (ok : ℕ → Type 0) (statement : StatementNumber → Type 0) (list : Range → Type 0) (plan : List Planned) → Type 0
+Closed ok statement list plan =
+    ((label : ℕ) → PlanBinds label plan → ok label) → PlanGo ok statement list plan
+
 task_and :
     (ok : ℕ → Type 0) (task : Task) (one other : Type 0) → (one → other) → TaskThen ok task one → TaskThen ok task other
 task_and ok (tasks.Branch condition label sense) one other more is = (is.0, more is.1)
-task_and ok (tasks.Byte number) one other more is = more is
-task_and ok (tasks.Word number) one other more is = more is
-task_and ok (tasks.Effects number) one other more is = more is
-task_and ok (tasks.Address reference) one other more is = more is
-task_and ok (tasks.Store target is_wanted) one other more is = more is
-task_and ok (tasks.Call procedure arguments) one other more is = more is
+task_and ok task one other more is = more is
 
 both_go :
     (ok : ℕ → Type 0) (statement : StatementNumber → Type 0) (list : Range → Type 0) (first others : List Planned)
@@ -27,24 +28,11 @@ both_go ok statement list (planned.Code (steps.Part task) ∷ first) others one 
     task_and ok task.task (PlanGoes ok statement list first) (PlanGoes ok statement list (first ++ others))
     (λ is. both_go ok statement list first others is two) one
 both_go ok statement list (planned.Code (steps.Jump form label) ∷ first) others one two = (one.0, both_go ok statement list first others one.1 two)
-both_go ok statement list (planned.Code (steps.Mark label) ∷ first) others one two = both_go ok statement list first others one two
-both_go ok statement list (planned.Code (steps.Plain i) ∷ first) others one two = both_go ok statement list first others one two
-both_go ok statement list (planned.Code (steps.Word form place) ∷ first) others one two = both_go ok statement list first others one two
-both_go ok statement list (planned.Code (steps.CallRoutine routine) ∷ first) others one two = both_go ok statement list first others one two
-both_go ok statement list (planned.Code (steps.CallProcedure procedure) ∷ first) others one two = both_go ok statement list first others one two
-both_go ok statement list (planned.Code steps.TestA ∷ first) others one two = both_go ok statement list first others one two
-both_go ok statement list (planned.Code (steps.Holds held) ∷ first) others one two = both_go ok statement list first others one two
-both_go ok statement list (planned.Code steps.MemoryChanged ∷ first) others one two = both_go ok statement list first others one two
 both_go ok statement list (planned.Statement number ∷ first) others one two = (one.0, both_go ok statement list first others one.1 two)
 both_go ok statement list (planned.List range ∷ first) others one two = (one.0, both_go ok statement list first others one.1 two)
-both_go ok statement list (planned.LoadByte reference ∷ first) others one two = both_go ok statement list first others one two
-both_go ok statement list (planned.LoadWord reference ∷ first) others one two = both_go ok statement list first others one two
-both_go ok statement list (planned.Jumped alone ∷ first) others one two = both_go ok statement list first others one two
 both_go ok statement list (planned.JumpOn label ∷ first) others one two = (one.0, both_go ok statement list first others one.1 two)
 both_go ok statement list (planned.Turn other end ∷ first) others one two = (one.0, both_go ok statement list first others one.1 two)
-both_go ok statement list (planned.Meet label ∷ first) others one two = both_go ok statement list first others one two
-both_go ok statement list (planned.Again label facts is_entered ∷ first) others one two = both_go ok statement list first others one two
-both_go ok statement list (planned.Reaches goes_on ∷ first) others one two = both_go ok statement list first others one two
+both_go ok statement list (step ∷ first) others one two = both_go ok statement list first others one two
 
 module _ {ok : ℕ → Type 0} {statement : StatementNumber → Type 0} {list : Range → Type 0} where
   pub planned_go : {plan : List Planned} → PlanGoes ok statement list plan → PlanGo ok statement list plan
@@ -60,11 +48,6 @@ module _ {ok : ℕ → Type 0} {statement : StatementNumber → Type 0} {list : 
   pub after_plain :
       {i : Instr} {others : List Planned} → PlanGo ok statement list others → PlanGo ok statement list (plain i ∷ others)
   after_plain after = record { goes = after.goes }
-
-  pub after_mark :
-      {label : LabelNumber} {others : List Planned}
-      → PlanGo ok statement list others → PlanGo ok statement list (mark label ∷ others)
-  after_mark after = record { goes = after.goes }
 
   pub after_byte :
       {number : ExpressionNumber} {pushed : ℕ} {others : List Planned}

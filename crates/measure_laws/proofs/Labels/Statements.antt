@@ -1,10 +1,11 @@
 -- The code of statements refers to labels that it binds, and to those of the lists around it.
-use Rattle.measure_laws.proofs.Prelude.{◌≡◌, inl, inr, refl, sym, ap, ◌∙◌, subst, ℕ, ◌+◌, ◌<◌, ◌≤◌, Bool, true, false, List, [], ◌∷◌, ◌++◌, length, Option, Some, None, Any, arith, slice_get, nat_lt, if◌then◌else◌, option_and_then, ltb-true, none-some, same_Some, IsAmongLabels, JumpsStay, JumpsStayInElse, JumpsStayInList, JumpsStayInStatements, LabelsOf, LabelsStand, ListStands, ListsStand, ListsStandInCases, ListsStandInElse, ListsStandInStatements, labels_of_list, LabelStatement, MoreStatements, NoStatements, TypedElse, TypedList, TypedStatement, TypedStatements, Storage, Item, Range, StatementNumber, AreMoreStatements, AreNoStatements, AreStatements, IsAssignment, IsCall, IsCase, IsDo, IsElse, IsGoto, IsHalt, IsIf, IsIterate, IsLabel, IsList, IsListOf, IsMove, IsNoElse, IsNull, IsReturn, IsSomeElse, IsStatement, IsStatementForm, IsStatementNode, IsWhile, item_of, nodes_of, statement, Facts, LabelNumber, knowing, Body, body_label, goto_label, goto_label_of, Here, AreAllCarriedOut, AreCarriedOut, IsCarriedOut, IsListCarriedOut, ListPlanned, StatementPlanned, site_of, statement_steps, ItemsBind, ItemsGo, ListGoes, PlanBinds, StatementGoes, at_or_after}
+use Rattle.measure_laws.proofs.Prelude.{◌≡◌, inl, inr, refl, sym, ap, ◌∙◌, subst, ℕ, ◌+◌, ◌<◌, ◌≤◌, Bool, true, false, List, [], ◌∷◌, ◌++◌, length, Option, Some, None, Any, arith, slice_get, nat_lt, if◌then◌else◌, option_and_then, ltb-true, none-some, same_Some, IsAmongLabels, JumpsStay, JumpsStayInElse, JumpsStayInList, JumpsStayInStatements, LabelsOf, LabelsStand, ListStands, ListsStand, ListsStandInElse, ListsStandInStatements, labels_of_list, LabelStatement, TypedElse, TypedList, TypedStatement, TypedStatements, Item, Range, StatementNumber, AreMoreStatements, AreNoStatements, AreStatements, IsAssignment, IsCase, IsDo, IsElse, IsGoto, IsIf, IsIterate, IsLabel, IsList, IsListOf, IsMove, IsNoElse, IsReturn, IsSomeElse, IsStatement, IsStatementForm, IsStatementNode, IsWhile, item_of, nodes_of, statement, Facts, LabelNumber, knowing, Body, body_label, goto_label, goto_label_of, Here, AreAllCarriedOut, AreCarriedOut, IsCarriedOut, IsListCarriedOut, ListPlanned, StatementPlanned, site_of, statement_steps, ItemsBind, ItemsGo, ListGoes, PlanBinds, StatementGoes, at_or_after, Source, PlanHas, TypesHoldIn, TypesHoldInElse, TypesHoldInStatements, TypesHoldInList, FRAME_LIMIT, height_of_statement, ◌*◌}
 use Rattle.treecode.specs.declared.statement.Statement.{Statement}
 use Rattle.treecode.specs.declared.statement.Statement.TheVariants as statements
 use Rattle.treecode.proofs.LabelNumbers.{first_or_later}
 use Rattle.codegen8080.specs.internal.Generated as generated
-use Rattle.measure_laws.proofs.{Labels.Planning.{planned_go}, Labels.Carried.{plan_bound, plan_carried}, Labels.LabelsOfItems.{Knows, bound_after, bound_first, items_both}, Labels.Assigning.{assignment_go, move_go, return_of_go}, Labels.Looping.{iteration_go}, Labels.Choosing.{AnyGoes, BodyGo, case_go, if_go, while_go}}
+use Rattle.measure_laws.proofs.{Labels.Planning.{planned_go}, Labels.Carried.{plan_bound, plan_carried}, Footprints.Items.{Knows, bound_after, bound_first, items_both}, Labels.Assigning.{assignment_go, move_go, return_of_go}, Labels.Looping.{iteration_go}, Labels.Choosing.{AnyGoes, BodyGo, case_go, if_go, while_go}}
+use Rattle.measure_laws.proofs.Bounds.Statements.{cases_stand, form_fits}
 
 -- the labels of the lists around a place are among these, by their numbers in a body
 abbrev pub AroundGo :
@@ -19,10 +20,6 @@ AroundGo ok body labels around =
 abbrev pub LabelsDiffer : (labels : List ℕ) → Type 0
 LabelsDiffer labels =
     (one other label : ℕ) → slice_get labels one ≡ Some label → slice_get labels other ≡ Some label → one ≡ other
-
-pub cases_stand : (trees : TypedStatements) → ListsStandInCases trees → ListsStandInStatements trees
-cases_stand NoStatements stand = tt
-cases_stand (MoreStatements first others) stand = (stand.1, cases_stand others stand.2)
 
 -- the label that a GOTO refers to
 goto_is :
@@ -56,13 +53,15 @@ stands_at :
 stands_at table range index one is = stands_by table range index one (nat_lt index range.count) refl is
 
 module _
-    (ok : ℕ → Type 0) (body : Body) (called : List Bool) (storage : Storage) (labels : List ℕ)
+    (ok : ℕ → Type 0) (body : Body) (called : List Bool) (source : Source body.tree.now)
+    (few : body.frame.now.parameter_count ≤ 16) (small : body.frame.now.variable_bytes ≤ FRAME_LIMIT)
+    (labels : List ℕ)
     (knows : Knows ok (site_of body) called) (differ : LabelsDiffer labels)
   where
     -- the label that a label statement binds
     label_binds :
         {bound label : ℕ} (number : StatementNumber) {facts : Facts} {last : Here} {list : List Item}
-        → IsStatement (nodes_of body.tree.now) storage labels bound number.index (LabelStatement label)
+        → IsStatement (nodes_of body.tree.now) source.storage labels bound number.index (LabelStatement label)
         → IsCarriedOut body called facts number list last
         → (place : ℕ) × (slice_get labels place ≡ Some label) × ItemsBind (body_label body place).index list
     unfolding statement_steps
@@ -84,7 +83,7 @@ module _
     list_binds :
         {bound first count : ℕ} {trees : TypedStatements} {here last : Here} {list : List Item}
         (label place : ℕ) (places : List ℕ) (wanted : ℕ)
-        → AreStatements (nodes_of body.tree.now) storage labels bound first count trees
+        → AreStatements (nodes_of body.tree.now) source.storage labels bound first count trees
         → LabelsStand label place places trees
         → AreAllCarriedOut body called here first count list last
         → label ≤ wanted
@@ -120,7 +119,7 @@ module _
     around_list :
         {bound first count : ℕ} {trees : TypedStatements} {here last : Here} {list : List Item}
         (around : List LabelsOf) (label : ℕ) (places : List ℕ)
-        → AreStatements (nodes_of body.tree.now) storage labels bound first count trees
+        → AreStatements (nodes_of body.tree.now) source.storage labels bound first count trees
         → LabelsStand label 0 places trees
         → AreAllCarriedOut body called here first count list last
         → ((one : ℕ) → ItemsBind one list → ok one)
@@ -138,7 +137,7 @@ module _
     -- a GOTO
     goto_ok :
         {bound : ℕ} {tree : TypedStatement} (found : Statement) (around : List LabelsOf) (label : LabelNumber)
-        → IsStatementForm (nodes_of body.tree.now) storage labels bound found tree
+        → IsStatementForm (nodes_of body.tree.now) source.storage labels bound found tree
         → JumpsStay around tree
         → AroundGo ok body labels around
         → goto_label_of body found ≡ Some label
@@ -146,18 +145,7 @@ module _
     goto_ok (statements.Goto number) around label (IsGoto {label = wanted} named) stay outer is =
         let same : body_label body number ≡ label = same_Some (body_label body number) label is in
         subst (λ (given : LabelNumber). ok given.index) same (outer number wanted named stay)
-    goto_ok (statements.Label number) around label form stay outer is = absurd (none-some label is)
-    goto_ok statements.Null around label form stay outer is = absurd (none-some label is)
-    goto_ok (statements.Assignment targets value) around label form stay outer is = absurd (none-some label is)
-    goto_ok (statements.Call procedure arguments) around label form stay outer is = absurd (none-some label is)
-    goto_ok (statements.Move count from to) around label form stay outer is = absurd (none-some label is)
-    goto_ok (statements.Return value) around label form stay outer is = absurd (none-some label is)
-    goto_ok statements.Halt around label form stay outer is = absurd (none-some label is)
-    goto_ok (statements.If condition one other) around label form stay outer is = absurd (none-some label is)
-    goto_ok (statements.Do range) around label form stay outer is = absurd (none-some label is)
-    goto_ok (statements.While condition range) around label form stay outer is = absurd (none-some label is)
-    goto_ok (statements.Iterate head range) around label form stay outer is = absurd (none-some label is)
-    goto_ok (statements.Case choice range) around label form stay outer is = absurd (none-some label is)
+    goto_ok found around label form stay outer is = absurd (none-some label is)
 
     -- the code of a statement with planned steps that refer only to such labels
     carried :
@@ -166,10 +154,12 @@ module _
         → ((known : Facts) (first : ℕ)
         → ((label : ℕ) → PlanBinds label (statement_steps body (knowing (site_of body) known) found first) → ok label)
         → BodyGo ok body called (statement_steps body (knowing (site_of body) known) found first))
+        → ((known : Facts) (first : ℕ)
+        → PlanHas body.tree.now (statement_steps body (knowing (site_of body) known) found first))
         → ((one : ℕ) → ItemsBind one list → ok one)
         → IsCarriedOut body called facts number list last
         → ItemsGo ok list
-    carried number found {facts = facts} {last = last} {list = list} there planned_go own (StatementPlanned {statement = one} first here planned) =
+    carried number found {facts = facts} {last = last} {list = list} there planned_go has own (StatementPlanned {statement = one} first here planned) =
         let same : one ≡ found = same_Some one found (sym here ∙ there) in
         let now : AreCarriedOut body called (record { facts = facts; goes_on = true }) None
         (statement_steps body (knowing (site_of body) facts) found first) list last =
@@ -177,13 +167,13 @@ module _
         (statement_steps body (knowing (site_of body) facts) given first) list last) same planned in
         plan_carried ok body called knows
         (planned_go facts first (λ label bound. own label (plan_bound ok body called label now bound))).goes
-        own now
+        (has facts first) own now
 
     -- the code of a list with statements that refer only to such labels, if its own labels have the property
     list_carried :
         {bound : ℕ} {trees : TypedStatements} {facts : Facts} {last : Here} {list : List Item} (range : Range)
         (around : List LabelsOf) (label : ℕ) (places : List ℕ)
-        → AreStatements (nodes_of body.tree.now) storage labels bound range.first range.count trees
+        → AreStatements (nodes_of body.tree.now) source.storage labels bound range.first range.count trees
         → LabelsStand label 0 places trees
         → AroundGo ok body labels around
         → ((here after : Here) (items : List Item)
@@ -203,73 +193,78 @@ module _
 
       pub statement_goes :
           {bound : ℕ} {tree : TypedStatement} (number : StatementNumber) (around : List LabelsOf)
-          → IsStatement (nodes_of body.tree.now) storage labels bound number.index tree
+          → IsStatement (nodes_of body.tree.now) source.storage labels bound number.index tree
+          → TypesHoldIn source.typed source.within tree
           → ListsStand tree
           → JumpsStay around tree
           → AroundGo ok body labels around
           → StatementGoes ok body called number
-      statement_goes number around (IsStatementNode {statement = found} below there form) stand stay outer = record {
+      statement_goes {tree = tree} number around (IsStatementNode {statement = found} below there form) types stand stay outer = record {
         goes = λ done own.
             carried number found there
-            (λ facts first bound. form_go around form stand stay outer facts first bound) own done;
+            (λ facts first bound. form_go around form types stand stay outer facts first bound)
+            (λ facts first.
+            ((form_fits body called source (2 + 2 * height_of_statement tree) (Unit {0}) (λ c. few) small labels form types
+            (λ c. stand) (omega arith) facts first).fit.fit tt).has)
+            own done;
         goto = λ label is. goto_ok found around label form stay outer (goto_is body number found label there is);
       }
 
       form_go :
           {bound : ℕ} {found : Statement} {tree : TypedStatement} (around : List LabelsOf)
-          → IsStatementForm (nodes_of body.tree.now) storage labels bound found tree
+          → IsStatementForm (nodes_of body.tree.now) source.storage labels bound found tree
+          → TypesHoldIn source.typed source.within tree
           → ListsStand tree
           → JumpsStay around tree
           → AroundGo ok body labels around
           → (facts : Facts) (first : ℕ)
           → ((label : ℕ) → PlanBinds label (statement_steps body (knowing (site_of body) facts) found first) → ok label)
           → BodyGo ok body called (statement_steps body (knowing (site_of body) facts) found first)
-      form_go around (IsLabel is) stand stay outer facts first own = planned_go tt
-      form_go around IsNull stand stay outer facts first own = planned_go tt
-      form_go around (IsAssignment {range = targets} {value = value} are is) stand stay outer facts first own =
+      form_go around (IsAssignment {range = targets} {value = value} are is) types stand stay outer facts first own =
           assignment_go body (knowing (site_of body) facts) targets value
-      form_go around (IsCall are) stand stay outer facts first own = planned_go tt
-      form_go around (IsMove {count = count} {source = from} {destination = to} one two three) stand stay outer facts first own =
+      form_go around (IsMove {count = count} {source = from} {destination = to} one two three) types stand stay outer facts first own =
           move_go (knowing (site_of body) facts) count from to
-      form_go around (IsReturn {value = value} is) stand stay outer facts first own = return_of_go body value
-      form_go around IsHalt stand stay outer facts first own = planned_go tt
-      form_go around (IsGoto {number = number} {label = label} named) stand stay outer facts first own =
+      form_go around (IsReturn {value = value} is) types stand stay outer facts first own = return_of_go body value
+      form_go around (IsGoto {number = number} {label = label} named) types stand stay outer facts first own =
           planned_go (outer number label named stay, tt)
-      form_go around (IsIf {condition = condition} {body = then_part} {otherwise = else_part} test then_is else_is) stand stay outer facts first own =
+      form_go around (IsIf {condition = condition} {body = then_part} {otherwise = else_part} test then_is else_is) types stand stay outer facts first own =
           if_go ok body called (knowing (site_of body) facts) condition then_part
-          (statement_goes then_part around then_is stand.1 stay.0 outer) first else_part
-          (else_goes around else_is stand.2 stay.1 outer) own
-      form_go around (IsDo {range = range} is) stand stay outer facts first own =
-          planned_go (list_goes range around is stand stay outer, tt)
-      form_go around (IsWhile {condition = condition} {range = range} test is) stand stay outer facts first own =
+          (statement_goes then_part around then_is types.1 stand.1 stay.0 outer) first else_part
+          (else_goes around else_is types.2 stand.2 stay.1 outer) own
+      form_go around (IsDo {range = range} is) types stand stay outer facts first own =
+          planned_go (list_goes range around is types stand stay outer, tt)
+      form_go around (IsWhile {condition = condition} {range = range} test is) types stand stay outer facts first own =
           while_go ok body called (knowing (site_of body) facts) condition range
-          (list_goes range around is stand stay outer) first own
-      form_go around (IsIterate {head = head} {range = range} head_is is) stand stay outer facts first own =
-          iteration_go body (knowing (site_of body) facts) head range first (list_goes range around is stand stay outer) own
-      form_go around (IsCase {choice = choice} {range = range} {trees = trees} choice_is are) stand stay outer facts first own =
+          (list_goes range around is types.1 stand stay outer) first own
+      form_go around (IsIterate {head = head} {range = range} head_is is) types stand stay outer facts first own =
+          iteration_go body (knowing (site_of body) facts) head range first (list_goes range around is types.1 stand stay outer) own
+      form_go around (IsCase {choice = choice} {range = range} {trees = trees} choice_is are) types stand stay outer facts first own =
           case_go ok body called range
           (λ index one there.
           let at = stands_at (nodes_of body.tree.now).lists range index one there in
-          one_goes around (range.first + index) one are (cases_stand trees stand) stay outer (omega arith)
+          one_goes around (range.first + index) one are types.1 (cases_stand trees stand) stay outer (omega arith)
           (omega (arith, at.below)) at.there)
           (λ index one there. (stands_at (nodes_of body.tree.now).lists range index one there).below)
           (knowing (site_of body) facts) choice first own
+      form_go around other types stand stay outer facts first own = planned_go tt
 
       else_goes :
           {bound : ℕ} {otherwise : Option StatementNumber} {tree : TypedElse} (around : List LabelsOf)
-          → IsElse (nodes_of body.tree.now) storage labels bound otherwise tree
+          → IsElse (nodes_of body.tree.now) source.storage labels bound otherwise tree
+          → TypesHoldInElse source.typed source.within tree
           → ListsStandInElse tree
           → JumpsStayInElse around tree
           → AroundGo ok body labels around
           → AnyGoes ok body called otherwise
-      else_goes around IsNoElse stand stay outer = tt
-      else_goes around (IsSomeElse {number = number} is) stand stay outer =
-          statement_goes number around is stand.1 stay outer
+      else_goes around IsNoElse types stand stay outer = tt
+      else_goes around (IsSomeElse {number = number} is) types stand stay outer =
+          statement_goes number around is types stand.1 stay outer
 
       -- one of statements
       one_goes :
           {bound first count : ℕ} {trees : TypedStatements} (around : List LabelsOf) (place : ℕ) (one : StatementNumber)
-          → AreStatements (nodes_of body.tree.now) storage labels bound first count trees
+          → AreStatements (nodes_of body.tree.now) source.storage labels bound first count trees
+          → TypesHoldInStatements source.typed source.within trees
           → ListsStandInStatements trees
           → JumpsStayInStatements around trees
           → AroundGo ok body labels around
@@ -277,51 +272,53 @@ module _
           → place < first + count
           → slice_get (nodes_of body.tree.now).lists place ≡ Some one
           → StatementGoes ok body called one
-      one_goes around place one AreNoStatements stand stay outer low high there =
+      one_goes around place one AreNoStatements types stand stay outer low high there =
           absurd (omega (arith, low, high))
-      one_goes around place one (AreMoreStatements {first = first} {number = number} named is are) stand stay outer low high there =
+      one_goes around place one (AreMoreStatements {first = first} {number = number} named is are) types stand stay outer low high there =
           elim (at_or_after first place low) [
             | inl same ↦
                 let number_is : number ≡ one =
                 same_Some number one
                 (sym named ∙ ap (λ (n : ℕ). slice_get (nodes_of body.tree.now).lists n) same ∙ there) in
                 subst (λ (n : StatementNumber). StatementGoes ok body called n) number_is
-                (statement_goes number around is stand.0 stay.0 outer)
+                (statement_goes number around is types.0 stand.0 stay.0 outer)
             | inr past ↦
-                one_goes around place one are stand.1 stay.1 outer (omega (arith, past)) (omega (arith, high)) there
+                one_goes around place one are types.1 stand.1 stay.1 outer (omega (arith, past)) (omega (arith, high)) there
           ]
 
       -- the statements of a list, and a list
       all_go :
           {bound first count : ℕ} {trees : TypedStatements} {here last : Here} {list : List Item}
           (around : List LabelsOf)
-          → AreStatements (nodes_of body.tree.now) storage labels bound first count trees
+          → AreStatements (nodes_of body.tree.now) source.storage labels bound first count trees
+          → TypesHoldInStatements source.typed source.within trees
           → ListsStandInStatements trees
           → JumpsStayInStatements around trees
           → AroundGo ok body labels around
           → ((one : ℕ) → ItemsBind one list → ok one)
           → AreAllCarriedOut body called here first count list last
           → ItemsGo ok list
-      all_go around AreNoStatements stand stay outer own generated.NoStatements = tt
-      all_go around (AreMoreStatements {number = number} named is are) stand stay outer own (generated.MoreStatements {here = here} {middle = middle} {number = other} {list = list} {more = more} found done rest) =
+      all_go around AreNoStatements types stand stay outer own generated.NoStatements = tt
+      all_go around (AreMoreStatements {number = number} named is are) types stand stay outer own (generated.MoreStatements {here = here} {middle = middle} {number = other} {list = list} {more = more} found done rest) =
           let same : other ≡ number = same_Some other number (sym found ∙ named) in
           items_both ok list more
-          ((statement_goes number around is stand.0 stay.0 outer).goes
+          ((statement_goes number around is types.0 stand.0 stay.0 outer).goes
           (subst (λ (n : StatementNumber). IsCarriedOut body called here.facts n list middle) same done)
           (λ label bound. own label (bound_first label list more bound)))
-          (all_go around are stand.1 stay.1 outer (λ label bound. own label (bound_after label list more bound)) rest)
+          (all_go around are types.1 stand.1 stay.1 outer (λ label bound. own label (bound_after label list more bound)) rest)
 
       pub list_goes :
           {bound : ℕ} {tree : TypedList} (range : Range) (around : List LabelsOf)
-          → IsList (nodes_of body.tree.now) storage labels bound range tree
+          → IsList (nodes_of body.tree.now) source.storage labels bound range tree
+          → TypesHoldInList source.typed source.within tree
           → ListStands tree
           → JumpsStayInList around tree
           → AroundGo ok body labels around
           → ListGoes ok body called range
-      list_goes range around (IsListOf {first_label = label} {places = places} are) stand stay outer = record {
+      list_goes range around (IsListOf {first_label = label} {places = places} are) types stand stay outer = record {
         goes = λ done own.
             list_carried range around label places are stand.0 outer
             (λ here last list inner bound all.
-            all_go (labels_of_list label places ∷ around) are stand.1 stay inner bound all)
+            all_go (labels_of_list label places ∷ around) are types stand.1 stay inner bound all)
             own done;
       }

@@ -101,12 +101,7 @@ constant_object_takes :
     ≡ size_of_contents before + bytes_in_constants home object
 constant_object_takes starts object (InConstants values) before filled small =
     object_takes starts object values before filled (small values refl)
-constant_object_takes starts object (InData values) before filled small = omega arith
-constant_object_takes starts object (Placed address) before filled small = omega arith
-constant_object_takes starts object (BasedOn base) before filled small = omega arith
-constant_object_takes starts object Elsewhere before filled small = omega arith
-constant_object_takes starts object Nowhere before filled small = omega arith
-constant_object_takes starts object (InFrame procedure) before filled small = omega arith
+constant_object_takes starts object other before filled small = omega arith
 
 -- an object among the constants has all its bytes there
 abbrev IsWhole : (at : ℕ → Option TypedObject) → (number : ℕ) → Type 0

@@ -1,8 +1,8 @@
 -- The weight of a body of tree code is that of its typed tree.
-use Rattle.measure_laws.proofs.Prelude.{◌≡◌, ℕ, zero, suc, ◌+◌, ◌≤◌, List, ◌∷◌, drop, length, take, Option, Some, slice_get, drop-cons, refl, ap, ◌∙◌, arith, sum_by, option_map_or, sum_by-cons, get_or_from_slice_get, slice_get_within, type_of, TypedArguments, TypedElse, TypedExpression, TypedIteration, TypedList, TypedStatement, TypedStatements, TypedTarget, Storage, Expression, ExpressionNumber, Range, Iteration, StatementNumber, AreArguments, AreMoreStatements, AreNoStatements, AreStatements, AreTargets, IsAssignment, IsCall, IsCase, IsDo, IsElse, IsExpressionIn, IsGoto, IsHalt, IsIf, IsIterate, IsIteration, IsLabel, IsList, IsListOf, IsMove, IsNoElse, IsNode, IsNoValue, IsNull, IsOptional, IsReturn, IsSomeElse, IsSomeValue, IsStatement, IsStatementForm, IsStatementNode, IsWhile, MoreTargets, NoTargets, Nodes, no_traits, traits_at, beside_at, weight_of_body, weight_of_range, weight_within}
+use Rattle.measure_laws.proofs.Prelude.{◌≡◌, ℕ, zero, suc, ◌+◌, ◌≤◌, List, ◌∷◌, drop, length, take, Option, Some, slice_get, drop-cons, refl, ap, ◌∙◌, arith, sum_by, option_map_or, sum_by-cons, get_or_from_slice_get, slice_get_within, type_of, TypedArguments, TypedElse, TypedExpression, TypedIteration, TypedList, TypedStatement, TypedStatements, TypedTarget, Storage, Expression, ExpressionNumber, Range, Iteration, StatementNumber, AreArguments, AreMoreStatements, AreNoStatements, AreStatements, AreTargets, IsAssignment, IsCall, IsCase, IsDo, IsElse, IsExpressionIn, IsIf, IsIterate, IsIteration, IsList, IsListOf, IsMove, IsNoElse, IsNode, IsNoValue, IsOptional, IsReturn, IsSomeElse, IsSomeValue, IsStatement, IsStatementForm, IsStatementNode, IsWhile, MoreTargets, NoTargets, Nodes, no_traits, traits_at, beside_at, weight_of_body, weight_of_range, weight_within}
 use Rattle.typed_trees.specs.Weight as typed
 use Rattle.treecode.specs.declared.statement.Statement.{Statement}
-use Rattle.measure_laws.proofs.Sizes.Trees.{arguments_weigh, target_weighs, weighs_at}
+use Rattle.measure_laws.proofs.Footprints.Weights.{arguments_weigh, target_weighs, weighs_at}
 use Rattle.measure_laws.specs.Bounds.{weight_of_arguments, weight_of_expression, weight_of_iteration, weight_of_statement, weight_of_target}
 
 -- the weight of the entries of a range of a table is that of the first one plus that of the others
@@ -127,8 +127,6 @@ module _ (nodes : Nodes) (storage : Storage) where
         → bound ≤ limit
         → IsStatementForm nodes storage labels bound statement tree
         → weight_of_statement weight nodes statement ≡ typed.weight_of_statement tree
-    form_weighs limit weight bound statement tree weighs enough (IsLabel there) = refl
-    form_weighs limit weight bound statement tree weighs enough IsNull = refl
     form_weighs limit weight bound statement tree weighs enough (IsAssignment {range = range} {value = value} {trees = trees} {tree = from} are is) =
         let to = targets_weigh range.first range.count trees are in
         let one = expression_weighs value from is in
@@ -142,8 +140,6 @@ module _ (nodes : Nodes) (storage : Storage) where
         omega (arith, first, second, third)
     form_weighs limit weight bound statement tree weighs enough (IsReturn {value = value} {tree = result} is) =
         ap (λ n. 1 + n) (optional_weighs value result is)
-    form_weighs limit weight bound statement tree weighs enough IsHalt = refl
-    form_weighs limit weight bound statement tree weighs enough (IsGoto there) = refl
     form_weighs limit weight bound statement tree weighs enough (IsIf {condition = condition} {body = body} {otherwise = otherwise} {test = test} {then_tree = then_tree} {else_tree = else_tree} one two three) =
         let first = expression_weighs condition test one in
         let second = weighs bound body.index then_tree enough two in
@@ -163,6 +159,7 @@ module _ (nodes : Nodes) (storage : Storage) where
         let first = expression_weighs choice from one in
         let second = row_weighs limit weight bound range.first range.count trees weighs enough two in
         omega (arith, first, second)
+    form_weighs limit weight bound statement tree weighs enough other = refl
 
     -- with levels for all numbers below a bound
     within_weighs : (levels : ℕ) → Weighs levels (weight_within nodes levels)

@@ -14,10 +14,7 @@ ReferenceGoes ok (AtNumber number) = Unit {0}
 abbrev pub ItemGoes : (ok : ℕ → Type 0) → Item → Type 0
 ItemGoes ok (items.WithWord form reference) = ReferenceGoes ok reference
 ItemGoes ok (items.Address reference) = ReferenceGoes ok reference
-ItemGoes ok (items.Plain instruction) = Unit {0}
-ItemGoes ok (items.Byte value) = Unit {0}
-ItemGoes ok (items.Gap count) = Unit {0}
-ItemGoes ok (items.Mark label) = Unit {0}
+ItemGoes ok item = Unit {0}
 
 -- items refer only to these labels
 abbrev pub ItemsGo : (ok : ℕ → Type 0) → List Item → Type 0
@@ -27,11 +24,7 @@ ItemsGo ok (item ∷ others) = ItemGoes ok item × ItemsGo ok others
 -- a label is bound by an item, by one of items
 abbrev pub Binds : (label : ℕ) → Item → Type 0
 Binds label (items.Mark other) = label ≡ other
-Binds label (items.WithWord form reference) = ⊥
-Binds label (items.Address reference) = ⊥
-Binds label (items.Plain instruction) = ⊥
-Binds label (items.Byte value) = ⊥
-Binds label (items.Gap count) = ⊥
+Binds label item = ⊥
 
 abbrev pub ItemsBind : (label : ℕ) → List Item → Type 0
 ItemsBind label [] = ⊥

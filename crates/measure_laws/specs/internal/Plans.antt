@@ -2,6 +2,7 @@
 use Rattle.std.specs.Prelude.{◌≡◌, ◌⊎◌, ℕ, Bool, List, [], ◌∷◌, Some}
 use Rattle.asm8080.specs.declared.item.Item.{Item}
 use Rattle.treecode.specs.declared.lists.Range.{Range}
+use Rattle.treecode.specs.declared.module.TreeModule.{TreeModule}
 use Rattle.treecode.specs.declared.statement.StatementNumber.{StatementNumber}
 use Rattle.steps8080.specs.declared.facts.Facts.{Facts}
 use Rattle.steps8080.specs.declared.step.LabelNumber.{LabelNumber}
@@ -14,17 +15,13 @@ use Rattle.statements8080.specs.declared.plan.Planned.TheVariants as planned
 use Rattle.statements8080.specs.internal.Branches.{goto_label}
 use Rattle.codegen8080.specs.declared.meeting.Here.{Here}
 use Rattle.codegen8080.specs.internal.Generated.{IsCarriedOut, IsListCarriedOut}
+use Rattle.measure_laws.specs.internal.Footprints.{PartIsOf}
 use Rattle.measure_laws.specs.internal.ItemLabels.{ItemsBind, ItemsGo}
 
 -- a task refers to one of these labels, if it is a jump on a condition, and `others` holds
 abbrev pub TaskThen : (ok : ℕ → Type 0) → Task → Type 0 → Type 0
 TaskThen ok (tasks.Branch condition label sense) others = ok label.index × others
-TaskThen ok (tasks.Byte number) others = others
-TaskThen ok (tasks.Word number) others = others
-TaskThen ok (tasks.Effects number) others = others
-TaskThen ok (tasks.Address reference) others = others
-TaskThen ok (tasks.Store target is_wanted) others = others
-TaskThen ok (tasks.Call procedure arguments) others = others
+TaskThen ok task others = others
 
 -- planned steps refer only to these labels; the statements and the lists in them satisfy a condition
 abbrev pub PlanGoes :
@@ -34,24 +31,22 @@ PlanGoes ok statement list (planned.Code (steps.Part part) ∷ others) =
     TaskThen ok part.task (PlanGoes ok statement list others)
 PlanGoes ok statement list (planned.Code (steps.Jump form label) ∷ others) =
     ok label.index × PlanGoes ok statement list others
-PlanGoes ok statement list (planned.Code (steps.Mark label) ∷ others) = PlanGoes ok statement list others
-PlanGoes ok statement list (planned.Code (steps.Plain i) ∷ others) = PlanGoes ok statement list others
-PlanGoes ok statement list (planned.Code (steps.Word form place) ∷ others) = PlanGoes ok statement list others
-PlanGoes ok statement list (planned.Code (steps.CallRoutine routine) ∷ others) = PlanGoes ok statement list others
-PlanGoes ok statement list (planned.Code (steps.CallProcedure procedure) ∷ others) = PlanGoes ok statement list others
-PlanGoes ok statement list (planned.Code steps.TestA ∷ others) = PlanGoes ok statement list others
-PlanGoes ok statement list (planned.Code (steps.Holds held) ∷ others) = PlanGoes ok statement list others
-PlanGoes ok statement list (planned.Code steps.MemoryChanged ∷ others) = PlanGoes ok statement list others
 PlanGoes ok statement list (planned.Statement number ∷ others) = statement number × PlanGoes ok statement list others
 PlanGoes ok statement list (planned.List range ∷ others) = list range × PlanGoes ok statement list others
-PlanGoes ok statement list (planned.LoadByte reference ∷ others) = PlanGoes ok statement list others
-PlanGoes ok statement list (planned.LoadWord reference ∷ others) = PlanGoes ok statement list others
-PlanGoes ok statement list (planned.Jumped alone ∷ others) = PlanGoes ok statement list others
 PlanGoes ok statement list (planned.JumpOn label ∷ others) = ok label.index × PlanGoes ok statement list others
 PlanGoes ok statement list (planned.Turn other end ∷ others) = ok end.index × PlanGoes ok statement list others
-PlanGoes ok statement list (planned.Meet label ∷ others) = PlanGoes ok statement list others
-PlanGoes ok statement list (planned.Again label facts is_entered ∷ others) = PlanGoes ok statement list others
-PlanGoes ok statement list (planned.Reaches goes_on ∷ others) = PlanGoes ok statement list others
+PlanGoes ok statement list (step ∷ others) = PlanGoes ok statement list others
+
+-- a part of an expression, or a whole object that is loaded, is for a tree
+abbrev pub StepHas : TreeModule → Planned → Type 0
+StepHas tree (planned.Code (steps.Part part)) = PartIsOf tree part.task
+StepHas tree (planned.LoadByte reference) = PartIsOf tree (tasks.Address reference)
+StepHas tree (planned.LoadWord reference) = PartIsOf tree (tasks.Address reference)
+StepHas tree step = Unit {0}
+
+abbrev pub PlanHas : TreeModule → List Planned → Type 0
+PlanHas tree [] = Unit {0}
+PlanHas tree (step ∷ others) = StepHas tree step × PlanHas tree others
 
 -- a label is bound by a planned step, by one of planned steps
 abbrev pub PlannedBinds : (label : ℕ) → Planned → Type 0

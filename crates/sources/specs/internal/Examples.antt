@@ -11,8 +11,8 @@ use Rattle.trees.specs.Trees.{ListLeaf, LocationOrigin, RestrictedTree, ScalarIt
 use Rattle.names.specs.BuiltIns.{built_in_of}
 use Rattle.typed_trees.specs.declared.parts.AtAddress.TheVariants.{AtObject}
 use Rattle.typed_trees.specs.TypedTrees.{TypedProcedure, TypedModule}
-use Rattle.typing.specs.Checks.{Checked}
-use Rattle.typing.specs.Typing.{typing_of}
+use Rattle.typing.specs.internal.Checks.{Checked}
+use Rattle.typing.specs.internal.Typing.{typing_of}
 use Rattle.typing.specs.internal.Samples.{on_line, name_on, number_on, string_on, a_number, plain, arguments_of, item_with, scalar_item, data_item, array_item, alone, unlabelled, assigns, statements_of, declarations_of, heading_on, procedure_of, value_of, module_of}
 use Rattle.typing.specs.internal.Measures.{structures, sends}
 use Rattle.layout.specs.declared.fault.Fault.TheVariants.{DataTooLarge}

@@ -3,7 +3,7 @@ use Rattle.std.specs.Prelude.{◌≡◌, ℕ, List, [], ◌∷◌, map, Option, 
 use Rattle.trees.specs.declared.declaration.ScalarType.TheVariants.{Byte, Address}
 use Rattle.trees.specs.Trees.{ListLeaf, DeclareTree, ModuleTree}
 use Rattle.names.specs.BuiltIns.{built_in_of}
-use Rattle.typing.specs.Typing.{typing_of}
+use Rattle.typing.specs.internal.Typing.{typing_of}
 use Rattle.typing.specs.internal.Samples.{number_on, string_on, plain, scalar_item, data_item, alone, assigns, module_of}
 use Rattle.typing.specs.internal.Measures.{structures, placed_item}
 use Rattle.typed_trees.specs.TypedTrees.{TypedModule}

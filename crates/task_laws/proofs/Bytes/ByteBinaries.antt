@@ -1,7 +1,8 @@
 -- The low byte of operators with two operands.
-use Rattle.task_laws.proofs.Prelude.{◌≡◌, ℕ, ◌-◌, ◌*◌, ◌%◌, ◌<◌, ◌&&◌, Bool, true, false, [], ◌∷◌, ◌++◌, Option, Some, None, is_some, option_map, refl, sym, ap, ◌∙◌, subst, arith, and_parts, false≢true, none-some, ScalarType, BinaryOperator, ShiftFunction, RotateLeft, RotateRight, ShiftLeft, ShiftRight, type_of, type_of_result, BinaryNode, ShiftNode, TypedExpression, ShiftsIn, TypesHold, computed, Gave, then_do, result_of, shifted, turned, values_of, Operation, Add, Subtract, And, ExclusiveOr, Or, Expression, ExpressionForm, ExpressionNumber, Number, IsExpression, free_at, has_immediate, is_free_form, is_free_with, is_of_low_byte, known_of, memory_of_form, number_at, Facts, CallRoutine, low, Relation, is_free, number_of, relation_of, relation_of_form, scalar_of, fits_byte, fits_byte_by, low_number, byte_product_steps, outcome_value_steps, relation_outcome, relation_steps, relation_value_steps, value_setting, byte_binary_steps, byte_operation_steps, form_of, from_number_steps, in_form_steps, product_byte_steps, with_number_steps, by_number_steps, byte_routine, byte_shift_steps, operands_steps, knowing, low_of_word_steps, Context, IsSound, nodes_in, StepsStand, PartDoes, false_from_ne_true, mul_comm}
+use Rattle.task_laws.proofs.Prelude.{◌≡◌, ℕ, ◌-◌, ◌*◌, ◌%◌, ◌<◌, ◌&&◌, Bool, true, false, [], ◌∷◌, ◌++◌, Option, Some, None, is_some, option_map, refl, sym, ap, ◌∙◌, subst, arith, and_parts, false≢true, none-some, ScalarType, BinaryOperator, ShiftFunction, RotateLeft, RotateRight, ShiftLeft, ShiftRight, type_of, type_of_result, BinaryNode, ShiftNode, TypedExpression, ShiftsIn, TypesHold, computed, Gave, then_do, result_of, shifted, turned, values_of, Operation, Add, Subtract, And, ExclusiveOr, Or, Expression, ExpressionForm, ExpressionNumber, Number, IsExpression, free_at, has_immediate, is_free_form, is_free_with, is_of_low_byte, known_of, memory_of_form, number_at, Facts, CallRoutine, low, Relation, is_free, number_of, relation_of, relation_of_form, scalar_of, fits_byte, fits_byte_by, low_number, byte_product_steps, outcome_value_steps, relation_outcome, relation_steps, relation_value_steps, value_setting, byte_binary_steps, byte_operation_steps, form_of, from_number_steps, in_form_steps, product_byte_steps, with_number_steps, by_number_steps, byte_routine, byte_shift_steps, operands_steps, knowing, low_of_word_steps, Context, IsSound, nodes_in, StepsStand, PartDoes, false_from_ne_true, mul_comm, A, L, List, PairOrder, Plain, Step, append_assoc, computed_product_steps, copy, height_of, pair_order_by, word, product_order, pair_in_order_steps}
 use Rattle.trees.specs.declared.declaration.ScalarType.TheVariants as scalars
 use Rattle.trees.specs.declared.expression.BinaryOperator.TheVariants as operators
+use Rattle.runtime8080.specs.declared.routine.Routine.TheVariants as routines
 use Rattle.treecode.specs.declared.expression.ExpressionForm.TheVariants as forms
 use Rattle.task_laws.proofs.Bytes.ByteCode.{ByteCarried, OfOne}
 use Rattle.task_laws.proofs.Bytes.ByteNumbers.{from_number, low_of_result, with_number}
@@ -12,14 +13,17 @@ use Rattle.task_laws.proofs.Bytes.ByteShiftNumbers.{left_by_number, turned_by_nu
 use Rattle.task_laws.proofs.Bytes.ByteShiftsRight.{right_shifted}
 use Rattle.task_laws.proofs.Bytes.BytesAsked.{BytesAsked}
 use Rattle.task_laws.proofs.Machine.KnownOperands.{number_known, number_small, shift_fits}
-use Rattle.task_laws.proofs.Bytes.LowBytes.{low_word_law}
+use Rattle.task_laws.proofs.Bytes.LowBytes.{low_given, low_of_hl, low_word_law}
 use Rattle.task_laws.proofs.Machine.Nodes.{NodeOf, node_of}
-use Rattle.task_laws.proofs.Words.Pairs.{IsOperand, same_rest}
+use Rattle.task_laws.proofs.Words.Pairs.{IsOperand, pair_then, same_rest}
 use Rattle.task_laws.proofs.Ranges.Ranges.{value_fits}
 use Rattle.task_laws.proofs.Relations.RelationValues.{relation_value}
+use Rattle.task_laws.proofs.Machine.RoutineCalls.{routine_then}
 use Rattle.task_laws.proofs.Machine.SiteNodes.{free_is, number_is, value_in}
+use Rattle.task_laws.proofs.Machine.Stages.{does_same}
 use Rattle.task_laws.proofs.Bytes.TwoBytes.{IsSimple, result_by, result_small, two_bytes}
-use Rattle.task_laws.proofs.Words.WordSums.{second_known}
+use Rattle.task_laws.proofs.Words.WordRoutines.{multiplied}
+use Rattle.task_laws.proofs.Words.WordSums.{one_high, second_known, two_high}
 
 -- the node of an expression that is neither known nor in memory
 pub record IsElsewhere
@@ -173,20 +177,31 @@ module _
       IsElsewhere context facts number (forms.Binary operands operators.Multiply left right)
       (BinaryNode operands operators.Multiply first second)
       → StepsStand context (PartDoes context) facts from
-      (product_byte_steps (knowing context.site facts) number (record { left = left; right = right }) pushed) last to
+      (product_byte_steps (knowing context.site facts) (record { left = left; right = right }) pushed) last to
       → ByteCarried context facts number (BinaryNode operands operators.Multiply first second) pushed from last to
-  unfolding product_byte_steps low_number
+  unfolding product_byte_steps computed_product_steps low_number
   product_law node stand = by_right (number_of (knowing context.site facts) right) refl stand
     where
+      wish : Option PairOrder
+      wish =
+          product_order (fits_byte (knowing context.site facts) left) (fits_byte (knowing context.site facts) right)
+
+      by_routine : List Step
+      by_routine =
+          pair_in_order_steps (knowing context.site facts) left right wish pushed ++ (CallRoutine routines.Multiply ∷ [])
+
       product_small : (scalar : ScalarType) (n : ℕ) → n % values_of scalar < values_of scalar
       product_small scalars.Byte n = omega arith
       product_small scalars.Address n = omega arith
+
+      as_words : (scalar : ScalarType) (n : ℕ) → scalar ≡ scalars.Address → n % values_of scalar ≡ n % 65536
+      as_words scalar n same = ap (λ (of : ScalarType). n % values_of of) same
 
       by_left : (found : Option ℕ) → number_of (knowing context.site facts) left ≡ found
           → StepsStand context (PartDoes context) facts from
           (elim (option_map low found) [
             | Some n ↦ byte_product_steps right n pushed
-            | None ↦ low_of_word_steps number pushed
+            | None ↦ by_routine ++ (Plain (copy A L) ∷ [])
           ]) last to
           → ByteCarried context facts number (BinaryNode operands operators.Multiply first second) pushed from last to
       by_left (Some k) here given =
@@ -195,7 +210,23 @@ module _
           (λ w. ap (λ (n : ℕ). Some (n % values_of operands)) (mul_comm k w))
           (λ w fits. product_small operands (w * k)) (λ free. absurd (never_free node refl free)))
           (never_free node refl) given
-      by_left None here given = low_word_law number pushed sound node.is node.types (never_free node refl) given
+      by_left None here given = λ top base s r memory below room ready known nothing.
+          low_given number from s r memory sound node.is node.types (never_free node refl) ready
+          (pair_then context sound wish
+          (CallRoutine routines.Multiply ∷ Plain (copy A L) ∷ []) from s r memory one two below room
+          (one_high (height_of first) (height_of second) _ (omega arith))
+          (two_high (height_of first) (height_of second) _ (omega arith))
+          (subst (λ steps. StepsStand context (PartDoes context) facts from steps last to)
+          (append_assoc (pair_in_order_steps (knowing context.site facts) left right wish pushed)
+          (CallRoutine routines.Multiply ∷ []) (Plain (copy A L) ∷ [])) given)
+          (record { ready = ready; known = known })
+          (λ x y t now ended middle found fewer rest going_on has.
+          routine_then routines.Multiply (Plain (copy A L) ∷ []) now sound tt room (omega arith) rest going_on
+          (λ after last_memory stand_on going_last computes leaves.
+          let product : word after.h after.l ≡ (x * y) % 65536 =
+          multiplied (pair_order_by (knowing context.site facts) left right wish) x y now after has computes in
+          does_same (Gave ((x * y) % 65536) t) (ap (λ (n : ℕ). Gave n t) (as_words operands (x * y) node.types.0))
+          (low_of_hl ((x * y) % 65536) after sound stand_on going_last product))))
 
       by_right : (found : Option ℕ) → number_of (knowing context.site facts) right ≡ found
           → StepsStand context (PartDoes context) facts from
@@ -203,7 +234,7 @@ module _
             | Some n ↦ byte_product_steps left n pushed
             | None ↦ elim (option_map low (number_of (knowing context.site facts) left)) [
               | Some n ↦ byte_product_steps right n pushed
-              | None ↦ low_of_word_steps number pushed
+              | None ↦ by_routine ++ (Plain (copy A L) ∷ [])
             ]
           ]) last to
           → ByteCarried context facts number (BinaryNode operands operators.Multiply first second) pushed from last to

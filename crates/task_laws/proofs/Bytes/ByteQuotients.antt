@@ -1,5 +1,5 @@
 -- The low byte of operators with one operand that is a number, by their meaning; quotients and remainders.
-use Rattle.task_laws.proofs.Prelude.{◌≡◌, ℕ, ◌+◌, ◌-◌, ◌/◌, ◌%◌, ◌^◌, ◌<◌, ◌≤◌, ◌==◌, true, false, List, [], ◌∷◌, ◌++◌, Option, Some, None, is_some, option_and_then, bit_and, refl, sym, ap, ◌∙◌, subst, arith, if◌then◌else◌, ne_eqb, and_mask, pow_pos, mod-le, none-some, same_Some, and_mod, ScalarType, BinaryOperator, height_of, type_of, type_of_result, BinaryNode, TypedExpression, TypesHold, computed, SourceState, Outcome, Gave, result_of, values_of, And, A, E, Registers, State, word, Event, ExpressionNumber, Number, IsExpression, Does, at_place, gives, Facts, Part, CallRoutine, Plain, copy, low, is_free, number_of, power, power_of_two, LeftInHl, pair_steps, number_of_two, quotient_byte_steps, remainder_byte_steps, with_number_steps, low_byte_shifted_right_steps, knowing, low_of_word_steps, Context, IsSound, nodes_in, StepsStand, NoneThere, PartDoes, value_is_word, word_from_halves}
+use Rattle.task_laws.proofs.Prelude.{◌≡◌, ℕ, ◌+◌, ◌-◌, ◌/◌, ◌%◌, ◌^◌, ◌<◌, ◌≤◌, ◌==◌, true, false, [], ◌∷◌, ◌++◌, Option, Some, None, is_some, option_and_then, bit_and, refl, sym, ap, ◌∙◌, subst, arith, if◌then◌else◌, ne_eqb, and_mask, pow_pos, mod-le, none-some, same_Some, and_mod, ScalarType, BinaryOperator, height_of, type_of, type_of_result, BinaryNode, TypedExpression, TypesHold, computed, Gave, result_of, values_of, And, A, E, word, ExpressionNumber, Number, IsExpression, gives, Facts, CallRoutine, Plain, copy, low, is_free, number_of, power, power_of_two, LeftInHl, pair_steps, number_of_two, quotient_byte_steps, remainder_byte_steps, with_number_steps, low_byte_shifted_right_steps, knowing, Context, IsSound, nodes_in, StepsStand, PartDoes, value_is_word, word_from_halves, L, append_assoc, division_steps}
 use Rattle.trees.specs.declared.declaration.ScalarType.TheVariants as scalars
 use Rattle.trees.specs.declared.expression.BinaryOperator.TheVariants as operators
 use Rattle.runtime8080.specs.declared.routine.Routine.TheVariants as routines
@@ -7,13 +7,12 @@ use Rattle.task_laws.proofs.Bytes.ByteCode.{ByteCarried, OfOne}
 use Rattle.task_laws.proofs.Bytes.ByteNumbers.{with_number}
 use Rattle.task_laws.proofs.Bytes.ByteShiftsRight.{right_shifted}
 use Rattle.task_laws.proofs.Machine.KnownOperands.{number_known, number_small, quotient_less}
-use Rattle.task_laws.proofs.Bytes.LowBytes.{low_given, low_word_law}
+use Rattle.task_laws.proofs.Bytes.LowBytes.{low_given, low_of_hl, low_of_pair, nothing_more}
 use Rattle.task_laws.proofs.Words.Multiples.{power_is}
 use Rattle.task_laws.proofs.Words.Pairs.{IsOperand, pair_then, same_rest}
 use Rattle.task_laws.proofs.Ranges.Ranges.{value_fits}
 use Rattle.task_laws.proofs.Machine.RegisterCode.{registers_then}
 use Rattle.task_laws.proofs.Machine.RoutineCalls.{routine_then}
-use Rattle.task_laws.proofs.Machine.Rules.{GoesOn}
 use Rattle.task_laws.proofs.Machine.SiteNodes.{value_in}
 use Rattle.task_laws.proofs.Words.WordRoutines.{divided_does, some_of}
 use Rattle.task_laws.proofs.Words.WordSums.{first_known, one_high, second_known, two_high}
@@ -141,21 +140,6 @@ remainder_byte v count n same small =
     ap (λ mask. bit_and (v % 256) mask) (one_below n (2 ^ count) same (pow_pos count) small)
     ∙ sym (and_mod v (2 ^ count - 1) 8) ∙ ap (λ m. m % 256) (and_mask v count)
 
-low_of_pair : (d e n : ℕ) → e < 256 → word d e ≡ n → e ≡ n % 256
-low_of_pair d e n small same = omega (arith, small, same)
-
--- no step is left
-nothing_more :
-    {A : Type 0} {context : Context} {PartIs : (before : Facts) → Part → (from : ℕ) → (after : Facts) → (to : ℕ) → Type 0}
-    {facts last : Facts} {from to top budget more : ℕ} {base source memory : List ℕ} {frame : List (List ℕ)}
-    {r : Registers} {events : List Event} {outcome : Outcome A} {Good : A → SourceState → State → Type 0}
-    → StepsStand context PartIs facts from [] last to
-    → GoesOn context facts top base source frame r memory
-    → (GoesOn context last top base source frame r memory
-    → Does context.activation.around.program.script budget more (at_place to r memory events) outcome Good)
-    → Does context.activation.around.program.script budget more (at_place from r memory events) outcome Good
-nothing_more NoneThere going rest = rest going
-
 module _
     (context : Context) {facts last : Facts} {from to pushed bound : ℕ} {left right : ExpressionNumber}
     {first second : TypedExpression} (number : ExpressionNumber) (operands : ScalarType) (sound : IsSound context)
@@ -167,18 +151,19 @@ module _
       IsExpression (nodes_in context) context.storage bound number.index (BinaryNode operands operators.Divide first second)
       → TypesHold context.typed context.within (BinaryNode operands operators.Divide first second)
       → StepsStand context (PartDoes context) facts from
-      (quotient_byte_steps (knowing context.site facts) number
-      (record { left = left; right = right }) pushed) last to
+      (quotient_byte_steps (knowing context.site facts) (record { left = left; right = right }) pushed) last to
       → ByteCarried context facts number
       (BinaryNode operands operators.Divide first second) pushed from last to
-  unfolding quotient_byte_steps
+  unfolding quotient_byte_steps division_steps
   quotient_law is types stand = by (power (knowing context.site facts) right) refl stand
     where
       by : (found : Option ℕ) → power (knowing context.site facts) right ≡ found
           → StepsStand context (PartDoes context) facts from
           (elim found [
             | Some count ↦ low_byte_shifted_right_steps (knowing context.site facts) left count pushed
-            | None ↦ low_of_word_steps number pushed
+            | None ↦
+                (pair_steps (knowing context.site facts) left right true pushed ++ (CallRoutine routines.Divide ∷ []))
+                ++ (Plain (copy A L) ∷ [])
           ]) last to
           → ByteCarried context facts number
           (BinaryNode operands operators.Divide first second) pushed from last to
@@ -191,7 +176,26 @@ module _
           (result_at_most (type_of first) v (v / 2 ^ count) (quotient_less v (2 ^ count)) fits))
           (λ free. absurd (not_free free)))
           (λ wide free. not_free free) given
-      by None here given = low_word_law number pushed sound is types not_free given
+      by None here given = λ top base s r memory below room ready known nothing.
+          low_given number from s r memory sound is types not_free ready
+          (pair_then context sound (Some LeftInHl)
+          (CallRoutine routines.Divide ∷ Plain (copy A L) ∷ []) from s r memory one two below room
+          (one_high (height_of first) (height_of second) _ (omega arith))
+          (two_high (height_of first) (height_of second) _ (omega arith))
+          (subst (λ steps. StepsStand context (PartDoes context) facts from steps last to)
+          (append_assoc (pair_steps (knowing context.site facts) left right true pushed) (CallRoutine routines.Divide ∷ [])
+          (Plain (copy A L) ∷ [])) given)
+          (record { ready = ready; known = known })
+          (λ x y t now ended middle found fewer rest going_on has.
+          divided_does y (x / y)
+          (λ some.
+          routine_then routines.Divide (Plain (copy A L) ∷ []) now sound tt room (omega arith) rest going_on
+          (λ after last_memory stand_on going_last computes leaves.
+          let quotient : word after.h after.l ≡ x / y = computes.0 (x / y)
+          (ap (λ n. result_of scalars.Address operators.Divide n (word now.d now.e)) (word_from_halves x now.h now.l has.h has.l)
+          ∙ ap (λ n. result_of scalars.Address operators.Divide x n) (word_from_halves y now.d now.e has.d has.e)
+          ∙ some_of y (x / y) some) in
+          low_of_hl (x / y) after sound stand_on going_last quotient))))
 
   -- a remainder
   pub remainder_law :

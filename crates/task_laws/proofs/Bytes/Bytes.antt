@@ -12,7 +12,7 @@ use Rattle.task_laws.proofs.Bytes.BytesThere.{there_law}
 use Rattle.task_laws.proofs.Stores.EmbeddedBytes.{embedded_byte, embedded_low_byte}
 use Rattle.task_laws.proofs.Bytes.HighHalves.{high_byte_law}
 use Rattle.task_laws.proofs.Machine.KnownOperands.{high_fits, word_fits}
-use Rattle.task_laws.proofs.Bytes.LowBytes.{called_law, input_law, low_word_law}
+use Rattle.task_laws.proofs.Bytes.LowBytes.{called_law, input_law, location_law}
 use Rattle.task_laws.proofs.Machine.Nodes.{NodeOf, node_of}
 use Rattle.task_laws.proofs.Ranges.Ranges.{value_fits}
 use Rattle.task_laws.proofs.Machine.SiteNodes.{free_is, value_in}
@@ -100,8 +100,8 @@ module _ (context : Context) (sound : IsSound context) (asked : BytesAsked conte
   form_law IsNumber node stand = absurd (none-some _ (sym node.unknown))
   form_law IsConstantList node stand = absurd (none-some _ (sym node.unknown))
   form_law (IsValue reference) node stand = absurd (none-some _ (sym node.elsewhere))
-  form_law {number = number} {pushed = pushed} (IsLocation reference) node stand =
-      low_word_law number pushed sound node.is node.types (never_free node refl) stand
+  form_law {number = number} (IsLocation reference) node stand =
+      location_law number sound reference node.is node.types (never_free node refl) stand
   form_law {number = number} (IsConversion {inner = inner} {scalar = scalar} {tree = inside} is) node stand =
       byte_makes context sound
       (of_part {number = number} {tree = ConversionNode scalar inside} (as_type scalar) is node.types (omega arith) (λ t. refl)

@@ -1,15 +1,19 @@
 -- The low byte of values that are computed through HL, of calls and of ports.
-use Rattle.task_laws.proofs.Prelude.{◌≡◌, ℕ, ◌*◌, ◌%◌, true, List, [], ◌∷◌, ◌++◌, Some, refl, sym, subst, arith, ScalarType, height_of, type_of, CallNode, InputNode, TypedArguments, TypedExpression, Takes, TypesHold, TypesHoldInArguments, SourceState, Outcome, Gave, values_of, In, A, L, Registers, State, ExpressionNumber, Range, AreArguments, IsExpression, Arrives, IsReady, Does, at_place, gives, Facts, Plain, copy, is_free, low_of_value_steps, call_steps, knowing, low_of_word_steps, Context, InRegister, IsSound, nodes_in, StepsStand, PlainThere, ByteIsGiven, Know, PartDoes, byte_as_low, byte_is_low}
+use Rattle.task_laws.proofs.Prelude.{◌≡◌, ℕ, ◌*◌, ◌%◌, ◌<◌, true, List, [], ◌∷◌, ◌++◌, Some, refl, sym, ◌∙◌, subst, arith, ScalarType, height_of, type_of, CallNode, InputNode, TypedArguments, TypedExpression, Takes, TypesHold, TypesHoldInArguments, SourceState, Outcome, Gave, values_of, In, A, L, Registers, State, ExpressionNumber, Range, AreArguments, IsExpression, Arrives, IsReady, Does, at_place, gives, Facts, Plain, copy, is_free, low_of_value_steps, call_steps, knowing, low_of_word_steps, Context, InRegister, IsSound, nodes_in, StepsStand, PlainThere, ByteIsGiven, Know, PartDoes, byte_as_low, byte_is_low, Event, IsReference, LocationNode, NoneThere, Part, PartThere, Reference, TypedReference, address_in_memory, height_of_reference, part_of, word}
 use Rattle.trees.specs.declared.declaration.ScalarType.TheVariants as scalars
+use Rattle.steps8080.specs.declared.step.Task.TheVariants as tasks
 use Rattle.task_laws.proofs.Branches.Branches.{given_itself}
 use Rattle.task_laws.proofs.Bytes.ByteCode.{ByteCarried, OfOne, at_last_instructions, byte_of_word, with_outcome}
 use Rattle.task_laws.proofs.Bytes.ByteForms.{byte_given}
 use Rattle.task_laws.proofs.Calls.Calls.{call_does}
 use Rattle.task_laws.proofs.Machine.EffectForms.{input_goes}
 use Rattle.task_laws.proofs.Ranges.Ranges.{ready_fits, value_fits}
-use Rattle.task_laws.proofs.Machine.Rules.{Parted, split, room_for}
+use Rattle.task_laws.proofs.Machine.RegisterCode.{registers_then}
+use Rattle.task_laws.proofs.Machine.Rules.{GoesOn, Parted, room_for, split}
 use Rattle.task_laws.proofs.Machine.SiteNodes.{value_in}
 use Rattle.task_laws.proofs.Machine.Stages.{Stage, at_end, gives_then, script_of}
+use Rattle.task_laws.proofs.Machine.Values.{then_does_where}
+use Rattle.task_laws.proofs.Words.WordValues.{location_is, location_is_referred}
 
 -- through HL
 pub low_word_law :
@@ -72,6 +76,67 @@ low_given {context = context} {tree = tree} number from s r memory sound is type
         free = λ free. absurd (not_free free);
       };
     })
+
+pub low_of_pair : (d e n : ℕ) → e < 256 → word d e ≡ n → e ≡ n % 256
+low_of_pair d e n small same = omega (arith, small, same)
+
+-- no step is left
+pub nothing_more :
+    {A : Type 0} {context : Context} {PartIs : (before : Facts) → Part → (from : ℕ) → (after : Facts) → (to : ℕ) → Type 0}
+    {facts last : Facts} {from to top budget more : ℕ} {base source memory : List ℕ} {frame : List (List ℕ)}
+    {r : Registers} {events : List Event} {outcome : Outcome A} {Good : A → SourceState → State → Type 0}
+    → StepsStand context PartIs facts from [] last to
+    → GoesOn context facts top base source frame r memory
+    → (GoesOn context last top base source frame r memory
+    → Does context.activation.around.program.script budget more (at_place to r memory events) outcome Good)
+    → Does context.activation.around.program.script budget more (at_place from r memory events) outcome Good
+nothing_more NoneThere going rest = rest going
+
+-- the low byte of a value in HL, which ends the code
+pub low_of_hl :
+    {context : Context} {facts last : Facts} {from to top : ℕ} {base before memory : List ℕ} {r : Registers}
+    {t : SourceState} (found : ℕ) (now : Registers)
+    → IsSound context
+    → StepsStand context (PartDoes context) facts from (Plain (copy A L) ∷ []) last to
+    → GoesOn context facts top base t.memory t.frame now memory
+    → word now.h now.l ≡ found
+    → Does (script_of context) t.budget 0 (at_place from now memory t.events) (Gave found t)
+    (Arrives context.activation top base to (LowIsGiven context last r before))
+low_of_hl {memory = memory} found now sound stand going same =
+    registers_then (copy A L ∷ []) [] now sound (tt, tt) stand going
+    (λ middle middle_facts ends going_end.
+    nothing_more ends going_end
+    (λ going_last. gives (record {
+      r = record now { a = now.l };
+      memory = memory;
+      is_at = refl;
+      ready = going_last.ready;
+      holds = record { a = low_of_pair now.h now.l found going.ready.registers.l same; known = going_last.known };
+    })))
+
+-- a location
+pub location_law :
+    {context : Context} {facts last : Facts} {reference : Reference} {part : TypedReference}
+    {bound bound_of pushed from to : ℕ} (number : ExpressionNumber)
+    → IsSound context
+    → IsReference (nodes_in context) context.storage bound reference part
+    → IsExpression (nodes_in context) context.storage bound_of number.index (LocationNode part)
+    → TypesHold context.typed context.within (LocationNode part)
+    → (is_free context.site number ≡ true → ⊥)
+    → StepsStand context (PartDoes context) facts from
+    (part_of (tasks.Address reference) pushed ∷ Plain (copy A L) ∷ []) last to
+    → ByteCarried context facts number (LocationNode part) pushed from last to
+location_law {context = context} {last = last} {part = part} {bound = bound} {from = from} {to = to} number sound is node types not_free (PartThere does rest) top base s r memory below room ready known nothing =
+    low_given number from s r memory sound node types not_free ready
+    (then_does_where
+    (does bound part is (location_is_referred context part types.0) types.1 top base s r memory below
+    (room_for (2 * height_of_reference part) (omega arith) room) ready known tt)
+    (λ place t end same given fewer.
+    let address : ℕ = address_in_memory place in
+    subst (λ (state : State). Does (script_of context) t.budget 0 state (Gave address t)
+    (Arrives context.activation top base to (LowIsGiven context last r memory))) (sym given.is_at)
+    (low_of_hl address given.r sound rest (record { ready = given.ready; known = (given.holds).known })
+    ((given.holds).hl ∙ sym (location_is context part place s t sound types.0 same)))))
 
 -- INPUT
 pub input_law :

@@ -1,5 +1,5 @@
 -- Products and differences in HL.
-use Rattle.task_laws.proofs.Prelude.{◌≡◌, ℕ, ◌+◌, ◌-◌, ◌*◌, ◌%◌, ◌<◌, ◌≤◌, max, false, if◌then◌else◌, List, [], ◌∷◌, ◌++◌, Option, Some, None, is_some, refl, sym, ap, ◌∙◌, subst, arith, Address, height_of, type_of, TypedExpression, value, SourceState, Gave, then_do, Operation, Subtract, SubtractWithBorrow, Registers, ExpressionNumber, Place, Number, number_of_place, known_number, Nodes, keeps_at, keeps_none, keeps_of_binary, number_at, Does, at_place, Arrives, HasRoom, Facts, CallRoutine, part_of, plain, keeps, known, number_of, fits_byte, PairOrder, LeftInHl, RightInHl, addition_steps, pair_in_order_steps, product_steps, Operands, knowing, difference_steps, left_word, paired_steps, product_order, product_word_steps, taken_from_number_steps, with_word_steps, Context, IsSound, nodes_in, StepsStand, PartDoes, WordIsGiven}
+use Rattle.task_laws.proofs.Prelude.{◌≡◌, ℕ, ◌+◌, ◌-◌, ◌*◌, ◌%◌, ◌<◌, ◌≤◌, max, false, if◌then◌else◌, List, [], ◌∷◌, ◌++◌, Option, Some, None, is_some, refl, sym, ap, ◌∙◌, subst, arith, Address, height_of, type_of, TypedExpression, value, SourceState, Gave, then_do, Operation, Subtract, SubtractWithBorrow, Registers, ExpressionNumber, Place, Number, number_of_place, known_number, Nodes, keeps_at, keeps_none, keeps_of_binary, number_at, Does, at_place, Arrives, HasRoom, Facts, CallRoutine, part_of, plain, keeps, known, number_of, fits_byte, PairOrder, LeftInHl, RightInHl, addition_steps, pair_in_order_steps, product_steps, Operands, knowing, difference_steps, left_word, paired_steps, product_order, product_word_steps, taken_from_number_steps, with_word_steps, Context, IsSound, nodes_in, StepsStand, PartDoes, WordIsGiven, computed_product_steps}
 use Rattle.trees.specs.declared.expression.BinaryOperator.TheVariants as operators
 use Rattle.runtime8080.specs.declared.routine.Routine.TheVariants as routines
 use Rattle.steps8080.specs.declared.step.Task.TheVariants as tasks
@@ -107,7 +107,7 @@ pub product_does :
     (λ x t. then_do (value context.later context.activation.around second t)
     (λ y u. Gave ((x * y) % 65536) u)))
     (Arrives context.activation top base to (WordIsGiven context last number Address r memory))
-unfolding product_word_steps
+unfolding product_word_steps computed_product_steps
 product_does {context = context} {pushed = pushed} {top = top} {need = need} {to = to} {base = base} {facts = facts} {last = last} {first = first} {second = second} operands number from s r memory sound words kept less room height stand going =
     by_right (number_of (knowing context.site facts) operands.right) refl stand
   where

@@ -30,7 +30,7 @@ word_given_by n h l one two same r hh ll =
     let is = has_word n h l one two same in record { h = hh ∙ is.0; l = ll ∙ is.1 }
 
 -- a product, with its operands in either order
-multiplied : (order : PairOrder) (x y : ℕ) (before after : Registers)
+pub multiplied : (order : PairOrder) (x y : ℕ) (before after : Registers)
     → HasPair order x y before
     → result_of Address Multiply (word before.h before.l) (word before.d before.e) ≡ Some (word after.h after.l)
     → word after.h after.l ≡ (x * y) % 65536

@@ -96,7 +96,7 @@ based_location context object bytes is_inside found place s u sound is has same 
     by_kind Elsewhere has same = in_memory _ (same_given same)
     by_kind Nowhere has same = in_memory _ (same_given same)
 
-location_is :
+pub location_is :
     (context : Context) (tree : TypedReference) (place : Place) (s u : SourceState)
     → IsSound context
     → RefersToLocation context.typed context.within tree
@@ -114,7 +114,7 @@ location_is context (PartOf object subscript member offset member_subscript) pla
     based_location context object ((one.first).bytes + offset + (two.first).bytes)
     ((one.first).is_inside && (two.first).is_inside) its.found place two.t u sound its.is its.holds.1 two.next
 
-location_is_referred :
+pub location_is_referred :
     (context : Context) (tree : TypedReference)
     → RefersToLocation context.typed context.within tree
     → IsReferred context tree

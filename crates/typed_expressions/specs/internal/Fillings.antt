@@ -16,8 +16,9 @@ use Rattle.typing.specs.declared.fault.Cause.TheVariants.{ImpliedWithoutValues}
 use Rattle.typing.specs.References.{Known}
 use Rattle.trees.specs.declared.identifier.Place.{Place}
 use Rattle.trees.specs.Trees.{RestrictedTree}
-use Rattle.typing.specs.Checks.{Checked, ◌>>=◌, require}
-use Rattle.typing.specs.Filling.{Reach, ThisModule, OtherModulesToo, RestrictedValue, ANumber, FromObject, Filled, fill, elements_for}
+use Rattle.typing.specs.internal.Checks.{Checked, ◌>>=◌, require}
+use Rattle.typing.specs.Filling.{Reach, ThisModule, OtherModulesToo, RestrictedValue, ANumber, FromObject, Filled, elements_for}
+use Rattle.typing.specs.internal.FillingChecks.{fill}
 
 abbrev pub reach_view : CodeReach → Reach
 reach_view reaches.ThisModule = ThisModule

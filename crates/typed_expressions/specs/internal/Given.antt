@@ -19,15 +19,15 @@ use Rattle.typing.specs.declared.fault.Fault.{Fault}
 use Rattle.typed_expressions.specs.declared.functions.Measured.{Measured as CodeMeasured}
 use Rattle.typed_expressions.specs.declared.members.MemberPlace.{MemberPlace}
 use Rattle.typed_expressions.specs.declared.references.FoundScalar.{FoundScalar}
-use Rattle.typing.specs.Checks.{Checked, ◌>>=◌, found}
-use Rattle.typing.specs.Results.{FailsBy, fault_in}
+use Rattle.typing.specs.internal.Checks.{Checked, ◌>>=◌, found}
+use Rattle.typing.specs.internal.Results.{FailsBy, fault_in}
 use Rattle.typed_expressions.specs.declared.references.Extent.{Extent as CodeExtent}
 use Rattle.typed_expressions.specs.declared.references.Extent.TheVariants as extents
 use Rattle.typed_expressions.specs.declared.references.FoundPart.{FoundPart as CodePart}
-use Rattle.typing.specs.References.{Given, GivenMember, WithoutMember, WithMember, GivenReference, Extent, AnElement, AlsoTheWhole, FoundPart, place_of, members_of, subscript_of}
+use Rattle.typing.specs.internal.ReferenceChecks.{Given, GivenMember, WithoutMember, WithMember, GivenReference, FoundPart, subscript_of}
+use Rattle.typing.specs.References.{Extent, AnElement, AlsoTheWhole, place_of, members_of, Measured}
 use Rattle.typing.specs.Nodes.{as_type}
-use Rattle.typing.specs.Expressions.{arguments}
-use Rattle.typing.specs.Functions.{Measured}
+use Rattle.typing.specs.internal.Expressions.{arguments}
 use Rattle.typed_expressions.specs.Views.{known_view}
 
 abbrev pub extent_view : CodeExtent → Extent

@@ -2,7 +2,7 @@
 use Rattle.types.proofs.Prelude.{◌≡◌, ℕ, ◌&&◌, Bool, true, false, List, [], ◌∷◌, ◌++◌, map, Option, None, Some, option_map, option_map_or, is_none, is_some, not, nat_lt, if◌then◌else◌, refl, sym, ap, ◌∙◌, subst, append_assoc, append-nil, Gives, gives_ok, gives_after, in_turn, then_more, ItemTree, Member, TypedMember, has_member, DeclaredTwice, ParameterNotScalar, NoBase, MisplacedAt, MisplacedValues, BasedParameter, ImpliedForGroup, ZeroDimension, ImpliedWithoutValues, require, place_of, Block, is_external_linkage, TypedItem, place_of_item, member_dimension, typed_item, typed_members, FitsDimension, first_word, member_of, type_of_item, word_of_home, word_of_item, SaysNothing, Place}
 use Rattle.trees.specs.{Trees.{AtTree, ItemTypeTree, RestrictedTree, ScalarItem, StructureItem, SubjectTree, ValueListTree}, declared.declaration.Dimension.{Dimension, TheVariants.{Count, Implied}}, declared.identifier.{Identifier.{Identifier}, Number.{Number}}}
 use Rattle.typed_trees.specs.{Sizes.{scalars_of_element, scalars_of_elements}, TypedTrees.{BasedOn, Elsewhere, Home, InConstants, InData, InFrame, Nowhere, ObjectType, Placed, StructureObject}, declared.parts.{AtAddress.{AtAddress}, InitialValue.{InitialValue}}}
-use Rattle.typing.specs.{Blocks.{OfProcedure, Owner, TheModule}, Filling.{AsListed, Contents, Elements, Extents, NoArray, at_address, contents, contents_as_listed, elements_for, enough_elements, fill}, Items.{base_of, check_linkage, extents_of, home_in, home_of, home_with_values, is_base, is_data, is_group, is_plain, names_parameter, object_bound, place_of_storage, typed_at, typed_base, typed_contents, typed_type}, References.{Known, bound, object_of}}
+use Rattle.typing.specs.{Blocks.{OfProcedure, Owner, TheModule}, Filling.{AsListed, Contents, Elements, Extents, NoArray, elements_for, enough_elements}, Items.{base_of, home_in, home_of, home_with_values, is_base, is_data, is_group, is_plain, names_parameter, place_of_storage}, References.{Known}, internal.FillingChecks.{at_address, contents, contents_as_listed, fill}, internal.ItemChecks.{check_linkage, extents_of, object_bound, typed_at, typed_base, typed_contents, typed_type}, internal.ReferenceChecks.{bound, object_of}}
 
 -- BASED
 base_is : (known : Known) (block : Block) (subject : SubjectTree) (name : Option Identifier)

@@ -4,7 +4,7 @@ use Rattle.trees.specs.Trees as trees
 use Rattle.trees.specs.Trees.{DeclarationTree, DeclareTree, ElseTree, LabelledStatement, MoreDeclarations, NoDeclarations, ProcedureTree, StatementKindTree}
 use Rattle.names.specs.{Environment.{into_block, into_list, out_of_block, out_of_list}, Events.{labels_of}}
 use Rattle.typed_trees.specs.TypedTrees.{TypedElse, TypedObject}
-use Rattle.typing.specs.{Expressions.{arguments}, Procedures.{check_body, own_block}, References.{Known}, Statements.{without_label}, Typing.{declaration, else_part, entered, inner_block, kind}}
+use Rattle.typing.specs.{Modules.{entered, inner_block}, Procedures.{own_block}, References.{Known}, internal.Expressions.{arguments}, internal.ProcedureChecks.{check_body}, internal.StatementChecks.{without_label}, internal.Typing.{declaration, else_part, kind}}
 use Rattle.typing.proofs.DeclarationsBack.{declare_elements-walk, open_procedure-opens}
 use Rattle.typing.proofs.Parameters.{Opening.{opens}, ParametersOfTexts.{assignment_same, call_same, goto_same, iteration_same, return_same, value_same}}
 use Rattle.typing.proofs.Tables.{at_the_start-fits, into_block-fits, into_list-fits, out_of_block-fits, out_of_list-fits}

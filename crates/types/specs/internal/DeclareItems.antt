@@ -11,11 +11,13 @@ use Rattle.typed_trees.specs.declared.parts.GlobalItem.TheVariants.{GlobalObject
 use Rattle.typed_trees.specs.declared.limits.TheConstants.{FRAME_LIMIT, OBJECT_LIMIT}
 use Rattle.typed_trees.specs.TypedTrees.{ObjectType, StructureObject, TypedObject}
 use Rattle.typed_trees.specs.Views.{home_view}
-use Rattle.typing.specs.Checks.{Checked, ◌>>=◌, require}
-use Rattle.typing.specs.References.{Known, bound, place_of, object_of}
+use Rattle.typing.specs.internal.Checks.{Checked, ◌>>=◌, require}
+use Rattle.typing.specs.References.{Known, place_of}
+use Rattle.typing.specs.internal.ReferenceChecks.{bound, object_of}
 use Rattle.typing.specs.Filling.{Extents, AsListed}
 use Rattle.typing.specs.Blocks.{Block, Progress, with_global}
-use Rattle.typing.specs.Items.{TypedItem, declare_names, bytes_in_frame, check_linkage, home_of, is_base, is_group, place_of_item, object_bound, size_of_item, typed_at, typed_contents, typed_item, typed_members, with_constant, with_objects}
+use Rattle.typing.specs.Items.{TypedItem, bytes_in_frame, home_of, is_base, is_group, place_of_item, size_of_item, with_constant}
+use Rattle.typing.specs.internal.ItemChecks.{declare_names, check_linkage, object_bound, typed_at, typed_contents, typed_item, typed_members, with_objects}
 use Rattle.types.specs.declared.items.PlacedItem.{PlacedItem}
 use Rattle.typing.specs.Statements.{with_here}
 

@@ -13,15 +13,19 @@ use Rattle.typed_trees.specs.Views.{list_view}
 use Rattle.typing.specs.declared.fault.Cause.TheVariants.{DeclaredTwice, NoCounter, NestedProcedure}
 use Rattle.types.specs.declared.statements.Counter.{Counter as CodeCounter}
 use Rattle.types.specs.declared.procedures.Inside.{Inside}
-use Rattle.typing.specs.Checks.{Checked, ◌>>=◌, require, found}
+use Rattle.typing.specs.internal.Checks.{Checked, ◌>>=◌, require, found}
 use Rattle.typing.specs.Nodes.{Destination, target_of}
-use Rattle.typing.specs.References.{Known, Given, place_of, scalar_of, is_writable}
-use Rattle.typing.specs.Expressions.{arguments}
+use Rattle.typing.specs.References.{Known, place_of, scalar_of}
+use Rattle.typing.specs.internal.ReferenceChecks.{Given, is_writable}
+use Rattle.typing.specs.internal.Expressions.{arguments}
 use Rattle.typing.specs.Items.{is_not_based}
 use Rattle.typing.specs.Blocks.{OfProcedure, Block, Progress, is_reentrant, is_external}
-use Rattle.typing.specs.Statements.{with_here, call, Counter, labels_before, declare_labels, list_of}
-use Rattle.typing.specs.Procedures.{declare_parameters, no_more_parameters, check_visibility, check_reentrant, parameter_objects, check_body, close_procedure}
-use Rattle.typing.specs.Typing.{labelled, statements, declarations, module_block}
+use Rattle.typing.specs.Statements.{with_here, labels_before}
+use Rattle.typing.specs.internal.StatementChecks.{call, Counter, declare_labels, list_of}
+use Rattle.typing.specs.internal.ProcedureChecks.{declare_parameters, no_more_parameters, check_visibility, check_reentrant, parameter_objects, check_body}
+use Rattle.typing.specs.Procedures.{close_procedure}
+use Rattle.typing.specs.internal.Typing.{labelled, statements, declarations}
+use Rattle.typing.specs.Modules.{module_block}
 
 -- arguments as they stand in the text, where that is known
 abbrev pub given_in : Known → ArgumentTrees → Given

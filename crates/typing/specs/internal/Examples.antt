@@ -8,8 +8,8 @@ use Rattle.names.specs.BuiltIns.{built_in_of}
 use Rattle.typing.specs.declared.fault.Cause.TheVariants.{UnknownName, DeclaredTwice, SubscriptMismatch, PortTooLarge, ConstantWritten, MisplacedLabel, UnknownLabel}
 use Rattle.typed_trees.specs.declared.parts.NumberOrigin.TheVariants.{FromDigits}
 use Rattle.typed_trees.specs.TypedTrees.{NumberNode, ValueNode, LocationNode, ListNode, ConversionNode, UnaryNode, BinaryNode, InputNode, TypedReference, PartOf, NoSubscript, At, StoredIn, SentTo, TypedStatement, LabelStatement, NullStatement, AssignmentStatement, GotoStatement, NoStatements, MoreStatements, TypedList, ListOf, TypedModule}
-use Rattle.typing.specs.Checks.{Checked, ◌>>=◌, refuse}
-use Rattle.typing.specs.Typing.{typing_of}
+use Rattle.typing.specs.internal.Checks.{Checked, ◌>>=◌, refuse}
+use Rattle.typing.specs.internal.Typing.{typing_of}
 use Rattle.typing.specs.internal.Samples.{on_line, name_on, number_on, string_on, a_number, plain, at_subscript, value_of, scalar_item, unlabelled, assigns, statements_of, module_of, doing}
 
 -- the statements of the main program of a module

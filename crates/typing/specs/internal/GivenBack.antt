@@ -4,8 +4,8 @@ use Rattle.trees.specs.declared.expression.BinaryOperator.TheVariants.{Add}
 use Rattle.trees.specs.Trees.{ConstantLeaf, LocationLeaf, ListLeaf, ParenthesizedNode, AssignmentNode, ReferenceTo, MemberOf, BinaryNode as Binary, LabelledStatement, GotoStatement as Goto, IterateStatement as Iterate, IfStatement as If, NoElse, StatementTrees, ModuleTree}
 use Rattle.names.specs.BuiltIns.{built_in_of}
 use Rattle.typed_trees.specs.TypedTrees.{TypedModule}
-use Rattle.typing.specs.Checks.{Checked, ◌>>=◌}
-use Rattle.typing.specs.Typing.{typing_of}
+use Rattle.typing.specs.internal.Checks.{Checked, ◌>>=◌}
+use Rattle.typing.specs.internal.Typing.{typing_of}
 use Rattle.typing.specs.Untyped.{untyped_bodies, plain_bodies}
 use Rattle.typing.specs.internal.Samples.{on_line, name_on, number_on, string_on, a_number, plain, arguments_of, at_subscript, value_of, unlabelled, assigns, statements_of, module_of, doing}
 use Rattle.typing.specs.internal.Measures.{structures, two_procedures, even_module}

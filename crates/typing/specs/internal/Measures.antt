@@ -15,10 +15,10 @@ use Rattle.typed_trees.specs.declared.parts.InitialValue.TheVariants.{ByteValue,
 use Rattle.typed_trees.specs.declared.parts.NumberOrigin.TheVariants.{FromDigits, FromMeasure}
 use Rattle.typed_trees.specs.TypedTrees.{NumberNode, ConversionNode, At, PartOf, StoredIn, SentTo, AssignmentStatement, ScalarObject, Home, InData, InConstants, Placed, TypedObject, NoStatements, MoreStatements, ListOf, TypedModule}
 use Rattle.typed_trees.specs.Sizes.{size_of_object}
-use Rattle.typing.specs.Checks.{Checked, ◌>>=◌, refuse}
+use Rattle.typing.specs.internal.Checks.{Checked, ◌>>=◌, refuse}
 use Rattle.typed_trees.specs.Charge.{charge_of}
 use Rattle.typed_trees.specs.Weight.{weight_of, code_bound}
-use Rattle.typing.specs.Typing.{typing_of}
+use Rattle.typing.specs.internal.Typing.{typing_of}
 use Rattle.typing.specs.internal.Samples.{on_line, name_on, number_on, string_on, a_number, plain, arguments_of, at_subscript, value_of, item_with, scalar_item, array_item, data_item, alone, unlabelled, assigns, heading_on, procedure_of, module_of}
 use Rattle.typing.specs.internal.Examples.{main_of}
 

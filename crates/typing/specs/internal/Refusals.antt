@@ -8,9 +8,9 @@ use Rattle.trees.specs.Trees.{ExpressionTree, LocationLeaf, ReferenceTree, Binar
 use Rattle.names.specs.BuiltIns.{built_in_of}
 use Rattle.typing.specs.declared.fault.Cause.TheVariants.{UnknownName, DeclaredTwice, ParameterNotScalar, ParameterNotDeclared, NoBase, MisplacedLinkage, MisplacedValues, ExternalContents, ZeroDimension, NoLocation, TooLarge}
 use Rattle.typed_trees.specs.TypedTrees.{BasedOn, InData, InFrame}
-use Rattle.typing.specs.Checks.{refuse}
+use Rattle.typing.specs.internal.Checks.{refuse}
 use Rattle.typed_trees.specs.Charge.{charge_of}
-use Rattle.typing.specs.Typing.{typing_of}
+use Rattle.typing.specs.internal.Typing.{typing_of}
 use Rattle.typing.specs.internal.Samples.{on_line, name_on, number_on, a_number, plain, at_subscript, value_of, item_with, scalar_item, array_item, alone, unlabelled, assigns, heading_on, procedure_of, module_of}
 use Rattle.typing.specs.internal.Measures.{measured, charges, homes, a_parameter, sends}
 

@@ -6,8 +6,8 @@ use Rattle.names.specs.BuiltIns.{built_in_of}
 use Rattle.typing.specs.declared.fault.Cause.TheVariants.{UnknownName, NoVariable, UnknownLabel}
 use Rattle.typed_trees.specs.declared.parts.NumberOrigin.TheVariants.{FromDigits}
 use Rattle.typed_trees.specs.TypedTrees.{NumberNode, ValueNode, ConversionNode, StoredIn, NoArguments, MoreArguments, LabelStatement, NullStatement, AssignmentStatement, CallStatement, DoStatement, WhileStatement, NoStatements, MoreStatements, TypedList, ListOf, TypedProcedure, TypedModule}
-use Rattle.typing.specs.Checks.{refuse}
-use Rattle.typing.specs.Typing.{typing_of}
+use Rattle.typing.specs.internal.Checks.{refuse}
+use Rattle.typing.specs.internal.Typing.{typing_of}
 use Rattle.typing.specs.internal.Samples.{on_line, name_on, a_number, plain, arguments_of, value_of, scalar_item, unlabelled, assigns, statements_of, declarations_of, heading_on, procedure_of, module_of, doing}
 use Rattle.typing.specs.internal.Examples.{main_of, whole, does}
 use Rattle.typing.specs.internal.Measures.{measured, calls}

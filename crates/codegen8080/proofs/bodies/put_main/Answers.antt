@@ -1,4 +1,5 @@
-use Rattle.codegen8080.proofs.Prelude.{refl, subst, sym, HasNothing, Emission, Generator}
+use Rattle.codegen8080.proofs.Prelude.{refl, ap, ◌∙◌, subst, sym, HasNothing, TreeModule, Site, Emission, Generator}
+use Rattle.treecode.specs.{Nodes.{nodes_of}, Rising.{NumbersRise}}
 use Rattle.codegen8080.proofs.BodyParts.{main_added}
 use Rattle.codegen8080.proofs.bodies.put_main.Goals as goal
 
@@ -15,3 +16,12 @@ returns c =
     (subst HasNothing (sym c.body_of-body.ensures.frame) c.empty-frame.ensures)
     c.body_of-body.ensures.first c.body_of-body.ensures.emission c.body_of-body.ensures.labels c.in_ok-add.ensures c.in_ok-stack_end.ensures refl
     c.in_ok-list.ensures.code c.in_ok-add-2.ensures
+
+pub list-requires : goal.list-requires
+list-requires c =
+    subst (λ (tree : TreeModule). NumbersRise (nodes_of tree)) (sym c.body_of-body.ensures.tree) c.requires
+
+pub add-requires-2 : goal.add-requires-2
+add-requires-2 c =
+    subst (λ (tree : TreeModule). NumbersRise (nodes_of tree))
+    (sym (ap (λ (site : Site). site.tree.now) c.site_of-2.ensures ∙ c.body_of-body.ensures.tree)) c.requires

@@ -1,4 +1,5 @@
-use Rattle.codegen8080.proofs.Prelude.{true, refl, subst, sym, Generator, IsFrameOf}
+use Rattle.codegen8080.proofs.Prelude.{true, refl, subst, sym, TreeModule, Generator, IsFrameOf}
+use Rattle.treecode.specs.{Nodes.{nodes_of}, Rising.{NumbersRise}}
 use Rattle.codegen8080.proofs.BodyParts.{own_added}
 use Rattle.codegen8080.proofs.bodies.put_own.Goals as goal
 
@@ -15,3 +16,15 @@ returns c =
     (subst (IsFrameOf c.args.procedure.now) (sym c.body_of-body.ensures.frame) c.in_ok-frame.ensures)
     c.body_of-body.ensures.first c.body_of-body.ensures.emission c.body_of-body.ensures.labels c.in_ok-add.ensures refl c.in_ok-put_entry.ensures
     c.in_ok-list.ensures.code c.in_ok-put_end.ensures
+
+pub put_entry-requires : goal.put_entry-requires
+put_entry-requires c =
+    subst (λ (tree : TreeModule). NumbersRise (nodes_of tree)) (sym c.body_of-body.ensures.tree) c.requires
+
+pub list-requires : goal.list-requires
+list-requires c =
+    subst (λ (tree : TreeModule). NumbersRise (nodes_of tree)) (sym c.body_of-body.ensures.tree) c.requires
+
+pub put_end-requires : goal.put_end-requires
+put_end-requires c =
+    subst (λ (tree : TreeModule). NumbersRise (nodes_of tree)) (sym c.body_of-body.ensures.tree) c.requires

@@ -1,7 +1,14 @@
-use Rattle.codegen8080.proofs.Prelude.{ap, rules, subst, ◌∙◌, Extends, NumbersNames, contents_items, AreListed}
+use Rattle.codegen8080.proofs.Prelude.{ap, length, rules, subst, ◌∙◌, Extends, NumbersNames, contents_items, AreListed}
 use Rattle.codegen8080.proofs.ObjectParts.{generated, made_of_same}
 use Rattle.codegen8080.proofs.Refused.{code_refused, data_refused}
 use Rattle.codegen8080.proofs.module.generate.Goals as goal
+
+pub names_of-requires : goal.names_of-requires
+names_of-requires c =
+    ap (λ table. length table) c.in_ok-variables.ensures.externals
+    ∙ c.in_ok-variables_of.ensures.count
+    ∙ ap (λ table. length table) c.in_ok-code.ensures.externals
+    ∙ c.in_ok-writer.ensures.count
 
 pub returns-clause-made : goal.returns-clause-made
 returns-clause-made c =

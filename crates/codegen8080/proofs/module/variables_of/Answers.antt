@@ -1,4 +1,4 @@
-use Rattle.codegen8080.proofs.Prelude.{ap, subst, ◌∙◌, entry, NumbersNames, Written, contents_items}
+use Rattle.codegen8080.proofs.Prelude.{ap, length, subst, ◌∙◌, entry, NumbersNames, Written, contents_items}
 use Rattle.codegen8080.proofs.module.variables_of.Goals as goal
 
 pub returns-clause-externals : goal.returns-clause-externals
@@ -12,3 +12,8 @@ returns-clause-names c =
     c.as_slice.ensures.value
     (subst (λ (written : Written). NumbersNames written.externals c.put_contents.new.writer.externals
     (contents_items c.as_slice.result.now)) c.sharing-writer.ensures c.in_ok-put_contents.ensures.names)
+
+pub returns-clause-count : goal.returns-clause-count
+returns-clause-count c =
+    c.in_ok-put_contents.ensures.count
+    ∙ ap (λ (written : Written). length written.externals) c.sharing-writer.ensures

@@ -1,5 +1,8 @@
-use Rattle.commands.proofs.{Prelude.{refl}, Shown.{fault_shown, memory_shown, program_printed, program_stopped}, Untold.{few_built, few_but}}
+use Rattle.commands.proofs.{Prelude.{refl}, Shown.{fault_shown, memory_shown, program_printed, program_stopped}, Untold.{few_built, few_but, few_sources}}
 use Rattle.commands.proofs.showing.show_sources.Goals as goal
+
+pub show_built-requires-clause-few : goal.show_built-requires-clause-few
+show_built-requires-clause-few g c = few_sources _ _ _ c.in-Ok.ensures.too_many
 
 pub returns-in-Ok-clause-printed : goal.returns-in-Ok-clause-printed
 returns-in-Ok-clause-printed g c = λ done.

@@ -23,5 +23,6 @@ returns c = record {
     main_frame_bytes = c.in_ok-tree-2.ensures.main_heading.frame_bytes ∙ c.in_ok-tree.ensures.main_frame_bytes;
     main_result = c.in_ok-tree-2.ensures.main_heading.result ∙ c.in_ok-tree.ensures.main_result;
     traits = c.in_ok-tree-2.ensures.leads.sound.keeps;
+    order = c.in_ok-tree-2.ensures.leads.sound.rises;
   };
 }

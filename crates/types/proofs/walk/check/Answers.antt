@@ -1,6 +1,16 @@
 use Rattle.types.proofs.Prelude.{module_tree, Declares, FramesFit, ParametersFit, ListsGlobals, JumpsAreSound, IsStorable, IsWellTyped, module_view, typing_of, GivesBack, jumps_are_sound, gives_back, is_storable, where_typed, is_well_typed, globals_are_listed, frames_are_summed, parameters_fit}
 use Rattle.types.proofs.Declares.DeclaredTables.{declares}
+use Rattle.typing_rules.specs.Modules.{ModuleTyping}
+use Rattle.typing_rules.proofs.Laws.{typed_by_rules, refused_by_rules}
 use Rattle.types.proofs.walk.check.Goals as goal
+
+pub returns-clause-rules : goal.returns-clause-rules
+returns-clause-rules c =
+    where_typed module_view c.typed.result (typing_of (module_tree c.args.parsed)) (ModuleTyping (module_tree c.args.parsed)) c.typed.ensures.typing
+    (typed_by_rules (module_tree c.args.parsed))
+
+pub returns-clause-broken : goal.returns-clause-broken
+returns-clause-broken c = refused_by_rules module_view c.typed.result (module_tree c.args.parsed) c.typed.ensures.typing
 
 pub returns-clause-given_back : goal.returns-clause-given_back
 returns-clause-given_back c =

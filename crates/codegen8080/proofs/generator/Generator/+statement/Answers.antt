@@ -1,5 +1,5 @@
 use Rattle.codegen8080.proofs.Prelude.{refl, sym, subst, ◌∙◌, arith, true, Planned, CarriesOut, Generator}
-use Rattle.codegen8080.proofs.Driving.{carrying_ends, list_carried, listing_begins, listing_ends, none_passed, statement_added_if, statement_carried, statement_passed, step_carried_if, step_passed}
+use Rattle.codegen8080.proofs.Driving.{carrying_ends, holds_none, list_carried, listing_begins, listing_ends, none_passed, statement_added_if, statement_carried, statement_passed, step_carried_if, step_passed}
 use Rattle.codegen8080.proofs.generator.Generator.+statement.Goals.{planned-in-Some+in_ok-waiting, planned-in_default}
 use Rattle.codegen8080.proofs.generator.Generator.+statement.Goals as goal
 
@@ -24,7 +24,7 @@ carry_out-returns-in_ok-list-in-List t c =
 pub carry_out-returns-in_default : goal.carry_out-returns-in_default
 carry_out-returns-in_default t c =
     step_carried_if c.args.body.now c.args.waiting c.args.self.now c.step.new.self c.args.step c.step.result
-    c.step.ensures.added c.step.ensures.alone
+    c.step.ensures (holds_none c.args.step c.in_default.not-Statement c.in_default.not-List)
 
 pub list-loop-index-init : goal.list-loop-index-init
 list-loop-index-init t c = listing_begins c.args.body.now c.args.list c.args.self.now _ refl

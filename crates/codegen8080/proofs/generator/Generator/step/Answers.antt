@@ -2,8 +2,8 @@ use Rattle.codegen8080.proofs.Prelude.{ap, subst, ◌∙◌, EmitsSteps, Here, c
 use Rattle.codegen8080.proofs.Driving.{step_added}
 use Rattle.codegen8080.proofs.generator.Generator.step.Goals as goal
 
-pub returns-clause-added : goal.returns-clause-added
-returns-clause-added c =
+pub returns : goal.returns
+returns c =
     step_added c.args.body.now c.args.step c.args.waiting c.waiting_after.result c.args.self.now c.arrive.new.self
     c.carry.new.emission c.here_after.result
     (subst
@@ -11,7 +11,7 @@ returns-clause-added c =
     (carried_steps (site_of c.args.body.now)
     (record { facts = c.args.self.now.emission.facts; goes_on = here.goes_on }) c.args.step)
     c.args.self.now.emission c.carry.new.emission)
-    c.here-here.ensures c.in_ok-carry.ensures.emits)
+    c.here-here.ensures c.in_ok-carry.ensures)
     (c.here_after.ensures
     ∙ ap (λ (here : Here). here_after here c.args.waiting c.carry.new.emission.facts c.args.step) c.here-here.ensures)
     c.arrive.ensures

@@ -1,5 +1,8 @@
-use Rattle.commands.proofs.{Prelude.{refl}, Printed.{printed_of_texts}, PrintedReports.{of_printed, of_stopped}, Untold.{few_built, few_but, tells_cause, tells_unwritten}}
+use Rattle.commands.proofs.{Prelude.{refl}, Printed.{printed_of_texts}, PrintedReports.{of_printed, of_stopped}, Untold.{few_built, few_but, few_sources, tells_cause, tells_unwritten}}
 use Rattle.commands.proofs.programs.carrying.act.Goals as goal
+
+pub print_built-printing-requires-clause-few : goal.print_built-printing-requires-clause-few
+print_built-printing-requires-clause-few g c = few_sources _ _ _ c.in-Ok.ensures.too_many
 
 pub returns-in-Ok-clause-ran : goal.returns-in-Ok-clause-ran
 returns-in-Ok-clause-ran g c = λ other.

@@ -8,6 +8,7 @@ returns c =
     (Address (AtTarget (External c.args.name) c.args.offset))
     (Address (AtTarget (External c.in_ok-number.number) c.args.offset))
     c.args.name c.self.view_is c.in_ok-emit_address.ensures.ok refl c.number.ensures.kept c.number.ensures.only
+    c.number.ensures.count
     (is_itself c.args.name)
     (ap
     (λ found. option_map Address

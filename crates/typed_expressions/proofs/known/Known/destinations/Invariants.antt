@@ -1,5 +1,5 @@
 use Rattle.typed_expressions.proofs.Prelude.{◌≡◌, map, drop, reference_tree, target_trees, destinations, constants_view, destination_view, known_view, after_destinations}
-use Rattle.typing.specs.Results.{in_front}
+use Rattle.typing.specs.internal.Results.{in_front}
 use Rattle.typed_expressions.proofs.known.Known.destinations.Given as goal
 
 abbrev pub invariant-loop-target : goal.invariant-loop-target

@@ -1,0 +1,15 @@
+pub mod Joining
+pub mod Trees
+pub mod Found
+pub mod Chains
+pub mod Addresses
+pub mod Pairs
+pub mod Stores
+pub mod ByteRelations
+pub mod WordRelations
+pub mod Relations
+pub mod Bytes
+pub mod Words
+pub mod Calls
+pub mod Values
+pub mod Tasks
