@@ -98,8 +98,8 @@ word_back word low high l h = omega arith
 above : (level : ℕ) → 2 ≤ level → level ≤ MEMORY_SIZE → (level - 2 + 1) % MEMORY_SIZE ≡ level - 1
 above level room limit = omega arith
 
-pub up : (level : ℕ) → 2 ≤ level → wrap (level - 2 + 2) ≡ wrap level
-up level room = omega arith
+pub pointer_after_pop : (level : ℕ) → 2 ≤ level → wrap (level - 2 + 2) ≡ wrap level
+pointer_after_pop level room = omega arith
 
 -- the word at the stack pointer
 pub word_pushed :
@@ -123,4 +123,4 @@ pub returned_is :
 returned_is level word r memory events top room limit is =
     ap (λ n. at (word_at memory n) (record r { sp = wrap (n + 2) }) memory events) top
     ∙ (ap (λ n. at n (record r { sp = wrap (level - 2 + 2) }) memory events) (word_pushed level word memory room limit is)
-    ∙ ap (λ n. at word (record r { sp = n }) memory events) (up level room))
+    ∙ ap (λ n. at word (record r { sp = n }) memory events) (pointer_after_pop level room))

@@ -2,8 +2,8 @@
 use Rattle.asm8080.proofs.Prelude.{◌≡◌, ℕ, suc, ◌+◌, ◌-◌, ◌%◌, ◌<◌, ◌≤◌, ◌⊎◌, inl, inr, true, false, List, [], ◌∷◌, length, slice_set, refl, sym, subst, ap, ◌∙◌, arith, length-set, MEMORY_SIZE, byte_at, IsIn, Event, InSegment, Code, Stack, Dcr, Hlt, Inr, Lxi, Mvi, Ret, Of, A, B, Sp, NotZero, Registers, State, high_byte, holds, low_byte, wrap, Item, Plain, WithWord, Mark, AtLabel, CallTo, JumpWhere, layout_at, Layout, Stands, Comes, Keeps, below, wrap_of_place}
 use Rattle.asm8080.proofs.RunLaws.{comes_on}
 use Rattle.asm8080.specs.Example.{CountsAnywhere, Ends, counting, counting_code}
-use Rattle.asm8080.proofs.Steps.{at, does, goes_past, jumps_where, step_is, step_then}
-use Rattle.asm8080.proofs.Spending.{halted_at, halts, same_after}
+use Rattle.asm8080.proofs.Steps.{at, runs_from_instruction, goes_past, jumps_where, step_is, step_then}
+use Rattle.asm8080.proofs.Spending.{halted_at, hlt_halts, same_after}
 use Rattle.asm8080.proofs.Straight.{does_to, straight}
 use Rattle.asm8080.proofs.Loops.{word_is}
 use Rattle.asm8080.proofs.Kept.{Alike, stands_still}
@@ -220,7 +220,7 @@ runs script layout base level memory r events is stack_is =
     let pointer : wrap (0 + stack) ≡ wrap level = from_zero stack level stack_is in
     let after_third : Placed layout base level third = placed_still layout base level word second after_second in
     let up_to_halt : Comes script 17 start before
-    = does script 16 (Lxi Sp (wrap (0 + stack))) base r memory events before is.stands.0 past_load
+    = runs_from_instruction script 16 (Lxi Sp (wrap (0 + stack))) base r memory events before is.stands.0 past_load
     (straight script layout (Mvi (Of B) 3 ∷ [])
     (Mark 0 ∷ WithWord CallTo (AtLabel 1) ∷ Plain (Dcr (Of B)) ∷ WithWord (JumpWhere NotZero) (AtLabel 0)
     ∷ Plain Hlt ∷ called_part)
@@ -230,7 +230,7 @@ runs script layout base level memory r events is stack_is =
     (turn_last script layout base level second r3 events after_second refl refl)))) in
     let whole : Comes script 18 start end
     = comes_on script 17 1 start before end up_to_halt
-    (halts script (top_of base + 3 + 1 + 3) (turned level r3) third events after_third.stands.1.1.1.1.1.1.0 past_jump) in
+    (hlt_halts script (top_of base + 3 + 1 + 3) (turned level r3) third events after_third.stands.1.1.1.1.1.1.0 past_jump) in
     record {
       last = end;
       run = whole;

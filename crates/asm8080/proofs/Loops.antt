@@ -1,6 +1,6 @@
 -- Loops of straight code that count E down.
 use Rattle.asm8080.proofs.Prelude.{◌≡◌, ◌≢◌, ℕ, zero, suc, ◌+◌, ◌%◌, ◌<◌, ◌==◌, Bool, true, false, not, nat_le, List, [], ◌∷◌, refl, ap, ◌∙◌, arith, eqb-true, eq-eqb, le-leb, lt-leb, MEMORY_SIZE, Event, E, Of, NotZero, Minus, Instr, Dcr, ReturnIf, State, Registers, wrap, Jump, JumpWhere, AtLabel, Item, Plain, WithWord, Layout, Stands, Comes}
-use Rattle.asm8080.proofs.Steps.{at, goes_past, jumps, jumps_where, returned, returns_where, stays_here}
+use Rattle.asm8080.proofs.Steps.{at, goes_past, runs_from_jump, jumps_where, returned, returns_where, stays_here}
 use Rattle.asm8080.proofs.Straight.{does_to, effect, past, past_later, plain, stands_after, steps_of, straight, touch_registers}
 
 pub word_is : (place top : ℕ) → place ≡ top → top < MEMORY_SIZE → wrap place ≡ top
@@ -128,7 +128,7 @@ loop_before script layout body label top to others memory events touch keeps sta
     straight script layout (Dcr (Of E) ∷ []) (Plain (ReturnIf Minus) ∷ plain body (WithWord Jump (AtLabel label) ∷ others)) top to r memory events (suc (steps_of body (suc left))) u refl stands (omega arith)
     (stays_here script (steps_of body (suc left)) Minus (top + 1) (counted r) memory events u stands.1.0 (omega arith) (not_below_zero r.e n counter (omega arith))
     (straight script layout body (WithWord Jump (AtLabel label) ∷ others) (top + 1 + 1) to (counted r) memory events (suc left) u touch stands.1.1 fits
-    (jumps script left (wrap (layout.place_of label)) (past (top + 1 + 1) body) top (effect body (counted r)) memory events u
+    (runs_from_jump script left (wrap (layout.place_of label)) (past (top + 1 + 1) body) top (effect body (counted r)) memory events u
     after.0 fits (word_is (layout.place_of label) top bound (omega arith))
     (loop_before script layout body label top to others memory events touch keeps stands fits bound n (effect body (counted r))
     (keeps (counted r) ∙ one_less_is r.e n counter (omega arith)) (omega arith)))))

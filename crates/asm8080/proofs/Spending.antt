@@ -20,8 +20,8 @@ unfolding state_after
 same_after script s = refl
 
 -- a step that takes one of a budget
-pub pays : (script : List (List ℕ)) (n : ℕ) (s t : State) → step_of script s ≡ t → Spends script (suc n) s n t
-pays script n s t e = record {
+pub spends_one : (script : List (List ℕ)) (n : ℕ) (s t : State) → step_of script s ≡ t → Spends script (suc n) s n t
+spends_one script n s t e = record {
   count = 1;
   run = step_then script 0 s t t e (same_after script t);
   enough = one_enough n;
@@ -29,8 +29,8 @@ pays script n s t e = record {
 }
 
 -- steps that take nothing
-pub free : (script : List (List ℕ)) (n k : ℕ) (s t : State) → Comes script k s t → Spends script n s n t
-free script n k s t h = record {
+pub spends_none : (script : List (List ℕ)) (n k : ℕ) (s t : State) → Comes script k s t → Spends script n s n t
+spends_none script n k s t h = record {
   count = k;
   run = h;
   enough = none_enough n k;
@@ -42,12 +42,12 @@ abbrev pub halted_at : (place : ℕ) → Registers → (memory : List ℕ) → L
 halted_at place r memory events = record (at (wrap (place + 1)) r memory events) { status = Halted }
 
 -- HLT may be the very last byte of memory
-pub halts :
+pub hlt_halts :
     (script : List (List ℕ)) (place : ℕ) (r : Registers) (memory : List ℕ) (events : List Event)
     → InstructionStands memory place Hlt
     → place < MEMORY_SIZE
     → Comes script 1 (at place r memory events) (halted_at place r memory events)
-halts script place r memory events stands small =
+hlt_halts script place r memory events stands small =
     step_then script 0 (at place r memory events) (halted_at place r memory events) (halted_at place r memory events)
     (step_is script Hlt (at place r memory events) refl small stands)
     (same_after script (halted_at place r memory events))

@@ -1,6 +1,6 @@
 -- PUSH, POP and RET where the stack pointer is at a level, which is counted up to 65536.
 use Rattle.asm8080.proofs.Prelude.{◌≡◌, ℕ, ◌+◌, ◌-◌, ◌≤◌, List, slice_set, refl, sym, ap, ◌∙◌, arith, MEMORY_SIZE, word_at, Event, Pop, Push, Ret, StackPair, StackBc, StackDe, StackHl, Psw, Registers, high_byte, low_byte, pushed_of, two_less, with_popped, wrap, act}
-use Rattle.asm8080.proofs.Calls.{IsPushed, one_below, pushed, returned_is, two_below, up, word_pushed}
+use Rattle.asm8080.proofs.Calls.{IsPushed, one_below, pushed, returned_is, two_below, pointer_after_pop, word_pushed}
 use Rattle.asm8080.proofs.Steps.{at}
 
 two_lower : (top : ℕ) → 2 ≤ top → top ≤ MEMORY_SIZE → wrap (top - 2) ≡ top - 2
@@ -51,7 +51,7 @@ pop_does script pair place top word r memory events pointer room limit is =
     (pointer ∙ two_lower top room limit)
     ∙ (ap (λ n. at (wrap place) (record (with_popped pair n r) { sp = wrap (top - 2 + 2) }) memory events)
     (word_pushed top word memory room limit is)
-    ∙ ap (λ n. at (wrap place) (record (with_popped pair word r) { sp = n }) memory events) (up top room)))
+    ∙ ap (λ n. at (wrap place) (record (with_popped pair word r) { sp = n }) memory events) (pointer_after_pop top room)))
 
 -- RET
 pub return_does :

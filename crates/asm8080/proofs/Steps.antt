@@ -64,36 +64,36 @@ pub step_then :
 step_then script k s t u e h = h ∙ (ap (state_after script k) (sym e) ∙ sym (first_step script k s))
 
 -- straight code does what its instructions do one after another
-pub block :
+pub straight_code_runs :
     (script : List (List ℕ)) (instructions : List Instr) (s : State)
     → Meets script instructions s
     → Comes script (length instructions) s (effect_of script instructions s)
 unfolding state_after
-block script [] s h = refl
-block script (i ∷ others) s h =
+straight_code_runs script [] s h = refl
+straight_code_runs script (i ∷ others) s h =
     step_then script (length others) s (act script i (advance (size_of_instruction i) s)) _
-    (step_is script i s h.0 h.1 h.2) (block script others _ h.3)
+    (step_is script i s h.0 h.1 h.2) (straight_code_runs script others _ h.3)
 
 -- a machine that runs, with its program counter at a place
 abbrev pub at : (place : ℕ) → Registers → (memory : List ℕ) → List Event → State
 at place r memory events = running (record r { pc = place }) memory events
 
 -- a run that begins with an instruction
-pub does :
+pub runs_from_instruction :
     (script : List (List ℕ)) (k : ℕ) (i : Instr) (place : ℕ) (r : Registers) (memory : List ℕ)
     (events : List Event) (u : State)
     → InstructionStands memory place i
     → place + size_of_instruction i < MEMORY_SIZE
     → Comes script k (act script i (at (place + size_of_instruction i) r memory events)) u
     → Comes script (suc k) (at place r memory events) u
-does script k i place r memory events u stands small more =
+runs_from_instruction script k i place r memory events u stands small more =
     step_then script k (at place r memory events)
     (act script i (at (place + size_of_instruction i) r memory events)) u
     (step_is script i (at place r memory events) refl (omega arith) stands
     ∙ ap (λ n. act script i (at n r memory events)) (wrap_of_place (place + size_of_instruction i) small)) more
 
 -- a run that begins with a jump
-pub jumps :
+pub runs_from_jump :
     (script : List (List ℕ)) (k : ℕ) (word : ℕ) (place target : ℕ) (r : Registers) (memory : List ℕ)
     (events : List Event) (u : State)
     → InstructionStands memory place (Jmp word)
@@ -101,7 +101,7 @@ pub jumps :
     → word ≡ target
     → Comes script k (at target r memory events) u
     → Comes script (suc k) (at place r memory events) u
-jumps script k word place target r memory events u stands small same more =
+runs_from_jump script k word place target r memory events u stands small same more =
     step_then script k (at place r memory events) (at target r memory events) u
     (step_is script (Jmp word) (at place r memory events) refl small stands
     ∙ ap (λ n. at n r memory events) same) more

@@ -1,6 +1,6 @@
 -- Straight code of instructions that touch registers alone.
 use Rattle.asm8080.proofs.Prelude.{◌≡◌, ℕ, suc, ◌+◌, ◌<◌, ◌≤◌, Bool, true, false, ◌&&◌, List, [], ◌∷◌, refl, sym, arith, subst, MEMORY_SIZE, Event, B, Of, Bc, Instr, Nop, Lxi, Inx, Dcx, Dad, Inr, Dcr, Mvi, Rlc, Rrc, Ral, Rar, Daa, Cma, Stc, Cmc, Mov, Accumulate, AccumulateImmediate, Xchg, State, Registers, act, running, Item, Plain, Layout, Stands, Comes, size_of_instruction, and_parts, first_below, lt_of_le_of_lt}
-use Rattle.asm8080.proofs.Steps.{at, does}
+use Rattle.asm8080.proofs.Steps.{at, runs_from_instruction}
 
 -- an instruction touches registers and flags alone
 abbrev pub touches_registers : Instr → Bool
@@ -109,7 +109,7 @@ pub straight :
 straight script layout [] items place to r memory events k u touch stands small more = more
 straight script layout (i ∷ others) items place to r memory events k u touch stands small more =
     let next = place + size_of_instruction i in
-    does script (steps_of others k) i place r memory events u stands.0
+    runs_from_instruction script (steps_of others k) i place r memory events u stands.0
     (lt_of_le_of_lt (past_later others next) small)
     (subst (λ (s : State). Comes script (steps_of others k) s u)
     (sym (acts script i next r memory events (and_parts (touches_registers i) (touch_registers others) touch).0))

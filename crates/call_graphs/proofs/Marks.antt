@@ -42,10 +42,10 @@ opened (body ∷ bodies) (first ∷ others) (suc place) size new =
     omega (arith, rest)
 
 -- a need that is set adds nothing to do
-pub known : (graph : List Body) (marks : List Mark) (place need : ℕ) → waiting graph (slice_set marks place (Done need)) ≤ waiting graph marks
-known [] marks place need = omega arith
-known (body ∷ bodies) [] place need = omega arith
-known (body ∷ bodies) (first ∷ others) zero need = omega arith
-known (body ∷ bodies) (first ∷ others) (suc place) need =
-    let rest : waiting bodies (slice_set others place (Done need)) ≤ waiting bodies others = known bodies others place need in
+pub waiting_after_need : (graph : List Body) (marks : List Mark) (place need : ℕ) → waiting graph (slice_set marks place (Done need)) ≤ waiting graph marks
+waiting_after_need [] marks place need = omega arith
+waiting_after_need (body ∷ bodies) [] place need = omega arith
+waiting_after_need (body ∷ bodies) (first ∷ others) zero need = omega arith
+waiting_after_need (body ∷ bodies) (first ∷ others) (suc place) need =
+    let rest : waiting bodies (slice_set others place (Done need)) ≤ waiting bodies others = waiting_after_need bodies others place need in
     omega (arith, rest)

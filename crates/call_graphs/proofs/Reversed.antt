@@ -16,5 +16,5 @@ ended_by_length : (visits : List Visit) → (length visits == 0) ≡ is_ended vi
 ended_by_length [] = refl
 ended_by_length (visit ∷ others) = eqb-suc-zero (length others)
 
-pub ended : (visits : List Visit) → (length visits == 0) ≡ is_ended (reverse visits)
-ended visits = ap (λ count. count == 0) (sym (length-reverse visits)) ∙ ended_by_length (reverse visits)
+pub ended_by_reversed_length : (visits : List Visit) → (length visits == 0) ≡ is_ended (reverse visits)
+ended_by_reversed_length visits = ap (λ count. count == 0) (sym (length-reverse visits)) ∙ ended_by_length (reverse visits)

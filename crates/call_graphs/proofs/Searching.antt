@@ -2,7 +2,7 @@
 use Rattle.call_graphs.proofs.Prelude.{◌≡◌, ℕ, zero, suc, ◌+◌, ◌<◌, ◌≤◌, List, [], ◌∷◌, ◌++◌, length, take, max, slice_get, slice_set, Option, Some, None, Contains, arith, refl, ap, sym, subst, ◌∙◌, inl, inr, AllByRecursion, length-set, Visit, Mark, New, Open, Done, Progress, Body, HasCycle, IsChain, callees_of, charge_in, end_of_chain, NeedOf, of_body, GreatestOf, of_none, of_more, HasNeed, Searched, begun, finished, mark_of, need_shown, passed, stepped, stepped_to, GoesTo, HasPassed, IsOnPath, IsTrueOf, Leads, Searches, left, waiting, slice_get_within, take_found}
 use Rattle.call_graphs.specs.internal.Search.{called}
 use Rattle.call_graphs.proofs.Elements.{at_head, in_tail}
-use Rattle.call_graphs.proofs.Marks.{done_is_not_open, known, mark_set, opened}
+use Rattle.call_graphs.proofs.Marks.{done_is_not_open, waiting_after_need, mark_set, opened}
 use Rattle.call_graphs.proofs.Needs.{chain_more, end_more}
 
 past_list : {A : Type 0} (items : List A) (place : ℕ) → slice_get items place ≡ None → take place items ≡ items
@@ -145,7 +145,7 @@ module _ (graph : List Body) where
       (subst (λ body. HasNeed graph body (need_shown graph visit)) before.leads need, (done_set visit (record { marks = marks; path = [] }) (need_shown graph visit) need before.marks, refl))
   ends root visit marks (after ∷ others) is before =
       let need : HasNeed graph visit.body (need_shown graph visit) = has_need visit is before.passed.0 in
-      let less : waiting graph (slice_set marks visit.body (Done (need_shown graph visit))) ≤ waiting graph marks = known graph marks visit.body (need_shown graph visit) in (
+      let less : waiting graph (slice_set marks visit.body (Done (need_shown graph visit))) ≤ waiting graph marks = waiting_after_need graph marks visit.body (need_shown graph visit) in (
         record {
           marks = done_set visit (record { marks = marks; path = after ∷ others }) (need_shown graph visit) need before.marks;
           leads = before.leads.1;
@@ -154,9 +154,9 @@ module _ (graph : List Body) where
         omega (arith, less),
       )
 
-  pub steps : (root : ℕ) (visit : Visit) (s : Searched) → Searches graph root (record s { path = visit ∷ s.path })
+  pub step_of_search : (root : ℕ) (visit : Visit) (s : Searched) → Searches graph root (record s { path = visit ∷ s.path })
       → GoesTo graph root (left graph (record s { path = visit ∷ s.path })) (stepped graph visit s).0 (stepped graph visit s).1
-  steps root visit s before = by (slice_get (callees_of graph visit.body) visit.next) refl
+  step_of_search root visit s before = by (slice_get (callees_of graph visit.body) visit.next) refl
     where
       by : (call : Option ℕ) → slice_get (callees_of graph visit.body) visit.next ≡ call
           → GoesTo graph root (left graph (record s { path = visit ∷ s.path })) (stepped_to call graph visit s).0 (stepped_to call graph visit s).1

@@ -1,6 +1,6 @@
 -- The turns of the loop of a search.
 use Rattle.call_graphs.proofs.Prelude.{◌≡◌, ℕ, List, [], ◌∷◌, Some, None, ap, sym, subst, ◌∙◌, Visit, Mark, Done, Progress, Finished, Cyclic, Body, HasCycle, HasNeed, Searched, begun, mark_of, stepped, Finds, GoesTo, IsTrueOf, Searches, left}
-use Rattle.call_graphs.proofs.Searching.{starts, steps}
+use Rattle.call_graphs.proofs.Searching.{starts, step_of_search}
 
 -- what a turn comes to, with the graph that it had before and after
 pub turned : (graph after_graph : List Body) (root : ℕ) (marks : List Mark) (path below : List Visit) (visit : Visit) (after : Searched) (found progress : Progress) → after_graph ≡ graph
@@ -12,7 +12,7 @@ turned graph after_graph root marks path below visit after found progress same b
     let end : (stepped graph visit (record { marks = marks; path = below })).1 ≡ progress = ap (λ (pair : Searched × Progress). pair.1) (sym is) ∙ named in
     let goes : GoesTo graph root (left graph (record { marks = marks; path = visit ∷ below })) after progress =
     subst (λ one. GoesTo graph root (left graph (record { marks = marks; path = visit ∷ below })) after one) end
-    (subst (λ one. GoesTo graph root (left graph (record { marks = marks; path = visit ∷ below })) one (stepped graph visit (record { marks = marks; path = below })).1) state (steps graph root visit (record { marks = marks; path = below }) there)) in
+    (subst (λ one. GoesTo graph root (left graph (record { marks = marks; path = visit ∷ below })) one (stepped graph visit (record { marks = marks; path = below })).1) state (step_of_search graph root visit (record { marks = marks; path = below }) there)) in
     subst (λ one. GoesTo one root (left graph (record { marks = marks; path = path })) after progress) (sym same)
     (subst (λ one. GoesTo graph root (left graph (record { marks = marks; path = one })) after progress) (sym taken) goes)
 

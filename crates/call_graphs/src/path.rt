@@ -60,7 +60,7 @@ impl Path {
     }
 
     /// Whether there are no visits.
-    #[tactic(auto, using(crate::proofs::Reversed::ended))]
+    #[tactic(auto, using(crate::proofs::Reversed::ended_by_reversed_length))]
     pub(crate) fn is_empty(&self) -> bool
         ensures { result ≡ is_ended self.now }
     {

@@ -74,12 +74,12 @@ one_step script budget from to same = record {
 }
 
 -- the given value, without a step
-pub gives :
+pub does_without_step :
     {A : Type 0} {script : List (List ℕ)} {found : A} {t : SourceState} {from : State}
     {Good : A → SourceState → State → Type 0}
     → Good found t from
     → Does script t.budget 0 from (Gave found t) Good
-gives {A = A} {script = script} {found = found} {t = t} {from = from} {Good = Good} good = record { told = landed script t.budget from (Good found t) good }
+does_without_step {A = A} {script = script} {found = found} {t = t} {from = from} {Good = Good} good = record { told = landed script t.budget from (Good found t) good }
 
 -- first a step
 pub after_step :

@@ -156,8 +156,8 @@ module _ (numbers : List ℕ) (count : ℕ) (code : Assembled) (fits : FitsSegme
         is_valid_segment count (places_stored Data (segment_of (with_targets (retarget numbers count) code))) ≡ true
     valid_data = valid_places _ (segment_places_in Data moved refl)
 
-    pub kept : IsKept count (segment_of (with_targets (retarget numbers count) code))
-    kept = record {
+    pub segment_with_targets_is_kept : IsKept count (segment_of (with_targets (retarget numbers count) code))
+    segment_with_targets_is_kept = record {
       as_code = stored_code;
       as_data = stored_data;
       valid_code = valid_code;

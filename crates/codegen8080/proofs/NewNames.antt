@@ -62,13 +62,13 @@ public_names externals publics public =
     ∙ append_again externals (map (λ (p : Public). p.name) publics) public.name
 
 -- with one more name, they are still names that a module may have
-pub grown :
+pub linkage_with_name :
     (before after : Linkage) (name : List ℕ)
     → names_of after ≡ names_of before ++ name ∷ []
     → IsLinkage before → is_name name ≡ true → is_among name (names_of before) ≡ false
     → list_all is_valid_public after.publics ≡ true
     → IsLinkage after
-grown before after name more is valid absent publics = record {
+linkage_with_name before after name more is valid absent publics = record {
   names = ap (list_all is_name) more ∙ all_and_one is_name (names_of before) name is.names valid;
   different = ap (λ names. are_new names []) more ∙ one_more (names_of before) name is.different absent;
   publics = publics;

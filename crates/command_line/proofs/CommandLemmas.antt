@@ -1,5 +1,5 @@
 -- From the matches of the subcommand to the order, and from an error to a failure.
-use Rattle.command_line.proofs.{Prelude.{◌≡◌, List, [], ◌∷◌, Option, Some, None, inl, inr, refl, sym, ap, subst, ◌∙◌, Ok, Err, IfOk, IsErrAnd, Result, option_map, IsAmong, Kinds, Row, Text, kind_of, subcommand_name_of, subcommand_rows_of, ArgMatches, HasKind, Error, ErrorKind, DisplayHelp, DisplayVersion, OutOfMemory, Failure, Fault, Memory, LineFault, IfFault, IsFaultOf, IsOrderOf, Wanted, Order, IsFailureFor, Version, Wrong, Bool, true, false, if◌then◌else◌, bytes_eq, wanted_of_match, command_in, wanted_of_command, word_of, CommandName, COMMANDS}, Levels.{never}}
+use Rattle.command_line.proofs.{Prelude.{◌≡◌, List, [], ◌∷◌, Option, Some, None, inl, inr, refl, sym, ap, subst, ◌∙◌, Ok, Err, IfOk, IsErrAnd, Result, option_map, IsAmong, Kinds, Row, Text, kind_of, subcommand_name_of, subcommand_rows_of, ArgMatches, HasKind, Error, ErrorKind, DisplayHelp, DisplayVersion, OutOfMemory, Failure, Fault, Memory, LineFault, IfFault, IsFaultOf, IsOrderOf, Wanted, Order, IsFailureFor, Version, Wrong, Bool, true, false, if◌then◌else◌, bytes_eq, wanted_of_match, command_in, wanted_of_command, word_of, CommandName, COMMANDS}, Levels.{kinds_not_empty}}
 use Rattle.command_line.specs.declared.reading.LineFault.TheVariants.{Help}
 
 mapped_twice : {A B C : Type 0} (f : B → C) (g : A → B) (o : Option A) → option_map f (option_map g o) ≡ option_map (λ x. f (g x)) o
@@ -59,7 +59,7 @@ only_memory error (Fault (Version held)) kinds e (inl out) (same, is_version) = 
 only_memory error (Fault (Wrong held)) kinds e (inl out) (same, no_help, no_version, no_want) = absurd (no_want out)
 only_memory error Memory kinds e (inl out) is = refl
 only_memory error failure [] e (inr among) is = absurd among
-only_memory error failure (k ∷ ks) e (inr among) is = absurd (never k ks e)
+only_memory error failure (k ∷ ks) e (inr among) is = absurd (kinds_not_empty k ks e)
 
 -- a failure of a parse is one of the faults of its words
 pub fault_among : (A : Type 0) (error : Error) (failure : Failure LineFault) (kinds : Kinds) → HasKind kinds error → IsFailureFor error failure

@@ -1,5 +1,5 @@
 -- Each row that a walk makes has a value.
-use Rattle.command_line.proofs.{Prelude.{◌≡◌, ℕ, zero, suc, ◌<◌, List, [], ◌∷◌, ◌++◌, Option, Some, None, Bool, true, false, refl, length, drop, codes, arith, is_some, find, fold, if◌then◌else◌, encode_utf8, slice_get, unwrap_or, option_map, ◌&&◌, AllByRecursion, option_map_or, bytes_eq, chars, long_of, short_of, explicit_source, unwrap_or_range, Kinds, Row, Rule, Shape, Text, Held, Names, Outcome, Step, Waiting, Walk, action_of, after_flag, after_step, arg_by_id, arg_by_index, arg_by_long, arg_by_short, at_row, attached_value, bundle_met, bundle_step, default_rows, done, has_row, idle, is_pending, long_met, long_or_other, more_values, next, nothing_held, option, option_met, option_word, plain, plain_word, positional, reacted, reading_by, refused, rows_after, settled, settled_rows, short_met, short_or_plain, subcommand, subcommand_met, subcommand_or_other, takes_several, takes_values, to_positional, trailing, used, used_by_id, value, waits, walk, walk_from, walked, walked_from, with_default, with_values, without, word_met, is_given, bundle_fault, bundle_step_fault, check_fault, flag_word_fault, flags_fault, level_fault, long_fault, option_fault, other_fault, positional_fault, react_fault, settle_fault, short_fault, step_fault, stray_fault, turn_fault, use_fault, walk_fault, word_fault, or_else, Set, Append, SetTrue, Help, Reading, ValueSource, files_of}, Verbs.{Executed, Form, Listed, Located, Objects, Placed, Sources, leaf, rules}, Levels.{level_passes_by, never, none_of_both}}
+use Rattle.command_line.proofs.{Prelude.{◌≡◌, ℕ, zero, suc, ◌<◌, List, [], ◌∷◌, ◌++◌, Option, Some, None, Bool, true, false, refl, length, drop, codes, arith, is_some, find, fold, if◌then◌else◌, encode_utf8, slice_get, unwrap_or, option_map, ◌&&◌, AllByRecursion, option_map_or, bytes_eq, chars, long_of, short_of, explicit_source, unwrap_or_range, Kinds, Row, Rule, Shape, Text, Held, Names, Outcome, Step, Waiting, Walk, action_of, after_flag, after_step, arg_by_id, arg_by_index, arg_by_long, arg_by_short, at_row, attached_value, bundle_met, bundle_step, default_rows, done, has_row, idle, is_pending, long_met, long_or_other, more_values, next, nothing_held, option, option_met, option_word, plain, plain_word, positional, reacted, reading_by, refused, rows_after, settled, settled_rows, short_met, short_or_plain, subcommand, subcommand_met, subcommand_or_other, takes_several, takes_values, to_positional, trailing, used, used_by_id, value, waits, walk, walk_from, walked, walked_from, with_default, with_values, without, word_met, is_given, bundle_fault, bundle_step_fault, check_fault, flag_word_fault, flags_fault, level_fault, long_fault, option_fault, other_fault, positional_fault, react_fault, settle_fault, short_fault, step_fault, stray_fault, turn_fault, use_fault, walk_fault, word_fault, or_else, Set, Append, SetTrue, Help, Reading, ValueSource, files_of}, Verbs.{Executed, Form, Listed, Located, Objects, Placed, Sources, leaf, rules}, Levels.{level_passes_by, kinds_not_empty, none_of_both}}
 
 abbrev IsFull : Row → Type 0
 IsFull r = 0 < length r.values
@@ -39,12 +39,12 @@ record Takes (a : Rule) : Type 0 where
 
 set_take : (a : Rule) → action_of a ≡ Set → (unwrap_or_range a.range).start_inclusive ≡ 1
     → (again : Bool) (values : List Text) (rows : List Row) → use_fault again a values rows ≡ [] → AllFull rows → AllFull (used a values rows)
-set_take a is least again [] rows fine full = absurd (never _ _ (rw least at fine))
+set_take a is least again [] rows fine full = absurd (kinds_not_empty _ _ (rw least at fine))
 set_take a is least again (v ∷ vs) rows fine full = rw is (full_with_values a.id (reading_by a) _ v vs (without a.id rows) (full_without a.id rows full))
 
 append_take : (a : Rule) → action_of a ≡ Append → (unwrap_or_range a.range).start_inclusive ≡ 1
     → (again : Bool) (values : List Text) (rows : List Row) → use_fault again a values rows ≡ [] → AllFull rows → AllFull (used a values rows)
-append_take a is least again [] rows fine full = absurd (never _ _ (rw least at fine))
+append_take a is least again [] rows fine full = absurd (kinds_not_empty _ _ (rw least at fine))
 append_take a is least again (v ∷ vs) rows fine full = rw is (full_with_values a.id (reading_by a) _ v vs rows full)
 
 flag_take : (a : Rule) → action_of a ≡ SetTrue → a.missing ≡ codes "true" ∷ []
@@ -115,7 +115,7 @@ long_full again c all (Some a) takes v h fine full = go (takes_values a) refl v 
     go : (t : Bool) → takes_values a ≡ t → (v : Option Text) → long_fault c again (Some a) v h ≡ [] → AllFull (long_met c (Some a) v h).0.rows
     go true e v fine = rw e (option_full again c all a takes v h (rw e at fine) full)
     go false e None fine = rw e (react_full again c all a takes [] h (rw e at fine) full)
-    go false e (Some v) fine = absurd (never _ _ (rw e at fine))
+    go false e (Some v) fine = absurd (kinds_not_empty _ _ (rw e at fine))
 
 short_full : (again : Bool) (c : List Rule) → AllTake c → (found : Option Rule) → IfTakes found → (rest : Text) (h : Held) (later : Held → Kinds) (more : Held → Held × Outcome)
     → ((x : Held) → later x ≡ [] → AllFull x.rows → AllFull (more x).0.rows) → short_fault c again found rest h later ≡ [] → AllFull h.rows
@@ -280,33 +280,33 @@ files_given Sources name rows fine = go (is_given (codes "FILES") rows) refl
   where
     go : (t : Bool) → is_given (codes "FILES") rows ≡ t → is_given (codes "FILES") rows ≡ true
     go true e = e
-    go false e = absurd (never _ _ (rw e at fine))
+    go false e = absurd (kinds_not_empty _ _ (rw e at fine))
 files_given Objects name rows fine = go (is_given (codes "FILES") rows) (is_given (codes "out") rows) refl refl
   where
     go : (t u : Bool) → is_given (codes "FILES") rows ≡ t → is_given (codes "out") rows ≡ u → is_given (codes "FILES") rows ≡ true
     go true u e f = e
-    go false false e f = absurd (never _ _ (rw (e, f) at fine))
-    go false true e f = absurd (never _ _ (rw (e, f) at fine))
+    go false false e f = absurd (kinds_not_empty _ _ (rw (e, f) at fine))
+    go false true e f = absurd (kinds_not_empty _ _ (rw (e, f) at fine))
 files_given Placed name rows fine = go (is_given (codes "FILES") rows) refl
   where
     go : (t : Bool) → is_given (codes "FILES") rows ≡ t → is_given (codes "FILES") rows ≡ true
     go true e = e
-    go false e = absurd (never _ _ (rw e at fine))
+    go false e = absurd (kinds_not_empty _ _ (rw e at fine))
 files_given Listed name rows fine = go (is_given (codes "FILES") rows) refl
   where
     go : (t : Bool) → is_given (codes "FILES") rows ≡ t → is_given (codes "FILES") rows ≡ true
     go true e = e
-    go false e = absurd (never _ _ (rw e at fine))
+    go false e = absurd (kinds_not_empty _ _ (rw e at fine))
 files_given Located name rows fine = go (is_given (codes "FILES") rows) refl
   where
     go : (t : Bool) → is_given (codes "FILES") rows ≡ t → is_given (codes "FILES") rows ≡ true
     go true e = e
-    go false e = absurd (never _ _ (rw e at fine))
+    go false e = absurd (kinds_not_empty _ _ (rw e at fine))
 files_given Executed name rows fine = go (is_given (codes "FILES") rows) refl
   where
     go : (t : Bool) → is_given (codes "FILES") rows ≡ t → is_given (codes "FILES") rows ≡ true
     go true e = e
-    go false e = absurd (never _ _ (rw e at fine))
+    go false e = absurd (kinds_not_empty _ _ (rw e at fine))
 
 -- a command without a fault has a file
 pub some_file : (form : Form) (name : Text) (words : List Text) → level_fault (leaf form name) [] nothing_held words false [] ≡ []

@@ -1,12 +1,12 @@
 -- A level of a command line without a fault: none of its parts has one.
 use Rattle.command_line.proofs.Prelude.{◌≡◌, List, [], ◌∷◌, Some, None, Bool, true, false, ◌⊎◌, inl, inr, refl, find, Kinds, Rule, Shape, Text, Names, walk, walk_from, Held, finished, settled, level_fault, defaults_fault, walk_fault, check_fault, settle_fault, or_else, ErrorKind}
 
-pub never : (k : ErrorKind) (ks : Kinds) → k ∷ ks ≡ [] → ⊥
-never k ks e = cc
+pub kinds_not_empty : (k : ErrorKind) (ks : Kinds) → k ∷ ks ≡ [] → ⊥
+kinds_not_empty k ks e = cc
 
 pub none_of_both : (xs ys : Kinds) → or_else xs ys ≡ [] → (xs ≡ []) × (ys ≡ [])
 none_of_both [] ys e = (refl, e)
-none_of_both (x ∷ xs) ys e = absurd (never x xs e)
+none_of_both (x ∷ xs) ys e = absurd (kinds_not_empty x xs e)
 
 pub find_one : (p : Rule → Bool) (x : Rule) → (find p (x ∷ []) ≡ None) ⊎ (find p (x ∷ []) ≡ Some x)
 find_one p x = go (p x) refl

@@ -1,5 +1,5 @@
 -- The words of a whole command line: without a fault they give an order.
-use Rattle.command_line.proofs.{Prelude.{◌≡◌, ℕ, List, [], ◌∷◌, Option, Some, None, Bool, true, false, refl, sym, subst, codes, drop, is_some, ap, ◌∙◌, ◌++◌, append_assoc, ◌<◌, length, arith, find, fold, option_and_then, option_map, if◌then◌else◌, not, ◌&&◌, ◌||◌, AllByRecursion, option_map_or, bytes_eq, App, Kinds, Row, Rule, Shape, Text, fault_of, is_simple, Names, rows_after, settled, Waiting, option, positional, waits, done, refused, next, subcommand, plain_word, bundle, long_met, subcommand_or_other, subcommand_met, to_positional, arg_by_index, walked_from, walk, walk_from, nothing_held, answers_to, Held, Walk, Step, Outcome, plain, idle, value, trailing, walked, after_step, word_met, after_flag, short_or_plain, long_or_other, arg_by_long, finished, long_of, short_of, clap_on_literals, built, entered, filled, label_of, names_of, rows_at, built_leaf, help_rule, help_shape, new_shape, version_rule, level_fault, entered_fault, other_fault, is_simple_and_free, step_fault, turn_fault, walk_fault, word_fault, check_fault, defaults_fault, settle_fault, or_else, ErrorKind, Wanted, named_in, files_of, is_set, located_of, need_of, place_of, plm_app, wanted_by, wanted_of_match, wants_need, wants_place, stopped_fault, append-nil, Locate, Hex, Listing, Symbols, bytes_eq-Decides, Run, Interpret}, Full.{some_file}, Verbs.{Executed, Listed, Located, Objects, Placed, Sources, Verb, compile, execute, explain, leaf, leaf_of, link, name_of, place, program, rules, rules_of, wanted_of, convert}, Levels.{level_passes_by, never, none_of_both}}
+use Rattle.command_line.proofs.{Prelude.{◌≡◌, ℕ, List, [], ◌∷◌, Option, Some, None, Bool, true, false, refl, sym, subst, codes, drop, is_some, ap, ◌∙◌, ◌++◌, append_assoc, ◌<◌, length, arith, find, fold, option_and_then, option_map, if◌then◌else◌, not, ◌&&◌, ◌||◌, AllByRecursion, option_map_or, bytes_eq, App, Kinds, Row, Rule, Shape, Text, fault_of, is_simple, Names, rows_after, settled, Waiting, option, positional, waits, done, refused, next, subcommand, plain_word, bundle, long_met, subcommand_or_other, subcommand_met, to_positional, arg_by_index, walked_from, walk, walk_from, nothing_held, answers_to, Held, Walk, Step, Outcome, plain, idle, value, trailing, walked, after_step, word_met, after_flag, short_or_plain, long_or_other, arg_by_long, finished, long_of, short_of, clap_on_literals, built, entered, filled, label_of, names_of, rows_at, built_leaf, help_rule, help_shape, new_shape, version_rule, level_fault, entered_fault, other_fault, is_simple_and_free, step_fault, turn_fault, walk_fault, word_fault, check_fault, defaults_fault, settle_fault, or_else, ErrorKind, Wanted, named_in, files_of, is_set, located_of, need_of, place_of, plm_app, wanted_by, wanted_of_match, wants_need, wants_place, stopped_fault, append-nil, Locate, Hex, Listing, Symbols, bytes_eq-Decides, Run, Interpret}, Full.{some_file}, Verbs.{Executed, Listed, Located, Objects, Placed, Sources, Verb, compile, execute, explain, leaf, leaf_of, link, name_of, place, program, rules, rules_of, wanted_of, convert}, Levels.{level_passes_by, kinds_not_empty, none_of_both}}
 
 pub plm_is_simple : is_simple plm_app ≡ true
 plm_is_simple = refl
@@ -41,7 +41,7 @@ other_step c waiting position word h false (Some (name, v)) =
 
 help_refused : (t disabled : Bool) (k : ErrorKind) (ks : Kinds) → disabled ≡ false → (if t && not disabled then k ∷ ks else []) ≡ [] → t ≡ false
 help_refused false disabled k ks e fine = refl
-help_refused true false k ks e fine = absurd (never k ks fine)
+help_refused true false k ks e fine = absurd (kinds_not_empty k ks fine)
 help_refused true true k ks e fine = let bad : true ≡ false = e in cc
 
 met_step : (s : Shape) (waiting : Waiting) (position : ℕ) (word : Text) (h : Held) (o : Option Text) → s.disable_help_subcommand ≡ false
@@ -172,12 +172,12 @@ all_commands name other = (
 
 entered_one : (rest : List Text) (rows : List Row) (o : Option Shape) → IfFound IsCommand o → check_fault top_built rows (is_some (option_map (λ s. rows_at s rest) o)) ≡ []
     → option_and_then wanted_of_match (option_map (λ s. rows_at s rest) o) ≡ None → ⊥
-entered_one rest rows None is check missing = never _ _ check
+entered_one rest rows None is check missing = kinds_not_empty _ _ check
 entered_one rest rows (Some s) is check missing = is (rows_at s rest).1 missing
 
 entered_order : (rows : List Row) (stop : Option (Text × List Text)) → IsNoHelp stop → check_fault top_built rows (is_some (entered plm_built stop)) ≡ []
     → option_and_then wanted_of_match (entered plm_built stop) ≡ None → ⊥
-entered_order rows None other check missing = never _ _ check
+entered_order rows None other check missing = kinds_not_empty _ _ check
 entered_order rows (Some (name, rest)) other check missing =
     entered_one rest rows (find (λ s. answers_to name (label_of s)) plm_built.subs)
     (found_has IsCommand (λ s. answers_to name (label_of s)) plm_built.subs (all_commands name other)) check missing

@@ -1,5 +1,5 @@
 -- Runs with files of ports, or without.
-use Rattle.commands.proofs.{Prelude.{◌≡◌, ◌⊎◌, ℕ, List, [], ◌∷◌, Option, None, Some, inl, inr, refl, sym, ap, subst, ◌∙◌, Directory, KeepsFiles, status_of, TellsRefusal, TellsOther, Ending, Refused, WrongLine, Values, stays, tells_no_file, Action, ToRun, Interpret, Construction, map_if, NamedPort, execute_in, file_names, outputs_in, program_in, TellsOutput, ByOutputs, ChangesOutputs, Delivers, DeliversRun, KeepsAllBut, Shows, dash_bytes, outputs_for, PrintsBuilt, PrintsWith, RunOrder, Objects, Sources, output_texts}, OutputFiles.{but_then, kept_then_outputs}}
+use Rattle.commands.proofs.{Prelude.{◌≡◌, ◌⊎◌, ℕ, List, [], ◌∷◌, Option, None, Some, inl, inr, refl, sym, ap, subst, ◌∙◌, Directory, KeepsFiles, status_of, TellsRefusal, TellsOther, Ending, Refused, WrongLine, Values, files_stay, tells_no_file, Action, ToRun, Interpret, Construction, map_if, NamedPort, execute_in, file_names, outputs_in, program_in, TellsOutput, ByOutputs, ChangesOutputs, Delivers, DeliversRun, KeepsAllBut, Shows, dash_bytes, outputs_for, PrintsBuilt, PrintsWith, RunOrder, Objects, Sources, output_texts}, OutputFiles.{but_then, kept_then_outputs}}
 pub use Rattle.commands.proofs.OutputFiles.{kept_but}
 
 -- what holds without files of ports and with them
@@ -114,7 +114,7 @@ kept_then_but held names old mid new named kept changes =
 
 -- files that are the same
 pub same_but : (names : List (List ℕ)) (files : Option Directory) → KeepsAllBut names files files
-same_but names files = kept_but names files files (stays files)
+same_but names files = kept_but names files files (files_stay files)
 
 -- the names are those that texts write
 pub but_written : (held names : List (List ℕ)) (old new : Option Directory) → held ≡ names → KeepsAllBut held old new → KeepsAllBut names old new

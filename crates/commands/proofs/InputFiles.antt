@@ -59,8 +59,8 @@ module _ (files mid : Option Directory) (names more read : List (List ℕ)) (bef
   refused_after reason other old new out ended so (inr (inr (count, why))) = inr (inr (count ∙ same, so why))
 
 -- the names of an order are those of its files
-pub named : (names order : List (Bor (List ℕ))) (files : Option Directory) (read : List (List ℕ)) → names ≡ order → HasFiles files (map (λ n. n.now) names) read → HasFiles files (texts order) read
-named names order files read same there = subst (λ (l : List (Bor (List ℕ))). HasFiles files (map (λ n. n.now) l) read) same there
+pub files_of_order : (names order : List (Bor (List ℕ))) (files : Option Directory) (read : List (List ℕ)) → names ≡ order → HasFiles files (map (λ n. n.now) names) read → HasFiles files (texts order) read
+files_of_order names order files read same there = subst (λ (l : List (Bor (List ℕ))). HasFiles files (map (λ n. n.now) l) read) same there
 
 -- one item more, and none left, where what was made and what the items that are left make is all
 module _ {B C : Type 0} (h : B → C) (total made new : List C) where

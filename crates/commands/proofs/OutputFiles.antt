@@ -1,5 +1,5 @@
 -- The files to which the bytes of ports go.
-use Rattle.commands.proofs.{Prelude.{◌≡◌, ℕ, ◌<◌, ◌≤◌, Bool, true, false, List, [], ◌∷◌, ◌++◌, length, get_or, drop, map, append-nil, append_assoc, arith, Option, None, Some, OnOk, Result, Ok, Err, refl, sym, ap, subst, ◌∙◌, Appends, AppendsBeginning, Event, ChangesFiles, Directory, KeepsFiles, with_file, stays, kept_others, kept_then_stopped, written_others, StopsWriting, CountsFailure, Tells, file_line, inl, inr, ◌⊎◌, Bor, OnErr, ◌||◌, if◌then◌else◌, bytes_eq, length-append, take, ◌-◌, take-length, bytes_eq-Decides, KeepsOthers, NamedPort, file_names, TellsOutput, KeepsAllBut, byte_written, bytes_written, dash_bytes, is_dash, is_output, with_output, with_outputs, LeavesOutputs, StopsOutput, StopsOutputs, looked_more}, InputFiles.{seen_put}, Printed.{whole_begins}}
+use Rattle.commands.proofs.{Prelude.{◌≡◌, ℕ, ◌<◌, ◌≤◌, Bool, true, false, List, [], ◌∷◌, ◌++◌, length, get_or, drop, map, append-nil, append_assoc, arith, Option, None, Some, OnOk, Result, Ok, Err, refl, sym, ap, subst, ◌∙◌, Appends, AppendsBeginning, Event, ChangesFiles, Directory, KeepsFiles, with_file, files_stay, kept_others, kept_then_stopped, written_others, StopsWriting, CountsFailure, Tells, file_line, inl, inr, ◌⊎◌, Bor, OnErr, ◌||◌, if◌then◌else◌, bytes_eq, length-append, take, ◌-◌, take-length, bytes_eq-Decides, KeepsOthers, NamedPort, file_names, TellsOutput, KeepsAllBut, byte_written, bytes_written, dash_bytes, is_dash, is_output, with_output, with_outputs, LeavesOutputs, StopsOutput, StopsOutputs, looked_more}, InputFiles.{seen_put}, Printed.{whole_begins}}
 pub use Rattle.commands.proofs.InputFiles.{all_put}
 
 -- one event more, and none left
@@ -122,12 +122,12 @@ stopped_as_output (Ok done) old new name bytes file stopped = tt
 stopped_as_output (Err failure) old new name bytes file stopped = record { file = file; stopped = stopped }
 
 pub no_others : (files : Option Directory) (name : List ℕ) → KeepsOthers files files name
-no_others files name = kept_others files files name (stays files)
+no_others files name = kept_others files files name (files_stay files)
 
 pub others_of : {T E : Type 0} (result : Result T E) (old new : Option Directory) (name bytes : List ℕ) → OnOk result (ChangesFiles old new (with_file name bytes))
     → OnErr result (StopsWriting old new name bytes) → KeepsOthers old new name
 others_of (Ok done) old new name bytes written stopped = written_others old new name bytes written
-others_of (Err failure) old new name bytes written stopped = kept_then_stopped old old new name bytes (stays old) stopped
+others_of (Err failure) old new name bytes written stopped = kept_then_stopped old old new name bytes (files_stay old) stopped
 
 -- what is left of a list after its first item
 rest_is : {A : Type 0} (xs : List A) → 1 ≤ length xs → take (length xs - 1) (drop 1 xs) ≡ drop 1 xs
@@ -194,7 +194,7 @@ pub record WrittenSoFar (start now : Option Directory) (names outputs rest_names
 pub none_written : (files : Option Directory) (names outputs : List (List ℕ)) → WrittenSoFar files files names outputs names outputs
 none_written files names outputs = record {
   goes_on = λ new changes. changes;
-  others = kept_but names files files (stays files);
+  others = kept_but names files files (files_stay files);
   among = λ name there. there;
   done = record { earlier = []; whole = []; names_are = refl; outputs_are = refl; as_many = refl; written = no_names files [] };
 }

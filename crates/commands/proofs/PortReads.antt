@@ -68,9 +68,9 @@ one_counted input (first ∷ more) one old new some is inside so_far added =
     rw added (one_more input more one old (subst (λ (b : InputByte). CountedSoFar input (b ∷ more) old) (sym is) so_far) inside)
 
 -- there is room for it
-pub room : (input rest : List InputByte) (other : InputByte) (old : List ℕ) → 1 ≤ length rest → CountedSoFar input rest old → get_or old (get_or rest 0 other).port 0 + 1 ≤ length input
-room input [] other old some so_far = absurd (omega arith)
-room input (first ∷ more) other old some so_far = room_for_one input more first old so_far
+pub room_for_first : (input rest : List InputByte) (other : InputByte) (old : List ℕ) → 1 ≤ length rest → CountedSoFar input rest old → get_or old (get_or rest 0 other).port 0 + 1 ≤ length input
+room_for_first input [] other old some so_far = absurd (omega arith)
+room_for_first input (first ∷ more) other old some so_far = room_for_one input more first old so_far
 
 -- where none is left to be counted, all are counted
 pub all_counted : (input rest : List InputByte) (left : List ℕ) → length rest < 1 → CountedSoFar input rest left → (port : ℕ) → left_at left port ≡ length (bytes_to port input)

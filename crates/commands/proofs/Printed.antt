@@ -1,5 +1,5 @@
 -- What was printed of programs, step by step.
-use Rattle.commands.proofs.{Prelude.{◌≡◌, ℕ, ◌≤◌, Bool, true, false, List, [], ◌++◌, length, map, Bor, Option, None, Some, inl, inr, refl, sym, ap, subst, ◌∙◌, append-nil, Appends, Keeps, Appends-trans, AppendsBeginning, beginning_after, texts, Event, Directory, HasFiles, Plan, Joined, CodePlacement, placement_view, ProgramWanted, Values, Action, ToRun, Interpret, MOST_SOURCES, IsProgramOf, program_modules, Construction, IsConstruction, source_of, map_if, map_of, BeginsImage, PrintsBuilt, PrintsFiles, PrintsImage, PrintsTexts, StopsBuilt, machine_word, run_report, source_word, KeepsFiles, StopsImage, HasInput, PrintsRead, module_names, no_names, Absolute, source_run}, InputFiles.{input_there, named}, PlacesTold.{any_names, any_stops}}
+use Rattle.commands.proofs.{Prelude.{◌≡◌, ℕ, ◌≤◌, Bool, true, false, List, [], ◌++◌, length, map, Bor, Option, None, Some, inl, inr, refl, sym, ap, subst, ◌∙◌, append-nil, Appends, Keeps, Appends-trans, AppendsBeginning, beginning_after, texts, Event, Directory, HasFiles, Plan, Joined, CodePlacement, placement_view, ProgramWanted, Values, Action, ToRun, Interpret, MOST_SOURCES, IsProgramOf, program_modules, Construction, IsConstruction, source_of, map_if, map_of, BeginsImage, PrintsBuilt, PrintsFiles, PrintsImage, PrintsTexts, StopsBuilt, machine_word, run_report, source_word, KeepsFiles, StopsImage, HasInput, PrintsRead, module_names, no_names, Absolute, source_run}, InputFiles.{input_there, files_of_order}, PlacesTold.{any_names, any_stops}}
 
 -- a writer that nothing was sent to
 pub stays_written : (known : Option (List ℕ)) → Keeps known known
@@ -112,8 +112,8 @@ module _ (action : Action) (wanted : Bool) (values : Values) (built : Constructi
   pub with_map : wanted ≡ true → Appends a b (map_of built) → PrintsBuilt action [] values built status outputs b c → PrintsBuilt action (map_if wanted built) values built status outputs a c
   with_map is_on first printed = rw is_on (action_after (map_of built) values built outputs a b c status first action printed)
 
-  pub alone : wanted ≡ false → PrintsBuilt action [] values built status outputs a c → PrintsBuilt action (map_if wanted built) values built status outputs a c
-  alone is_off printed = rw is_off printed
+  pub prints_without_map : wanted ≡ false → PrintsBuilt action [] values built status outputs a c → PrintsBuilt action (map_if wanted built) values built status outputs a c
+  prints_without_map is_off printed = rw is_off printed
 
 -- the same of what was not printed whole
 module _ (action : Action) (wanted : Bool) (values : Values) (built : Construction) (a b c : Option (List ℕ)) where
@@ -156,7 +156,7 @@ pub prints_files : (files : Option Directory) (wanted : ProgramWanted) (values :
     → (mid : Option Directory) → KeepsFiles files mid → PrintsRead wanted values mid used status outputs old new → PrintsFiles wanted values files status outputs old new
 prints_files files wanted values names order read used status outputs old new same wants has are mid kept printed = record {
   texts = read;
-  read = subst (λ (l : List (List ℕ)). HasFiles files l read) (sym wants) (named names order files read same has);
+  read = subst (λ (l : List (List ℕ)). HasFiles files l read) (sym wants) (files_of_order names order files read same has);
   printed = record {
     full = printed.full;
     input = input_there files mid values printed.full kept printed.input;

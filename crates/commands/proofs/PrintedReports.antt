@@ -17,9 +17,9 @@ module _ (values : Values) (events : List Event) (steps : ℕ) (word text said p
       → Appends old new (run_report values events steps word text)
   printed all = subst (Appends old new) report_is all
 
-  pub begun : AppendsBeginning old new (report_of quiet events words)
+  pub report_begun : AppendsBeginning old new (report_of quiet events words)
       → AppendsBeginning old new (run_report values events steps word text)
-  begun some = subst (AppendsBeginning old new) report_is some
+  report_begun some = subst (AppendsBeginning old new) report_is some
 
 pub nothing : (values : Values) (events : List Event) (steps : ℕ) (word text : List ℕ) (known : Option (List ℕ))
     → AppendsBeginning known known (run_report values events steps word text)

@@ -1,5 +1,5 @@
 -- Orders to run, with files of ports or without.
-use Rattle.commands.proofs.{Prelude.{◌≡◌, ℕ, List, [], Ok, Option, Some, inl, subst, stays, Directory, Tells, memory_line, Values, execute_in, outputs_in, program_in, DeliversRun, RefusesAsWanted, RefusesRun, RunsAsWanted, RunsOut, PrintsWith, RefusesWith, RunOrder, Objects, Sources, output_texts, values_wanted, wanted_run}, Delivered.{by_any, delivered_as, plain_run, with_some, without_any}, Executed.{memory_first, prints_execution}, ProgramsTold.{prints_program}, RefusedRuns.{refused_as, refused_unended}, Untold.{for_memory, runs_out}}
+use Rattle.commands.proofs.{Prelude.{◌≡◌, ℕ, List, [], Ok, Option, Some, inl, subst, files_stay, Directory, Tells, memory_line, Values, execute_in, outputs_in, program_in, DeliversRun, RefusesAsWanted, RefusesRun, RunsAsWanted, RunsOut, PrintsWith, RefusesWith, RunOrder, Objects, Sources, output_texts, values_wanted, wanted_run}, Delivered.{by_any, delivered_as, plain_run, with_some, without_any}, Executed.{memory_first, prints_execution}, ProgramsTold.{prints_program}, RefusedRuns.{refused_as, refused_unended}, Untold.{for_memory, runs_out}}
 use Rattle.commands.specs.Converting.{TellsRun}
 use Rattle.commands.specs.OutputFiles.{output_names}
 use Rattle.commands.proofs.Executed as of_objects
@@ -35,10 +35,10 @@ module _ (order : RunOrder) (files : Option Directory) (before after : ℕ) (old
       by : (order : RunOrder) → RefusesAsWanted (wanted_run order) files files before after old new out out
       by (Sources order) = by_any (program_in order.now).output_files
           (of_sources.refuses_memory _ _ _ _ _ _ _ _ kept)
-          (refused_unended _ _ _ _ _ _ _ _ _ _ [] (of_sources.refuses_memory _ _ _ _ _ _ _ _ lines) (stays files))
+          (refused_unended _ _ _ _ _ _ _ _ _ _ [] (of_sources.refuses_memory _ _ _ _ _ _ _ _ lines) (files_stay files))
       by (Objects order) = by_any (execute_in order.now).output_files
           (of_objects.refuses_memory _ _ _ _ _ _ _ _ kept)
-          (refused_unended _ _ _ _ _ _ _ _ _ _ [] (of_objects.refuses_memory _ _ _ _ _ _ _ _ lines) (stays files))
+          (refused_unended _ _ _ _ _ _ _ _ _ _ [] (of_objects.refuses_memory _ _ _ _ _ _ _ _ lines) (files_stay files))
 
 -- with the values that are written
 module _ (order : RunOrder) (values : Values) (files changed : Option Directory)

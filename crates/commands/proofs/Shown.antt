@@ -1,5 +1,5 @@
 -- What is shown of files that are listed, and of the symbols of sources.
-use Rattle.commands.proofs.{Prelude.{◌≡◌, ℕ, ◌≤◌, Bool, true, false, List, Bor, Option, inl, inr, length, map, sym, subst, ◌∙◌, texts, Appends, AppendsBeginning, Directory, HasFiles, Tells, TellsOther, memory_line, Ending, Done, Refused, Plan, MOST_SOURCES, IsProgramOf, program_modules, Construction, IsConstruction, IsInOrder, ToolFault, TooManySources, fault_line, PlaceAction, PrintsListing, StopsListing, TellsUnwritten, HasShown, PrintsShown, PrintsTextsBy, RefusesShown, RefusesTextsBy, ShowsProgram, takes_object}, InputFiles.{named}, Printed.{stays_written}}
+use Rattle.commands.proofs.{Prelude.{◌≡◌, ℕ, ◌≤◌, Bool, true, false, List, Bor, Option, inl, inr, length, map, sym, subst, ◌∙◌, texts, Appends, AppendsBeginning, Directory, HasFiles, Tells, TellsOther, memory_line, Ending, Done, Refused, Plan, MOST_SOURCES, IsProgramOf, program_modules, Construction, IsConstruction, IsInOrder, ToolFault, TooManySources, fault_line, PlaceAction, PrintsListing, StopsListing, TellsUnwritten, HasShown, PrintsShown, PrintsTextsBy, RefusesShown, RefusesTextsBy, ShowsProgram, takes_object}, InputFiles.{files_of_order}, Printed.{stays_written}}
 use Rattle.sources.specs.Programs.{text_of}
 use Rattle.tool.specs.Sources.{HasCause}
 use Rattle.commands.specs.Showing.{PrintsBuilt, StopsShowing}
@@ -87,12 +87,12 @@ module _ (action : PlaceAction) (plan : Plan) (files : Option Directory) (names 
   files_shown out now printed =
       let of_read : PrintsTextsBy (takes_object action read) action plan read out now =
       subst (λ (l : List (List ℕ)). PrintsTextsBy (takes_object action l) action plan l out now) are printed in
-      record { texts = read; read = named names order files read same has; printed = of_read }
+      record { texts = read; read = files_of_order names order files read same has; printed = of_read }
 
   pub files_refused : (old new out now : Option (List ℕ)) → RefusesTextsBy (takes_object action used) action plan (texts order) used old new out now
       → RefusesShown action files (texts order) plan old new out now
   files_refused old new out now refused = record {
     texts = read;
-    read = named names order files read same has;
+    read = files_of_order names order files read same has;
     refused = subst (λ (l : List (List ℕ)). RefusesTextsBy (takes_object action l) action plan (texts order) l old new out now) are refused;
   }

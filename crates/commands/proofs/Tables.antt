@@ -1,5 +1,5 @@
 -- Tables of lines that were written, or not.
-use Rattle.commands.proofs.Prelude.{◌≡◌, ℕ, List, Bor, Option, None, Some, inl, inr, refl, sym, ap, subst, ◌∙◌, ChangesFiles, Directory, KeepsFiles, with_file, stays_on, StopsWriting, kept_others, kept_then_others, kept_then_written, written_others, kept_then_stopped, stays, convert_in, ConvertOrder, BeginsTable, WritesTable, table_if}
+use Rattle.commands.proofs.Prelude.{◌≡◌, ℕ, List, Bor, Option, None, Some, inl, inr, refl, sym, ap, subst, ◌∙◌, ChangesFiles, Directory, KeepsFiles, with_file, stays_on, StopsWriting, kept_others, kept_then_others, kept_then_written, written_others, kept_then_stopped, files_stay, convert_in, ConvertOrder, BeginsTable, WritesTable, table_if}
 use Rattle.commands.specs.Tables.{KeepsAllBut}
 
 pub kept_all_but : (name : Option (List ℕ)) (old new : Option Directory) → KeepsFiles old new → KeepsAllBut name old new
@@ -7,7 +7,7 @@ kept_all_but None old new kept = kept
 kept_all_but (Some name) old new kept = kept_others old new name kept
 
 pub kept_same : (name : Option (List ℕ)) (files : Option Directory) → KeepsAllBut name files files
-kept_same name files = kept_all_but name files files (stays files)
+kept_same name files = kept_all_but name files files (files_stay files)
 
 -- after files that stayed none changes but that of the table
 pub kept_then_all_but : (name : Option (List ℕ)) (old now new : Option Directory) → KeepsFiles old now → KeepsAllBut name now new → KeepsAllBut name old new
@@ -20,7 +20,7 @@ pub written_but : (wanted : Option (List ℕ)) (name : List ℕ) (old new : Opti
 written_but wanted name old new table is written = subst (λ (o : Option (List ℕ)). KeepsAllBut o old new) (sym is) (written_others old new name table written)
 
 pub stopped_but : (wanted : Option (List ℕ)) (name : List ℕ) (old new : Option Directory) (table : List ℕ) → wanted ≡ Some name → StopsWriting old new name table → KeepsAllBut wanted old new
-stopped_but wanted name old new table is stopped = subst (λ (o : Option (List ℕ)). KeepsAllBut o old new) (sym is) (kept_then_stopped old old new name table (stays old) stopped)
+stopped_but wanted name old new table is stopped = subst (λ (o : Option (List ℕ)). KeepsAllBut o old new) (sym is) (kept_then_stopped old old new name table (files_stay old) stopped)
 
 -- what was made of files was made of them as they were
 pub was_stopped_writing : (was files later : Option Directory) (name table : List ℕ) → KeepsFiles was files → StopsWriting files later name table → StopsWriting was later name table

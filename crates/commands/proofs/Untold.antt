@@ -1,5 +1,5 @@
 -- Why sources were not run or interpreted, or not compiled.
-use Rattle.commands.proofs.{Prelude.{◌≡◌, ℕ, ◌<◌, ◌≤◌, Bool, List, [], ◌∷◌, Bor, Err, Ok, Option, Result, inl, inr, length, map, refl, subst, sym, ⊎_elim, cases_lt, length-map, texts, CountsFailure, Failure, Fault, Directory, HasFile, HasFiles, StopsAt, Tells, file_line, memory_line, output_line, CompileWanted, ProgramWanted, Values, values_read, Action, MOST_SOURCES, IsProgramOf, program_modules, texts_of, Construction, IsConstruction, IsInOrder, IsRefusedAlone, ToolFault, TooManySources, CompilesTo, fault_line, map_if, RefusesCompiling, RefusesFiles, RefusesFor, RefusesProgram, RefusesTexts, RunsOut, TellsUnwritten, StopsBuilt, KeepsFiles, ◌++◌, HasInput, input_names, RefusesRead}, InputFiles.{input_there, named}, Printed.{stays_written}}
+use Rattle.commands.proofs.{Prelude.{◌≡◌, ℕ, ◌<◌, ◌≤◌, Bool, List, [], ◌∷◌, Bor, Err, Ok, Option, Result, inl, inr, length, map, refl, subst, sym, ⊎_elim, cases_lt, length-map, texts, CountsFailure, Failure, Fault, Directory, HasFile, HasFiles, StopsAt, Tells, file_line, memory_line, output_line, CompileWanted, ProgramWanted, Values, values_read, Action, MOST_SOURCES, IsProgramOf, program_modules, texts_of, Construction, IsConstruction, IsInOrder, IsRefusedAlone, ToolFault, TooManySources, CompilesTo, fault_line, map_if, RefusesCompiling, RefusesFiles, RefusesFor, RefusesProgram, RefusesTexts, RunsOut, TellsUnwritten, StopsBuilt, KeepsFiles, ◌++◌, HasInput, input_names, RefusesRead}, InputFiles.{input_there, files_of_order}, Printed.{stays_written}}
 use Rattle.sources.specs.declared.sources.Source.{Source}
 use Rattle.tool.specs.Sources.{HasCause}
 
@@ -68,7 +68,7 @@ pub refuses_files : (wanted : ProgramWanted) (values : Values) (files : Option D
     → (mid : Option Directory) → KeepsFiles files mid → RefusesRead wanted values mid used old new out now → RefusesFiles wanted values files old new out now
 refuses_files wanted values files names order read used old new out now same wants has are mid kept refused = record {
   texts = read;
-  read = subst (λ (l : List (List ℕ)). HasFiles files l read) (sym wants) (named names order files read same has);
+  read = subst (λ (l : List (List ℕ)). HasFiles files l read) (sym wants) (files_of_order names order files read same has);
   refused = record {
     full = refused.full;
     input = input_there files mid values refused.full kept refused.input;

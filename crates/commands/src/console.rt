@@ -221,7 +221,7 @@ fn carry_out<F: Files, O: Write, E: Write>(
 }
 
 // Carries out an order on an object file or on sources that are placed, once the values of its options are known.
-#[tactic(auto, using(host::proofs::FilesRead::stays, crate::proofs::TextsTold::done_or_refused, crate::proofs::TextsTold::tells_plan, crate::proofs::NeedTold::is_done, crate::proofs::NeedTold::refused_not_done))]
+#[tactic(auto, using(host::proofs::FilesRead::files_stay, crate::proofs::TextsTold::done_or_refused, crate::proofs::TextsTold::tells_plan, crate::proofs::NeedTold::is_done, crate::proofs::NeedTold::refused_not_done))]
 fn carry_out_place<F: Files, O: Write, E: Write>(
     alloc: Global,
     order: &PlaceOrder,
@@ -262,7 +262,7 @@ fn carry_out_place<F: Files, O: Write, E: Write>(
 }
 
 // Carries out an order on one object file, once its plan is known.
-#[tactic(auto, using(host::proofs::FilesRead::stays, crate::proofs::OrdersKept::told_of_only, crate::proofs::TextsTold::done_or_refused, crate::proofs::TextsTold::tells_jump, crate::proofs::TextsTold::tells_second, crate::proofs::NeedTold::is_done, crate::proofs::NeedTold::refused_not_done, crate::proofs::ProgramsTold::refuses_object))]
+#[tactic(auto, using(host::proofs::FilesRead::files_stay, crate::proofs::OrdersKept::told_of_only, crate::proofs::TextsTold::done_or_refused, crate::proofs::TextsTold::tells_jump, crate::proofs::TextsTold::tells_second, crate::proofs::NeedTold::is_done, crate::proofs::NeedTold::refused_not_done, crate::proofs::ProgramsTold::refuses_object))]
 fn carry_out_object<F: Files, O: Write, E: Write>(
     alloc: Global,
     order: &PlaceOrder,

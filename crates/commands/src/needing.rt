@@ -17,7 +17,7 @@ use std::alloc::Global;
 use std::io::Write;
 
 /// Prints how much of the stack the program of the sources of an order needs, once the plan beside them is one.
-#[tactic(auto, using(host::proofs::FilesRead::stays, crate::proofs::NeedTold::done_or_refused, crate::proofs::NeedTold::is_done, crate::proofs::NeedTold::prints_wanted, crate::proofs::NeedTold::refuses_need, crate::proofs::NeedTold::tells_plan))]
+#[tactic(auto, using(host::proofs::FilesRead::files_stay, crate::proofs::NeedTold::done_or_refused, crate::proofs::NeedTold::is_done, crate::proofs::NeedTold::prints_wanted, crate::proofs::NeedTold::refuses_need, crate::proofs::NeedTold::tells_plan))]
 pub(crate) fn tell_need<F: Files, O: Write, E: Write>(
     alloc: Global,
     order: &NeedOrder,

@@ -121,7 +121,7 @@ fn add_texts(alloc: Global, values: &mut Settings, texts: &[Vec<u8>]) -> Result<
 /// Reads the files from which the bytes of ports come, in the order of the options, and adds their bytes to the input. After
 /// a failure the values are as they were. A fault comes with the name of its file, all before which were read, and is one
 /// failure that was counted.
-#[tactic(auto, using(host::proofs::FilesRead::stays))]
+#[tactic(auto, using(host::proofs::FilesRead::files_stay))]
 pub(crate) fn read_input<'a, F: Files>(
     alloc: Global,
     values: &mut Settings<'a>,

@@ -67,7 +67,7 @@ fn word_with_place(
 
 /// Prints the events of a run with the words that it ends with, and gathers the bytes for the files of ports. The answer is
 /// how the command ends. After a failure a beginning of that was printed, which may be nothing.
-#[tactic(auto, using(crate::proofs::PrintedReports::printed, crate::proofs::PrintedReports::begun, crate::proofs::PrintedReports::nothing))]
+#[tactic(auto, using(crate::proofs::PrintedReports::printed, crate::proofs::PrintedReports::report_begun, crate::proofs::PrintedReports::nothing))]
 pub(crate) fn print_report<O: Write>(
     alloc: Global,
     values: &Settings,

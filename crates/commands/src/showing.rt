@@ -53,7 +53,7 @@ fn takes_object(action: PlaceAction, texts: &[Vec<u8>]) -> bool
 
 /// Reads the files of an order, and prints the listing or the symbols of the program that their texts make, or the listing of
 /// an object. After a write that failed a beginning of that was printed, and after any other refusal nothing.
-#[tactic(auto, using(host::proofs::FilesRead::stays))]
+#[tactic(auto, using(host::proofs::FilesRead::files_stay))]
 pub(crate) fn show_files<F: Files, O: Write, E: Write>(
     alloc: Global,
     order: &PlaceOrder,

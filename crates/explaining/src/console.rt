@@ -107,7 +107,7 @@ fn explain<F: Files, E: Write>(
 }
 
 // Looks for files, if they are wanted.
-#[tactic(auto, using(crate::proofs::Looked::begun, crate::proofs::Looked::ended, crate::proofs::Looked::looks_none))]
+#[tactic(auto, using(crate::proofs::Looked::looking_begun, crate::proofs::Looked::looking_ended, crate::proofs::Looked::looks_none))]
 fn look_for_all<F: Files>(are_wanted: bool, names: &[&str], files: &mut KeptFiles<F>)
     ensures { Looks (length names.now) (F.files files.old.inner) (F.files files.new.inner)
         (F.failures files.old.inner) (F.failures files.new.inner) }

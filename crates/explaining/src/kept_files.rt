@@ -102,7 +102,7 @@ impl<F> KeptFiles<F> {
 
 impl<F: Files> KeptFiles<F> {
     /// Looks for a file, and keeps what is known of it, where that is not known yet.
-    #[tactic(auto, using(host::proofs::FilesRead::stays, crate::proofs::Looked::counted_up, crate::proofs::Looked::not_down))]
+    #[tactic(auto, using(host::proofs::FilesRead::files_stay, crate::proofs::Looked::counted_up, crate::proofs::Looked::not_down))]
     pub(crate) fn look_for(&mut self, name: &str)
         ensures kept { KeepsFiles (F.files self.old.inner) (F.files self.new.inner) }
         ensures most { F.failures self.new.inner ≤ F.failures self.old.inner + 1 }

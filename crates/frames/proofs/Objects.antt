@@ -1,7 +1,7 @@
 -- The stack that a procedure of tree code takes, and the places of its objects there, in terms of the typed
 -- module that it is lowered from.
 use Rattle.frames.proofs.Prelude.{◌≡◌, ℕ, ◌+◌, ◌<◌, ◌≤◌, Bool, min, if◌then◌else◌, List, length, slice_get, Option, Some, None, IsSomeAnd, refl, ap, sym, ◌∙◌, subst, arith, option_map, option_map_or, lt-ltb, same_Some, slice_get-map, slice_get_within, InFrame, TypedObject, TypedProcedure, TypedModule, size_of_object, FramesFit, ParametersFit, Storage, TreeModule, FrameVariable, TreeProcedure, frame_number, frame_position, frame_variable, frame_variables, IsProcedure, IsLowered, Nodes, nodes_of, FramePlan, IsChargedAs, bytes_of_call, distance_of, return_of, size_in, IsPlanOf, LiesApart, TakeBytes}
-use Rattle.frames.proofs.Places.{apart}
+use Rattle.frames.proofs.Places.{frame_lies_apart}
 use Rattle.frames.specs.Calls.{call_bytes}
 use Rattle.frames.specs.internal.Objects.{HasByte, place_of_byte, ObjectsLie, IsFramedAs}
 use Rattle.frames.proofs.Entries.{entries, stands_at}
@@ -128,7 +128,7 @@ objects_lie typed nodes storage number procedure heading plan sized fit frames_f
 }
   where
     lies : LiesApart procedure plan
-    lies = apart procedure plan (has_frame typed nodes storage number procedure heading fit frames_fit stands is) planned
+    lies = frame_lies_apart procedure plan (has_frame typed nodes storage number procedure heading fit frames_fit stands is) planned
 
     call_is : bytes_of_call procedure ≡ call_bytes heading
     call_is =

@@ -253,12 +253,12 @@ same_byte procedure number other place frame (inr left) (inr right) =
         )
 
 -- the bytes of a frame do not overlap in a plan
-pub apart :
+pub frame_lies_apart :
     (procedure : TreeProcedure) (plan : FramePlan)
     → HasFrame procedure
     → IsPlanOf procedure plan
     → LiesApart procedure plan
-apart procedure plan frame planned = record {
+frame_lies_apart procedure plan frame planned = record {
   within = λ number offset within.
       is_within procedure number (distance_of plan number + offset) frame
       (place_of procedure plan number offset frame planned within);

@@ -116,7 +116,7 @@ fn reentrant_plan(alloc: Global, procedure: &TreeProcedure) -> Result<FramePlan,
 
 /// The places of the variables and parameters of a call of a procedure. The plan of a procedure that is not REENTRANT
 /// is empty.
-#[tactic(auto, using(crate::proofs::Distances::planned, crate::proofs::Places::apart))]
+#[tactic(auto, using(crate::proofs::Distances::planned, crate::proofs::Places::frame_lies_apart))]
 pub fn plan(alloc: Global, procedure: &TreeProcedure) -> Result<FramePlan, AllocError>
     ensures planned { procedure.now.kind ≡ Reentrant
         → HasFrame procedure.now → IfOk result (λ plan. IsPlanOf procedure.now plan) }

@@ -4,8 +4,8 @@ use Rattle.hex80.specs.declared.read.Place.{Place}
 use Rattle.hex80.proofs.Digits.{IsBytes, bytes_back}
 use Rattle.hex80.proofs.Judged.{JudgesText, judged}
 use Rattle.hex80.proofs.TextsAgain.{no_fault}
-use Rattle.hex80.proofs.Counting.{is_in, in_is}
-use Rattle.hex80.proofs.TextLines.{line_before, Parts, Some_parts, parts}
+use Rattle.hex80.proofs.Counting.{has_address_is_in, is_in_has_address}
+use Rattle.hex80.proofs.TextLines.{line_before, Parts, Some_parts, parts_of_text}
 
 -- bytes in front of others
 abbrev pub in_front : List ℕ → Option (List ℕ) → Option (List ℕ)
@@ -467,7 +467,7 @@ meets_marked used pieces piece marks fits =
         let both_have = (meets_decides (range_of piece) (range_of other.1)).0 other.4 in
         met_at both_have.0 both_have.1.0 both_have.1.1
         (any_there (has_address both_have.0) pieces other.0 other.1 other.2 other.3
-        (in_is both_have.0 other.1 both_have.2))
+        (is_in_has_address both_have.0 other.1 both_have.2))
 
     marked_of : (k : ℕ) → k < length piece.bytes
         → get_or (take (length piece.bytes) (drop piece.start used)) k false ≡ true
@@ -479,7 +479,7 @@ meets_marked used pieces piece marks fits =
         let other = piece_there (has_address (piece.start + k)) pieces there in
         any_there (pieces_meet piece) pieces other.0 other.1 other.2 other.3
         ((meets_decides (range_of piece) (range_of other.1)).1
-        (piece.start + k, (omega arith, omega arith), is_in (piece.start + k) other.1 other.4))
+        (piece.start + k, (omega arith, omega arith), has_address_is_in (piece.start + k) other.1 other.4))
 
     marked : list_any (λ mark. mark) (take (length piece.bytes) (drop piece.start used)) ≡ true
         → list_any (pieces_meet piece) pieces ≡ true
@@ -548,7 +548,7 @@ judged_end before text line rest is last none =
 
 some_line : (rest : List ℕ) → 0 < length rest → is_empty (lines rest) ≡ false
 some_line [] h = absurd (omega arith)
-some_line (c ∷ rest) h = go (c == 10) refl (parts rest)
+some_line (c ∷ rest) h = go (c == 10) refl (parts_of_text rest)
   where
     one : (others : List (List ℕ)) (first : List ℕ) → is_empty (lines_of_parts ((c ∷ first) ∷ others)) ≡ false
     one [] first = ap (λ b. is_empty (cond b [] ((c ∷ first) ∷ []))) (not_empty (length first))

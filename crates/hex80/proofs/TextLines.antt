@@ -16,9 +16,9 @@ not_equal a b h = go (a == b) refl
 pub data Parts (xs : List ℕ) : Type 0 where
   Some_parts : (first : List ℕ) (others : List (List ℕ)) → slice_split (λ b. b == 10) xs ≡ first ∷ others → Parts xs
 
-pub parts : (xs : List ℕ) → Parts xs
-parts [] = Some_parts [] [] refl
-parts (x ∷ xs) = go (x == 10) refl (parts xs)
+pub parts_of_text : (xs : List ℕ) → Parts xs
+parts_of_text [] = Some_parts [] [] refl
+parts_of_text (x ∷ xs) = go (x == 10) refl (parts_of_text xs)
   where
     go : (b : Bool) → (x == 10) ≡ b → Parts xs → Parts (x ∷ xs)
     go true e p = Some_parts [] (slice_split (λ c. c == 10) xs)
@@ -32,7 +32,7 @@ pub line_before :
     (line rest : List ℕ) → All (λ c. (c == 10) ≡ false) line
     → lines (line ++ 10 ∷ rest) ≡ strip_carriage_return line ∷ lines rest
 line_before line rest plain =
-    ap lines_of_parts (slice_split_at (λ b. b == 10) line 10 rest plain refl) ∙ go (parts rest)
+    ap lines_of_parts (slice_split_at (λ b. b == 10) line 10 rest plain refl) ∙ go (parts_of_text rest)
   where
     go : Parts rest → lines_of_parts (line ∷ slice_split (λ b. b == 10) rest) ≡ strip_carriage_return line ∷ lines rest
     go (Some_parts first others is) =

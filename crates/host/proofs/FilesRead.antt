@@ -1,9 +1,9 @@
 -- Files that are read one after another.
 use Rattle.host.proofs.Prelude.{◌≡◌, ℕ, ◌-◌, ◌≤◌, ◌<◌, List, [], ◌∷◌, ◌++◌, Option, None, Some, Bor, length, drop, take, get_or, map, refl, sym, ap, subst, ◌∙◌, arith, take-length, append-nil, append_assoc, Directory, HasFile, KeepsFiles, HasFiles, StopsAt}
 
-pub stays : (files : Option Directory) → KeepsFiles files files
-stays None = tt
-stays (Some files) = λ name. refl
+pub files_stay : (files : Option Directory) → KeepsFiles files files
+files_stay None = tt
+files_stay (Some files) = λ name. refl
 
 pub stays_on : (first second third : Option Directory) → KeepsFiles first second → KeepsFiles second third → KeepsFiles first third
 stays_on None second third before after = tt

@@ -11,7 +11,7 @@ use std::alloc::Global;
 
 /// Reads files, in the order given. A fault comes with the name of its file, all before which were read, and is one failure
 /// that was counted.
-#[tactic(auto, using(crate::proofs::FilesRead::stays, crate::proofs::FilesRead::all_read, crate::proofs::FilesRead::none_read))]
+#[tactic(auto, using(crate::proofs::FilesRead::files_stay, crate::proofs::FilesRead::all_read, crate::proofs::FilesRead::none_read))]
 pub fn read_files<'a, F: Files>(
     alloc: Global,
     names: &[&'a str],

@@ -4,7 +4,7 @@ use Rattle.std.proofs.Common.{length-append, zero}
 use Rattle.ports.specs.{declared.event.Event.{Event}, Events.{AddsEvent, IsBeginning}}
 use Rattle.meaning.specs.{Outcomes.{More}, declared.reason.Reason.{Reason}, internal.Kept.{with_more}}
 use Rattle.stack_code.specs.{Code.{program_code}, declared.instruction.Instruction.{Instruction}, Machine.{Machine, Progress, Going, Done}, Run.{stack_run, start_state, start_surroundings}, internal.Simulation.{Adds}}
-use Rattle.stack_code.proofs.{Budgets.{LastsOn, Sinks, lasts_run, left_in, more_in, sinks_run, sunk}, Meant.{begins_as_meant, done_as_meant}}
+use Rattle.stack_code.proofs.{Budgets.{LastsOn, Sinks, lasts_run, left_in, more_in, sinks_run, left_within_budget}, Meant.{begins_as_meant, done_as_meant}}
 use Rattle.interpreter.specs.Budgets.{IsLeast, Uses, UsesUpTo}
 
 -- a beginning that is one event longer is none
@@ -69,7 +69,7 @@ module _ (modules : List TypedModule) (placement : Placement) (room : ℕ) (memo
   comes_as_far budget count (suc rest) progress P is some here going ended outside = by (code_run (budget - suc rest) count) refl (lasts budget (budget - suc rest) (suc rest) count (omega arith) sum)
     where
       within : left_in progress ≤ budget
-      within = sunk budget progress (sinks budget count progress is)
+      within = left_within_budget budget progress (sinks budget count progress is)
 
       sum : (budget - suc rest) + suc rest ≡ budget
       sum = let e = within in omega (arith, e, some)

@@ -29,15 +29,15 @@ module _ (modules : List TypedModule) (placement : Placement) (room : ℕ) (star
       ∙ ap (λ bytes. run_at number bytes count) (sym filled)
 
   -- where the code stops, the source does
-  pub meant : (why : Stop) (left : ℕ) → Stops (run_at number memory) why after left → source_run modules placement room start script events budget ≡ record { end = why; events = after }
-  meant why left stops =
+  pub stops_as_meant : (why : Stop) (left : ℕ) → Stops (run_at number memory) why after left → source_run modules placement room start script events budget ≡ record { end = why; events = after }
+  stops_as_meant why left stops =
       done_as_meant modules placement room start script events budget main there sound program.instructions.items
       (compiled main (main_at modules main there)).code stops.count why stops.state (same_run stops.count ∙ stops.stopped)
       ∙ ap (λ (es : List Event). record { end = why; events = es }) stops.events_are
 
   -- it has used of its budget what is gone;
-  pub spent : (why : Stop) (left : ℕ) → Stops (run_at number memory) why after left → Uses (source_run modules placement room start script events) budget why (budget - left)
-  spent why left stops =
+  pub budget_spent : (why : Stop) (left : ℕ) → Stops (run_at number memory) why after left → Uses (source_run modules placement room start script events) budget why (budget - left)
+  budget_spent why left stops =
       subst (λ rest. Uses (source_run modules placement room start script events) budget why (budget - rest)) stops.left_is
       (used_to_end modules placement room start script events main there sound program.instructions.items
       (compiled main (main_at modules main there)).code budget stops.count why stops.state (same_run stops.count ∙ stops.stopped))
@@ -57,24 +57,24 @@ module _ (modules : List TypedModule) (placement : Placement) (room : ℕ) (star
             going stops.events_are stops.left_is onward stops.adds stops.left_after;
       }
 
-  pub fails : (fault : RunFault) (left : ℕ) → ReachesFault (run_at number memory) fault after left → FailsAt (source_run modules placement room start script events) budget fault after (budget - left)
+  pub fails_as_meant : (fault : RunFault) (left : ℕ) → ReachesFault (run_at number memory) fault after left → FailsAt (source_run modules placement room start script events) budget fault after (budget - left)
   unfolding ReachesFault
-  fails (faults.Input port) left stops = stopped (faults.Input port) left stops
-  fails (faults.Output port) left stops = stopped (faults.Output port) left stops
-  fails faults.Memory left stops = tt
+  fails_as_meant (faults.Input port) left stops = stopped (faults.Input port) left stops
+  fails_as_meant (faults.Output port) left stops = stopped (faults.Output port) left stops
+  fails_as_meant faults.Memory left stops = tt
 
   -- and on its way its events are a beginning of the source's
-  pub begun : Reaches (run_at number memory) after → IsBeginning after (source_run modules placement room start script events budget).events
-  begun reaches =
+  pub events_begun : Reaches (run_at number memory) after → IsBeginning after (source_run modules placement room start script events budget).events
+  events_begun reaches =
       subst (λ (es : List Event). IsBeginning es (source_run modules placement room start script events budget).events) reaches.events_are
       (begins_as_meant modules placement room start script events budget main there sound program.instructions.items
       (compiled main (main_at modules main there)).code reaches.count reaches.machine (same_run reaches.count ∙ reaches.going))
 
 -- a program without a main module ends at once
 module _ (modules : List TypedModule) (placement : Placement) (room : ℕ) (start : List ℕ) (script : List (List ℕ)) (events : List Event) (budget : ℕ) (none : found_from 0 modules ≡ None) where
-  pub ended : source_run modules placement room start script events budget ≡ record { end = Ended; events = events }
+  pub ends_without_main : source_run modules placement room start script events budget ≡ record { end = Ended; events = events }
   unfolding source_run
-  ended =
+  ends_without_main =
       ap
       (λ (one : Option TypedModule). run_of (option_map_or (λ (typed : TypedModule). main_done budget typed (start_surroundings modules placement script (number_of_main modules) room) (start_state modules placement start events budget)) one (Gave Flow.Onward (start_state modules placement start events budget))))
       (main_is_none modules none)
@@ -85,7 +85,7 @@ pub ended_with_none : (modules : List TypedModule) (placement : Placement) (room
 ended_with_none modules placement room start script events budget left none same =
     let nothing : budget - left ≡ 0 = omega (arith, same) in
     record {
-      here = ap (λ (run : Run). run.end) (ended modules placement room start script events (budget - left) none);
+      here = ap (λ (run : Run). run.end) (ends_without_main modules placement room start script events (budget - left) none);
       below = λ less within ends. omega (arith, within, nothing);
     }
 

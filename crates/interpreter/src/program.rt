@@ -27,7 +27,7 @@ use std::alloc::{AllocError, Global};
 /// memory, the events are a beginning of those, and the events that there were before stay. A port that failed is the next
 /// one that the program reads or writes. `at` becomes the number of the instruction at which the run stands at its end, among
 /// those that `stack_marks` speaks of; it stays as it is if there is no memory to begin, or no main program.
-#[tactic(auto, using(crate::proofs::Runs::meant, crate::proofs::Runs::begun, crate::proofs::Runs::ended, crate::proofs::Runs::ended_with_none))]
+#[tactic(auto, using(crate::proofs::Runs::stops_as_meant, crate::proofs::Runs::events_begun, crate::proofs::Runs::ends_without_main, crate::proofs::Runs::ended_with_none))]
 pub fn interpret<P: Ports>(
     alloc: Global,
     joined: &Joined,

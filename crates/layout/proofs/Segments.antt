@@ -163,12 +163,12 @@ pub record Holds (places : Places) (offset : ℕ) (part : Places) : Type 0 where
   pub alone : StandsAlone before
 
 -- so each byte of them is one of the others
-pub held :
+pub byte_of_part :
     (places : Places) (offset : ℕ) (part : Places) (number : ℕ) (byte : Option SegmentByte)
     → Holds places offset part
     → slice_get part number ≡ Some byte
     → slice_get places (offset + number) ≡ Some byte
-held places offset part number byte holds found =
+byte_of_part places offset part number byte holds found =
     ap (λ (all : Places). slice_get all (offset + number)) holds.whole
     ∙ ap (λ (at : ℕ). slice_get (holds.before ++ (part ++ holds.after)) (at + number)) (sym holds.offset_is)
     ∙ got_behind holds.before (part ++ holds.after) number

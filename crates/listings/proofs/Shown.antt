@@ -1,5 +1,5 @@
 -- What parts are shown as.
-use Rattle.listings.proofs.{Prelude.{◌≡◌, inl, inr, ℕ, suc, ◌+◌, ◌-◌, ◌<◌, ◌≤◌, ◌==◌, ◌||◌, nat_lt, min, drop, filter, get_or, length, take, arith, Bool, true, false, cond, List, [], ◌∷◌, ◌++◌, All, flat_map, map, slice_index, codes, Result, OnOk, Option, Some, None, refl, ap, sym, subst, ◌∙◌, append-nil, append_assoc, take_all, All-from_recursion, none-some, AllByRecursion, byte_digits, Instr, part_line, Piece, Symbol, fixes_in, Fix, Code, constant_bytes, IsShown, ShownPart, ShowsByte, cells_in, cells_of, instr_text, margin, name_line, part_lines, parts_beside, parts_in, parts_text, CodeSegment, Part, ModuleView, AddsParts, IsCodePart, IsGood, IsGoodBy, IsKindBy, IsLone, IsNamedBy, IsPartOf, bytes_shown, kept_cells, lined, lines_if, part_view, text_for, IsPartOfCode, code_size, object_of, typed_of}, Adding.{none_left, on_ok, split_first}}
+use Rattle.listings.proofs.{Prelude.{◌≡◌, inl, inr, ℕ, suc, ◌+◌, ◌-◌, ◌<◌, ◌≤◌, ◌==◌, ◌||◌, nat_lt, min, drop, filter, get_or, length, take, arith, Bool, true, false, cond, List, [], ◌∷◌, ◌++◌, All, flat_map, map, slice_index, codes, Result, OnOk, Option, Some, None, refl, ap, sym, subst, ◌∙◌, append-nil, append_assoc, take_all, All-from_recursion, none-some, AllByRecursion, byte_digits, Instr, part_line, Piece, Symbol, fixes_in, Fix, Code, constant_bytes, IsShown, ShownPart, ShowsByte, cells_in, cells_of, instr_text, margin, name_line, part_lines, parts_beside, parts_in, parts_text, CodeSegment, Part, ModuleView, AddsParts, IsCodePart, IsGood, IsGoodBy, IsKindBy, IsLone, IsNamedBy, IsPartOf, bytes_shown, kept_cells, lined, lines_if, part_view, text_for, IsPartOfCode, code_size, object_of, typed_of}, Adding.{none_left, weaken_on_ok, split_first}}
 
 -- the same bytes
 pub cells_lined : (name_at : ℕ → Option Symbol) (parts : List Part) → flat_map (λ (part : ℕ × ShownPart). cells_of part.1) (map (lined name_at) parts) ≡ flat_map kept_cells parts
@@ -183,5 +183,5 @@ pub lone_put : {T E : Type 0} (name_at : ℕ → Option Symbol) (part : Part) (o
     → OnOk result (new ≡ margined ++ part_line part.address (slice_index part.bytes 0 ∷ []) (codes "DB " ++ byte_digits (slice_index part.bytes 0)))
     → OnOk result (new ≡ old ++ part_lines name_at (part_view name_at part))
 lone_put name_at part old named margined new result none good first second third =
-    on_ok result (new ≡ margined ++ part_line part.address (slice_index part.bytes 0 ∷ []) (codes "DB " ++ byte_digits (slice_index part.bytes 0)))
+    weaken_on_ok result (new ≡ margined ++ part_line part.address (slice_index part.bytes 0 ∷ []) (codes "DB " ++ byte_digits (slice_index part.bytes 0)))
     (new ≡ old ++ part_lines name_at (part_view name_at part)) (lone_line name_at part old named margined new none good first second) third

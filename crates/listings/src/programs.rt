@@ -13,7 +13,7 @@ use std::alloc::{AllocError, Global};
 use tool::{Built, Source};
 
 // The listing of modules.
-#[tactic(auto, using(crate::proofs::Adding::begun, crate::proofs::ProgramLists::view_listed, crate::proofs::ProgramLists::views_listed))]
+#[tactic(auto, using(crate::proofs::Adding::text_begun, crate::proofs::ProgramLists::view_listed, crate::proofs::ProgramLists::views_listed))]
 fn listing_in(alloc: Global, built: &Built, views: &[ModuleView]) -> Result<Vec<u8>, AllocError>
     ensures { IfOk result (λ lines. IsListingOf built.now.image.pieces views.now lines.items) }
 {

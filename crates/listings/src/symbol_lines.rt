@@ -78,7 +78,7 @@ fn put_procedure(
 }
 
 // Adds the lines of the procedures of a module.
-#[tactic(auto, using(crate::proofs::Adding::begun, crate::proofs::SymbolTexts::procedure_next, crate::proofs::SymbolTexts::procedures_ended))]
+#[tactic(auto, using(crate::proofs::Adding::text_begun, crate::proofs::SymbolTexts::procedure_next, crate::proofs::SymbolTexts::procedures_ended))]
 fn put_procedures(lines: &mut Vec<u8>, view: &ModuleView) -> io::Result<()>
     ensures { OnOk result (Adds (HasProcedureLines view.now (typed_of view.now).procedures)
         lines.old.items lines.new.items) }
@@ -164,7 +164,7 @@ fn put_object(
 }
 
 // Adds the lines of the objects of a module that have a place.
-#[tactic(auto, using(crate::proofs::Adding::begun, crate::proofs::SymbolTexts::object_next, crate::proofs::SymbolTexts::objects_ended, crate::proofs::SymbolTexts::addresses_ended))]
+#[tactic(auto, using(crate::proofs::Adding::text_begun, crate::proofs::SymbolTexts::object_next, crate::proofs::SymbolTexts::objects_ended, crate::proofs::SymbolTexts::addresses_ended))]
 fn put_objects(lines: &mut Vec<u8>, view: &ModuleView) -> io::Result<()>
     ensures { OnOk result (Adds (HasObjectLines (typed_of view.now)
         (0, ((typed_of view.now).objects, view.now.placed.now.objects.items)))
@@ -246,7 +246,7 @@ fn put_line_if(
 }
 
 // Adds the lines of the lines of a module in which code begins.
-#[tactic(auto, using(crate::proofs::Adding::begun, crate::proofs::SymbolTexts::line_next, crate::proofs::SymbolTexts::lines_ended))]
+#[tactic(auto, using(crate::proofs::Adding::text_begun, crate::proofs::SymbolTexts::line_next, crate::proofs::SymbolTexts::lines_ended))]
 fn put_lines(lines: &mut Vec<u8>, view: &ModuleView, first: &[Option<u32>]) -> io::Result<()>
     ensures { OnOk result (Adds (HasSourceLines view.now 1) lines.old.items lines.new.items) }
 {
@@ -268,7 +268,7 @@ fn put_module(alloc: Global, lines: &mut Vec<u8>, view: &ModuleView) -> io::Resu
 }
 
 // The symbols of modules.
-#[tactic(auto, using(crate::proofs::Adding::begun, crate::proofs::SymbolTexts::module_next, crate::proofs::SymbolTexts::modules_ended))]
+#[tactic(auto, using(crate::proofs::Adding::text_begun, crate::proofs::SymbolTexts::module_next, crate::proofs::SymbolTexts::modules_ended))]
 fn symbols_in(alloc: Global, views: &[ModuleView]) -> Result<Vec<u8>, AllocError>
     ensures { IfOk result (λ lines. HaveSymbolsOf views.now lines.items) }
 {

@@ -204,6 +204,6 @@ goes_word output processed word words defines rest = again (is_defined_again out
     again true is = inr (_, defined_again is)
     again false is = sounds is (sound_or_fails output processed word words)
 
-pub goes : (words output : List Lexeme) (processed : ℕ) → Defines output → Goes output processed words
-goes [] output processed defines = inl (output, at_end)
-goes (word ∷ words) output processed defines = goes_word output processed word words defines (λ now count after. goes words (output ++ now) (processed + count) after)
+pub expands_or_fails : (words output : List Lexeme) (processed : ℕ) → Defines output → Goes output processed words
+expands_or_fails [] output processed defines = inl (output, at_end)
+expands_or_fails (word ∷ words) output processed defines = goes_word output processed word words defines (λ now count after. expands_or_fails words (output ++ now) (processed + count) after)

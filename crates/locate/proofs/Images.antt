@@ -2,7 +2,7 @@
 use Rattle.locate.proofs.Prelude.{◌≡◌, ℕ, suc, ◌+◌, ◌<◌, ◌≤◌, ◌==◌, inl, inr, Bool, true, false, cond, min, max, nat_le, List, [], ◌∷◌, length, map, Option, Some, None, option_map, refl, ap, sym, subst, ◌∙◌, arith, option_or, leb-true, leb-false, cases_lt, Piece, AreLongestRuns, byte_in, are_runs, Segment, Code, Data, Target, Plan, base_of, gain_at, placed_bytes, at_address, image_at, placement_refusal, SetByte, ObjectModule, places_of, moved_after, bytes_of_run, runs_of, fixes_in, Run, before_runs, runs_from, allowed, segment_pieces, in_turn, image_pieces, LieInMemory, piece_at, with_pieces}
 use Rattle.locate.proofs.Values.{value_of}
 use Rattle.locate.proofs.Runs.{segment_pieces_are}
-use Rattle.locate.proofs.Pieces.{piece_end, one_more, above, below, has_more, Begins, Begins-less, Ends, Ends-more, runs_parts, runs_with_pieces, ends_with_pieces, with_pieces_is}
+use Rattle.locate.proofs.Pieces.{piece_end, one_more, no_byte_above, no_byte_below, has_more, Begins, Begins-less, Ends, Ends-more, runs_parts, runs_with_pieces, ends_with_pieces, with_pieces_is}
 use Rattle.locate.proofs.Places.{pieces_at, bytes_are, begins_at, ends_at, are_runs_at}
 
 length_moved :
@@ -84,7 +84,7 @@ none_past n [] address ends h = refl
 none_past n (piece ∷ others) address ends h =
     let k : piece_end piece ≤ n = ends.0 in
     one_more piece others address
-    ∙ ap (λ x. option_or x (byte_in others address)) (above piece address (omega arith))
+    ∙ ap (λ x. option_or x (byte_in others address)) (no_byte_above piece address (omega arith))
     ∙ none_past n others address ends.1 h
 
 pub none_before :
@@ -95,7 +95,7 @@ none_before n (piece ∷ others) address runs begins h =
     let p = runs_parts piece others runs in
     let k : n ≤ piece.start = begins in
     one_more piece others address
-    ∙ ap (λ x. option_or x (byte_in others address)) (below piece address (omega arith))
+    ∙ ap (λ x. option_or x (byte_in others address)) (no_byte_below piece address (omega arith))
     ∙ none_before n others address p.2 (Begins-less n (piece_end piece + 1) others (omega arith) p.1) h
 
 left_none : (x y : Option ℕ) → x ≡ None → option_or y x ≡ option_or x y

@@ -1,6 +1,6 @@
 -- Pieces that are put into a memory, and runs, which have no address in common.
 use Rattle.locate.proofs.Prelude.{◌≡◌, ℕ, ◌+◌, ◌-◌, ◌<◌, ◌≤◌, ◌⊎◌, inl, inr, true, List, [], ◌∷◌, ◌++◌, length, take, drop, get_or, All, AllPairs, Option, Some, None, unwrap_or, refl, ap, sym, subst, ◌∙◌, arith, AllByRecursion, option_or, cases_lt, length-append, length-take-le, length-drop, get_or_append_left, get_or-append_right, get_or-take, get_or-drop, All-from_recursion, recursion_from_All, AllPairs-cons, Piece, with_bytes, AreApart, AreWritable, EndsInMemory, IsLoaded, byte_in, are_runs, loaded}
-use Rattle.locate.proofs.Pieces.{piece_end, byte_of_piece, one_more, within, below, above, Begins, Begins-less, Ends, runs_parts}
+use Rattle.locate.proofs.Pieces.{piece_end, byte_of_piece, one_more, within, no_byte_below, no_byte_above, Begins, Begins-less, Ends, runs_parts}
 use Rattle.locate.proofs.Images.{none_before}
 
 -- each piece begins at an address or after it
@@ -81,7 +81,7 @@ one_loaded piece memory address h =
     elim (cases_lt address piece.start) [
       | inl under ↦
           byte_before piece.bytes piece.start memory address h under
-          ∙ sym (ap (λ o. unwrap_or o (get_or memory address 0)) (below piece address under))
+          ∙ sym (ap (λ o. unwrap_or o (get_or memory address 0)) (no_byte_below piece address under))
       | inr low ↦
           elim (cases_lt address (piece_end piece)) [
             | inl high ↦
@@ -89,7 +89,7 @@ one_loaded piece memory address h =
                 ∙ sym (ap (λ o. unwrap_or o (get_or memory address 0)) (within piece address low high))
             | inr past ↦
                 byte_after piece.bytes piece.start memory address h past
-                ∙ sym (ap (λ o. unwrap_or o (get_or memory address 0)) (above piece address past))
+                ∙ sym (ap (λ o. unwrap_or o (get_or memory address 0)) (no_byte_above piece address past))
           ]
     ]
 
@@ -108,7 +108,7 @@ not_in_both piece others address runs =
     elim (cases_lt address (piece_end piece)) [
       | inl before ↦
           inl (none_before (piece_end piece + 1) others address p.2 p.1 (omega arith))
-      | inr past ↦ inr (above piece address past)
+      | inr past ↦ inr (no_byte_above piece address past)
     ]
 
 length_loaded :

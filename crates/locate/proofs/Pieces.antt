@@ -25,8 +25,8 @@ one_more piece others address = go (has_address address piece)
     go true = refl
     go false = refl
 
-pub alone : (piece : Piece) (address : ℕ) → byte_in (piece ∷ []) address ≡ byte_of_piece piece address
-alone piece address = one_more piece [] address ∙ or_none_same (byte_of_piece piece address)
+pub byte_in_one_piece : (piece : Piece) (address : ℕ) → byte_in (piece ∷ []) address ≡ byte_of_piece piece address
+byte_in_one_piece piece address = one_more piece [] address ∙ or_none_same (byte_of_piece piece address)
 
 pub within :
     (piece : Piece) (address : ℕ) → piece.start ≤ address → address < piece_end piece
@@ -36,13 +36,13 @@ within piece address low high =
     (and_from (nat_le piece.start address) (nat_lt address (piece_end piece)) (le-leb piece.start address low)
     (lt-ltb address (piece_end piece) high))
 
-pub below : (piece : Piece) (address : ℕ) → address < piece.start → byte_of_piece piece address ≡ None
-below piece address h =
+pub no_byte_below : (piece : Piece) (address : ℕ) → address < piece.start → byte_of_piece piece address ≡ None
+no_byte_below piece address h =
     ap (λ b. cond b (Some (slice_index piece.bytes (address - piece.start))) None)
     (and_left (nat_le piece.start address) (nat_lt address (piece_end piece)) (lt-leb piece.start address h))
 
-pub above : (piece : Piece) (address : ℕ) → piece_end piece ≤ address → byte_of_piece piece address ≡ None
-above piece address h =
+pub no_byte_above : (piece : Piece) (address : ℕ) → piece_end piece ≤ address → byte_of_piece piece address ≡ None
+no_byte_above piece address h =
     ap (λ b. cond b (Some (slice_index piece.bytes (address - piece.start))) None)
     (and_right (nat_le piece.start address) (nat_lt address (piece_end piece)) (le-ltb address (piece_end piece) h))
 
@@ -67,15 +67,15 @@ touching piece next address touch =
     let sum = length-append piece.bytes next.bytes in
     elim (cases_lt address piece.start) [
       | inl under ↦
-          either piece next address None None None None (below (both_in_one piece next) address under)
-          (below piece address under) (below next address (omega arith)) refl
+          either piece next address None None None None (no_byte_below (both_in_one piece next) address under)
+          (no_byte_below piece address under) (no_byte_below next address (omega arith)) refl
       | inr low ↦
           elim (cases_lt address (piece_end piece)) [
             | inl first ↦
                 either piece next address (Some (get_or (piece.bytes ++ next.bytes) (address - piece.start) 0))
                 (Some (get_or piece.bytes (address - piece.start) 0)) None None
                 (within (both_in_one piece next) address low (omega arith)) (within piece address low first)
-                (below next address (omega arith))
+                (no_byte_below next address (omega arith))
                 (ap Some (get_or_append_left piece.bytes next.bytes 0 (address - piece.start) (omega arith)))
             | inr past ↦
                 elim (cases_lt address (piece_end next)) [
@@ -83,15 +83,15 @@ touching piece next address touch =
                       let same : address - piece.start - length piece.bytes ≡ address - next.start = omega arith in
                       either piece next address (Some (get_or (piece.bytes ++ next.bytes) (address - piece.start) 0)) None
                       (Some (get_or next.bytes (address - next.start) 0)) None
-                      (within (both_in_one piece next) address low (omega arith)) (above piece address past)
+                      (within (both_in_one piece next) address low (omega arith)) (no_byte_above piece address past)
                       (within next address (omega arith) second)
                       (ap Some
                       (get_or-append_right piece.bytes next.bytes (length piece.bytes) (address - piece.start) 0 refl
                       (omega arith)
                       ∙ ap (λ i. get_or next.bytes i 0) same))
                   | inr over ↦
-                      either piece next address None None None None (above (both_in_one piece next) address (omega arith))
-                      (above piece address past) (above next address over) refl
+                      either piece next address None None None None (no_byte_above (both_in_one piece next) address (omega arith))
+                      (no_byte_above piece address past) (no_byte_above next address over) refl
                 ]
           ]
     ]
@@ -104,15 +104,15 @@ joined_is piece next address = go (piece_end piece == next.start) refl
     go : (b : Bool) → (piece_end piece == next.start) ≡ b
         → byte_in (cond b (both_in_one piece next ∷ []) (piece ∷ next ∷ [])) address
         ≡ option_or (byte_of_piece piece address) (byte_of_piece next address)
-    go true e = alone (both_in_one piece next) address ∙ touching piece next address (eqb-true (piece_end piece) next.start e)
-    go false e = one_more piece (next ∷ []) address ∙ ap (option_or (byte_of_piece piece address)) (alone next address)
+    go true e = byte_in_one_piece (both_in_one piece next) address ∙ touching piece next address (eqb-true (piece_end piece) next.start e)
+    go false e = one_more piece (next ∷ []) address ∙ ap (option_or (byte_of_piece piece address)) (byte_in_one_piece next address)
 
 with_piece_is :
     (pieces : List Piece) (next : Piece) (address : ℕ)
     → byte_in (with_piece pieces next) address ≡ option_or (byte_in pieces address) (byte_of_piece next address)
-with_piece_is [] next address = alone next address
+with_piece_is [] next address = byte_in_one_piece next address
 with_piece_is (piece ∷ []) next address =
-    joined_is piece next address ∙ ap (λ x. option_or x (byte_of_piece next address)) (sym (alone piece address))
+    joined_is piece next address ∙ ap (λ x. option_or x (byte_of_piece next address)) (sym (byte_in_one_piece piece address))
 with_piece_is (piece ∷ second ∷ others) next address =
     one_more piece (with_piece (second ∷ others) next) address
     ∙ ap (option_or (byte_of_piece piece address)) (with_piece_is (second ∷ others) next address)

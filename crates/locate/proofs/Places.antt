@@ -1,6 +1,6 @@
 -- The runs of places as pieces: what they have at an address, where they begin and end.
 use Rattle.locate.proofs.Prelude.{◌≡◌, ℕ, suc, ◌+◌, ◌-◌, ◌≤◌, ◌==◌, inl, inr, Bool, true, false, cond, nat_lt, List, [], ◌∷◌, length, map, slice_get, slice_index, Option, Some, None, refl, ap, sym, ◌∙◌, arith, option_or, option_flatten, eqb-true, eqb-false, eq-eqb, ne_eqb, lt-ltb, le-ltb, cases_order, Piece, byte_in, are_runs, at_address, Run, before_runs, runs_from, piece_at, none_either_way, or_none_same}
-use Rattle.locate.proofs.Pieces.{byte_of_piece, piece_end, one_more, alone, or_assoc, within, below, above, touching, Begins, Begins-less, Ends, Ends-more, runs_cons, runs_parts}
+use Rattle.locate.proofs.Pieces.{byte_of_piece, piece_end, one_more, byte_in_one_piece, or_assoc, within, no_byte_below, no_byte_above, touching, Begins, Begins-less, Ends, Ends-more, runs_cons, runs_parts}
 
 abbrev pub pieces_at : (base : ℕ) → List (Run ℕ) → List Piece
 pieces_at base runs = map (piece_at base) runs
@@ -19,11 +19,11 @@ one_byte start value address = elim (cases_order address start) [
   | inr other ↦ elim other [
     | inl under ↦
         let differ : (address ≡ start → ⊥) = λ (e : address ≡ start). omega (arith, e) in
-        below (one start value) address under
+        no_byte_below (one start value) address under
         ∙ sym (ap (λ b. cond b (Some value) None) (ne_eqb address start differ))
     | inr over ↦
         let differ : (address ≡ start → ⊥) = λ (e : address ≡ start). omega (arith, e) in
-        above (one start value) address (omega arith)
+        no_byte_above (one start value) address (omega arith)
         ∙ sym (ap (λ b. cond b (Some value) None) (ne_eqb address start differ))
   ]
 ]
@@ -34,7 +34,7 @@ before_is :
     → byte_in (pieces_at base (before_runs n value runs)) address
     ≡ option_or (byte_of_piece (one (base + n) value) address) (byte_in (pieces_at base runs) address)
 before_is base n value [] address =
-    alone (one (base + n) value) address ∙ sym (or_none_same (byte_of_piece (one (base + n) value) address))
+    byte_in_one_piece (one (base + n) value) address ∙ sym (or_none_same (byte_of_piece (one (base + n) value) address))
 before_is base n value (next ∷ others) address = go (next.offset == n + 1) refl
   where
     go : (b : Bool) → (next.offset == n + 1) ≡ b

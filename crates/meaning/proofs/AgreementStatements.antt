@@ -1,8 +1,8 @@
 -- What is given from outside matters only as far as the budget lasts: of statements and of calls.
 use Rattle.meaning.proofs.Prelude.{◌≡◌, ℕ, zero, suc, ◌+◌, ◌-◌, ◌<◌, ◌≤◌, ◌==◌, Bool, true, false, List, [], ◌∷◌, Option, Some, None, cond, nat_lt, arith, refl, sym, ap, ◌∙◌, option_map_or, common_steps, charge_of, TypedExpression, TypedArguments, TypedIteration, TypedStatement, LabelStatement, NullStatement, AssignmentStatement, CallStatement, MoveStatement, ReturnStatement, HaltStatement, GotoStatement, IfStatement, DoStatement, WhileStatement, IterateStatement, CaseStatement, TypedElse, NoElse, ElseStatement, TypedStatements, NoStatements, MoreStatements, TypedList, ListOf, TypedProcedure, TypedModule, InProgram, Stack, as_type, is_true, values_of, Surroundings, place_of, IsMeantBelow, Later, Turn, WhileTurn, IterateTurn, after_turn, called, called_for, callee_in, caught_in, charged, done, done_all, done_case, done_else, done_list, entered, frame_of, going_on, iterated, landed, later_by, moved, next_turn, nothing_later, parameters_set, procedure_at, read_variable, rest_from, rest_of, returned, step_value, stepped, stored_in_each, turn_of, value, value_of_flow, values, write_variable, Program, State, Stop, More, Outside, Outcome, Gave, Stopped, then_do, taking_one, Flow, Onward, Returned, Jumped, Agrees, Follows, Continues, nothing_else, jump_took, Keeps, LaterKeeps}
 use Rattle.meaning.proofs.Kept.{changes_scalar, continues_itself, reads_scalar}
-use Rattle.meaning.proofs.KeptParts.{calls, moves, targets_keep, value_keeps, values_keep}
-use Rattle.meaning.proofs.KeptStatements.{less_budget, list_keeps, statement_keeps, statements_keep, steps}
+use Rattle.meaning.proofs.KeptParts.{call_keeps, moved_keeps, targets_keep, value_keeps, values_keep}
+use Rattle.meaning.proofs.KeptStatements.{less_budget, list_keeps, statement_keeps, statements_keep, step_value_keeps}
 use Rattle.meaning.proofs.KeptCalls.{later_keeps, sets_parameters}
 use Rattle.meaning.proofs.Agreement.{equal_then, same_calls, same_targets, same_value, same_values}
 
@@ -52,7 +52,7 @@ module _ (number : ℕ) (one other : Later) (kept : LaterKeeps number one) (same
 
   same_stepped : (head : TypedIteration) (body : TypedList) (flow : Flow) (around : Surroundings) (s : State) → suc s.budget < number → stepped one around head body flow s ≡ stepped other around head body flow s
   same_stepped head body Onward around s below =
-      equal_then around.program nothing_else s (step_value one around head.step s) (step_value other around head.step s) _ _ (same_step head.step around s (omega (arith, below))) (steps number one kept head.step around s (omega (arith, below)))
+      equal_then around.program nothing_else s (step_value one around head.step s) (step_value other around head.step s) _ _ (same_step head.step around s (omega (arith, below))) (step_value_keeps number one kept head.step around s (omega (arith, below)))
       (λ step t first more.
       equal_then around.program nothing_else t (read_variable around head t) (read_variable around head t) _ _ refl (reads_scalar around.program head.scalar (place_of around head.variable) t)
       (λ found u second last.
@@ -93,7 +93,7 @@ module _ (number : ℕ) (one other : Later) (kept : LaterKeeps number one) (same
         (λ given t first more.
         let under : t.budget < number = omega (arith, first.follows.budget, below) in
         equal_then around.program nothing_else t (called_for one (callee_in around procedure) given around t) (called_for other (callee_in around procedure) given around t) _ _
-        (same_calls number one other kept same (callee_in around procedure) given around t under) (calls number one kept (callee_in around procedure) given around t under) (λ done u second last. refl))
+        (same_calls number one other kept same (callee_in around procedure) given around t under) (call_keeps number one kept (callee_in around procedure) given around t under) (λ done u second last. refl))
     same_statement (MoveStatement count source destination) around s below =
         equal_then around.program nothing_else s (value one around count s) (value other around count s) _ _ (same_value number one other kept same count around s below) (value_keeps number one kept count around s below)
         (λ bytes t first more.

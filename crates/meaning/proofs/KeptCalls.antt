@@ -1,7 +1,7 @@
 -- What holds along calls, and so of all that is given from outside.
 use Rattle.meaning.proofs.Prelude.{◌≡◌, ℕ, zero, suc, ◌-◌, ◌<◌, ◌≤◌, Bool, true, false, List, [], ◌∷◌, length, map, Option, Some, None, cond, nat_lt, arith, refl, option_map_or, ScalarType, charge_of, TypedProcedure, TypedModule, InProgram, Stack, Surroundings, place_of, write_scalar, Later, called, charged, done_list, entered, frame_of, later_by, parameters_set, procedure_at, value_of_flow, Program, State, Outside, Outcome, Gave, Stopped, then_do, Flow, Follows, Continues, nothing_else, jump_took, Keeps, LaterKeeps}
 use Rattle.meaning.proofs.Kept.{changes_scalar, continues_itself, follows_then, from_before, nothing_weakens}
-use Rattle.meaning.proofs.KeptParts.{next}
+use Rattle.meaning.proofs.KeptParts.{then_do_keeps}
 use Rattle.meaning.proofs.KeptStatements.{list_keeps, rest_keeps, takes_one, turn_keeps}
 
 -- what a frame holds does not matter to what follows
@@ -19,7 +19,7 @@ sets_parameters [] parameters arguments around s = (continues_itself around.prog
 sets_parameters (scalar ∷ scalars) [] arguments around s = (continues_itself around.program s, tt)
 sets_parameters (scalar ∷ scalars) (parameter ∷ parameters) [] around s = (continues_itself around.program s, tt)
 sets_parameters (scalar ∷ scalars) (parameter ∷ parameters) (argument ∷ arguments) around s =
-    next around.program s (write_scalar around.program scalar (place_of around parameter) argument s) _ (changes_scalar around.program scalar (place_of around parameter) argument s)
+    then_do_keeps around.program s (write_scalar around.program scalar (place_of around parameter) argument s) _ (changes_scalar around.program scalar (place_of around parameter) argument s)
     (λ done t first. sets_parameters scalars parameters arguments around t)
 
 -- the body of a call, after which the frame of the caller comes back

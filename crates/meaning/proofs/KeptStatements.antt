@@ -1,7 +1,7 @@
 -- What holds along statements, and along whole runs.
 use Rattle.meaning.proofs.Prelude.{◌≡◌, ℕ, zero, suc, ◌+◌, ◌-◌, ◌<◌, ◌≤◌, ◌==◌, Bool, true, false, List, [], ◌∷◌, length, map, replicate, slice_get, Option, Some, None, cond, nat_lt, arith, refl, sym, ap, subst, ◌∙◌, option_map_or, common_steps, ScalarType, charge_of, TypedExpression, TypedArguments, TypedIteration, TypedStatement, LabelStatement, NullStatement, AssignmentStatement, CallStatement, MoveStatement, ReturnStatement, HaltStatement, GotoStatement, IfStatement, DoStatement, WhileStatement, IterateStatement, CaseStatement, TypedElse, NoElse, ElseStatement, TypedStatements, NoStatements, MoreStatements, TypedList, ListOf, TypedProcedure, TypedModule, InProgram, Stack, as_type, is_true, values_of, Surroundings, place_of, write_scalar, Later, Turn, WhileTurn, IterateTurn, after_turn, called, called_for, callee_in, caught_in, charged, done, done_all, done_case, done_else, done_list, entered, frame_of, going_on, iterated, landed, later_by, moved, next_turn, nothing_later, parameters_set, procedure_at, read_variable, rest_from, rest_of, returned, step_value, stepped, stored_in_each, turn_of, value, value_of_flow, values, write_variable, Program, State, Stop, More, Outside, Outcome, Gave, Stopped, then_do, taking_one, Flow, Onward, Returned, Jumped, Follows, Continues, IsSpent, Extra, nothing_else, jump_took, Keeps, LaterKeeps}
 use Rattle.meaning.proofs.Kept.{changes_scalar, continues_itself, continues_then, follows_itself, follows_then, from_before, jump_weakens, keeps_if, keeps_then, nothing_weakens, reads_scalar}
-use Rattle.meaning.proofs.KeptParts.{calls, moves, next, still_below, targets_keep, value_keeps, values_keep}
+use Rattle.meaning.proofs.KeptParts.{call_keeps, moved_keeps, then_do_keeps, still_below, targets_keep, value_keeps, values_keep}
 
 -- one part after another, judged from where the first began
 pub keeps_after : {A B : Type 0} (program : Program) (one : Extra A) (two : Extra B) (s : State) (outcome : Outcome A) (go : A → State → Outcome B) → Keeps program one s outcome
@@ -60,9 +60,9 @@ module _ (number : ℕ) (later : Later) (kept : LaterKeeps number later) where
   returns (Some expression) around s below =
       then_flow around.program s (value later around expression s) _ (value_keeps number later kept expression around s below) (λ found t first. (continues_itself around.program t, tt))
 
-  pub steps : (step : Option TypedExpression) (around : Surroundings) (s : State) → s.budget < number → Keeps around.program nothing_else s (step_value later around step s)
-  steps None around s below = (continues_itself around.program s, tt)
-  steps (Some step) around s below = value_keeps number later kept step around s below
+  pub step_value_keeps : (step : Option TypedExpression) (around : Surroundings) (s : State) → s.budget < number → Keeps around.program nothing_else s (step_value later around step s)
+  step_value_keeps None around s below = (continues_itself around.program s, tt)
+  step_value_keeps (Some step) around s below = value_keeps number later kept step around s below
 
   turns_next : (head : TypedIteration) (body : TypedList) (sum : ℕ) (around : Surroundings) (s : State) → suc s.budget < number → Keeps around.program jump_took s (next_turn later around head body sum s)
   turns_next head body sum around s below =
@@ -72,7 +72,7 @@ module _ (number : ℕ) (later : Later) (kept : LaterKeeps number later) where
 
   steps_on : (head : TypedIteration) (body : TypedList) (around : Surroundings) (s : State) → suc s.budget < number → Keeps around.program jump_took s (stepped later around head body Onward s)
   steps_on head body around s below =
-      then_flow around.program s (step_value later around head.step s) _ (steps head.step around s (omega (arith, below)))
+      then_flow around.program s (step_value later around head.step s) _ (step_value_keeps head.step around s (omega (arith, below)))
       (λ step t first.
       then_flow around.program t (read_variable around head t) _ (reads_scalar around.program head.scalar (place_of around head.variable) t)
       (λ found u second.
@@ -113,7 +113,7 @@ module _ (number : ℕ) (later : Later) (kept : LaterKeeps number later) where
     statement_keeps (CallStatement procedure arguments) around s below =
         then_flow around.program s (values later around arguments s) _ (values_keep number later kept arguments around s below)
         (λ given t first.
-        then_flow around.program t (called_for later (callee_in around procedure) given around t) _ (calls number later kept (callee_in around procedure) given around t (still_below number later kept around.program s t first below))
+        then_flow around.program t (called_for later (callee_in around procedure) given around t) _ (call_keeps number later kept (callee_in around procedure) given around t (still_below number later kept around.program s t first below))
         (λ done u second. (continues_itself around.program u, tt)))
     statement_keeps (MoveStatement count source destination) around s below =
         then_flow around.program s (value later around count s) _ (value_keeps number later kept count around s below)
@@ -122,7 +122,7 @@ module _ (number : ℕ) (later : Later) (kept : LaterKeeps number later) where
         (λ from u second.
         then_flow around.program u (value later around destination u) _ (value_keeps number later kept destination around u (omega (arith, first.follows.budget, second.follows.budget, below)))
         (λ to v third.
-        then_flow around.program v (moved around.program bytes from to v) _ (moves around.program bytes from to v)
+        then_flow around.program v (moved around.program bytes from to v) _ (moved_keeps around.program bytes from to v)
         (λ done w fourth. (continues_itself around.program w, tt)))))
     statement_keeps (ReturnStatement expression) around s below = returns expression around s below
     statement_keeps HaltStatement around s below = (follows_itself around.program s, tt)

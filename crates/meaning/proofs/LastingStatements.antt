@@ -1,8 +1,8 @@
 -- A run with more budget comes to the same, or goes on where the other wanted more: of statements and of calls.
 use Rattle.meaning.proofs.Prelude.{◌≡◌, ℕ, zero, suc, ◌+◌, ◌-◌, ◌<◌, ◌≤◌, ◌==◌, Bool, true, false, List, [], ◌∷◌, Option, Some, None, cond, nat_lt, arith, refl, sym, ap, subst, ◌∙◌, option_map_or, ScalarType, charge_of, TypedExpression, TypedArguments, TypedIteration, TypedStatement, LabelStatement, NullStatement, AssignmentStatement, CallStatement, MoveStatement, ReturnStatement, HaltStatement, GotoStatement, IfStatement, DoStatement, WhileStatement, IterateStatement, CaseStatement, TypedElse, NoElse, ElseStatement, TypedStatements, NoStatements, MoreStatements, TypedList, ListOf, TypedProcedure, TypedModule, InProgram, Stack, as_type, is_true, values_of, Surroundings, place_of, write_scalar, Later, Turn, WhileTurn, IterateTurn, after_turn, called, called_for, callee_in, caught_in, charged, done, done_all, done_case, done_else, done_list, entered, frame_of, going_on, iterated, landed, later_by, moved, next_turn, nothing_later, parameters_set, procedure_at, read_variable, rest_from, rest_of, returned, step_value, stepped, stored_in_each, turn_of, value, value_of_flow, values, write_variable, Program, State, Stop, More, Outside, Outcome, Gave, Stopped, then_do, taking_one, Flow, Onward, Returned, Jumped, ComesAfter, Continues, nothing_else, jump_took, Keeps, LaterAdds, LaterKeeps, LaterLasts, Lasts, with_more}
 use Rattle.meaning.proofs.Kept.{changes_scalar, reads_scalar}
-use Rattle.meaning.proofs.KeptParts.{calls, moves, targets_keep, value_keeps, values_keep}
-use Rattle.meaning.proofs.KeptStatements.{list_keeps, statement_keeps, statements_keep, steps}
+use Rattle.meaning.proofs.KeptParts.{call_keeps, moved_keeps, targets_keep, value_keeps, values_keep}
+use Rattle.meaning.proofs.KeptStatements.{list_keeps, statement_keeps, statements_keep, step_value_keeps}
 use Rattle.meaning.proofs.KeptCalls.{later_keeps, sets_parameters}
 use Rattle.meaning.proofs.Added.{adds_after_turn, adds_call, adds_case, adds_caught, adds_else, adds_entered, adds_going, adds_if, adds_iterated, adds_list, adds_moved, adds_next, adds_parameters, adds_read_scalar, adds_rest, adds_returned, adds_statement, adds_statements, adds_step, adds_stepped, adds_taking, adds_targets, adds_then, adds_turn, adds_value, adds_values, adds_write_scalar, begins_itself, later_adds, adds_called, adds_found}
 use Rattle.meaning.proofs.Lasting.{lasts_call, lasts_if, lasts_moved, lasts_read_scalar, lasts_taking, lasts_targets, lasts_then, lasts_value, lasts_values, lasts_write_scalar}
@@ -50,7 +50,7 @@ module _ (more number : ℕ) (one other : Later) (kept : LaterKeeps number one) 
 
   lasts_stepped : (head : TypedIteration) (body : TypedList) (flow : Flow) (around : Surroundings) (s : State) → suc s.budget < number → Lasts more (stepped one around head body flow s) (stepped other around head body flow (with_more more s))
   lasts_stepped head body Onward around s below =
-      lasts_then more around.program nothing_else s (step_value one around head.step s) (step_value other around head.step (with_more more s)) _ _ (lasts_step head.step around s (omega (arith, below))) (steps number one kept head.step around s (omega (arith, below)))
+      lasts_then more around.program nothing_else s (step_value one around head.step s) (step_value other around head.step (with_more more s)) _ _ (lasts_step head.step around s (omega (arith, below))) (step_value_keeps number one kept head.step around s (omega (arith, below)))
       (λ step t first last.
       lasts_then more around.program nothing_else t (read_variable around head t) (read_variable around head (with_more more t)) _ _
       (lasts_read_scalar more around.program head.scalar (place_of around head.variable) t) (reads_scalar around.program head.scalar (place_of around head.variable) t)
@@ -117,7 +117,7 @@ module _ (more number : ℕ) (one other : Later) (kept : LaterKeeps number one) 
         (λ given t first last.
         let under : t.budget < number = omega (arith, first.follows.budget, below) in
         lasts_then more around.program nothing_else t (called_for one (callee_in around procedure) given around t) (called_for other (callee_in around procedure) given around (with_more more t)) _ _
-        (lasts_call more number one other kept adds lasts (callee_in around procedure) given around t under) (calls number one kept (callee_in around procedure) given around t under) (λ done u second end. refl) (λ done u. begins_itself u))
+        (lasts_call more number one other kept adds lasts (callee_in around procedure) given around t under) (call_keeps number one kept (callee_in around procedure) given around t under) (λ done u second end. refl) (λ done u. begins_itself u))
         (λ given t. adds_then t (called_for other (callee_in around procedure) given around t) _ (adds_call other adds (callee_in around procedure) given around t) (λ done u. begins_itself u))
     lasts_statement (MoveStatement count source destination) around s below =
         lasts_then more around.program nothing_else s (value one around count s) (value other around count (with_more more s)) _ _ (value_lasts count around s below) (value_kept count around s below)
@@ -128,7 +128,7 @@ module _ (more number : ℕ) (one other : Later) (kept : LaterKeeps number one) 
         let lower : u.budget < number = omega (arith, second.follows.budget, under) in
         lasts_then more around.program nothing_else u (value one around destination u) (value other around destination (with_more more u)) _ _ (value_lasts destination around u lower) (value_kept destination around u lower)
         (λ to v third done_end.
-        lasts_then more around.program nothing_else v (moved around.program bytes from to v) (moved around.program bytes from to (with_more more v)) _ _ (lasts_moved more around.program bytes from to v) (moves around.program bytes from to v)
+        lasts_then more around.program nothing_else v (moved around.program bytes from to v) (moved around.program bytes from to (with_more more v)) _ _ (lasts_moved more around.program bytes from to v) (moved_keeps around.program bytes from to v)
         (λ done w fourth all_end. refl) (λ done w. begins_itself w))
         (λ to v. adds_then v (moved around.program bytes from to v) _ (adds_moved around.program bytes from to v) (λ done w. begins_itself w)))
         (λ from u.

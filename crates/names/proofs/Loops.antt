@@ -19,8 +19,8 @@ module _ {T S : Type 0} (step : T → S → Result S Fault) (all : List T → S 
   fails_within items i item state total fault within is left fails =
       subst (FailsBy fault) (item_first items i item state total within is left) (fails_more fault (step item state) (all (drop (i + 1) items)) fails)
 
-  pub ended : (items : List T) (i : ℕ) (state : S) (total given : Result S Fault) → length items ≤ i → all (drop i items) state ≡ total → all [] state ≡ given → total ≡ given
-  ended items i state total given past left end =
+  pub loop_ended : (items : List T) (i : ℕ) (state : S) (total given : Result S Fault) → length items ≤ i → all (drop i items) state ≡ total → all [] state ≡ given → total ≡ given
+  loop_ended items i state total given past left end =
       sym left ∙ ap (λ rest. all rest state) (drop_of_length-le items past) ∙ end
 
 -- how a call ends that hands on the failure of another

@@ -2,8 +2,8 @@
 use Rattle.object_commands.proofs.Prelude.{◌≡◌, ℕ, ◌+◌, ◌<◌, ◌≤◌, Bool, true, false, List, [], ◌++◌, Option, None, Some, inl, inr, length, take, drop, refl, sym, ap, subst, ◌∙◌, arith, unwrap_or, if◌then◌else◌, bytes_eq, bytes_eq-Decides, take-add, take-length, take-append-drop, BeginsFile, ChangesFiles, Directory, GrowsFile, KeepsFiles, with_file, text_of, IsBeginning, HasFiles, stays_on, Merges, WritesMerge, KeepsOthers, LinksFiles, MergesTo, StopsLinking, StopsWriting}
 
 -- a file that was begun is empty
-pub begun : (old new : Option Directory) (name bytes : List ℕ) → BeginsFile old new name → ChangesFiles old new (with_file name (take 0 bytes))
-begun old new name bytes begins = begins
+pub file_begun : (old new : Option Directory) (name bytes : List ℕ) → BeginsFile old new name → ChangesFiles old new (with_file name (take 0 bytes))
+file_begun old new name bytes begins = begins
 
 with_more : (old now new : Directory) (name xs ys : List ℕ) → ((other : List ℕ) → now other ≡ with_file name xs old other)
     → ((other : List ℕ) → new other ≡ with_file name (unwrap_or (now name) [] ++ ys) now other) → (other : List ℕ) → new other ≡ with_file name (xs ++ ys) old other
@@ -17,12 +17,12 @@ with_more old now new name xs ys before after other = after other ∙ go (bytes_
     go false e = rw e (before other ∙ rw e refl)
 
 -- what was sent grows by what was taken
-pub grown : (old now new : Option Directory) (name bytes next : List ℕ) (sent count : ℕ) → next ≡ take count (drop sent bytes) → ChangesFiles old now (with_file name (take sent bytes))
+pub file_grown : (old now new : Option Directory) (name bytes next : List ℕ) (sent count : ℕ) → next ≡ take count (drop sent bytes) → ChangesFiles old now (with_file name (take sent bytes))
     → GrowsFile now new name next → ChangesFiles old new (with_file name (take (sent + count) bytes))
-grown None now new name bytes next sent count e before after = tt
-grown (Some old) None new name bytes next sent count e before after = absurd before
-grown (Some old) (Some now) None name bytes next sent count e before after = absurd after
-grown (Some old) (Some now) (Some new) name bytes next sent count e before after =
+file_grown None now new name bytes next sent count e before after = tt
+file_grown (Some old) None new name bytes next sent count e before after = absurd before
+file_grown (Some old) (Some now) None name bytes next sent count e before after = absurd after
+file_grown (Some old) (Some now) (Some new) name bytes next sent count e before after =
     let whole : take (sent + count) bytes ≡ take sent bytes ++ next = take-add sent count bytes ∙ ap (λ (l : List ℕ). take sent bytes ++ l) (sym e) in
     λ other. with_more old now new name (take sent bytes) next before after other ∙ ap (λ (l : List ℕ). with_file name l old other) (sym whole)
 
@@ -94,9 +94,9 @@ pub merges_to : (slices texts : List (List ℕ)) (bytes : List ℕ) → slices �
 merges_to slices texts bytes same w = record { object = w.object; merges = subst (λ (l : List (List ℕ)). Merges l w.object) same w.merges; text = w.written }
 
 -- files that were read and then merged
-pub links : (old now new : Option Directory) (names texts : List (List ℕ)) (out bytes : List ℕ) → KeepsFiles old now → HasFiles old names texts → MergesTo texts bytes
+pub links_files : (old now new : Option Directory) (names texts : List (List ℕ)) (out bytes : List ℕ) → KeepsFiles old now → HasFiles old names texts → MergesTo texts bytes
     → ChangesFiles now new (with_file out bytes) → LinksFiles old new names out
-links old now new names texts out bytes kept read m written = record {
+links_files old now new names texts out bytes kept read m written = record {
   texts = texts;
   read = read;
   object = m.object;

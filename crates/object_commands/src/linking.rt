@@ -17,7 +17,7 @@ use std::io::Write;
 /// Merges object files, and writes the merge to the file `out`. That file is begun once all others were read and their
 /// modules merged; after a write that failed it may have a beginning of the merge, which is no object file. Memory holds
 /// the files and the merge.
-#[tactic(auto, using(crate::proofs::FilesWritten::links))]
+#[tactic(auto, using(crate::proofs::FilesWritten::links_files))]
 pub fn link_files<F: Files, E: Write>(
     alloc: Global,
     objects: &[&str],

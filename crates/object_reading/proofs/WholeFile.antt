@@ -17,9 +17,9 @@ nothing_passed : (bytes : List ℕ) → HasPassed bytes bytes beginning
 unfolding parts_of
 nothing_passed bytes = record { before = []; after = at_beginning; judged = refl }
 
-pub begun :
+pub passed_at_beginning :
     (bytes rest : List ℕ) (state : State) → rest ≡ bytes → state ≡ beginning → HasPassed bytes rest state
-begun bytes rest state all first =
+passed_at_beginning bytes rest state all first =
     subst (λ left. HasPassed bytes left state) (sym all)
     (subst (HasPassed bytes bytes) (sym first) (nothing_passed bytes))
 

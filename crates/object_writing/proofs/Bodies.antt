@@ -52,6 +52,6 @@ has_begun count body =
         let some : 0 < length (drop count body) = ltb-true 0 (length (drop count body)) f in
         absurd (omega (arith, past, some, long))
 
-pub sizes :
+pub length_of_three :
     (first middle last : List ℕ) → length first + length middle + length last ≡ length (first ++ (middle ++ last))
-sizes first middle last = omega (arith, length-append first (middle ++ last), length-append middle last)
+length_of_three first middle last = omega (arith, length-append first (middle ++ last), length-append middle last)

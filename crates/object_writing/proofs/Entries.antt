@@ -2,7 +2,7 @@
 use Rattle.object_writing.proofs.Prelude.{◌≡◌, ℕ, ◌-◌, ◌≤◌, ◌&&◌, IsTrue, nat_le, List, [], ◌∷◌, ◌++◌, length, map, flat_map, filter_map, Option, Some, None, refl, ap, sym, ◌∙◌, arith, list_all, cons_option, append_assoc, is_ascii_uppercase, and_parts, leb-true, Segment, Public, SegmentEntry, ExternalNamesPart, PublicsPart, segment_entry_bytes, segment_number, listed_name_bytes, definition_bytes, part_bytes, same_segment, packed, external_parts, public_parts, publics_in_segment, definition_of, BODY_LIMIT, bytes_of, OwnedPublic, owned_public_view, CodeEntry, listed_entry, bytes_of_entry, listed_bytes, header_text, empty_group, records_of, name_entry, public_entry, owned_entry}
 use Rattle.symbols.specs.Names.{is_name, is_name_character}
 use Rattle.omf80.specs.declared.kind.RecordKind.TheVariants as kinds
-use Rattle.object_writing.proofs.Grouping.{grouped, kept, flat_map_of_map, map_of_map}
+use Rattle.object_writing.proofs.Grouping.{grouped, records_of_filtered, flat_map_of_map, map_of_map}
 
 -- a name has at most 31 characters
 pub name_short : (name : List ℕ) → IsTrue (is_name name) → length name ≤ 31
@@ -26,7 +26,7 @@ pub publics_are :
     → records_of (empty_group kinds.Publics (segment_number segment ∷ [])) (map (public_entry segment) publics)
     ≡ flat_map part_bytes (public_parts publics segment)
 publics_are segment publics =
-    kept definition_bytes definition_of (λ (public : Public). same_segment public.segment segment)
+    records_of_filtered definition_bytes definition_of (λ (public : Public). same_segment public.segment segment)
     (empty_group kinds.Publics (segment_number segment ∷ [])) publics
     ∙ sym
     (flat_map_of_map part_bytes (PublicsPart segment)

@@ -1,6 +1,6 @@
 -- Items of a list, each of which adds an entry or none.
 use Rattle.object_writing.proofs.Prelude.{◌≡◌, ℕ, ◌+◌, ◌<◌, ◌≤◌, List, ◌∷◌, ◌++◌, length, map, drop, get_or, Option, ap, sym, subst, ◌∙◌, drop_more, drop_all, Appends, AppendsBeginning, Group, flushed_by, last_record, records_of, with_item}
-use Rattle.object_writing.proofs.Sequences.{HasWritten, more, begun}
+use Rattle.object_writing.proofs.Sequences.{HasWritten, part_written, part_begun}
 
 module _ {X : Type 0} (entry : X → Option (List ℕ)) (group : Group) (items : List X) (index : ℕ) (item d : X) where
   left_here :
@@ -19,7 +19,7 @@ module _ {X : Type 0} (entry : X → Option (List ℕ)) (group : Group) (items :
       → HasWritten a c (records_of next (map entry (drop (index + 1) items))) all
   item_written a b c next all within is h written same =
       subst (λ g. HasWritten a c (records_of g (map entry (drop (index + 1) items))) all) (sym same)
-      (more a b c (flushed_by group (entry item)) (records_of group (map entry (drop index items)))
+      (part_written a b c (flushed_by group (entry item)) (records_of group (map entry (drop index items)))
       (records_of (with_item group (entry item)) (map entry (drop (index + 1) items))) all h (left_here within is) written)
 
   pub item_begun :
@@ -27,7 +27,7 @@ module _ {X : Type 0} (entry : X → Option (List ℕ)) (group : Group) (items :
       → HasWritten a b (records_of group (map entry (drop index items))) all
       → AppendsBeginning b c (flushed_by group (entry item)) → AppendsBeginning a c all
   item_begun a b c all within is h written =
-      begun a b c (flushed_by group (entry item)) (records_of group (map entry (drop index items)))
+      part_begun a b c (flushed_by group (entry item)) (records_of group (map entry (drop index items)))
       (records_of (with_item group (entry item)) (map entry (drop (index + 1) items))) all h (left_here within is) written
 
 pub items_ended :

@@ -129,12 +129,12 @@ mapped {X} {A} spell f group (x ∷ xs) = go (f x) (λ g. mapped spell f g xs)
     go None later = later group
     go (Some a) later = ap (λ r. flushed group (length (spell a)) ++ r) (later (with_entry group (spell a)))
 
-pub kept :
+pub records_of_filtered :
     {X A : Type 0} (spell : A → List ℕ) (f : X → A) (test : X → Bool) (group : Group) (xs : List X)
     → records_of group (map (λ x. cond (test x) (Some (spell (f x))) None) xs)
     ≡ records_of group (map (λ a. Some (spell a)) (map f (filter test xs)))
-kept spell f test group [] = refl
-kept {X} {A} spell f test group (x ∷ xs) = go (test x) (λ g. kept spell f test g xs)
+records_of_filtered spell f test group [] = refl
+records_of_filtered {X} {A} spell f test group (x ∷ xs) = go (test x) (λ g. records_of_filtered spell f test g xs)
   where
     go : (b : Bool)
         → ((g : Group) → records_of g (map (λ y. cond (test y) (Some (spell (f y))) None) xs)

@@ -1,6 +1,6 @@
 -- What is left of a run and of a segment while their contents are written.
 use Rattle.object_writing.proofs.Prelude.{◌≡◌, ℕ, ◌+◌, ◌-◌, ◌<◌, ◌≤◌, List, [], ◌∷◌, ◌++◌, length, map, flat_map, take, drop, get_or, Option, refl, ap, sym, subst, ◌∙◌, arith, length-map, length-take, length-drop, drop-drop, take-map, take_rest, drop-map, take_at, drop_at, drop_more, drop_all, flat_map-append, Appends, AppendsBeginning, Fix, Segment, SetByte, ObjectModule, places_of, part_bytes, fixed_bytes, fixed_run, fixes_in, fixes_of_run, Run, content_parts, contents_of_run, fixes_from, runs_from, segment_parts, InOrder, order_earlier, order_ends, runs_in_order, content_text, AreFixesOf, count_before, cut_by, row_text, run_text, values_again}
-use Rattle.object_writing.proofs.Sequences.{HasWritten, none_yet, more, begun, whole}
+use Rattle.object_writing.proofs.Sequences.{HasWritten, none_yet, part_written, part_begun, whole_appended}
 use Rattle.object_writing.proofs.Cutting.{cut_bounds, cut_is, row_ended, row_more}
 use Rattle.object_writing.proofs.Fixes.{are_fixes_of, counted, fixes_split, none_before, none_in_runs}
 
@@ -78,7 +78,7 @@ module _ (segment : Segment) (place size count : ℕ) (left : List ℕ) (rest : 
         items = drop size h.items;
         bytes = k.bytes;
         fixes = k.others;
-        written = more a b c (content_text segment place (take size left) (take count rest))
+        written = part_written a b c (content_text segment place (take size left) (take count rest))
             (row_text segment place h.items) (row_text segment (place + size) (drop size h.items)) all h.written k.split
             written;
       }
@@ -88,7 +88,7 @@ module _ (segment : Segment) (place size count : ℕ) (left : List ℕ) (rest : 
       → AppendsBeginning b c (content_text segment place (take size left) (take count rest)) → AppendsBeginning a c all
   run_begun a b c all h written =
       let k = cut h.items h.bytes h.fixes in
-      begun a b c (content_text segment place (take size left) (take count rest))
+      part_begun a b c (content_text segment place (take size left) (take count rest))
       (row_text segment place h.items) (row_text segment (place + size) (drop size h.items)) all h.written k.split written
 
 no_items : (items : List SetByte) → length items ≡ 0 → items ≡ []
@@ -100,7 +100,7 @@ pub run_ended :
     → length left ≡ 0 → RunLeft segment place left rest a b all → Appends a b all
 run_ended segment place left rest a b all none h =
     let long : length left ≡ length h.items = ap length h.bytes ∙ length-map h.items value_of in
-    whole a b (row_text segment place h.items) all h.written
+    whole_appended a b (row_text segment place h.items) all h.written
     (ap (row_text segment place) (no_items h.items (omega (arith, long, none))) ∙ row_ended segment place)
 
 -- Of a segment.
@@ -205,7 +205,7 @@ module _ (object : ObjectModule) (segment : Segment) (run : Run ℕ) (others : L
       order =
           order_earlier 0 (run.offset + length items) (length (places_of object segment)) (fixed_by object segment others)
           (omega arith) h.order.2;
-      written = more a b c (run_text segment run.offset run.items (take count rest))
+      written = part_written a b c (run_text segment run.offset run.items (take count rest))
           (runs_text segment (fixed_by object segment (run ∷ others)))
           (runs_text segment (fixed_by object segment others)) (flat_map part_bytes (segment_parts object segment))
           h.written split written;
@@ -215,7 +215,7 @@ module _ (object : ObjectModule) (segment : Segment) (run : Run ℕ) (others : L
         (c : Option (List ℕ)) → AppendsBeginning b c (run_text segment run.offset run.items (take count rest))
         → AppendsBeginning a c (flat_map part_bytes (segment_parts object segment))
     segment_begun c written =
-        begun a b c (run_text segment run.offset run.items (take count rest))
+        part_begun a b c (run_text segment run.offset run.items (take count rest))
         (runs_text segment (fixed_by object segment (run ∷ others)))
         (runs_text segment (fixed_by object segment others)) (flat_map part_bytes (segment_parts object segment))
         h.written split written
@@ -224,7 +224,7 @@ pub segment_ended :
     (object : ObjectModule) (segment : Segment) (rest : List Fix) (a b : Option (List ℕ))
     → SegmentLeft object segment [] rest a b → Appends a b (flat_map part_bytes (segment_parts object segment))
 segment_ended object segment rest a b h =
-    whole a b [] (flat_map part_bytes (segment_parts object segment)) h.written refl
+    whole_appended a b [] (flat_map part_bytes (segment_parts object segment)) h.written refl
 
 -- The next run of a segment, as the code has it.
 abbrev all_from : List Fix → ℕ → List Fix

@@ -11,31 +11,31 @@ pub none_yet : (a : Option (List ℕ)) (all : List ℕ) → HasWritten a a all a
 none_yet a all = record { done = []; appended = Appends-nil a; split = refl }
 
 module _ (a b c : Option (List ℕ)) where
-  pub more :
+  pub part_written :
       (part left rest all : List ℕ) → HasWritten a b left all → left ≡ part ++ rest → Appends b c part
       → HasWritten a c rest all
-  more part left rest all h e next = record {
+  part_written part left rest all h e next = record {
     done = h.done ++ part;
     appended = Appends-trans a b c h.done part h.appended next;
     split = h.split ∙ ap (λ r. h.done ++ r) e ∙ sym (append_assoc h.done part rest);
   }
 
-  pub begun :
+  pub part_begun :
       (part left rest all : List ℕ) → HasWritten a b left all → left ≡ part ++ rest → AppendsBeginning b c part
       → AppendsBeginning a c all
-  begun part left rest all h e next =
+  part_begun part left rest all h e next =
       beginning_after a b c h.done part all rest (h.split ∙ ap (λ r. h.done ++ r) e) h.appended next
 
-  pub last : (left all : List ℕ) → HasWritten a b left all → Appends b c left → Appends a c all
-  last left all h next =
+  pub last_written : (left all : List ℕ) → HasWritten a b left all → Appends b c left → Appends a c all
+  last_written left all h next =
       subst (Appends a c) (sym h.split) (Appends-trans a b c h.done left h.appended next)
 
   pub last_begun :
       (left all : List ℕ) → HasWritten a b left all → AppendsBeginning b c left → AppendsBeginning a c all
-  last_begun left all h next = begun left left [] all h (sym (append-nil left)) next
+  last_begun left all h next = part_begun left left [] all h (sym (append-nil left)) next
 
-pub whole : (a b : Option (List ℕ)) (left all : List ℕ) → HasWritten a b left all → left ≡ [] → Appends a b all
-whole a b left all h e =
+pub whole_appended : (a b : Option (List ℕ)) (left all : List ℕ) → HasWritten a b left all → left ≡ [] → Appends a b all
+whole_appended a b left all h e =
     subst (Appends a b) (sym (h.split ∙ ap (λ r. h.done ++ r) e ∙ append-nil h.done)) h.appended
 
 -- Two writes one after another, and three.
@@ -63,8 +63,8 @@ module _ (a b c d : Option (List ℕ)) where
       (sym (append_assoc part next third) ∙ ap (λ r. (part ++ next) ++ r) (sym (append-nil third)))
       (Appends-trans a b c part next one two)
 
-  pub three :
+  pub three_written :
       (part next third : List ℕ) → Appends a b part → Appends b c next → Appends c d third
       → Appends a d (part ++ (next ++ third))
-  three part next third one two last_one =
+  three_written part next third one two last_one =
       Appends-trans a b d part (next ++ third) one (Appends-trans b c d next third two last_one)

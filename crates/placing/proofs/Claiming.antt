@@ -68,17 +68,17 @@ module _ (address end : ℕ) (table : List Bool) (all : Bool) where
       ap (λ n. are_claimed n address table) none ∙ so_far
 
 -- the tests on ranges
-pub ends : (range : Range) → ends_in_memory range ≡ true → EndsInMemory range
+pub ends_in_memory_holds : (range : Range) → ends_in_memory range ≡ true → EndsInMemory range
 unfolding ends_in_memory
-ends range is = leb-true (range.start + range.len) 65536 is
+ends_in_memory_holds range is = leb-true (range.start + range.len) 65536 is
 
 pub ends_true : (range : Range) → EndsInMemory range → ends_in_memory range ≡ true
 unfolding ends_in_memory
 ends_true range within = le-leb (range.start + range.len) 65536 within
 
-pub past : (range : Range) → 65536 < range.start + range.len → ends_in_memory range ≡ false
+pub ends_past_memory : (range : Range) → 65536 < range.start + range.len → ends_in_memory range ≡ false
 unfolding ends_in_memory
-past range beyond = lt-leb (range.start + range.len) 65536 beyond
+ends_past_memory range beyond = lt-leb (range.start + range.len) 65536 beyond
 
 pub meets_decides : (left right : Range) → Decides (ranges_meet left right) (Meets left right)
 unfolding ranges_meet
@@ -101,13 +101,13 @@ pub long_list :
     (code stack : Range) (start size : ℕ) (table : List Bool)
     → 65536 < size
     → claim_by_kind code stack ConstantPiece (range_of start size) table ≡ None
-long_list code stack start size table long = rw (past (range_of start size) (omega arith)) refl
+long_list code stack start size table long = rw (ends_past_memory (range_of start size) (omega arith)) refl
 
 long_variables :
     (code stack : Range) (start size : ℕ) (table : List Bool)
     → 65536 < size
     → claim_by_kind code stack StaticPiece (range_of start size) table ≡ None
-long_variables code stack start size table long = rw (past (range_of start size) (omega arith)) refl
+long_variables code stack start size table long = rw (ends_past_memory (range_of start size) (omega arith)) refl
 
 -- a size that stops at the greatest number of 32 bits
 pub capped_variables :
@@ -139,7 +139,7 @@ past_at :
     → 65536 < size
     → may_lie_at code stack table (range_of start size) ≡ false
 unfolding may_lie_at
-past_at code stack start size table long = rw (past (range_of start size) (omega arith)) refl
+past_at code stack start size table long = rw (ends_past_memory (range_of start size) (omega arith)) refl
 
 pub capped_at :
     (code stack : Range) (start size : ℕ) (table : List Bool)
@@ -153,11 +153,11 @@ capped_at code stack start size table =
           ∙ sym (past_at code stack start size table (omega (arith, large)))
     ]
 
-pub three : (a b c : Bool) → a && b && c ≡ true → (a ≡ true) × (b ≡ true) × (c ≡ true)
-three true true true all = (refl, refl, refl)
-three false b c all = absurd (cc)
-three true false c all = absurd (cc)
-three true true false all = absurd (cc)
+pub each_of_three : (a b c : Bool) → a && b && c ≡ true → (a ≡ true) × (b ≡ true) × (c ≡ true)
+each_of_three true true true all = (refl, refl, refl)
+each_of_three false b c all = absurd (cc)
+each_of_three true false c all = absurd (cc)
+each_of_three true true false all = absurd (cc)
 
 pub all_three : (a b c : Bool) → a ≡ true → b ≡ true → c ≡ true → a && b && c ≡ true
 all_three a b c first second third = rw (first, second, third) refl
@@ -165,4 +165,4 @@ all_three a b c first second third = rw (first, second, third) refl
 pub code_ends : (code stack : Range) → ranges_fit code stack ≡ true → code.start + code.len ≤ 65536
 unfolding ranges_fit
 code_ends code stack fit =
-    ends code (three (ends_in_memory code) (ends_in_memory stack) (not (ranges_meet code stack)) fit).0
+    ends_in_memory_holds code (each_of_three (ends_in_memory code) (ends_in_memory stack) (not (ranges_meet code stack)) fit).0

@@ -1,11 +1,11 @@
 -- Where pieces lie lawfully, their bytes can be claimed, and those with AT may lie where they do.
 use Rattle.placing.proofs.Prelude.{◌≡◌, ℕ, ◌+◌, ◌<◌, min, max, Bool, true, false, not, List, [], ◌∷◌, length, get_or, Some, refl, sym, arith, All, filter, AllByRecursion, true≢false, inl, inr, ⊎_elim, and_parts, and_from, get_or_default, All-from_recursion, recursion_from_All, Range, IsIn, Meets, PieceKind, StaticPiece, ConstantPiece, AtPiece, PlacedPiece, EndsInMemory, IsOneOf, has_own_place, is_constant_piece, AreDisjoint, LiesIn, claim_pieces, claimed_between, ends_in_memory, ranges_meet, is_within, may_lie_at, unclaimed}
-use Rattle.placing.proofs.Claiming.{ends_true, three, all_three}
+use Rattle.placing.proofs.Claiming.{ends_true, each_of_three, all_three}
 use Rattle.placing.proofs.ClaimedBytes.{between_each}
 use Rattle.placing.proofs.SomePieces.{Some_of, some_at, any_from_some, some_weaker, any_of_filter, all_of_filter, Pairs_of, pairs_of_filter}
 use Rattle.placing.proofs.PieceClaims.{HasByte, HaveByte, allowed, MayLie, PiecesClaimed, no_byte_of, false_true, pieces_claimed, pieces_can}
 use Rattle.placing.proofs.PieceOrder.{at_allowed, AtMayLie}
-use Rattle.placing.proofs.PiecesLawful.{LieLawfully, ConstantByte, StaticByte, apart, apart_true, within, within_true, unclaimed_free, unclaimed_long}
+use Rattle.placing.proofs.PiecesLawful.{LieLawfully, ConstantByte, StaticByte, ranges_apart, apart_true, within, within_true, unclaimed_free, unclaimed_long}
 
 kind_own :
     (kind : PieceKind) (range : Range)
@@ -53,8 +53,8 @@ module _ (code stack : Range) (code_apart : ¬ Meets code stack) where
       → IsIn a stack
       → ⊥
   one_own_in_stack StaticPiece range may a has in_stack =
-      apart range stack
-      (three (ends_in_memory range) (not (ranges_meet range code)) (not (ranges_meet range stack)) may).2
+      ranges_apart range stack
+      (each_of_three (ends_in_memory range) (not (ranges_meet range code)) (not (ranges_meet range stack)) may).2
       a has.1 in_stack
   one_own_in_stack ConstantPiece range may a has in_stack =
       code_apart (a, within code range (and_parts (ends_in_memory range) (is_within code range) may).1 a has.1, in_stack)

@@ -1,6 +1,6 @@
 -- What the claims of pieces say: each may lie where it does, no two share a byte, and the table has their bytes.
 use Rattle.placing.proofs.Prelude.{◌≡◌, ℕ, ◌+◌, ◌<◌, ◌≤◌, Bool, true, false, not, List, [], ◌∷◌, length, get_or, Option, Some, None, refl, ap, sym, ◌∙◌, arith, ◌⊎◌, option_and_then, AllByRecursion, true≢false, inl, inr, ⊎_elim, and_parts, cases_lt, Range, IsIn, PieceKind, StaticPiece, ConstantPiece, AtPiece, PlacedPiece, EndsInMemory, has_own_place, AreDisjoint, claim_between, claim_if, may_hold_variables, may_hold_constants, ends_in_memory, ranges_meet, is_within, claim_by_kind, claim_piece, claim_pieces, false_from_ne_true}
-use Rattle.placing.proofs.Claiming.{ends, three}
+use Rattle.placing.proofs.Claiming.{ends_in_memory_holds, each_of_three}
 use Rattle.placing.proofs.ClaimedBytes.{BytesClaimed, between_claimed, between_can}
 use Rattle.placing.proofs.SomePieces.{Some_of, Pairs_of}
 
@@ -80,10 +80,10 @@ pub variables_end :
     (code stack range : Range)
     → may_hold_variables code stack range ≡ true
     → EndsInMemory range
-variables_end code stack range may = ends range (three (ends_in_memory range) (not (ranges_meet range code)) (not (ranges_meet range stack)) may).0
+variables_end code stack range may = ends_in_memory_holds range (each_of_three (ends_in_memory range) (not (ranges_meet range code)) (not (ranges_meet range stack)) may).0
 
 pub constants_end : (code range : Range) → may_hold_constants code range ≡ true → EndsInMemory range
-constants_end code range may = ends range (and_parts (ends_in_memory range) (is_within code range) may).0
+constants_end code range may = ends_in_memory_holds range (and_parts (ends_in_memory range) (is_within code range) may).0
 
 by_kind :
     (code stack : Range) (kind : PieceKind) (range : Range) (before after : List Bool)

@@ -1,7 +1,7 @@
 -- The claims of modules are those of the pieces of a program, in their order; and what is tested of objects with AT is
 -- tested of those pieces.
 use Rattle.placing.proofs.Prelude.{◌≡◌, ℕ, Bool, true, ◌&&◌, List, [], ◌∷◌, ◌++◌, length, map, nat_eq, Option, Some, None, refl, ap, sym, ◌∙◌, option_and_then, option_map, filter_map, flat_map, zip, AllByRecursion, cons_option, and_parts, eqb-true, eq-eqb, All-from_recursion, recursion_from_All, Range, Home, InData, InConstants, Placed, BasedOn, Elsewhere, Nowhere, InFrame, TypedObject, TypedModule, size_of_object, ModulePlacement, PieceKind, StaticPiece, ConstantPiece, AtPiece, PlacedPiece, range_of, address_at, kind_of, piece_of, object_piece, list_piece, pieces_of_module, HasAddresses, LiesByHome, LiesWhereAtSays, claim_found, claim_piece, claim_pieces, claim_object, claim_objects, claim_lists, claim_module, claim_modules, may_lie_at, home_fits, object_fits, objects_fit, module_fits, modules_fit}
-use Rattle.placing.proofs.Claiming.{three, all_three}
+use Rattle.placing.proofs.Claiming.{each_of_three, all_three}
 use Rattle.placing.proofs.SomePieces.{all_join, all_left, all_right}
 
 module _ (code stack : Range) where
@@ -237,7 +237,7 @@ module _ (code stack : Range) where
         → module_three typed placed
     unfolding module_fits
     module_parts typed placed fits =
-        three (nat_eq (length placed.objects) (length typed.objects))
+        each_of_three (nat_eq (length placed.objects) (length typed.objects))
         (nat_eq (length placed.lists) (length typed.constants.lists))
         (objects_fit code stack table placed.objects typed.objects placed.objects) fits
 

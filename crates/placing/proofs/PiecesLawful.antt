@@ -1,6 +1,6 @@
 -- Pieces lie lawfully just where their bytes can be claimed and those with AT may lie where they do.
 use Rattle.placing.proofs.Prelude.{◌≡◌, ℕ, zero, suc, ◌+◌, ◌-◌, ◌<◌, ◌≤◌, min, max, Bool, true, false, not, ◌&&◌, ◌||◌, nat_eq, nat_le, List, [], ◌∷◌, length, get_or, replicate, Some, refl, ap, sym, ◌∙◌, arith, ◌⊎◌, All, AllPairs, filter, AllByRecursion, true≢false, inl, inr, ⊎_elim, and_parts, and_from, le-leb, leb-true, eqb-true, eqb-false, length-replicate, All-from_recursion, Range, IsIn, Meets, PieceKind, StaticPiece, ConstantPiece, AtPiece, PlacedPiece, EndsInMemory, IsOneOf, has_own_place, is_constant_piece, AreDisjoint, LiesIn, claim_pieces, claimed_between, ends_in_memory, ranges_meet, is_within, may_hold_variables, may_lie_at, unclaimed, not-true}
-use Rattle.placing.proofs.Claiming.{ends, meets_decides, three}
+use Rattle.placing.proofs.Claiming.{ends_in_memory_holds, meets_decides, each_of_three}
 use Rattle.placing.proofs.ClaimedBytes.{between_all}
 use Rattle.placing.proofs.SomePieces.{Some_of, some_from_any, any_in_filter, all_in_filter, all_weaker, all_both, pairs_in_filter}
 use Rattle.placing.proofs.PieceClaims.{HasByte, HaveByte, allowed, MayLie, PiecesClaimed, variables_end, constants_end, false_true, pieces_claimed}
@@ -26,14 +26,14 @@ pub record StaticByte (a : ℕ) (piece : PlacedPiece) : Type 0 where
   pub inside : IsIn a piece.range
 
 -- tests on ranges
-pub apart :
+pub ranges_apart :
     (left right : Range)
     → not (ranges_meet left right) ≡ true
     → (a : ℕ)
     → IsIn a left
     → IsIn a right
     → ⊥
-apart left right is a first second =
+ranges_apart left right is a first second =
     false_true (ranges_meet left right) (not-true (ranges_meet left right) is) ((meets_decides left right).1 (a, first, second))
 
 never : (b : Bool) → (b ≡ true → ⊥) → not b ≡ true
@@ -108,7 +108,7 @@ module _ (code stack : Range) (table : List Bool) where
   one_ends StaticPiece range may at = variables_end code stack range may
   one_ends ConstantPiece range may at = constants_end code range may
   one_ends AtPiece range may at =
-      ends range (three (ends_in_memory range) (not (ranges_meet range stack))
+      ends_in_memory_holds range (each_of_three (ends_in_memory range) (not (ranges_meet range stack))
       (claimed_between (max range.start code.start) (min (range.start + range.len) (code.start + code.len)) table) at).0
 
   one_in_code :
@@ -131,8 +131,8 @@ module _ (code stack : Range) (table : List Bool) where
       → IsIn a code
       → ⊥
   static_apart_code range may =
-      apart range code
-      (three (ends_in_memory range) (not (ranges_meet range code)) (not (ranges_meet range stack)) may).1
+      ranges_apart range code
+      (each_of_three (ends_in_memory range) (not (ranges_meet range code)) (not (ranges_meet range stack)) may).1
 
   static_apart_stack :
       (range : Range)
@@ -142,8 +142,8 @@ module _ (code stack : Range) (table : List Bool) where
       → IsIn a stack
       → ⊥
   static_apart_stack range may =
-      apart range stack
-      (three (ends_in_memory range) (not (ranges_meet range code)) (not (ranges_meet range stack)) may).2
+      ranges_apart range stack
+      (each_of_three (ends_in_memory range) (not (ranges_meet range code)) (not (ranges_meet range stack)) may).2
 
   module _ (a : ℕ) where
     one_constant_or_claimed :
@@ -163,7 +163,7 @@ module _ (code stack : Range) (table : List Bool) where
         let code_low : code.start ≤ a = in_code.0 in
         let code_high : a < code.start + code.len = in_code.1 in
         inr (between_all (max range.start code.start) (min (range.start + range.len) (code.start + code.len)) table
-        (three (ends_in_memory range) (not (ranges_meet range stack))
+        (each_of_three (ends_in_memory range) (not (ranges_meet range stack))
         (claimed_between (max range.start code.start) (min (range.start + range.len) (code.start + code.len)) table) at).2
         a (omega arith) (omega arith))
 
@@ -214,7 +214,7 @@ module _ (code stack : Range) (table : List Bool) where
         absurd (static_apart_stack range may a inside in_stack)
     one_in_stack ConstantPiece range may at inside in_stack = (refl, inside)
     one_in_stack AtPiece range may at inside in_stack =
-        absurd (apart range stack (three (ends_in_memory range) (not (ranges_meet range stack))
+        absurd (ranges_apart range stack (each_of_three (ends_in_memory range) (not (ranges_meet range stack))
         (claimed_between (max range.start code.start) (min (range.start + range.len) (code.start + code.len)) table) at).1
         a inside in_stack)
 

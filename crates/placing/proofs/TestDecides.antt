@@ -1,8 +1,8 @@
 -- The test of a placement decides whether it is lawful.
 use Rattle.placing.proofs.Prelude.{◌≡◌, Bool, true, false, not, List, length, nat_eq, Option, None, Some, refl, ap, sym, ◌∙◌, ◌↔◌, IsTrue, zip, option_map_or, eqb-true, eq-eqb, All-from_recursion, recursion_from_All, TypedModule, Placement, pieces_of, HasAddresses, LiesWhereAtSays, IsLawful, claim_modules, modules_fit, unclaimed, ends_in_memory, ranges_meet, ranges_fit, all_fit, is_lawful}
-use Rattle.placing.proofs.Claiming.{ends, ends_true, three, all_three}
+use Rattle.placing.proofs.Claiming.{ends_in_memory_holds, ends_true, each_of_three, all_three}
 use Rattle.placing.proofs.PieceOrder.{modules_order, ModulesFit, modules_parts, modules_from}
-use Rattle.placing.proofs.PiecesLawful.{LieLawfully, lie_lawfully, apart, apart_true}
+use Rattle.placing.proofs.PiecesLawful.{LieLawfully, lie_lawfully, ranges_apart, apart_true}
 use Rattle.placing.proofs.ClaimsSucceed.{Succeed, succeed}
 
 some_table :
@@ -23,7 +23,7 @@ module _ (modules : List TypedModule) (placement : Placement) where
       × (all_fit placement.code placement.stack modules placement.modules ≡ true)
   unfolding is_lawful
   parts is =
-      three counted (ranges_fit placement.code placement.stack)
+      each_of_three counted (ranges_fit placement.code placement.stack)
       (all_fit placement.code placement.stack modules placement.modules) is
 
   range_parts :
@@ -33,7 +33,7 @@ module _ (modules : List TypedModule) (placement : Placement) where
       × (not (ranges_meet placement.code placement.stack) ≡ true)
   unfolding ranges_fit
   range_parts is =
-      three (ends_in_memory placement.code) (ends_in_memory placement.stack)
+      each_of_three (ends_in_memory placement.code) (ends_in_memory placement.stack)
       (not (ranges_meet placement.code placement.stack)) is
 
   fit_parts :
@@ -60,12 +60,12 @@ module _ (modules : List TypedModule) (placement : Placement) where
         for_each_module = eqb-true (length placement.modules) (length modules) all.0;
         complete = All-from_recursion HasAddresses (zip modules placement.modules) fit.has;
         in_memory = lie.in_memory;
-        code_in_memory = ends placement.code ranges.0;
-        stack_in_memory = ends placement.stack ranges.1;
+        code_in_memory = ends_in_memory_holds placement.code ranges.0;
+        stack_in_memory = ends_in_memory_holds placement.stack ranges.1;
         disjoint = lie.disjoint;
         where_at_says = All-from_recursion LiesWhereAtSays (zip modules placement.modules) fit.lie;
         constants_in_code = lie.constants_in_code;
-        code_apart_from_stack = λ meets. apart placement.code placement.stack ranges.2 meets.0 meets.1 meets.2;
+        code_apart_from_stack = λ meets. ranges_apart placement.code placement.stack ranges.2 meets.0 meets.1 meets.2;
         not_in_code = λ a writable. lie.not_in_code a writable.declared writable.variable;
         not_in_stack = λ a writable. lie.not_in_stack a writable.declared writable.variable;
       }

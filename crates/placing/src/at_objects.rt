@@ -49,7 +49,7 @@ fn is_claimed_in(table: &[bool; 65536], code: Range, range: Range) -> bool
 }
 
 // Whether an object with AT may lie in a range.
-#[tactic(auto, using(crate::proofs::Claiming::ends), unfolding(crate::specs::internal::Claims::may_lie_at))]
+#[tactic(auto, using(crate::proofs::Claiming::ends_in_memory_holds), unfolding(crate::specs::internal::Claims::may_lie_at))]
 fn may_lie_at(table: &[bool; 65536], code: Range, stack: Range, range: Range) -> bool
     requires { EndsInMemory code }
     ensures { result ≡ may_lie_at code stack table.now range }

@@ -53,7 +53,7 @@ fn claim_range(table: &mut [bool; 65536], range: Range) -> bool
 }
 
 // Claims the bytes of variables.
-#[tactic(auto, using(crate::proofs::Claiming::ends))]
+#[tactic(auto, using(crate::proofs::Claiming::ends_in_memory_holds))]
 fn claim_variables(table: &mut [bool; 65536], code: Range, stack: Range, range: Range) -> bool
     ensures { claimed_as result table.new ≡ claim_by_kind code stack StaticPiece range table.old }
 {
@@ -64,7 +64,7 @@ fn claim_variables(table: &mut [bool; 65536], code: Range, stack: Range, range: 
 }
 
 // Claims the bytes of constants.
-#[tactic(auto, using(crate::proofs::Claiming::ends))]
+#[tactic(auto, using(crate::proofs::Claiming::ends_in_memory_holds))]
 fn claim_constants(table: &mut [bool; 65536], code: Range, stack: Range, range: Range) -> bool
     ensures { claimed_as result table.new ≡ claim_by_kind code stack ConstantPiece range table.old }
 {

@@ -1,5 +1,5 @@
 -- The CALL instruction: where the code from entries on does what calls mean, so does code from a CALL on.
-use Rattle.procedure_laws.proofs.Prelude.{◌≡◌, ℕ, suc, ◌+◌, ◌-◌, ◌*◌, ◌<◌, ◌≤◌, ◌==◌, inl, inr, Bool, true, false, if◌then◌else◌, List, [], ◌∷◌, length, slice_set, nat_lt, Option, refl, sym, ap, subst, ◌∙◌, arith, ltb-false, option_map_or, eqb-true, eqb-false, MEMORY_SIZE, byte_at, Event, ScalarType, Byte, Address, charge_of, TypedModule, TypedProcedure, Within, InProgram, Stack, Surroundings, called, called_for, callee_in, charged, entered, later_by, procedure_at, SourceState, More, Outside, Outcome, Gave, Stopped, taking_one, Call, Running, act, Registers, State, high_byte, low_byte, two_less, wrap, running, step_of, CallTo, word_of, Keeps, one_below, pushed, pushed_is_pushed, pushed_keeps, two_below, Bor, FramePlan, Activation, Arrives, IsReady, IsThere, LiesWell, Owns, FrameLies, Does, IsLeft, Lands, at_place, word_step, after_paid_step, gives, landed, keeps_both, keeps_wider, owns_more, ready_after_push, ArgumentsLie, CallsDo, InRegister, InWord, ResultLies, bytes_pushed, does_same, gives_then, CallsAreKnown, ComesBack, Entries, IsOfCall, ReturnLies, Shape, activation_in, context_in, ModuleCode, ModuleLies, surroundings_in, push_keeps}
+use Rattle.procedure_laws.proofs.Prelude.{◌≡◌, ℕ, suc, ◌+◌, ◌-◌, ◌*◌, ◌<◌, ◌≤◌, ◌==◌, inl, inr, Bool, true, false, if◌then◌else◌, List, [], ◌∷◌, length, slice_set, nat_lt, Option, refl, sym, ap, subst, ◌∙◌, arith, ltb-false, option_map_or, eqb-true, eqb-false, MEMORY_SIZE, byte_at, Event, ScalarType, Byte, Address, charge_of, TypedModule, TypedProcedure, Within, InProgram, Stack, Surroundings, called, called_for, callee_in, charged, entered, later_by, procedure_at, SourceState, More, Outside, Outcome, Gave, Stopped, taking_one, Call, Running, act, Registers, State, high_byte, low_byte, two_less, wrap, running, step_of, CallTo, word_of, Keeps, one_below, pushed, pushed_is_pushed, pushed_keeps, two_below, Bor, FramePlan, Activation, Arrives, IsReady, IsThere, LiesWell, Owns, FrameLies, Does, IsLeft, Lands, at_place, word_step, after_paid_step, does_without_step, landed, keeps_both, keeps_wider, owns_more, ready_after_push, ArgumentsLie, CallsDo, InRegister, InWord, ResultLies, bytes_pushed, does_same, gives_then, CallsAreKnown, ComesBack, Entries, IsOfCall, ReturnLies, Shape, activation_in, context_in, ModuleCode, ModuleLies, surroundings_in, push_keeps}
 use Rattle.meaning.proofs.AgreementStatements.{call_is}
 use Rattle.asm8080.specs.declared.item.Item.TheVariants as items
 use Rattle.procedure_laws.proofs.Callees.{IsCallee, callee_of}
@@ -194,7 +194,7 @@ calls_do code entries within frame bound number room shape lies known bounded we
     (λ fits.
     after_paid_step (step fits)
     (gives_then _ (entry b (omega (arith, paid, below)) fits)
-    (λ found t end comes spent. gives (arrives b found t end fits comes)))))))
+    (λ found t end comes spent. does_without_step (arrives b found t end fits comes)))))))
   where
     callee : IsCallee code entries procedure heading
     callee = callee_of code entries procedure heading lies is

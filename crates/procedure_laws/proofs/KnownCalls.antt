@@ -12,10 +12,10 @@ pub record IsAt (modules : List TypedModule) (at : InProgram) (typed : TypedModu
   pub is_module : slice_get modules at.number_of_module ≡ Some typed
   pub is_procedure : slice_get typed.procedures at.number ≡ Some found
 
-pub is_at : (modules : List TypedModule) (at : InProgram) (typed : TypedModule) (found : TypedProcedure)
+pub procedure_is_at : (modules : List TypedModule) (at : InProgram) (typed : TypedModule) (found : TypedProcedure)
     → procedure_at modules at ≡ Some (typed, found)
     → IsAt modules at typed found
-is_at modules at typed found there = by_module (slice_get modules at.number_of_module) refl there
+procedure_is_at modules at typed found there = by_module (slice_get modules at.number_of_module) refl there
   where
     by_procedure : (its : TypedModule) (entry : Option TypedProcedure)
         → slice_get modules at.number_of_module ≡ Some its
@@ -74,6 +74,6 @@ pub calls_known :
 calls_known program image entries bound modules zero bounded at typed found there here =
     λ room top back values s r memory below. absurd (omega (arith, below))
 calls_known program image entries bound modules (suc number) bounded at typed found there here =
-    let is = is_at program.modules at typed found there in
+    let is = procedure_is_at program.modules at typed found there in
     modules at.number_of_module typed is.is_module number bounded
     (calls_known program image entries bound modules number (omega (arith, bounded))) at.number found is.is_procedure here

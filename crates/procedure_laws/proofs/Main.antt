@@ -1,5 +1,5 @@
 -- The main program, from its start on.
-use Rattle.procedure_laws.proofs.Prelude.{◌≡◌, ℕ, suc, ◌+◌, ◌-◌, ◌*◌, ◌≤◌, Bool, true, false, List, [], ◌∷◌, ◌++◌, length, refl, sym, ap, subst, arith, frame_bytes, InSegment, charge_of, height_of_list, TypedProcedure, WithinMain, done_list, later_by, Ended, Flow, Gave, Jumped, More, Onward, Outcome, Outside, Returned, SourceState, Stopped, main_done, run_of, Hlt, Sp, Halted, Running, HoldBytes, Registers, State, wrap, AtTarget, LoadPair, word_of, TreeModule, HasBody, reaches_end_of_list, nodes_of, IsReady, IsThere, LiesWell, Owns, Shares, Does, IsLeft, Lands, at_place, plain_first, word_first, gives, keeps_all, AreThere, both_there, place_at, no_facts_hold, no_facts, IsListCarriedOut, then_does_where, BodyContext, IsSoundBody, Leaves, CallsAreKnown, Entries, activation_in, body_in, main_shape, MainStands, ModuleCode, ModuleLies, surroundings_in, with_tree, CallsOfModuleFit, ListsAreDone, no_jump, given_again}
+use Rattle.procedure_laws.proofs.Prelude.{◌≡◌, ℕ, suc, ◌+◌, ◌-◌, ◌*◌, ◌≤◌, Bool, true, false, List, [], ◌∷◌, ◌++◌, length, refl, sym, ap, subst, arith, frame_bytes, InSegment, charge_of, height_of_list, TypedProcedure, WithinMain, done_list, later_by, Ended, Flow, Gave, Jumped, More, Onward, Outcome, Outside, Returned, SourceState, Stopped, main_done, run_of, Hlt, Sp, Halted, Running, HoldBytes, Registers, State, wrap, AtTarget, LoadPair, word_of, TreeModule, HasBody, reaches_end_of_list, nodes_of, IsReady, IsThere, LiesWell, Owns, Shares, Does, IsLeft, Lands, at_place, plain_first, word_first, does_without_step, keeps_all, AreThere, both_there, place_at, no_facts_hold, no_facts, IsListCarriedOut, then_does_where, BodyContext, IsSoundBody, Leaves, CallsAreKnown, Entries, activation_in, body_in, main_shape, MainStands, ModuleCode, ModuleLies, surroundings_in, with_tree, CallsOfModuleFit, ListsAreDone, no_jump, given_again}
 use Rattle.object_modules.specs.declared.segment.Segment.TheVariants.{Stack}
 use Rattle.asm8080.specs.declared.item.Item.TheVariants as items
 use Rattle.code_meaning.proofs.Standing.{after_word}
@@ -185,7 +185,7 @@ main_goes code entries start budget room s r memory lies known lists fit stands 
             subst (λ (state : State). Does code.program.script t.budget 0 state (Gave Onward t) IsHalted)
             (sym comes.is_at)
             (plain_first comes.r well comes.ready.shares.code parts.second
-            (gives (record { status_is = refl; events_are = refl })))
+            (does_without_step (record { status_is = refl; events_are = refl })))
         by_flow (Returned value) t end by_way leaves = let bad : false ≡ true = by_way in absurd cc
         by_flow (Jumped label) t end by_way leaves = absurd (no_jump label by_way)
 

@@ -1,7 +1,7 @@
 -- The code of one module does what the module says, by what calls do, or by what calls of other modules do alone.
 use Rattle.procedure_laws.proofs.Prelude.{◌≡◌, ℕ, zero, suc, ◌≤◌, Bool, true, false, List, refl, ap, sym, subst, ◌∙◌, arith, ◌==◌, slice_get, Some, eq-eqb, eqb-true, same_Some, TypedModule, is_main, later_by, Program, HasTypes, Entries, EntryDoes, MainStands, ModuleCode, ModuleLies, AllCallsAreKnown, ModuleDoes, OtherCallsAreKnown, OwnCallsAreKnown, in_module}
 use Rattle.procedure_laws.proofs.CallsFitting.{calls_of_module_fit}
-use Rattle.procedure_laws.proofs.KnownCalls.{is_at, own_calls_follow}
+use Rattle.procedure_laws.proofs.KnownCalls.{procedure_is_at, own_calls_follow}
 use Rattle.procedure_laws.proofs.ListsDone.{lists_are_done}
 use Rattle.procedure_laws.proofs.Main.{main_runs}
 
@@ -38,7 +38,7 @@ module _
             → EntryDoes program image (later_by bound) number at its found (entries at)
         by true is =
             let same : at.number_of_module ≡ number_of_module = eqb-true at.number_of_module number_of_module is in
-            let place = is_at program.modules at its found there in
+            let place = procedure_is_at program.modules at its found there in
             let its_module : typed ≡ its =
             same_Some typed its (sym is_module ∙ ap (λ (n : ℕ). slice_get program.modules n) (sym same) ∙ place.is_module) in
             subst (λ (n : ℕ).

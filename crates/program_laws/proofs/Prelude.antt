@@ -21,7 +21,7 @@ pub use Rattle.asm8080.proofs.{Assemblies.{flags_length}, Fixing.{cells_of_items
 pub use Rattle.asm8080.specs.{Assembled.{Assembled, Assembles, fixed_bytes, fixes_of_items, layout_at, place_of, places_of, resolved, set_bytes}, Items.{Assembly, KnowsLabels, Layout, Stands, bytes_of_item, flags_of_items, instruction_with, is_bound, marks, offset_of, size_of, size_of_items, word_of}, Standing.{BytesStand, SetBytesStand}, declared.item.Item.{Item, TheVariants.{Address, Byte, Gap, Mark, Plain, WithWord}}, declared.item.Reference.{Reference, TheVariants.{AtLabel, AtNumber, AtTarget}}, declared.item.WordForm.TheVariants.{LoadPair}}
 pub use Rattle.treecode.specs.{Contents.{constant_object, constants_from, content_of, place_from, public_item, public_object, public_procedure, size_of_value, static_object, static_place, variables_from, with_constant, with_gap, with_gap_if_any, with_object}, Homes.{external_name, external_number, external_object, external_procedure, externals_of, home_of_object, homes_from, is_global_procedure, kind_of, number_of_place, place_after}, Known.{known_value, offset_of_list}, Lowered.{AreMoreStatements, AreNoStatements, AreStatements, HasBody, IsList, IsListOf, IsLowered, labels_numbered_in_list}, Nodes.{Nodes, home_at, nodes_of}, Resolved.{HaveOperands, Resolves}, declared.lists.Range.{Range}, declared.module.Content.{Content, TheVariants.{Word}}, declared.module.ExternalName.{ExternalName}, declared.module.PublicName.{PublicName}, declared.module.PublicPlace.{PublicPlace, TheVariants.{Procedure}}, declared.module.TreeModule.{TreeModule}, declared.place.Home.{Home, TheVariants.{Static}}, declared.place.Place.{Place, TheVariants.{Number}}, declared.procedure.ProcedureKind.{ProcedureKind}, declared.procedure.TreeProcedure.{TreeProcedure}}
 unfoldable pub use Rattle.treecode.specs.{Contents.{constants_of, publics_of, variables_of}, Homes.{homes_of}}
-pub use Rattle.treecode_laws.proofs.{Externals.{Finds, finds}, Homes.{any_lies, object_lies}, Lowered.{code_is, data_is, data_length_is}, Operands.{known_gives}, Slots.{data_offset, list_offset}}
+pub use Rattle.treecode_laws.proofs.{Externals.{Finds, finds_external}, Homes.{any_lies, object_lies}, Lowered.{code_is, data_is, data_length_is}, Operands.{known_gives}, Slots.{data_offset, list_offset}}
 pub use Rattle.treecode_laws.specs.{Laid.{IsLaidOut, IsStored}, internal.Places.{IsStatic, KeepWords, location_of_place, name_at, places_of_contents}}
 pub use Rattle.frames.proofs.Homes.{earlier_kept}
 pub use Rattle.frames.specs.Frames.{HasFrame}

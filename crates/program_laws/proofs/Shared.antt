@@ -1,5 +1,5 @@
 -- PUBLIC and EXTERNAL procedures among the names of a module.
-use Rattle.program_laws.proofs.Prelude.{◌≡◌, ℕ, zero, suc, ◌+◌, Bool, true, false, List, [], ◌∷◌, Option, Some, None, cond, refl, ap, sym, ◌∙◌, subst, arith, ◌||◌, slice_get, unwrap_or, enumerate_from, list_any, option_and_then, option_map_or, false≢true, eq-eqb, eqb-true, none-some, same_Some, GlobalItem, GlobalObject, GlobalProcedure, Visibility, ListsGlobals, global_procedure, is_global, shared_procedure, TypedModule, TypedProcedure, ExternalName, Procedure, Home, public_item, public_procedure, publics_of, external_name, external_number, external_procedure, externals_of, is_global_procedure, name_at, Finds, finds}
+use Rattle.program_laws.proofs.Prelude.{◌≡◌, ℕ, zero, suc, ◌+◌, Bool, true, false, List, [], ◌∷◌, Option, Some, None, cond, refl, ap, sym, ◌∙◌, subst, arith, ◌||◌, slice_get, unwrap_or, enumerate_from, list_any, option_and_then, option_map_or, false≢true, eq-eqb, eqb-true, none-some, same_Some, GlobalItem, GlobalObject, GlobalProcedure, Visibility, ListsGlobals, global_procedure, is_global, shared_procedure, TypedModule, TypedProcedure, ExternalName, Procedure, Home, public_item, public_procedure, publics_of, external_name, external_number, external_procedure, externals_of, is_global_procedure, name_at, Finds, finds_external}
 use Rattle.typed_trees.specs.declared.parts.Visibility.TheVariants as visibilities
 use Rattle.program_laws.proofs.Listed.{InList, kept_in, came_from, numbered_in}
 
@@ -81,7 +81,7 @@ pub external_named :
     → name_at (externals_of typed) (unwrap_or (external_number typed (is_global_procedure number)) 0) ≡ procedure.name
 external_named typed number procedure lists found is =
     by (external_number typed (is_global_procedure number)) refl
-    (finds typed (is_global_procedure number) (record { name = procedure.name })
+    (finds_external typed (is_global_procedure number) (record { name = procedure.name })
     (wanted_name typed number procedure found is) 0 typed.globals)
   where
     stands : list_any (is_global_procedure number) typed.globals ≡ true

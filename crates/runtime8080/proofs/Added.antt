@@ -7,7 +7,7 @@ use Rattle.runtime8080.proofs.LeftShift.{shifts_address_left}
 use Rattle.runtime8080.proofs.RightShift.{shifts_address_right}
 use Rattle.runtime8080.proofs.DivideBody.{divides}
 use Rattle.runtime8080.proofs.Products.{multiplies}
-use Rattle.runtime8080.proofs.MoveReturns.{moves}
+use Rattle.runtime8080.proofs.MoveReturns.{moves_bytes}
 use Rattle.runtime8080.proofs.ByteShifts.{shifts_left, shifts_right}
 
 -- what a routine's labels are, wherever they begin
@@ -280,7 +280,7 @@ labels_of_move first =
 pub adds_move :
     (before after : Assembly) → after ≡ with_routine Move before → AddsRoutine Move before after
 adds_move before after same =
-    adds Move before after (labels_of_move before.labels) refl (moves before.labels) same
+    adds Move before after (labels_of_move before.labels) refl (moves_bytes before.labels) same
 
 items_of_move :
     (before : Assembly) (first second : ℕ)

@@ -45,8 +45,8 @@ bytes_where r sp pc h =
     record { a = h.a; b = h.b; c = h.c; d = h.d; e = h.e; h = h.h; l = h.l }
 
 -- registers with another SP hold bytes
-pub held : (r : Registers) (sp : ℕ) → HoldBytes r → HoldBytes (record r { sp = sp })
-held r sp h = record { a = h.a; b = h.b; c = h.c; d = h.d; e = h.e; h = h.h; l = h.l }
+pub bytes_with_sp : (r : Registers) (sp : ℕ) → HoldBytes r → HoldBytes (record r { sp = sp })
+bytes_with_sp r sp h = record { a = h.a; b = h.b; c = h.c; d = h.d; e = h.e; h = h.h; l = h.l }
 
 pub in_spare : (level address : ℕ) → CALL_BYTES ≤ level → level ≤ MEMORY_SIZE → level - 2 ≤ address → address < level → IsIn address (below level CALL_BYTES)
 in_spare level address room limit low high = (omega arith, omega arith)

@@ -2,7 +2,7 @@
 use Rattle.runtime8080.proofs.Prelude.{◌≡◌, ℕ, zero, suc, ◌+◌, ◌-◌, ◌*◌, ◌/◌, ◌%◌, ◌<◌, ◌≤◌, Bool, true, false, nat_lt, List, [], ◌∷◌, refl, sym, ap, ◌∙◌, arith, bit_or, or_self, leb-false, leb-true, MEMORY_SIZE, Event, D, E, A, Of, Carry, Add, Compare, Or, Instr, Accumulate, AccumulateImmediate, Mov, Mvi, Rar, Ret, HoldBytes, Registers, State, wrap, JumpWhere, AtLabel, Item, Plain, WithWord, Mark, Layout, Stands, goes_past, jumps_where, returned, returns, effect, past, past_later, plain, stands_after, steps_of, straight, touch_registers, loop_before, steps_below, tested_before, turns_below, word_is, stands_size, stands_still, Routine, Computes, IsRoutine, Leaves, LeavesBcAndHl, memory_after, most_steps, shift_left_byte, shift_right_byte}
 use Rattle.runtime8080.specs.declared.routine.Routine.TheVariants as routines
 use Rattle.runtime8080.proofs.Bits.{none_left, none_right, shift_left, shift_right, shifted_left, shifted_right, times}
-use Rattle.runtime8080.proofs.Bodies.{Body, held, returns_quietly}
+use Rattle.runtime8080.proofs.Bodies.{Body, bytes_with_sp, returns_quietly}
 use Rattle.runtime8080.proofs.ByteLoops.{ChangesA, before_turns, changed_bytes}
 
 -- E is compared with 8, and A kept in D meanwhile
@@ -106,7 +106,7 @@ shifts routine body f is first quiet layout from to script level s limit stands 
     (λ memory alike.
     shift_body script routine body f is layout first from to (record s.registers { sp = level - 2 }) memory s.events
     (stands_still layout s.memory memory (plain head (rest body first)) from to limit alike stands) limit
-    (held s.registers (level - 2) may.registers) (nat_lt (s.registers.e + 247 + 1) 256) refl)
+    (bytes_with_sp s.registers (level - 2) may.registers) (nat_lt (s.registers.e + 247 + 1) 256) refl)
 
 steps_left : (n : ℕ) → steps_below (Accumulate Add (Of A) ∷ []) n ≡ 4 * n + 2
 steps_left zero = refl

@@ -1,7 +1,7 @@
 -- Divide: by a byte where D is 0, else by a word.
 use Rattle.runtime8080.proofs.Prelude.{◌≡◌, ◌≢◌, ℕ, zero, suc, ◌+◌, ◌-◌, ◌*◌, ◌/◌, ◌%◌, ◌<◌, ◌≤◌, ◌==◌, Bool, true, false, not, if◌then◌else◌, None, Some, List, [], ◌∷◌, refl, sym, ap, subst, ◌∙◌, arith, bit_or, eqb-true, eq-eqb, MEMORY_SIZE, Event, A, B, C, D, E, H, L, Of, NotZero, Or, Instr, Accumulate, Mov, Mvi, Ret, Xchg, HoldBytes, Registers, word, wrap, JumpWhere, AtLabel, Item, Plain, WithWord, Mark, Layout, Stands, comes_on, at, goes_past, jumps_where, returned, returns, effect, plain, steps_of, straight, word_is, stands_size, stands_still, Computes, IsRoutine, divide}
 use Rattle.runtime8080.specs.declared.routine.Routine.TheVariants as routines
-use Rattle.runtime8080.proofs.Bodies.{Body, held, returns_quietly}
+use Rattle.runtime8080.proofs.Bodies.{Body, bytes_with_sp, returns_quietly}
 use Rattle.runtime8080.proofs.Quotients.{Quotient, eight_bits, sixteen_bits}
 use Rattle.runtime8080.proofs.Narrow
 use Rattle.runtime8080.proofs.Narrow.{narrow}
@@ -238,4 +238,4 @@ divides first layout from to script level s limit stands may =
     (λ memory alike.
     divide_body script layout first from to (record s.registers { sp = level - 2 }) memory s.events
     (stands_still layout s.memory memory (divide first) from to limit alike stands) limit
-    (held s.registers (level - 2) may.registers) (bit_or s.registers.d s.registers.d == 0) refl)
+    (bytes_with_sp s.registers (level - 2) may.registers) (bit_or s.registers.d s.registers.d == 0) refl)

@@ -2,7 +2,7 @@
 use Rattle.runtime8080.proofs.Prelude.{◌≡◌, ℕ, zero, suc, ◌+◌, ◌-◌, ◌*◌, ◌%◌, ◌^◌, ◌<◌, ◌≤◌, min, Bool, true, false, nat_lt, List, [], ◌∷◌, refl, sym, ap, ◌∙◌, arith, pow-add, pow-suc, mul-mod_first, leb-false, leb-true, MEMORY_SIZE, Event, E, A, Of, Hl, Carry, Compare, Instr, AccumulateImmediate, Dad, Lxi, Mov, Ret, HoldBytes, Registers, pair_of, word, wrap, JumpWhere, AtLabel, Item, Plain, WithWord, Mark, Layout, Stands, goes_past, jumps_where, returned, returns, effect, past, steps_of, straight, counted, loop_before, steps_below, tested_before, turns_below, word_is, stands_size, stands_still, IsRoutine, shift_left_address, high_of_wrapped, word_of_halves}
 use Rattle.runtime8080.specs.declared.routine.Routine.TheVariants as routines
 use Rattle.runtime8080.proofs.AddressBits.{doubled_product, low_small}
-use Rattle.runtime8080.proofs.Bodies.{Body, held, returns_quietly}
+use Rattle.runtime8080.proofs.Bodies.{Body, bytes_with_sp, returns_quietly}
 use Rattle.runtime8080.proofs.Numbers.{one_less_small, small_by}
 
 -- E takes the count, which is compared with 16
@@ -165,4 +165,4 @@ shifts_address_left first layout from to script level s limit stands may =
     (λ memory alike.
     shift_body script layout first from to (record s.registers { sp = level - 2 }) memory s.events
     (stands_still layout s.memory memory (shift_left_address first) from to limit alike stands) limit
-    (held s.registers (level - 2) may.registers) (nat_lt (s.registers.a + 239 + 1) 256) refl)
+    (bytes_with_sp s.registers (level - 2) may.registers) (nat_lt (s.registers.a + 239 + 1) 256) refl)

@@ -1,5 +1,5 @@
 -- MOVE: a loop that copies a byte, with C counting the bytes of a page and B the pages.
-use Rattle.runtime8080.proofs.Prelude.{◌≡◌, ℕ, zero, suc, ◌+◌, ◌-◌, ◌*◌, ◌/◌, ◌%◌, ◌<◌, ◌≤◌, ◌==◌, true, false, not, List, [], ◌∷◌, refl, sym, ap, subst, ◌∙◌, arith, slice_set, eq-eqb, MEMORY_SIZE, IsMemory, byte_at, byte_small, IsIn, Event, A, B, C, Of, De, Hl, IndexDe, NotZero, Instr, Dcr, Inr, Inx, Ldax, MovToMemory, Ret, HoldBytes, Registers, State, word, wrap, JumpWhere, AtLabel, Item, Plain, WithWord, Mark, Layout, Stands, Comes, at, does, goes_past, jumps_where, returned, returns, effect, straight, not_zero, word_is, byte_kept, memory_put, stands_size, stands_still, BlockMisses, copied, high_of_wrapped, word_of_halves, wrapped_next}
+use Rattle.runtime8080.proofs.Prelude.{◌≡◌, ℕ, zero, suc, ◌+◌, ◌-◌, ◌*◌, ◌/◌, ◌%◌, ◌<◌, ◌≤◌, ◌==◌, true, false, not, List, [], ◌∷◌, refl, sym, ap, subst, ◌∙◌, arith, slice_set, eq-eqb, MEMORY_SIZE, IsMemory, byte_at, byte_small, IsIn, Event, A, B, C, Of, De, Hl, IndexDe, NotZero, Instr, Dcr, Inr, Inx, Ldax, MovToMemory, Ret, HoldBytes, Registers, State, word, wrap, JumpWhere, AtLabel, Item, Plain, WithWord, Mark, Layout, Stands, Comes, at, runs_from_instruction, goes_past, jumps_where, returned, returns, effect, straight, not_zero, word_is, byte_kept, memory_put, stands_size, stands_still, BlockMisses, copied, high_of_wrapped, word_of_halves, wrapped_next}
 use Rattle.runtime8080.proofs.Copies.{first_missed, others_missed}
 
 abbrev pub whole : (first : ℕ) → List Item
@@ -95,8 +95,8 @@ copies_one :
     → Comes script (suc (suc (suc (suc (suc k))))) (at top r memory events) u
 copies_one script layout first top to r memory events k u limit before stands more =
     let size = stands_size layout memory (one_byte first) top to before in
-    does script (suc (suc (suc (suc k)))) (Ldax IndexDe) top r memory events u before.0 (omega arith)
-    (does script (suc (suc (suc k))) (MovToMemory A) (top + 1) (loaded r memory) memory events u before.1.0 (omega arith)
+    runs_from_instruction script (suc (suc (suc (suc k)))) (Ldax IndexDe) top r memory events u before.0 (omega arith)
+    (runs_from_instruction script (suc (suc (suc k))) (MovToMemory A) (top + 1) (loaded r memory) memory events u before.1.0 (omega arith)
     (straight script layout forward (after_byte first) (top + 1 + 1) to (loaded r memory) (put r memory) events k u refl stands.1.1 (omega arith) more))
 
 byte_of : (n c : ℕ) → c ≡ suc n % 256 → n < 256 → (c + 254 + 1) % 256 ≡ n
@@ -188,17 +188,17 @@ wraps_to_zero = refl
 no_count : (count : ℕ) → suc count ≡ 256 * 0 + 0 → ⊥
 no_count count h = omega arith
 
-pub loop :
+pub move_loop :
     (script : List (List ℕ)) (layout : Layout) (first top to : ℕ) (events : List Event)
     → to ≤ MEMORY_SIZE
     → layout.place_of first ≡ top
     → (count page left : ℕ)
     → Loop script layout first top to events count page left
-loop script layout first top to events limit bound zero page left source destination r memory all few_pages few_left b c de hl is are misses stands =
+move_loop script layout first top to events limit bound zero page left source destination r memory all few_pages few_left b c de hl is are misses stands =
     last_byte script layout first top to events limit page left source destination r memory all few_pages few_left b c de hl is are misses stands
-loop script layout first top to events limit bound (suc count) zero zero source destination r memory all few_pages few_left b c de hl is are misses stands =
+move_loop script layout first top to events limit bound (suc count) zero zero source destination r memory all few_pages few_left b c de hl is are misses stands =
     absurd (no_count count all)
-loop script layout first top to events limit bound (suc count) (suc page) zero source destination r memory all few_pages few_left b c de hl is are misses stands =
+move_loop script layout first top to events limit bound (suc count) (suc page) zero source destination r memory all few_pages few_left b c de hl is are misses stands =
     let still = code_stands layout first top to r memory (suc count) destination limit hl misses stands in
     let size = stands_size layout memory (one_byte first) top to stands in
     let r1 = next r memory in
@@ -211,7 +211,7 @@ loop script layout first top to events limit bound (suc count) (suc page) zero s
     let m1_is = memory_put memory (word r.h r.l) (byte_at memory (word r.d r.e)) is bytes.a in
     let are2 : HoldBytes r2 = record { a = bytes.a; b = omega arith; c = bytes.c; d = bytes.d; e = bytes.e; h = bytes.h; l = bytes.l } in
     let more =
-    loop script layout first top to events limit bound count page 255 (source + 1) (destination + 1) r2 m1
+    move_loop script layout first top to events limit bound count page 255 (source + 1) (destination + 1) r2 m1
     (omega arith) (omega arith) (omega arith) (omega arith) (counted ∙ wraps_to_zero)
     (counts_on r.d r.e source de) (counts_on r.h r.l destination hl) m1_is are2
     (others_missed (suc count) destination (record { start = top; len = to - top }) misses) still in
@@ -232,7 +232,7 @@ loop script layout first top to events limit bound (suc count) (suc page) zero s
       bytes = more.bytes;
       sp = more.sp;
     }
-loop script layout first top to events limit bound (suc count) page (suc left) source destination r memory all few_pages few_left b c de hl is are misses stands =
+move_loop script layout first top to events limit bound (suc count) page (suc left) source destination r memory all few_pages few_left b c de hl is are misses stands =
     let still = code_stands layout first top to r memory (suc count) destination limit hl misses stands in
     let size = stands_size layout memory (one_byte first) top to stands in
     let r1 = next r memory in
@@ -242,7 +242,7 @@ loop script layout first top to events limit bound (suc count) page (suc left) s
     let counted = byte_of (suc left) r.c c few_left in
     let m1_is = memory_put memory (word r.h r.l) (byte_at memory (word r.d r.e)) is bytes.a in
     let more =
-    loop script layout first top to events limit bound count page left (source + 1) (destination + 1) r1 m1
+    move_loop script layout first top to events limit bound count page left (source + 1) (destination + 1) r1 m1
     (omega arith) few_pages (omega arith) b (counted ∙ byte_same left (omega arith))
     (counts_on r.d r.e source de) (counts_on r.h r.l destination hl) m1_is bytes
     (others_missed (suc count) destination (record { start = top; len = to - top }) misses) still in

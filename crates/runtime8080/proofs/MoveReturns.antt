@@ -1,9 +1,9 @@
 -- MOVE returns, with the block copied.
 use Rattle.runtime8080.proofs.Prelude.{◌≡◌, ℕ, zero, suc, ◌+◌, ◌-◌, ◌*◌, ◌%◌, ◌<◌, ◌≤◌, not, List, [], ◌∷◌, length, refl, sym, ap, subst, ◌∙◌, arith, eq-eqb, MEMORY_SIZE, IsMemory, byte_at, IsIn, Event, B, C, Of, NotZero, Zero, Instr, Dcr, Inr, Ret, HoldBytes, Registers, word, wrap, JumpWhere, AtLabel, Item, Plain, WithWord, Mark, Layout, Stands, Comes, below, at, goes_past, jumps_where, returned, returns, step_then, effect, straight, not_zero, word_is, stands_size, stands_still, IsPushed, called, pushed, pushed_is_memory, pushed_is_pushed, returned_is, BlockMisses, IsRoutine, CALL_BYTES, copied, move_bytes, equals_wrapped, word_in_memory, wrapped_small}
 use Rattle.runtime8080.specs.declared.routine.Routine.TheVariants as routines
-use Rattle.runtime8080.proofs.Bodies.{bytes_where, code_stays, held, in_spare, pushed_elsewhere, two_fit}
+use Rattle.runtime8080.proofs.Bodies.{bytes_where, code_stays, bytes_with_sp, in_spare, pushed_elsewhere, two_fit}
 use Rattle.runtime8080.proofs.Copies.{copied_differ, copied_is_memory, copied_keeps}
-use Rattle.runtime8080.proofs.MoveLoop.{loop, one_byte, whole}
+use Rattle.runtime8080.proofs.MoveLoop.{move_loop, one_byte, whole}
 
 -- C is tested
 abbrev testing : List Instr
@@ -90,7 +90,7 @@ with_rest script layout first from to memory events r left c limit bound stands 
     let count : word r.b r.c ≡ suc (256 * r.b + left) = ap (word r.b) c ∙ count_with_rest r.b left in
     let are2 : HoldBytes r2 = record { a = are.a; b = omega arith; c = omega arith; d = are.d; e = are.e; h = are.h; l = are.l } in
     let moved =
-    loop script layout first top to events limit bound (256 * r.b + left) r.b left de hl r2 memory
+    move_loop script layout first top to events limit bound (256 * r.b + left) r.b left de hl r2 memory
     refl are.b (omega arith) (next_byte r.b) (same ∙ omega arith)
     (equals_wrapped de (word_in_memory r.d r.e are.d are.e)) (equals_wrapped hl (word_in_memory r.h r.l are.h are.l)) is are2
     (narrowed (word r.b r.c) (suc (256 * r.b + left)) hl from top to count (omega arith) (omega arith) misses) more.1.1.1 in
@@ -132,7 +132,7 @@ with_pages script layout first from to memory events r page c b limit bound stan
     let count : word r.b r.c ≡ suc (256 * page + 255) = ap (word r.b) c ∙ (ap (λ n. word n 0) b ∙ count_whole page) in
     let are2 : HoldBytes r2 = record { a = are.a; b = omega arith; c = omega arith; d = are.d; e = are.e; h = are.h; l = are.l } in
     let moved =
-    loop script layout first top to events limit bound (256 * page + 255) page 255 de hl r2 memory
+    move_loop script layout first top to events limit bound (256 * page + 255) page 255 de hl r2 memory
     refl (omega arith) (omega arith) (same_b ∙ omega arith) (same ∙ omega arith)
     (equals_wrapped de (word_in_memory r.d r.e are.d are.e)) (equals_wrapped hl (word_in_memory r.h r.l are.h are.l)) is are2
     (narrowed (word r.b r.c) (suc (256 * page + 255)) hl from top to count (omega arith) (omega arith) misses) more.1.1.1 in
@@ -230,8 +230,8 @@ copied_size count source destination memory other is other_is =
     (copied_is_memory count source destination other other_is).size
     ∙ sym (copied_is_memory count source destination memory is).size
 
-pub moves : (first : ℕ) → IsRoutine routines.Move (move_bytes first)
-moves first layout from to script level s limit stands may =
+pub moves_bytes : (first : ℕ) → IsRoutine routines.Move (move_bytes first)
+moves_bytes first layout from to script level s limit stands may =
     let r = s.registers in
     let there = wrap (r.pc + 3) in
     let memory = pushed level there s.memory in
@@ -245,7 +245,7 @@ moves first layout from to script level s limit stands may =
     (code_stays routines.Move from to level there s may) stands in
     let done =
     copies script layout first from to memory s.events (record r { sp = level - 2 }) r.c r.b refl refl limit still.1.1.1.1.0 still memory_is
-    (held r (level - 2) may.registers) may.copy_misses_code in
+    (bytes_with_sp r (level - 2) may.registers) may.copy_misses_code in
     let after = at there (record done.after { sp = wrap level }) left s.events in
     let on_top =
     returned_on_top level there memory left may.room may.stack.limit

@@ -2,7 +2,7 @@
 use Rattle.runtime8080.proofs.Prelude.{◌≡◌, ℕ, suc, ◌+◌, ◌-◌, ◌*◌, ◌%◌, ◌<◌, ◌≤◌, ◌==◌, Bool, true, false, List, [], ◌∷◌, Some, refl, sym, ap, ◌∙◌, arith, bit_or, or_self, MEMORY_SIZE, Event, A, B, C, D, E, H, L, Of, Hl, Zero, Or, Instr, Accumulate, Lxi, Mov, Mvi, Ret, HoldBytes, Registers, word, wrap, JumpWhere, AtLabel, Item, Plain, WithWord, Mark, Layout, Stands, Comes, comes_on, at, goes_past, jumps_where, returned, returns, effect, past, steps_of, straight, word_is, stands_size, stands_still, IsRoutine, multiply}
 use Rattle.runtime8080.specs.declared.routine.Routine.TheVariants as routines
 use Rattle.runtime8080.proofs.Bits.{equal_below}
-use Rattle.runtime8080.proofs.Bodies.{Body, held, returns_quietly}
+use Rattle.runtime8080.proofs.Bodies.{Body, bytes_with_sp, returns_quietly}
 use Rattle.runtime8080.proofs.Turns.{absorbed, bits, highest, takes_bits}
 use Rattle.runtime8080.proofs.Numbers.{none_of_or, or_small, small_by}
 
@@ -192,4 +192,4 @@ multiplies first layout from to script level s limit stands may =
     (λ memory alike.
     multiply_body script layout first from to (record s.registers { sp = level - 2 }) memory s.events
     (stands_still layout s.memory memory (multiply first) from to limit alike stands) limit
-    (held s.registers (level - 2) may.registers) (bit_or s.registers.d s.registers.d == 0) refl)
+    (bytes_with_sp s.registers (level - 2) may.registers) (bit_or s.registers.d s.registers.d == 0) refl)

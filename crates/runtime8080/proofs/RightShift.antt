@@ -4,7 +4,7 @@
 use Rattle.runtime8080.proofs.Prelude.{◌≡◌, ℕ, zero, suc, ◌+◌, ◌-◌, ◌*◌, ◌/◌, ◌%◌, ◌^◌, ◌<◌, ◌≤◌, ◌==◌, min, Bool, true, false, not, nat_le, nat_lt, List, [], ◌∷◌, refl, sym, ap, ◌∙◌, arith, eq-eqb, le-leb, leb-false, leb-true, lt-leb, MEMORY_SIZE, Event, A, H, L, Of, Hl, Carry, NoCarry, ParityOdd, Zero, Add, And, Compare, ExclusiveOr, Instr, Accumulate, AccumulateImmediate, Dad, Dcr, Mov, Mvi, Ral, Rar, Ret, ReturnIf, Rrc, bit, HoldBytes, Registers, State, word, wrap, JumpWhere, AtLabel, Item, Plain, WithWord, Mark, Layout, Stands, Comes, at, goes_past, jumps_where, returned, returns, returns_where, stays_here, effect, past, plain, steps_of, straight, not_equal, not_zero, one_less_is, word_is, stands_size, stands_still, IsRoutine, shift_right_address, high_of_wrapped, word_of_halves}
 use Rattle.runtime8080.specs.declared.routine.Routine.TheVariants as routines
 use Rattle.runtime8080.proofs.AddressBits.{by_eight, even_of, half_small, halves, high_alone, low_small, none_left, not_doubled, odd_of, once_more, quarter_high_small, quarter_low_small, quarters, shifted_is, turned, turned_small, word_small}
-use Rattle.runtime8080.proofs.Bodies.{Body, held, returns_quietly}
+use Rattle.runtime8080.proofs.Bodies.{Body, bytes_with_sp, returns_quietly}
 use Rattle.runtime8080.proofs.Numbers.{small_by}
 
 abbrev head : List Instr
@@ -662,4 +662,4 @@ shifts_address_right first layout from to script level s limit stands may =
     (λ memory alike.
     right_body script layout first from to (record s.registers { sp = level - 2 }) memory s.events (nat_lt s.registers.a 8) refl
     (stands_still layout s.memory memory (shift_right_address first) from to limit alike stands) limit
-    (held s.registers (level - 2) may.registers))
+    (bytes_with_sp s.registers (level - 2) may.registers))

@@ -2,7 +2,7 @@
 use Rattle.runtime8080.proofs.Prelude.{◌≡◌, ℕ, zero, suc, ◌+◌, ◌-◌, ◌*◌, ◌%◌, ◌<◌, ◌≤◌, true, List, [], ◌∷◌, refl, sym, ap, ◌∙◌, arith, bit_and, eq-eqb, MEMORY_SIZE, Event, D, E, A, Of, Zero, And, Instr, Rlc, Rrc, Mov, AccumulateImmediate, ReturnIf, Ret, HoldBytes, Registers, Item, Plain, Mark, Layout, Stands, size_of_instruction, returned, returns, returns_where, stays_here, effect, past, plain, steps_of, straight, touch_registers, loop_after, not_zero, steps_counted, tested_after, turns_counted, stands_still, turned, Routine, Computes, IsRoutine, Leaves, LeavesBcAndHl, most_steps, rotate_left, rotate_right, byte_is_low}
 use Rattle.runtime8080.specs.declared.routine.Routine.TheVariants as routines
 use Rattle.runtime8080.proofs.Bits.{low_three, times, turn_left, turn_right, turned_left, turned_right}
-use Rattle.runtime8080.proofs.Bodies.{Body, held, returns_quietly}
+use Rattle.runtime8080.proofs.Bodies.{Body, bytes_with_sp, returns_quietly}
 use Rattle.runtime8080.proofs.ByteLoops.{ChangesA, after_turns, changed_bytes}
 
 -- the lowest three bits of E are put into E, and A is kept in D meanwhile
@@ -115,7 +115,7 @@ rotates routine turn f is first quiet layout from to script level s limit stands
     (λ memory alike.
     rotation_body script routine turn f is layout first from to (record s.registers { sp = level - 2 }) memory s.events
     (stands_still layout s.memory memory (plain head (rest turn first)) from to limit alike stands) limit
-    (held s.registers (level - 2) may.registers) (s.registers.e % 8) refl)
+    (bytes_with_sp s.registers (level - 2) may.registers) (s.registers.e % 8) refl)
 
 below_eight : (e : ℕ) → e % 8 < 8
 below_eight e = omega arith

@@ -134,11 +134,11 @@ Sinks budget (Done Ended s) = s.budget ≤ budget
 Sinks budget (Done (Outside reason) s) = s.budget ≤ budget
 Sinks budget (Done More s) = s.budget ≡ 0
 
-pub sunk : (budget : ℕ) (progress : Progress) → Sinks budget progress → left_in progress ≤ budget
-sunk budget (Going m) sinks = sinks
-sunk budget (Done Ended s) sinks = sinks
-sunk budget (Done (Outside reason) s) sinks = sinks
-sunk budget (Done More s) sinks = omega (arith, sinks)
+pub left_within_budget : (budget : ℕ) (progress : Progress) → Sinks budget progress → left_in progress ≤ budget
+left_within_budget budget (Going m) sinks = sinks
+left_within_budget budget (Done Ended s) sinks = sinks
+left_within_budget budget (Done (Outside reason) s) sinks = sinks
+left_within_budget budget (Done More s) sinks = omega (arith, sinks)
 
 sinks_from : (budget less : ℕ) (progress : Progress) → less ≤ budget → Sinks less progress → Sinks budget progress
 sinks_from budget less (Going m) within sinks = omega (arith, within, sinks)
@@ -241,7 +241,7 @@ module _ (more : ℕ) (some : 1 ≤ more) where
   spent_by s go else_go test true one two lasts adds sinks = absurd (grind (arith, common_steps, some, two))
   spent_by s go else_go true false one two lasts adds sinks =
       let none : s.budget ≡ 0 = grind (arith, common_steps, one) in
-      let less = sunk (s.budget + more - 1) (else_go (record s { budget = s.budget + more - 1 })) (sinks (record s { budget = s.budget + more - 1 })) in
+      let less = left_within_budget (s.budget + more - 1) (else_go (record s { budget = s.budget + more - 1 })) (sinks (record s { budget = s.budget + more - 1 })) in
       (adds (record s { budget = s.budget + more - 1 }) refl, omega (arith, none, less, some))
   spent_by s go else_go false false one two lasts adds sinks =
       let at_least : 1 ≤ s.budget = grind (arith, common_steps, one) in
@@ -307,7 +307,7 @@ module _ (more : ℕ) (some : 1 ≤ more) where
     lasts_after (Going n) other count same rest = subst (λ progress. LastsOn more (steps code count n) (and_then_steps progress (steps code count))) (sym same) (rest n)
     lasts_after (Done Ended s) other count same rest = ap (λ progress. and_then_steps progress (steps code count)) same
     lasts_after (Done (Outside reason) s) other count same rest = ap (λ progress. and_then_steps progress (steps code count)) same
-    lasts_after (Done More s) (Going n) count wants rest = let less = sunk n.state.budget (steps code count n) (sinks_steps code count n) in (adds_both s n.state (steps code count n) wants.0 (adds_steps code count n), omega (arith, less, wants.1))
+    lasts_after (Done More s) (Going n) count wants rest = let less = left_within_budget n.state.budget (steps code count n) (sinks_steps code count n) in (adds_both s n.state (steps code count n) wants.0 (adds_steps code count n), omega (arith, less, wants.1))
     lasts_after (Done More s) (Done why t) count wants rest = wants
 
     -- along any number of steps

@@ -27,7 +27,7 @@ use typed_trees::{Typed, charge_of};
 /// Runs a program from its main module on, which has this number: from a memory, with room on the stack and a budget
 /// of turns of loops, jumps and calls. The charge of the main module is taken first. `kinds` tells each byte of memory apart at
 /// the placement. `at` becomes the number of the instruction at which the machine stands at the end, 0 if it does not start.
-#[tactic(auto, using(crate::proofs::Starts::refused, crate::proofs::Starts::given_up, crate::proofs::Starts::runs_on, crate::proofs::Starts::stays, crate::proofs::Starts::fails_on, crate::proofs::Leading::out_of_memory))]
+#[tactic(auto, using(crate::proofs::Starts::refused, crate::proofs::Starts::given_up, crate::proofs::Starts::runs_on, crate::proofs::Starts::run_reaches, crate::proofs::Starts::fails_on, crate::proofs::Leading::out_of_memory))]
 pub fn run<'a, P: Ports>(
     alloc: Global,
     program: &'a StackProgram,

@@ -40,5 +40,5 @@ tells_of modules (Some shown) answers =
       ),
     )
 
-pub tells : (modules : List TypedModule) (graph : List Body) (found : Option ℕ) → graph ≡ map capped (call_graph modules) → Answers graph found → TellsNeed modules found
-tells modules graph found is answers = tells_of modules found (subst (λ one. Answers one found) is answers)
+pub tells_need : (modules : List TypedModule) (graph : List Body) (found : Option ℕ) → graph ≡ map capped (call_graph modules) → Answers graph found → TellsNeed modules found
+tells_need modules graph found is answers = tells_of modules found (subst (λ one. Answers one found) is answers)

@@ -3,7 +3,7 @@ use Rattle.stack_need.proofs.Prelude.{◌≡◌, ◌≢◌, ℕ, zero, suc, ◌+
 use Rattle.stack_need.specs.StackNeed.{IsEnough}
 use Rattle.stack_need.proofs.Elements.{all_made}
 use Rattle.stack_need.proofs.Bodies.{stands}
-use Rattle.stack_need.proofs.Within.{changes_scalar, next, takes_one}
+use Rattle.stack_need.proofs.Within.{changes_scalar, then_do_stays, takes_one}
 use Rattle.stack_need.proofs.WithinStatements.{list_stays, rest_stays, turn_stays}
 
 pub sets_parameters : (scalars : List ScalarType) (parameters arguments : List ℕ) (around : Surroundings) (s : State) → StaysWithin (parameters_set around scalars parameters arguments s)
@@ -11,7 +11,7 @@ sets_parameters [] parameters arguments around s = tt
 sets_parameters (scalar ∷ scalars) [] arguments around s = tt
 sets_parameters (scalar ∷ scalars) (parameter ∷ parameters) [] around s = tt
 sets_parameters (scalar ∷ scalars) (parameter ∷ parameters) (argument ∷ arguments) around s =
-    next (write_scalar around.program scalar (place_of around parameter) argument s) _ (changes_scalar around.program scalar (place_of around parameter) argument s)
+    then_do_stays (write_scalar around.program scalar (place_of around parameter) argument s) _ (changes_scalar around.program scalar (place_of around parameter) argument s)
     (λ done t. sets_parameters scalars parameters arguments around t)
 
 -- what holds of each element holds of what follows from it
@@ -61,9 +61,9 @@ module _ (program : Program) (number number_of_module room : ℕ) (procedure : T
 module _ (later : Later) (stays : LaterStays later) where
   enters : (typed : TypedModule) (at : ℕ) (procedure : TypedProcedure) (arguments : List ℕ) (around : Surroundings) (s : State) → HoldsAll around (calls_in_list procedure.body) → StaysWithin (entered later typed at procedure arguments around s)
   enters typed at procedure arguments around s holds =
-      next (parameters_set around procedure.parameter_types procedure.parameters arguments (record s { frame = frame_of at typed })) _
+      then_do_stays (parameters_set around procedure.parameter_types procedure.parameters arguments (record s { frame = frame_of at typed })) _
       (sets_parameters procedure.parameter_types procedure.parameters arguments around (record s { frame = frame_of at typed }))
-      (λ done t. next (done_list later around procedure.body t) _ (list_stays later stays procedure.body around t holds) (λ flow u. tt))
+      (λ done t. then_do_stays (done_list later around procedure.body t) _ (list_stays later stays procedure.body around t holds) (λ flow u. tt))
 
   -- where the charge is not more than the room
   charged_within : {A : Type 0} (charge : ℕ) (around : Surroundings) (s : State) (go : Surroundings → State → Outcome A) → charge ≤ around.room

@@ -2,7 +2,7 @@
 use Rattle.stack_need.proofs.Prelude.{◌≡◌, ℕ, zero, suc, ◌+◌, ◌-◌, ◌++◌, Bool, true, false, [], ◌∷◌, Option, Some, None, option_map, cond, nat_le, nat_lt, slice_get, refl, subst, TypedExpression, TypedIteration, TypedStatement, LabelStatement, NullStatement, AssignmentStatement, CallStatement, MoveStatement, ReturnStatement, HaltStatement, GotoStatement, IfStatement, DoStatement, WhileStatement, IterateStatement, CaseStatement, TypedElse, NoElse, ElseStatement, TypedStatements, NoStatements, MoreStatements, TypedList, ListOf, as_type, is_true, values_of, Surroundings, place_of, Later, Turn, WhileTurn, IterateTurn, after_turn, called_for, callee_in, caught_in, done, done_all, done_case, done_else, done_list, dropped, going_on, iterated, landed, moved, next_turn, read_variable, rest_from, rest_of, returned, step_value, stored_in_each, turn_of, value, values, write_variable, State, Outcome, Gave, then_do, taking_one, Flow, Onward, Returned, Jumped, calls_in, calls_in_arguments, calls_in_else, calls_in_iteration, calls_in_list, calls_in_optional, calls_in_statement, calls_in_statements, calls_in_targets, HoldsAll, HoldsCall, HoldsTurn, LaterStays, StaysWithin}
 use Rattle.meaning.specs.Meaning.{stepped}
 use Rattle.stack_need.proofs.Elements.{all_left, all_right}
-use Rattle.stack_need.proofs.Within.{calls, changes_scalar, either, moves, next, reads_scalar, takes_one, targets_stay, value_stays, values_stay}
+use Rattle.stack_need.proofs.Within.{call_stays, changes_scalar, either, moved_stays, then_do_stays, reads_scalar, takes_one, targets_stay, value_stays, values_stay}
 
 -- the rest of a list calls what the list calls
 rest_holds : (around : Surroundings) (count : ℕ) (statements : TypedStatements) → HoldsAll around (calls_in_statements statements) → HoldsAll around (calls_in_statements (dropped count statements))
@@ -46,7 +46,7 @@ module _ (later : Later) (stays : LaterStays later) where
 
   returns : (expression : Option TypedExpression) (around : Surroundings) (s : State) → HoldsAll around (calls_in_optional expression) → StaysWithin (returned later around expression s)
   returns None around s holds = tt
-  returns (Some expression) around s holds = next (value later around expression s) _ (value_stays later stays expression around s holds) (λ found t. tt)
+  returns (Some expression) around s holds = then_do_stays (value later around expression s) _ (value_stays later stays expression around s holds) (λ found t. tt)
 
   steps : (step : Option TypedExpression) (around : Surroundings) (s : State) → HoldsAll around (calls_in_optional step) → StaysWithin (step_value later around step s)
   steps None around s holds = tt
@@ -72,11 +72,11 @@ module _ (later : Later) (stays : LaterStays later) where
 
   steps_after : (head : TypedIteration) (body : TypedList) (flow : Flow) (around : Surroundings) (s : State) → HoldsTurn around (IterateTurn head body) → StaysWithin (stepped later around head body flow s)
   steps_after head body Onward around s holds =
-      next (step_value later around head.step s) _ (steps head.step around s (step_of_head head around holds.0))
+      then_do_stays (step_value later around head.step s) _ (steps head.step around s (step_of_head head around holds.0))
       (λ step t.
-      next (read_variable around head t) _ (reads_scalar around.program head.scalar (place_of around head.variable) t)
+      then_do_stays (read_variable around head t) _ (reads_scalar around.program head.scalar (place_of around head.variable) t)
       (λ found u.
-      next (write_variable around head (as_type head.scalar (found + step)) u) _ (changes_scalar around.program head.scalar (place_of around head.variable) (as_type head.scalar (found + step)) u)
+      then_do_stays (write_variable around head (as_type head.scalar (found + step)) u) _ (changes_scalar around.program head.scalar (place_of around head.variable) (as_type head.scalar (found + step)) u)
       (λ done v. turns_next head body (found + step) around v holds)))
   steps_after head body (Returned found) around s holds = tt
   steps_after head body (Jumped label) around s holds = tt
@@ -84,13 +84,13 @@ module _ (later : Later) (stays : LaterStays later) where
   iterates : (head : TypedIteration) (body : TypedList) (body_done : State → Outcome Flow) (around : Surroundings) → ((t : State) → StaysWithin (body_done t)) → (s : State) → HoldsTurn around (IterateTurn head body)
       → StaysWithin (iterated later around head body body_done s)
   iterates head body body_done around body_stays s holds =
-      next (value later around head.last s) _ (value_stays later stays head.last around s (last_of_head head around holds.0))
+      then_do_stays (value later around head.last s) _ (value_stays later stays head.last around s (last_of_head head around holds.0))
       (λ last t.
-      next (read_variable around head t) _ (reads_scalar around.program head.scalar (place_of around head.variable) t)
+      then_do_stays (read_variable around head t) _ (reads_scalar around.program head.scalar (place_of around head.variable) t)
       (λ found u.
       either (nat_lt last found) (Gave Onward u) (taking_one u (λ v. then_do (body_done v) (stepped later around head body))) tt
       (takes_one u (λ v. then_do (body_done v) (stepped later around head body))
-      (λ v. next (body_done v) (stepped later around head body) (body_stays v) (λ flow w. steps_after head body flow around w holds)))))
+      (λ v. then_do_stays (body_done v) (stepped later around head body) (body_stays v) (λ flow w. steps_after head body flow around w holds)))))
 
   turns_after : (turn : Turn) (flow : Flow) (around : Surroundings) (s : State) → HoldsTurn around turn → StaysWithin (after_turn later around turn flow s)
   turns_after turn Onward around s holds = stays.again turn around s holds
@@ -102,30 +102,30 @@ module _ (later : Later) (stays : LaterStays later) where
     statement_stays (LabelStatement label) around s holds = tt
     statement_stays NullStatement around s holds = tt
     statement_stays (AssignmentStatement targets expression) around s holds =
-        next (value later around expression s) _ (value_stays later stays expression around s (all_left (HoldsCall around) (calls_in expression) (calls_in_targets targets) holds))
+        then_do_stays (value later around expression s) _ (value_stays later stays expression around s (all_left (HoldsCall around) (calls_in expression) (calls_in_targets targets) holds))
         (λ found t.
-        next (stored_in_each later around targets found t) _ (targets_stay later stays targets found around t (all_right (HoldsCall around) (calls_in expression) (calls_in_targets targets) holds))
+        then_do_stays (stored_in_each later around targets found t) _ (targets_stay later stays targets found around t (all_right (HoldsCall around) (calls_in expression) (calls_in_targets targets) holds))
         (λ done u. tt))
     statement_stays (CallStatement procedure arguments) around s holds =
-        next (values later around arguments s) _ (values_stay later stays arguments around s (all_left (HoldsCall around) (calls_in_arguments arguments) (procedure ∷ []) holds))
+        then_do_stays (values later around arguments s) _ (values_stay later stays arguments around s (all_left (HoldsCall around) (calls_in_arguments arguments) (procedure ∷ []) holds))
         (λ given t.
-        next (called_for later (callee_in around procedure) given around t) _
-        (calls later stays procedure given around t (all_right (HoldsCall around) (calls_in_arguments arguments) (procedure ∷ []) holds).0)
+        then_do_stays (called_for later (callee_in around procedure) given around t) _
+        (call_stays later stays procedure given around t (all_right (HoldsCall around) (calls_in_arguments arguments) (procedure ∷ []) holds).0)
         (λ done u. tt))
     statement_stays (MoveStatement count source destination) around s holds =
         let rest : HoldsAll around (calls_in source ++ calls_in destination) = all_right (HoldsCall around) (calls_in count) (calls_in source ++ calls_in destination) holds in
-        next (value later around count s) _ (value_stays later stays count around s (all_left (HoldsCall around) (calls_in count) (calls_in source ++ calls_in destination) holds))
+        then_do_stays (value later around count s) _ (value_stays later stays count around s (all_left (HoldsCall around) (calls_in count) (calls_in source ++ calls_in destination) holds))
         (λ bytes t.
-        next (value later around source t) _ (value_stays later stays source around t (all_left (HoldsCall around) (calls_in source) (calls_in destination) rest))
+        then_do_stays (value later around source t) _ (value_stays later stays source around t (all_left (HoldsCall around) (calls_in source) (calls_in destination) rest))
         (λ from u.
-        next (value later around destination u) _ (value_stays later stays destination around u (all_right (HoldsCall around) (calls_in source) (calls_in destination) rest))
-        (λ to v. next (moved around.program bytes from to v) _ (moves around.program bytes from to v) (λ done w. tt))))
+        then_do_stays (value later around destination u) _ (value_stays later stays destination around u (all_right (HoldsCall around) (calls_in source) (calls_in destination) rest))
+        (λ to v. then_do_stays (moved around.program bytes from to v) _ (moved_stays around.program bytes from to v) (λ done w. tt))))
     statement_stays (ReturnStatement expression) around s holds = returns expression around s holds
     statement_stays HaltStatement around s holds = tt
     statement_stays (GotoStatement label) around s holds = takes_one s (λ t. Gave (Jumped label) t) (λ t. tt)
     statement_stays (IfStatement condition body otherwise) around s holds =
         let rest : HoldsAll around (calls_in_statement body ++ calls_in_else otherwise) = all_right (HoldsCall around) (calls_in condition) (calls_in_statement body ++ calls_in_else otherwise) holds in
-        next (value later around condition s) _ (value_stays later stays condition around s (all_left (HoldsCall around) (calls_in condition) (calls_in_statement body ++ calls_in_else otherwise) holds))
+        then_do_stays (value later around condition s) _ (value_stays later stays condition around s (all_left (HoldsCall around) (calls_in condition) (calls_in_statement body ++ calls_in_else otherwise) holds))
         (λ found t.
         either (is_true found) (done later around body t) (done_else later around otherwise t)
         (statement_stays body around t (all_left (HoldsCall around) (calls_in_statement body) (calls_in_else otherwise) rest))
@@ -134,23 +134,23 @@ module _ (later : Later) (stays : LaterStays later) where
     statement_stays (WhileStatement condition body) around s holds =
         let one : HoldsAll around (calls_in condition) = all_left (HoldsCall around) (calls_in condition) (calls_in_list body) holds in
         let two : HoldsAll around (calls_in_list body) = all_right (HoldsCall around) (calls_in condition) (calls_in_list body) holds in
-        next (value later around condition s) _ (value_stays later stays condition around s one)
+        then_do_stays (value later around condition s) _ (value_stays later stays condition around s one)
         (λ found t.
         either (is_true found) (taking_one t (λ u. then_do (done_list later around body u) (after_turn later around (WhileTurn condition body)))) (Gave Onward t)
         (takes_one t (λ u. then_do (done_list later around body u) (after_turn later around (WhileTurn condition body)))
         (λ u.
-        next (done_list later around body u) (after_turn later around (WhileTurn condition body)) (list_stays body around u two)
+        then_do_stays (done_list later around body u) (after_turn later around (WhileTurn condition body)) (list_stays body around u two)
         (λ flow v. turns_after (WhileTurn condition body) flow around v (one, two))))
         tt)
     statement_stays (IterateStatement head body) around s holds =
         let one : HoldsAll around (calls_in_iteration head) = all_left (HoldsCall around) (calls_in_iteration head) (calls_in_list body) holds in
         let two : HoldsAll around (calls_in_list body) = all_right (HoldsCall around) (calls_in_iteration head) (calls_in_list body) holds in
-        next (value later around head.first s) _ (value_stays later stays head.first around s (first_of_head head around one))
+        then_do_stays (value later around head.first s) _ (value_stays later stays head.first around s (first_of_head head around one))
         (λ found t.
-        next (write_variable around head (as_type head.scalar found) t) _ (changes_scalar around.program head.scalar (place_of around head.variable) (as_type head.scalar found) t)
+        then_do_stays (write_variable around head (as_type head.scalar found) t) _ (changes_scalar around.program head.scalar (place_of around head.variable) (as_type head.scalar found) t)
         (λ done u. iterates head body (λ v. done_list later around body v) around (λ v. list_stays body around v two) u (one, two)))
     statement_stays (CaseStatement choice statements) around s holds =
-        next (value later around choice s) _ (value_stays later stays choice around s (all_left (HoldsCall around) (calls_in choice) (calls_in_statements statements) holds))
+        then_do_stays (value later around choice s) _ (value_stays later stays choice around s (all_left (HoldsCall around) (calls_in choice) (calls_in_statements statements) holds))
         (λ found t. case_stays statements found around t (all_right (HoldsCall around) (calls_in choice) (calls_in_statements statements) holds))
 
     pub else_stays : (otherwise : TypedElse) (around : Surroundings) (s : State) → HoldsAll around (calls_in_else otherwise) → StaysWithin (done_else later around otherwise s)
@@ -165,28 +165,28 @@ module _ (later : Later) (stays : LaterStays later) where
     pub statements_stay : (statements : TypedStatements) (around : Surroundings) (s : State) → HoldsAll around (calls_in_statements statements) → StaysWithin (done_all later around statements s)
     statements_stay NoStatements around s holds = tt
     statements_stay (MoreStatements statement others) around s holds =
-        next (done later around statement s) _ (statement_stays statement around s (all_left (HoldsCall around) (calls_in_statement statement) (calls_in_statements others) holds))
+        then_do_stays (done later around statement s) _ (statement_stays statement around s (all_left (HoldsCall around) (calls_in_statement statement) (calls_in_statements others) holds))
         (λ flow t.
         goes_on flow (λ u. done_all later around others u) t
         (statements_stay others around t (all_right (HoldsCall around) (calls_in_statement statement) (calls_in_statements others) holds)))
 
     pub list_stays : (list : TypedList) (around : Surroundings) (s : State) → HoldsAll around (calls_in_list list) → StaysWithin (done_list later around list s)
     list_stays (ListOf first_label places statements) around s holds =
-        next (done_all later around statements s) (caught_in later around (ListOf first_label places statements)) (statements_stay statements around s holds)
+        then_do_stays (done_all later around statements s) (caught_in later around (ListOf first_label places statements)) (statements_stay statements around s holds)
         (λ flow t. catches (ListOf first_label places statements) flow around t holds)
 
   pub turn_stays : (turn : Turn) (around : Surroundings) (s : State) → HoldsTurn around turn → StaysWithin (turn_of later turn around s)
   turn_stays (WhileTurn condition body) around s holds =
-      next (value later around condition s) _ (value_stays later stays condition around s holds.0)
+      then_do_stays (value later around condition s) _ (value_stays later stays condition around s holds.0)
       (λ found t.
       either (is_true found) (taking_one t (λ u. then_do (done_list later around body u) (after_turn later around (WhileTurn condition body)))) (Gave Onward t)
       (takes_one t (λ u. then_do (done_list later around body u) (after_turn later around (WhileTurn condition body)))
       (λ u.
-      next (done_list later around body u) (after_turn later around (WhileTurn condition body)) (list_stays body around u holds.1)
+      then_do_stays (done_list later around body u) (after_turn later around (WhileTurn condition body)) (list_stays body around u holds.1)
       (λ flow v. turns_after (WhileTurn condition body) flow around v holds)))
       tt)
   turn_stays (IterateTurn head body) around s holds = iterates head body (done_list later around body) around (λ t. list_stays body around t holds.1) s holds
 
   pub rest_stays : (list : TypedList) (rest : TypedStatements) (around : Surroundings) (s : State) → HoldsAll around (calls_in_list list) → HoldsAll around (calls_in_statements rest) → StaysWithin (rest_of later list rest around s)
   rest_stays list rest around s holds in_rest =
-      next (done_all later around rest s) (caught_in later around list) (statements_stay rest around s in_rest) (λ flow t. catches list flow around t holds)
+      then_do_stays (done_all later around rest s) (caught_in later around list) (statements_stay rest around s in_rest) (λ flow t. catches list flow around t holds)

@@ -19,11 +19,11 @@ pub record Ends (here : Here) (from : ℕ) (last : Here) (to : ℕ) : Type 0 whe
   pub same : last ≡ here
   pub place : to ≡ from
 
-pub ended :
+pub steps_ended :
     {at : BodyContext} {here last : Here} {waiting : Option Facts} {from to : ℕ}
     → Stand at here waiting from [] last to
     → Ends here from last to
-ended NonePlanned = record { same = refl; place = refl }
+steps_ended NonePlanned = record { same = refl; place = refl }
 
 -- steps of expressions
 pub record CarriedFirst

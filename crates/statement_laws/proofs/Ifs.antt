@@ -1,8 +1,8 @@
 -- IF.
-use Rattle.statement_laws.proofs.Prelude.{◌≡◌, ℕ, ◌+◌, ◌*◌, ◌%◌, ◌<◌, ◌≤◌, ◌==◌, max, Bool, true, false, not, if◌then◌else◌, nat_eq, List, [], ◌∷◌, ◌++◌, slice_get, Option, Some, None, refl, sym, ap, subst, ◌∙◌, arith, same_Some, height_of, height_of_else, height_of_statement, ListsStand, ListsStandInElse, TypedExpression, TypedStatement, GotoStatement, TypedElse, NoElse, ElseStatement, TypesHold, TypesHoldIn, TypesHoldInElse, done, done_else, value, SourceState, Outcome, Gave, then_do, Flow, Onward, Returned, Jumped, is_true, Registers, State, AtLabel, Jump, ExpressionNumber, Statement, StatementNumber, IsElse, IsExpressionIn, IsGoto, IsIf, IsNoElse, IsSomeElse, IsStatement, IsStatementForm, IsStatementNode, statement, HasRoom, IsReady, IsThere, Does, at_place, word_step, after_step, gives, then_does, no_facts_hold, Facts, LabelNumber, no_facts, label_of, jump_item, Site, number, knowing, Planned, body_label, both_steps, branch, computed_if_steps, goto_label, goto_label_of, has_one_jump, if_steps, statement_if_any, tested_if_steps, then_steps, nth_label, Here, jump_on_steps, known_here, site_of, statement_steps, nodes_in, jumps_once, StepsStand, JumpThere, MarkThere, NoneThere, BranchDoes, Goes, Know, PartDoes, Parts, Passes, number_means, does_same, gives_then, script_of, BodyContext, IsSoundBody, Leaves, StatementDoes, StatementStands, room_for}
+use Rattle.statement_laws.proofs.Prelude.{◌≡◌, ℕ, ◌+◌, ◌*◌, ◌%◌, ◌<◌, ◌≤◌, ◌==◌, max, Bool, true, false, not, if◌then◌else◌, nat_eq, List, [], ◌∷◌, ◌++◌, slice_get, Option, Some, None, refl, sym, ap, subst, ◌∙◌, arith, same_Some, height_of, height_of_else, height_of_statement, ListsStand, ListsStandInElse, TypedExpression, TypedStatement, GotoStatement, TypedElse, NoElse, ElseStatement, TypesHold, TypesHoldIn, TypesHoldInElse, done, done_else, value, SourceState, Outcome, Gave, then_do, Flow, Onward, Returned, Jumped, is_true, Registers, State, AtLabel, Jump, ExpressionNumber, Statement, StatementNumber, IsElse, IsExpressionIn, IsGoto, IsIf, IsNoElse, IsSomeElse, IsStatement, IsStatementForm, IsStatementNode, statement, HasRoom, IsReady, IsThere, Does, at_place, word_step, after_step, does_without_step, then_does, no_facts_hold, Facts, LabelNumber, no_facts, label_of, jump_item, Site, number, knowing, Planned, body_label, both_steps, branch, computed_if_steps, goto_label, goto_label_of, has_one_jump, if_steps, statement_if_any, tested_if_steps, then_steps, nth_label, Here, jump_on_steps, known_here, site_of, statement_steps, nodes_in, jumps_once, StepsStand, JumpThere, MarkThere, NoneThere, BranchDoes, Goes, Know, PartDoes, Parts, Passes, number_means, does_same, gives_then, script_of, BodyContext, IsSoundBody, Leaves, StatementDoes, StatementStands, room_for}
 use Rattle.treecode.specs.declared.statement.Statement.TheVariants as statements
 use Rattle.steps8080.specs.declared.step.Step.TheVariants as steps
-use Rattle.statement_laws.proofs.FirstSteps.{Stand, ended, going, jumped_first, meet_first, part_first, statement_first, turn_first}
+use Rattle.statement_laws.proofs.FirstSteps.{Stand, steps_ended, going, jumped_first, meet_first, part_first, statement_first, turn_first}
 use Rattle.statement_laws.proofs.Meetings.{has_one_jump_is, meets_here, meets_waiting, waits_here}
 use Rattle.statement_laws.proofs.Outcomes.{Between, does_later, ends_onward, taking_does, to_label}
 use Rattle.statement_laws.proofs.Simple.{FormDoes}
@@ -29,8 +29,8 @@ statement_then {at = at} {base = base} {place = place} {to = to} {before = befor
         let comes = leaves.comes in
         subst (λ (s : State). Does (script_of at.context) u.budget 0 s (Gave Onward u) (Leaves at base to last before)) (sym comes.is_at)
         (rest u comes.r comes.memory less leaves.goes_on comes.ready comes.holds)
-    by (Returned found) u end less leaves = gives leaves
-    by (Jumped label) u end less leaves = gives leaves
+    by (Returned found) u end less leaves = does_without_step leaves
+    by (Jumped label) u end less leaves = does_without_step leaves
 
 -- a statement that is a GOTO
 pub record GoesTo (at : BodyContext) (label : LabelNumber) (tree : TypedStatement) : Type 0 where
@@ -214,12 +214,12 @@ module _
         by None tree same IsNoElse ends =
             subst (λ (one : TypedElse). Does (script_of at.context) t.budget 0 (at_place from r memory t.events)
             (done_else at.context.later at.context.activation.around one t) (Leaves at base to last s.budget)) (sym same)
-            (ends_onward (ended ends) refl (stage t known r memory less ready knows))
+            (ends_onward (steps_ended ends) refl (stage t known r memory less ready knows))
         by (Some part) tree same (IsSomeElse {tree = found} there) stand =
             let first = statement_first stand in
             else_goes part found known from first.middle first.after t r memory same there first.does less ready knows
             (λ u now kept fewer goes ready_there known_there.
-            ends_onward (ended first.rest) goes (stage u first.after.facts now kept fewer ready_there known_there))
+            ends_onward (steps_ended first.rest) goes (stage u first.after.facts now kept fewer ready_there known_there))
 
     -- the condition, and what follows it
     by_condition :
@@ -297,12 +297,12 @@ module _
         (after_step (step ∙ is_there ∙ ap (λ (place : ℕ). at_place place now kept t.events) meets.lies)
         (let met_there = meets_waiting at.context now kept (known_here first.after) (if once then tested.known else no_facts)
         (once_known tested.known now kept once refl single) in
-        ends_onward (ended meets.rest) met_there.goes_on (stage t _ now kept less there_ready met_there.known))))
+        ends_onward (steps_ended meets.rest) met_there.goes_on (stage t _ now kept less there_ready met_there.known))))
         (λ t now kept less there_ready known_there.
         then_goes tested.known tested.middle first.middle first.after t now kept first.does less there_ready known_there
         (λ u here held fewer goes ready_here known_here_too.
         let met_there = meets_here at.context here held first.after (Some (if once then tested.known else no_facts)) goes known_here_too in
-        ends_onward (ended meets.rest) met_there.goes_on (stage u _ here held fewer ready_here met_there.known)))
+        ends_onward (steps_ended meets.rest) met_there.goes_on (stage u _ here held fewer ready_here met_there.known)))
 
     -- one of two statements
     one_of_both :
@@ -330,7 +330,7 @@ module _
         t now kept same else_is second.does less there_ready (once_known tested.known now kept once refl single)
         (λ u here held fewer goes ready_here known_there.
         let met_there = meets_here at.context here held second.after (known_here first.after) goes known_there in
-        ends_onward (ended meets.rest) met_there.goes_on (stage u _ here held fewer ready_here met_there.known))))
+        ends_onward (steps_ended meets.rest) met_there.goes_on (stage u _ here held fewer ready_here met_there.known))))
         (λ t now kept less there_ready known_there.
         then_goes tested.known tested.middle first.middle first.after t now kept first.does less there_ready known_there
         (λ u here held fewer goes ready_here known_here_too.
@@ -339,7 +339,7 @@ module _
         (word_step (script_of at.context) at.context.activation Jump (AtLabel (nth_label label 1).index) [] first.middle (first.middle + 3)
         here held u.events sound.sound.lies ready_here.shares.code (turn.jumps goes)
         ∙ ap (λ (place : ℕ). at_place place here held u.events) meets.lies)
-        (ends_onward (ended meets.rest) met_there.goes_on (stage u _ here held fewer ready_here met_there.known))))
+        (ends_onward (steps_ended meets.rest) met_there.goes_on (stage u _ here held fewer ready_here met_there.known))))
 
     -- the second statement is a GOTO
     else_goto :
@@ -361,7 +361,7 @@ module _
         (λ t now kept less there_ready known_there.
         then_goes tested.known tested.middle first.middle first.after t now kept first.does less there_ready known_there
         (λ u here held fewer goes ready_here known_here_too.
-        ends_onward (ended first.rest) goes (stage u _ here held fewer ready_here known_here_too)))
+        ends_onward (steps_ended first.rest) goes (stage u _ here held fewer ready_here known_here_too)))
 
     -- the first one is
     then_goto :
@@ -450,7 +450,7 @@ module _
             let first = statement_first stand in
             then_goes facts from first.middle first.after s r memory first.does (omega arith) ready knows
             (λ u here held fewer goes ready_here known_here_too.
-            ends_onward (ended first.rest) goes (stage u _ here held fewer ready_here known_here_too))
+            ends_onward (steps_ended first.rest) goes (stage u _ here held fewer ready_here known_here_too))
         by false stand = any_else_goes facts from s r memory else_is stand (omega arith) ready knows
 
     pub any_if :

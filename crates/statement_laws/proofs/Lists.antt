@@ -1,5 +1,5 @@
 -- A list whose statements do what they say does so: with jumps that go on at its labels.
-use Rattle.statement_laws.proofs.Prelude.{◌≡◌, ◌≢◌, ℕ, zero, suc, ◌+◌, ◌*◌, ◌<◌, ◌≤◌, ◌⊎◌, inl, inr, max, true, List, [], ◌∷◌, length, slice_get, slice_index_or, AllPairs, Option, Some, None, refl, sym, ap, subst, ◌∙◌, arith, cases_lt, same_Some, height_of_statement, height_of_statements, ListStands, ListsStandInStatements, TypedStatement, LabelStatement, TypedStatements, NoStatements, MoreStatements, ListOf, TypesHoldInStatements, Later, caught_in, done_all, dropped, going_on, later_by, rest_from, rest_of, SourceState, Outcome, then_do, Flow, Onward, Returned, Jumped, onto_is, rest_at, Registers, State, Range, Statement, StatementNumber, AreStatements, AreNoStatements, AreMoreStatements, IsListOf, IsStatement, IsStatementNode, IsLabel, HasRoom, IsReady, Does, at_place, gives, then_does, no_facts_hold, Facts, no_facts, body_label, Here, nodes_in, Know, does_same, script_of, BodyContext, ComesToLabel, IsSoundBody, LabelLies, Leaves, ListDoes, StatementDoes, room_for}
+use Rattle.statement_laws.proofs.Prelude.{◌≡◌, ◌≢◌, ℕ, zero, suc, ◌+◌, ◌*◌, ◌<◌, ◌≤◌, ◌⊎◌, inl, inr, max, true, List, [], ◌∷◌, length, slice_get, slice_index_or, AllPairs, Option, Some, None, refl, sym, ap, subst, ◌∙◌, arith, cases_lt, same_Some, height_of_statement, height_of_statements, ListStands, ListsStandInStatements, TypedStatement, LabelStatement, TypedStatements, NoStatements, MoreStatements, ListOf, TypesHoldInStatements, Later, caught_in, done_all, dropped, going_on, later_by, rest_from, rest_of, SourceState, Outcome, then_do, Flow, Onward, Returned, Jumped, onto_is, rest_at, Registers, State, Range, Statement, StatementNumber, AreStatements, AreNoStatements, AreMoreStatements, IsListOf, IsStatement, IsStatementNode, IsLabel, HasRoom, IsReady, Does, at_place, does_without_step, then_does, no_facts_hold, Facts, no_facts, body_label, Here, nodes_in, Know, does_same, script_of, BodyContext, ComesToLabel, IsSoundBody, LabelLies, Leaves, ListDoes, StatementDoes, room_for}
 use Rattle.meaning.specs.Meaning.{landed}
 use Rattle.treecode.specs.declared.statement.Statement.TheVariants as statements
 use Rattle.treecode_laws.proofs.Labels.{same_number}
@@ -41,8 +41,8 @@ goes_then at base middle place last to before go Onward t end less leaves rest =
     let comes = leaves.comes in
     subst (λ (s : State). Does (script_of at.context) t.budget 0 s (go t) (Leaves at base to last before)) (sym comes.is_at)
     (rest comes.r comes.memory leaves.goes_on comes.ready comes.holds)
-goes_then at base middle place last to before go (Returned value) t end less leaves rest = gives leaves
-goes_then at base middle place last to before go (Jumped label) t end less leaves rest = gives leaves
+goes_then at base middle place last to before go (Returned value) t end less leaves rest = does_without_step leaves
+goes_then at base middle place last to before go (Jumped label) t end less leaves rest = does_without_step leaves
 
 less_left : (one other need : ℕ) → 2 + 2 * max one other ≤ need → (2 + 2 * one ≤ need) × (2 + 2 * other ≤ need)
 less_left one other need enough = (omega (arith, enough), omega (arith, enough))
@@ -61,7 +61,7 @@ pub all_do :
     → Does (script_of at.context) s.budget 0 (at_place from r memory s.events)
     (done_all at.context.later at.context.activation.around trees s) (Leaves at base to last s.budget)
 all_do at NoneDo AreNoStatements types lists need base s r memory goes_on fits stage =
-    gives (record {
+    does_without_step (record {
       goes_on = goes_on;
       comes = record { r = r; memory = memory; is_at = refl; ready = stage.ready; holds = stage.known };
     })
@@ -211,7 +211,7 @@ module _
         → Does (script_of at.context) t.budget 0 end
         (landed at.context.later at.context.activation.around (ListOf first_label places statements) label rest t)
         (Leaves at base to last before)
-    landing fuel label before t end None labels is below less fewer room comes = gives comes
+    landing fuel label before t end None labels is below less fewer room comes = does_without_step comes
     landing fuel label before t end (Some rest) labels is below less fewer room comes =
         let found = rest_at first_label label places statements rest lists.0 is in
         let equal : dropped found.count statements ≡ MoreStatements (LabelStatement label) found.others =
@@ -257,8 +257,8 @@ module _
         → HasRoom at.context.activation at.context.activation.level 0 need
         → Leaves at base to last before flow t end
         → Does (script_of at.context) t.budget 0 end (caught flow t) (Leaves at base to last before)
-    catching fuel before Onward t end labels below less fewer room leaves = gives leaves
-    catching fuel before (Returned value) t end labels below less fewer room leaves = gives leaves
+    catching fuel before Onward t end labels below less fewer room leaves = does_without_step leaves
+    catching fuel before (Returned value) t end labels below less fewer room leaves = does_without_step leaves
     catching fuel before (Jumped label) t end labels below less fewer room leaves =
         let spent = leaves.spent in
         landing fuel label before t end (rest_from label (ListOf first_label places statements)) labels refl

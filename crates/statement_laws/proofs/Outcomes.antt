@@ -1,5 +1,5 @@
 -- Ways out of statements, and what follows them.
-use Rattle.statement_laws.proofs.Prelude.{◌≡◌, ℕ, suc, ◌-◌, ◌<◌, ◌≤◌, ◌==◌, Bool, true, false, if◌then◌else◌, List, slice_get, Some, refl, sym, subst, arith, eqb-true, eqb-false, SourceState, Ended, More, Outside, Outcome, Gave, Stopped, taking_one, Flow, Onward, Returned, Jumped, Running, Registers, State, step_of, Does, IsLeft, Lands, at_place, IsReady, after_paid_step, after_step, gives, landed, Facts, body_label, Here, Stage, script_of, BodyContext, Leaves}
+use Rattle.statement_laws.proofs.Prelude.{◌≡◌, ℕ, suc, ◌-◌, ◌<◌, ◌≤◌, ◌==◌, Bool, true, false, if◌then◌else◌, List, slice_get, Some, refl, sym, subst, arith, eqb-true, eqb-false, SourceState, Ended, More, Outside, Outcome, Gave, Stopped, taking_one, Flow, Onward, Returned, Jumped, Running, Registers, State, step_of, Does, IsLeft, Lands, at_place, IsReady, after_paid_step, after_step, does_without_step, landed, Facts, body_label, Here, Stage, script_of, BodyContext, Leaves}
 use Rattle.statement_laws.proofs.FirstSteps.{Ends}
 
 -- a machine of a body may go on between statements, of which this is known
@@ -95,7 +95,7 @@ pub onward :
     → Does (script_of at.context) t.budget 0 (at_place to r memory t.events) (Gave Onward t)
     (Leaves at base to after before)
 onward {r = r} {memory = memory} goes_on stage =
-    gives (record {
+    does_without_step (record {
       goes_on = goes_on;
       comes = record { r = r; memory = memory; is_at = refl; ready = stage.ready; holds = stage.known };
     })
@@ -127,7 +127,7 @@ pub to_label :
     (at_place (at.context.activation.layout.place_of (body_label at.body number).index) r memory t.events)
     (Gave (Jumped label) t) (Leaves at base to after before)
 to_label {at = at} {r = r} {memory = memory} number label names spent ready =
-    gives (record {
+    does_without_step (record {
       place = at.context.activation.layout.place_of (body_label at.body number).index;
       lies = record { number = number; is_label = names; place_is = refl };
       spent = spent;

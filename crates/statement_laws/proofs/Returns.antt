@@ -1,5 +1,5 @@
 -- RETURN.
-use Rattle.statement_laws.proofs.Prelude.{◌≡◌, ℕ, zero, suc, ◌+◌, ◌-◌, ◌*◌, ◌/◌, ◌%◌, ◌≤◌, Bool, true, false, if◌then◌else◌, nat_eq, List, [], ◌∷◌, ◌++◌, replicate, Option, Some, None, refl, sym, ap, subst, ◌∙◌, arith, ScalarType, height_of_optional, TypedExpression, IsReturned, TypesHold, Within, WithinMain, WithinProcedure, returned, SourceState, Gave, Returned, Instr, Registers, Item, size_of_instruction, ExpressionNumber, ProcedureKind, IsNoValue, IsOptional, IsReturn, IsSomeValue, IsThere, Does, at_place, gives, Facts, value_task, NoneWritten, PlainWritten, Body, Planned, all, part, Here, AreCarriedOut, NoneCarriedOut, StepCarriedOut, carried_steps, here_after, waiting_after, drop_steps, kept_steps, pops_steps, return_of_frame_steps, return_over_any_steps, return_over_steps, return_steps, return_steps_by, return_of_steps, returned_value_steps, statement_steps, ResultLies, nodes_in, at_value, script_of, BodyContext, IsSoundBody, IsWithin, Leaves, StatementStands, at_most_more}
+use Rattle.statement_laws.proofs.Prelude.{◌≡◌, ℕ, zero, suc, ◌+◌, ◌-◌, ◌*◌, ◌/◌, ◌%◌, ◌≤◌, Bool, true, false, if◌then◌else◌, nat_eq, List, [], ◌∷◌, ◌++◌, replicate, Option, Some, None, refl, sym, ap, subst, ◌∙◌, arith, ScalarType, height_of_optional, TypedExpression, IsReturned, TypesHold, Within, WithinMain, WithinProcedure, returned, SourceState, Gave, Returned, Instr, Registers, Item, size_of_instruction, ExpressionNumber, ProcedureKind, IsNoValue, IsOptional, IsReturn, IsSomeValue, IsThere, Does, at_place, does_without_step, Facts, value_task, NoneWritten, PlainWritten, Body, Planned, all, part, Here, AreCarriedOut, NoneCarriedOut, StepCarriedOut, carried_steps, here_after, waiting_after, drop_steps, kept_steps, pops_steps, return_of_frame_steps, return_over_any_steps, return_over_steps, return_steps, return_steps_by, return_of_steps, returned_value_steps, statement_steps, ResultLies, nodes_in, at_value, script_of, BodyContext, IsSoundBody, IsWithin, Leaves, StatementStands, at_most_more}
 use Rattle.trees.specs.declared.declaration.ScalarType.TheVariants as scalars
 use Rattle.asm8080.specs.declared.item.Item.TheVariants as items
 use Rattle.treecode.specs.declared.procedure.ProcedureKind.TheVariants as kinds
@@ -159,7 +159,7 @@ returns :
 returns {at = at} {from = from} {here = here} {r = r} {memory = memory} others found stand lies stage =
     let are = some_instructions_there at others (return_are at.body.procedure.now.kind at.body)
     (return_has_one at.body.procedure.now.kind at.body) stand in
-    gives (record {
+    does_without_step (record {
       place = from;
       stands = record { here = here; last = are.last; list = are.list; to = are.to; written = are.written; there = are.there };
       comes = record { r = r; memory = memory; is_at = refl; ready = stage.ready; holds = lies };

@@ -1,7 +1,7 @@
 -- Labels, null statements, calls, HALT, GOTO and DO.
 use Rattle.statement_laws.proofs.Prelude.{◌≡◌, ℕ, ◌+◌, ◌*◌, [], slice_get, Some, refl, sym, subst, ◌∙◌, arith, same_Some, count_of_arguments, height_of_arguments, height_of_statement, ListsStand, TypedStatement, DoStatement, TypesHoldIn, called_for, callee_in, done, values, Gave, Onward, Jumped, Hlt, Halted, State, AtLabel, Jump, Range, Statement, StatementNumber, IsCall, IsDo, IsGoto, IsHalt, IsLabel, IsNull, IsStatementForm, IsStatementNode, Does, IsLeft, at_place, plain_step, word_step, after_step, landed, then_does, no_facts_hold, Facts, body_label, Here, statement_steps, nodes_in, then_again, does_same, script_of, Behaves, BodyContext, IsSoundBody, Leaves, StatementDoes, StatementStands, room_for}
 use Rattle.treecode.specs.declared.statement.Statement.TheVariants as statements
-use Rattle.statement_laws.proofs.FirstSteps.{ended, jump_first, list_first, mark_first, part_first, plain_first}
+use Rattle.statement_laws.proofs.FirstSteps.{steps_ended, jump_first, list_first, mark_first, part_first, plain_first}
 use Rattle.statement_laws.proofs.Outcomes.{ends_onward, taking_does, to_label}
 
 -- code does what a statement of a form says
@@ -33,7 +33,7 @@ pub label_does :
     → FormDoes at before (statements.Label of) from after to
 unfolding statement_steps
 label_does at before of label from after to stands bound _ (IsLabel names) types lists base s r memory below room ready known =
-    ends_onward (ended (mark_first stands).rest) refl
+    ends_onward (steps_ended (mark_first stands).rest) refl
     (record { below = below; room = room; ready = ready; known = no_facts_hold })
 
 -- nothing
@@ -43,7 +43,7 @@ pub null_does :
     → FormDoes at before statements.Null from after to
 unfolding statement_steps
 null_does at before label from after to stands bound _ IsNull types lists base s r memory below room ready known =
-    ends_onward (ended stands) refl (record { below = below; room = room; ready = ready; known = known })
+    ends_onward (steps_ended stands) refl (record { below = below; room = room; ready = ready; known = known })
 
 -- a call whose result is not wanted
 pub call_does :
@@ -61,7 +61,7 @@ call_does at before procedure arguments label from after to stands bound _ (IsCa
     (λ found t end arrives less.
     subst (λ (there : State). Does (script_of at.context) t.budget 0 there (Gave Onward t) (Leaves at base to after s.budget))
     (sym arrives.is_at)
-    (ends_onward (ended first.rest) refl
+    (ends_onward (steps_ended first.rest) refl
     (record { below = omega (arith, less, below); room = room; ready = arrives.ready; known = (arrives.holds).known }))))
 
 -- HALT
@@ -101,7 +101,7 @@ pub do_does :
 unfolding statement_steps
 do_does at before list label from after to stands bound _ (IsDo {list = body} is) types lists base s r memory below room ready known =
     let first = list_first stands in
-    let ends = ended first.rest in
+    let ends = steps_ended first.rest in
     subst (λ (last : Here). Does (script_of at.context) s.budget 0 (at_place from r memory s.events)
     (done at.context.later at.context.activation.around (DoStatement body) s) (Leaves at base to last s.budget)) (sym ends.same)
     (subst (λ (place : ℕ). Does (script_of at.context) s.budget 0 (at_place from r memory s.events)

@@ -3,7 +3,7 @@ use Rattle.statement_laws.proofs.Prelude.{◌≡◌, ℕ, List, slice_get, Optio
 use Rattle.treecode.specs.declared.statement.Statement.TheVariants as statements
 use Rattle.codegen8080.specs.internal.Generated as generated
 use Rattle.codegen8080.specs.internal.Generated.{MoreStatements, NoStatements}
-use Rattle.statement_laws.proofs.FirstSteps.{Stand, ended, mark_first}
+use Rattle.statement_laws.proofs.FirstSteps.{Stand, steps_ended, mark_first}
 use Rattle.statement_laws.proofs.Lists.{AllDo, IsMarked, MoreDo, NoneDo, list_does}
 
 -- the tables of a body
@@ -18,7 +18,7 @@ is_marked :
 unfolding statement_steps
 is_marked at facts (statements.Label number) label from after to stands =
     let marked = mark_first stands in
-    let ends = ended marked.rest in
+    let ends = steps_ended marked.rest in
     (marked.lies, ends.same, ends.place)
 is_marked at facts statements.Null label from after to stands = tt
 is_marked at facts (statements.Assignment targets value) label from after to stands = tt

@@ -1,7 +1,7 @@
 -- Targets that get a value that is in a register, one after another.
 use Rattle.statement_laws.proofs.Prelude.{◌≡◌, ℕ, suc, ◌+◌, ◌-◌, ◌*◌, ◌%◌, ◌<◌, ◌≤◌, Bool, true, false, if◌then◌else◌, nat_lt, List, [], ◌∷◌, ◌++◌, slice_get, Option, Some, None, refl, sym, ap, subst, ◌∙◌, arith, option_and_then, lt-ltb, ScalarType, Byte, Address, height_of, height_of_target, height_of_targets, type_of, TypedExpression, TypedTarget, StoredIn, SentTo, TypesHold, TypesHoldInTarget, TypesHoldInTargets, write_scalar, located, stored, stored_in_each, value, SourceState, Outcome, Gave, then_do, Onward, as_type, values_of, Registers, State, write_event, ExpressionNumber, Range, Target, AreTargets, IsExpression, IsSent, IsStored, IsTarget, MoreTargets, NoTargets, target_at, Does, at_place, Facts, Site, value_task, Planned, from_type, store_at, takes_word, part, steps_from, Here, InRegister, nodes_in, ByteIsGiven, StoreDoes, TaskDoes, WordIsGiven, then_again, at_byte, at_word, does_same, script_of, at_store, BodyContext, IsSoundBody, Leaves, low_of_byte, value_is_word}
 use Rattle.steps8080.specs.declared.step.Task.TheVariants as tasks
-use Rattle.statement_laws.proofs.FirstSteps.{Stand, ended, going, part_first}
+use Rattle.statement_laws.proofs.FirstSteps.{Stand, steps_ended, going, part_first}
 use Rattle.statement_laws.proofs.Outcomes.{Between, ends_onward}
 use Rattle.statement_laws.proofs.Numbers.{low_of_low}
 
@@ -165,7 +165,7 @@ pub targets_stored :
     (then_do (stored_in_each at.context.later at.context.activation.around trees number t) (λ _ u. Gave Onward u))
     (Leaves at base to last before)
 targets_stored scalar there targets number other NoTargets index here from t r memory sound place count types suits small fits has goes stand stage =
-    ends_onward (ended stand) goes stage
+    ends_onward (steps_ended stand) goes stage
 targets_stored {at = at} {need = need} {base = base} {to = to} {before = before} {last = last} scalar there targets number other (MoreTargets {first = first} {count = left} {target = target} {tree = tree} {others = others} is_there is are) index here from t r memory sound place count types suits small fits has goes stand stage =
     let less : index < targets.count = omega (arith, count) in
     let found = target_of_index at targets index first target sound place less is_there in

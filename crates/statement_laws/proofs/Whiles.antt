@@ -1,8 +1,8 @@
 -- DO WHILE.
-use Rattle.statement_laws.proofs.Prelude.{◌≡◌, ℕ, zero, suc, ◌+◌, ◌-◌, ◌*◌, ◌%◌, ◌<◌, ◌≤◌, max, Bool, true, false, if◌then◌else◌, nat_eq, nat_lt, List, [], ◌∷◌, ◌++◌, Option, Some, None, refl, sym, ap, subst, ◌∙◌, arith, ltb-false, height_of, height_of_list, ListStands, TypedExpression, TypedList, TypedStatements, ListOf, WhileStatement, TypesHold, TypesHoldInList, Later, WhileTurn, after_turn, done, done_list, going_on, value, SourceState, Outcome, Gave, then_do, taking_one, Flow, Onward, Returned, Jumped, is_true, again_is, Nop, Registers, State, AtLabel, Jump, ExpressionNumber, Range, AreNoStatements, AreStatements, IsExpressionIn, IsList, IsListOf, IsWhile, HasRoom, IsReady, IsThere, Does, at_place, plain_step, word_step, after_step, gives, then_does, no_facts_hold, Facts, LabelNumber, after_form, no_facts, label_of, jump_item, Site, number, knowing, branch, forever_steps, tested_while_steps, jump, mark, nth_label, Here, jump_on_steps, site_of, statement_steps, nodes_in, StepsStand, JumpThere, NoneThere, BranchDoes, Goes, Know, PartDoes, Parts, Passes, number_means, does_same, script_of, Behaves, BodyContext, IsSoundBody, Leaves, ListDoes, StatementStands, room_for}
+use Rattle.statement_laws.proofs.Prelude.{◌≡◌, ℕ, zero, suc, ◌+◌, ◌-◌, ◌*◌, ◌%◌, ◌<◌, ◌≤◌, max, Bool, true, false, if◌then◌else◌, nat_eq, nat_lt, List, [], ◌∷◌, ◌++◌, Option, Some, None, refl, sym, ap, subst, ◌∙◌, arith, ltb-false, height_of, height_of_list, ListStands, TypedExpression, TypedList, TypedStatements, ListOf, WhileStatement, TypesHold, TypesHoldInList, Later, WhileTurn, after_turn, done, done_list, going_on, value, SourceState, Outcome, Gave, then_do, taking_one, Flow, Onward, Returned, Jumped, is_true, again_is, Nop, Registers, State, AtLabel, Jump, ExpressionNumber, Range, AreNoStatements, AreStatements, IsExpressionIn, IsList, IsListOf, IsWhile, HasRoom, IsReady, IsThere, Does, at_place, plain_step, word_step, after_step, does_without_step, then_does, no_facts_hold, Facts, LabelNumber, after_form, no_facts, label_of, jump_item, Site, number, knowing, branch, forever_steps, tested_while_steps, jump, mark, nth_label, Here, jump_on_steps, site_of, statement_steps, nodes_in, StepsStand, JumpThere, NoneThere, BranchDoes, Goes, Know, PartDoes, Parts, Passes, number_means, does_same, script_of, Behaves, BodyContext, IsSoundBody, Leaves, ListDoes, StatementStands, room_for}
 use Rattle.treecode.specs.declared.statement.Statement.TheVariants as statements
 use Rattle.statements8080.specs.declared.plan.Planned.TheVariants as planned
-use Rattle.statement_laws.proofs.FirstSteps.{Stand, ended, going, jump_first, jump_on_first, list_first, mark_first, part_first, plain_first, reaches_first}
+use Rattle.statement_laws.proofs.FirstSteps.{Stand, steps_ended, going, jump_first, jump_on_first, list_first, mark_first, part_first, plain_first, reaches_first}
 use Rattle.statement_laws.proofs.Lists.{goes_then}
 use Rattle.statement_laws.proofs.Outcomes.{Between, does_later, ends_onward, leaves_later, taking_does}
 use Rattle.statement_laws.proofs.Simple.{FormDoes}
@@ -51,8 +51,8 @@ module _
         (done later at.context.activation.around (WhileStatement tree body) v) (Leaves at base to last before)) sound.later
         (subst (λ (s : State). Does (script_of at.context) v.budget 0 s (loop v) (Leaves at base to last before)) (sym comes.is_at)
         (rest comes.r comes.memory leaves.goes_on comes.ready comes.holds))))
-    turn_ends middle place before (Returned found) v end below less leaves rest = gives leaves
-    turn_ends middle place before (Jumped label) v end below less leaves rest = gives leaves
+    turn_ends middle place before (Returned found) v end below less leaves rest = does_without_step leaves
+    turn_ends middle place before (Jumped label) v end below less leaves rest = does_without_step leaves
 
     -- a loop that is tested at its end
     module _
@@ -227,7 +227,7 @@ tested_does at before condition list label from after to sound stands bound _ (I
         let listed = list_first top.rest in
         let middle = mark_first listed.rest in
         let tested = part_first middle.rest in
-        let end = ended (reaches_first tested.rest) in
+        let end = steps_ended (reaches_first tested.rest) in
         rest listed.middle listed.after middle.lies listed.does
         (λ u now kept fewer there.
         does_later s.budget fewer
@@ -339,7 +339,7 @@ while_does at before condition list label from after to sound stands bound _ (Is
         then taking_one s (λ u. then_do (done_list at.context.later at.context.activation.around body u)
         (after_turn at.context.later at.context.activation.around (WhileTurn test body)))
         else Gave Onward s) holds)
-        (ends_onward (ended stand) refl (record { below = below; room = room; ready = ready; known = known }))
+        (ends_onward (steps_ended stand) refl (record { below = below; room = room; ready = ready; known = known }))
 
     by : (found : Option ℕ)
         → number (knowing (site_of at.body) before) condition ≡ found

@@ -3,7 +3,7 @@ use Rattle.syntax.proofs.Prelude.{◌≡◌, ⊎_elim, ℕ, zero, suc, ◌≤◌
 use Rattle.words.specs.declared.vocabulary.Mark.TheVariants as marks
 use Rattle.words.specs.declared.vocabulary.ReservedWord.TheVariants as words
 use Rattle.syntax.proofs.ListLaws.{IsSound, items-sound}
-use Rattle.syntax.proofs.ReaderLemmas.{at_mark-is, at_word-is, next_operator-is, if_cases, if_ok, bind_ok, read, same_reading, mark-ok, name-ok, constant-ok}
+use Rattle.syntax.proofs.ReaderLemmas.{at_mark-is, at_word-is, next_operator-is, if_cases, guarded_ok, bind_ok, read, same_reading, mark-ok, name-ok, constant-ok}
 
 -- what holds of what was read
 moved : {A : Type 0} (P : A → List Symbol → Type 0) (a b : A) (r q : List Symbol)
@@ -472,7 +472,7 @@ operator_then-fits inner room fit level left s r t again later form height (Some
         let here : level ≤ level_of o = leb-true level (level_of o) levels.0 in
         let its_left : left_level (level_of o) ≤ top_level left =
         leb-true (left_level (level_of o)) (top_level left) levels.1 in
-        let shallow = if_ok (nat_lt (expression_height left) (suc room)) _ TooDeep (t, r) h.1 in
+        let shallow = guarded_ok (nat_lt (expression_height left) (suc room)) _ TooDeep (t, r) h.1 in
         let below : expression_height left < suc room =
         ltb-true (expression_height left) (suc room) shallow.0 in
         let right = bind_ok (inner (suc (level_of o)) (drop 1 s)) _ _ shallow.1 in

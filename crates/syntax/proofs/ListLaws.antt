@@ -1,6 +1,6 @@
 -- The laws of reading lists: without counts, what is read is spelled so, and what is spelled is read again.
 use Rattle.syntax.proofs.Prelude.{◌≡◌, ⊎_elim, ℕ, zero, suc, ◌≤◌, ◌<◌, Bool, true, false, List, [], ◌∷◌, drop, length, length-drop, Option, Some, None, Ok, Err, if◌then◌else◌, refl, sym, ◌∙◌, ap, subst, arith, AllByRecursion, Comma, IsNotEmpty, more_after_commas, between_commas, Symbol, MarkSymbol, more_items, all_more_items, items, many_items, many, Keeps, Shrinks, Parser, Cause, Unexpected, Reading, ◌>>=◌, at_mark}
-use Rattle.syntax.proofs.ReaderLemmas.{at_mark-is, if_true, if_false, if_cases, if_ok, bind_ok, bind_at, bind_fails, read, same_reading}
+use Rattle.syntax.proofs.ReaderLemmas.{at_mark-is, if_true, if_false, if_cases, guarded_ok, bind_ok, bind_at, bind_fails, read, same_reading}
 
 -- an item, and then others
 abbrev pub item_then : {A : Type 0} → (Parser A) → (Parser (List A)) → Parser (List A)

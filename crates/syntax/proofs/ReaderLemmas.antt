@@ -83,11 +83,11 @@ if_cases true x y z e = inl (refl, e)
 if_cases false x y z e = inr (refl, e)
 
 -- what is read only where a test holds
-pub if_ok : {A : Type 0} (b : Bool) (r : Result A Cause) (c : Cause) (y : A)
+pub guarded_ok : {A : Type 0} (b : Bool) (r : Result A Cause) (c : Cause) (y : A)
     → (if b then r else Err c) ≡ Ok y
     → (b ≡ true) × (r ≡ Ok y)
-if_ok true r c y e = (refl, e)
-if_ok false r c y e = absurd cc
+guarded_ok true r c y e = (refl, e)
+guarded_ok false r c y e = absurd cc
 
 -- what is read one thing after another
 pub bind_ok : {A B : Type 0} (r : Result A Cause) (f : A → Result B Cause) (y : B)
@@ -227,13 +227,13 @@ next_operator-at o r = operator_of-symbol o
 -- what was read as a mark, a word, a name, a constant, a number and a string
 pub mark-ok : (m : Mark) (s r : List Symbol) → mark m s ≡ Ok r → s ≡ MarkSymbol m ∷ r
 mark-ok m s r e =
-    let parts = if_ok (at_mark m s) (Ok (drop 1 s)) Unexpected r e in
+    let parts = guarded_ok (at_mark m s) (Ok (drop 1 s)) Unexpected r e in
     let rest : drop 1 s ≡ r = cc parts.1 in
     at_mark-is m s parts.0 ∙ ap (λ k. MarkSymbol m ∷ k) rest
 
 pub word-ok : (w : ReservedWord) (s r : List Symbol) → word w s ≡ Ok r → s ≡ ReservedSymbol w ∷ r
 word-ok w s r e =
-    let parts = if_ok (at_word w s) (Ok (drop 1 s)) Unexpected r e in
+    let parts = guarded_ok (at_word w s) (Ok (drop 1 s)) Unexpected r e in
     let rest : drop 1 s ≡ r = cc parts.1 in
     at_word-is w s parts.0 ∙ ap (λ k. ReservedSymbol w ∷ k) rest
 

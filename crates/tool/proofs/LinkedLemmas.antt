@@ -21,8 +21,8 @@ module _ (plan : Plan) (objects : List ObjectModule) (have : HaveImage (of_place
       sym have.placed ∙ subst (λ (object : ObjectModule). image_of (plan_view plan) object ≡ Err refusal) (sym same) is in cc
 
 -- what gives memories the image of one merge does so for the merge, since there is one
-pub gives : (plan : Plan) (objects : List ObjectModule) (merged : ObjectModule) (image : Absolute)
+pub gives_image : (plan : Plan) (objects : List ObjectModule) (merged : ObjectModule) (image : Absolute)
     → merge_of objects ≡ Ok merged → GivesItsImage (plan_view plan) merged image → GivesImageOfObjects plan objects image
-gives plan objects merged image merge given other other_merge =
+gives_image plan objects merged image merge given other other_merge =
     subst (λ (object : ObjectModule). GivesItsImage (plan_view plan) object image)
     (same_Ok merged other (sym merge ∙ other_merge)) given

@@ -17,7 +17,7 @@ use std::alloc::Global;
 
 /// The image of a program: that of the merge of its object modules, which have one at the plan. Put into a memory it gives
 /// it the image of that merge.
-#[tactic(auto, using(crate::proofs::LinkedLemmas::is_linked, crate::proofs::LinkedLemmas::gives, crate::proofs::LinkedLemmas::not_refused_to_link, crate::proofs::LinkedLemmas::not_refused_to_locate))]
+#[tactic(auto, using(crate::proofs::LinkedLemmas::is_linked, crate::proofs::LinkedLemmas::gives_image, crate::proofs::LinkedLemmas::not_refused_to_link, crate::proofs::LinkedLemmas::not_refused_to_locate))]
 pub fn image_of(
     alloc: Global,
     objects: &[ObjectModule],

@@ -20,8 +20,8 @@ grows_not nodes = record {
 pub leads_nowhere : (nodes : Nodes) → AreSound nodes → Leads nodes nodes
 leads_nowhere nodes sound = record { grows = grows_not nodes; statements = omega arith; homes = refl; sound = sound }
 
-pub up : (one two three : ℕ) → one ≤ two → two ≤ three → one ≤ three
-up one two three first second = omega arith
+pub at_most_in_turn : (one two three : ℕ) → one ≤ two → two ≤ three → one ≤ three
+at_most_in_turn one two three first second = omega arith
 
 pub leads_on : {one two three : Nodes} → Leads one two → Leads two three → Leads one three
 leads_on {one = one} {two = two} {three = three} first second = record {
@@ -31,9 +31,9 @@ leads_on {one = one} {two = two} {three = three} first second = record {
     arguments = λ index x e. second.grows.arguments index x (first.grows.arguments index x e);
     targets = λ index x e. second.grows.targets index x (first.grows.targets index x e);
     lists = λ index x e. second.grows.lists index x (first.grows.lists index x e);
-    count = up (length one.expressions) (length two.expressions) (length three.expressions) first.grows.count second.grows.count;
+    count = at_most_in_turn (length one.expressions) (length two.expressions) (length three.expressions) first.grows.count second.grows.count;
   };
-  statements = up (length one.statements) (length two.statements) (length three.statements) first.statements second.statements;
+  statements = at_most_in_turn (length one.statements) (length two.statements) (length three.statements) first.statements second.statements;
   homes = second.homes ∙ first.homes;
   sound = second.sound;
 }

@@ -1,6 +1,6 @@
 -- A module whose objects get their homes, one by one.
 use Rattle.treecode.proofs.Prelude.{◌≡◌, List, [], ◌∷◌, ◌++◌, sym, ap, ◌∙◌, Home, TreeModule, Heading, PlacedSoFar, headings_of, placed_in}
-use Rattle.treecode.proofs.SameTraits.{both}
+use Rattle.treecode.proofs.SameTraits.{same_of_both}
 
 module _ (old between new : TreeModule)
     (first : between ≡ record old { procedures = between.procedures })
@@ -35,7 +35,7 @@ module _ (old between new : TreeModule)
     home_placed home at headings more is are =
         let make : List Home → List Heading → PlacedSoFar =
         λ homes headings. record { homes = homes; headings = headings } in
-        both make
+        same_of_both make
         (more
         ∙ ap (λ (tree : TreeModule). tree.homes.items ++ home ∷ []) first
         ∙ ap (λ last. old.homes.items ++ last ∷ []) is)

@@ -1,6 +1,6 @@
 -- The traits of nodes follow from the trees that they represent.
 use Rattle.treecode.proofs.Prelude.{◌≡◌, ℕ, suc, ◌+◌, ◌%◌, min, max, Option, Some, option_map, slice_get, refl, ap, ◌∙◌, arith, option_map_or, option_and_then, ScalarType, count_of_arguments, height_of, height_of_trees, height_of_part, height_of_index, height_of_goal, type_of, TypedExpression, TypedReference, Subscript, TypedTarget, TypedArguments, Storage, result_of_one, shifted, Expression, ExpressionForm, ExpressionNumber, Place, Number, Reference, IndexNode, Target, Traits, converted_place, function_of_place, known_distance, known_number, known_place, known_subscript, known_value, place_of_part, result_of_known, shift_of_known, IsExpression, IsNode, IsForm, IsNumber, IsValue, IsLocation, IsConstantList, IsConversion, IsEmbedded, IsUnary, IsBinary, IsCallOf, IsFunction, IsShift, IsInput, IsReference, IsPart, IsSubscript, IsAbsent, IsIndex, IsTarget, IsStored, IsSent, AreArguments, AreNone, AreMore, Nodes, home_at, KeepTraits, distance_of, height_at, height_of_arguments, height_of_form, height_of_reference, height_of_subscript, height_of_target, known_at, known_of, no_traits, place_of_reference, traits_at, traits_of}
-use Rattle.treecode.proofs.SameTraits.{both}
+use Rattle.treecode.proofs.SameTraits.{same_of_both}
 
 -- the traits of the expression with this number
 pub node_traits : (nodes : Nodes) (number : ℕ) (expression : Expression) → KeepTraits nodes
@@ -73,13 +73,13 @@ module _ (nodes : Nodes) (storage : Storage) (keeps : KeepTraits nodes) where
         option_map (λ number. Number (result_of_one scalar operator number)) (known_number known))
         (known_kept operand)
     known_of_form (IsBinary {operands = operands} {operator = operator} left right) =
-        both (λ (one two : Option Place). result_of_known operands operator one two) (known_kept left)
+        same_of_both (λ (one two : Option Place). result_of_known operands operator one two) (known_kept left)
         (known_kept right)
     known_of_form (IsCallOf given) = refl
     known_of_form (IsFunction {function = function} operand) =
         ap (λ (known : Option Place). option_and_then (function_of_place function) known) (known_kept operand)
     known_of_form (IsShift {scalar = scalar} {function = function} moved by) =
-        both
+        same_of_both
         (λ (one two : Option Place). shift_of_known (shifted scalar function) (known_number one)
         (known_number two))
         (known_kept moved) (known_kept by)
@@ -89,7 +89,7 @@ module _ (nodes : Nodes) (storage : Storage) (keeps : KeepTraits nodes) where
         → IsReference nodes storage bound reference part
         → place_of_reference nodes reference ≡ known_place nodes.homes storage part
     place_kept (IsPart {object = object} {offset = offset} first second) =
-        both (λ (one two : Option ℕ). place_of_part (home_at nodes.homes object) (offset % 65536) one two)
+        same_of_both (λ (one two : Option ℕ). place_of_part (home_at nodes.homes object) (offset % 65536) one two)
         (distance_kept first) (distance_kept second)
 
     distance_kept : {bound : ℕ} {index : Option IndexNode} {subscript : Subscript}

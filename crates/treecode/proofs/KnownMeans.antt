@@ -335,36 +335,36 @@ module _ (around : Surroundings) (starts : List Home) (storage : Storage) (addre
   module _ (later : Later) where
     mutual
       -- an expression with a known value gives it, and keeps the state
-      pub tells : (tree : TypedExpression) → HaveOperands (length storage.lists) tree
+      pub known_value_tells : (tree : TypedExpression) → HaveOperands (length storage.lists) tree
           → Tells (known_value starts storage tree) (type_of tree) (λ s. value later around tree s)
-      tells (NumberNode scalar number origin) fit =
+      known_value_tells (NumberNode scalar number origin) fit =
           ((λ (s : State). give s (sym (resolves.number number))), tt)
-      tells (ValueNode scalar reference) fit = tt
-      tells (LocationNode reference) fit = tells_part reference fit
-      tells (ListNode list) fit = ((λ (s : State). give s (resolves.list list fit)), refl)
-      tells (ConversionNode scalar inner) fit =
+      known_value_tells (ValueNode scalar reference) fit = tt
+      known_value_tells (LocationNode reference) fit = tells_part reference fit
+      known_value_tells (ListNode list) fit = ((λ (s : State). give s (resolves.list list fit)), refl)
+      known_value_tells (ConversionNode scalar inner) fit =
           tells_conversion scalar _ (known_value starts storage inner) (λ s. value later around inner s)
-          (tells inner fit)
-      tells (AssignmentNode target inner) fit = tt
-      tells (UnaryNode scalar operator operand) fit =
+          (known_value_tells inner fit)
+      known_value_tells (AssignmentNode target inner) fit = tt
+      known_value_tells (UnaryNode scalar operator operand) fit =
           tells_unary scalar _ operator (known_value starts storage operand)
           (λ s. value later around operand s)
-          (tells operand fit)
-      tells (BinaryNode operands operator left right) fit =
+          (known_value_tells operand fit)
+      known_value_tells (BinaryNode operands operator left right) fit =
           tells_known operands _ _ operator (known_value starts storage left)
           (known_value starts storage right)
-          (λ s. value later around left s) (λ s. value later around right s) fit.0 fit.1 (tells left fit.2)
-          (tells right fit.3)
-      tells (CallNode procedure scalar given) fit = tt
-      tells (FunctionNode function operand) fit =
+          (λ s. value later around left s) (λ s. value later around right s) fit.0 fit.1 (known_value_tells left fit.2)
+          (known_value_tells right fit.3)
+      known_value_tells (CallNode procedure scalar given) fit = tt
+      known_value_tells (FunctionNode function operand) fit =
           tells_function function _ (known_value starts storage operand) (λ s. value later around operand s)
-          (tells operand fit)
-      tells (ShiftNode scalar function moved count) fit =
+          (known_value_tells operand fit)
+      known_value_tells (ShiftNode scalar function moved count) fit =
           tells_shift scalar _ _ function (known_value starts storage moved)
           (known_value starts storage count)
-          (λ s. value later around moved s) (λ s. value later around count s) (tells moved fit.0)
-          (tells count fit.1)
-      tells (InputNode port) fit = tt
+          (λ s. value later around moved s) (λ s. value later around count s) (known_value_tells moved fit.0)
+          (known_value_tells count fit.1)
+      known_value_tells (InputNode port) fit = tt
 
       tells_part : (reference : TypedReference) → PartHasOperands (length storage.lists) reference
           → Tells (known_place starts storage reference) Address
@@ -379,4 +379,4 @@ module _ (around : Surroundings) (starts : List Home) (storage : Storage) (addre
       tells_subscript NoSubscript fit = (no_displacement, refl, (λ (s : State). refl))
       tells_subscript (At stride count index) fit =
           tells_index stride _ (known_value starts storage index) (λ s. value later around index s) count
-          (tells index fit)
+          (known_value_tells index fit)

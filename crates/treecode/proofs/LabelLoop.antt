@@ -1,13 +1,13 @@
 -- The labels of a list, one by one.
 use Rattle.treecode.proofs.Prelude.{◌≡◌, ℕ, suc, ◌+◌, ◌-◌, ◌<◌, ◌≤◌, ap, ◌∙◌, arith, Walk, numbered, with_label}
-use Rattle.treecode.proofs.SameTraits.{both}
+use Rattle.treecode.proofs.SameTraits.{same_of_both}
 
 pub labels_begin : (walk : Walk) (first count : ℕ)
     → numbered walk (first + 0) (count - 0) ≡ numbered walk first count
 labels_begin walk first count =
     let from : first + 0 ≡ first = omega arith in
     let left : count - 0 ≡ count = omega arith in
-    both (numbered walk) from left
+    same_of_both (numbered walk) from left
 
 pub label_more : (walk now total : Walk) (first index count label : ℕ) → index < count → label ≡ first + index
     → now ≡ with_label walk label

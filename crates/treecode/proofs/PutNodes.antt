@@ -1,11 +1,11 @@
 -- A node that is added to its table, and the other tables.
 use Rattle.treecode.proofs.Prelude.{◌≡◌, ℕ, Bool, Result, Ok, Err, OnOk, List, [], ◌∷◌, ◌++◌, length, sym, ap, ◌∙◌, ScalarType, Expression, ExpressionForm, ExpressionNumber, Range, Lowering, TreeModule, Nodes, nodes_of, expression_of, put_arguments, put_expression, Target, Statement, StatementNumber, Beside, beside, outside, walk_of, walk_with, Items, Walk, put_list, put_statement, put_targets}
-use Rattle.treecode.proofs.SameTraits.{both}
+use Rattle.treecode.proofs.SameTraits.{same_of_both}
 
 -- a property that holds anyway holds if there is a value
-pub on_ok : {T E P : Type 0} (result : Result T E) → P → OnOk result P
-on_ok (Ok x) holds = holds
-on_ok (Err e) holds = tt
+pub holds_on_ok : {T E P : Type 0} (result : Result T E) → P → OnOk result P
+holds_on_ok (Ok x) holds = holds
+holds_on_ok (Err e) holds = tt
 
 module _ (tree after : TreeModule) where
   pub expression_put : (scalar : ScalarType) (made : Nodes × ExpressionForm) (form : ExpressionForm)
@@ -17,7 +17,7 @@ module _ (tree after : TreeModule) where
       → put_expression scalar made ≡ (nodes_of after, number)
   expression_put scalar made form number is kept at added =
       ap (put_expression scalar) is
-      ∙ both (λ (nodes : Nodes) (index : ℕ). (nodes, record { index = index }))
+      ∙ same_of_both (λ (nodes : Nodes) (index : ℕ). (nodes, record { index = index }))
       (ap (λ (all : List Expression). record (nodes_of tree) { expressions = all }) (sym added)
       ∙ sym (ap nodes_of kept))
       (sym at)
@@ -31,10 +31,10 @@ module _ (tree after : TreeModule) where
       → put_arguments made ≡ (nodes_of after, range)
   arguments_put made numbers range is kept first count added =
       ap put_arguments is
-      ∙ both (λ (nodes : Nodes) (range : Range). (nodes, range))
+      ∙ same_of_both (λ (nodes : Nodes) (range : Range). (nodes, range))
       (ap (λ (all : List ExpressionNumber). record (nodes_of tree) { arguments = all }) (sym added)
       ∙ sym (ap nodes_of kept))
-      (both (λ (first count : ℕ). record { first = first; count = count }) (sym first) (sym count))
+      (same_of_both (λ (first count : ℕ). record { first = first; count = count }) (sym first) (sym count))
 
 -- the parts beside the nodes are kept
 pub beside_expressions : (lowering : Lowering) (after : TreeModule)
@@ -73,7 +73,7 @@ beside_lists lowering after kept = ap (λ (tree : TreeModule). beside (record lo
 
 range_is : (range : Range) (first count : ℕ) → range.first ≡ first → range.count ≡ count
     → record { first = first; count = count } ≡ range
-range_is range first count e f = both (λ (one two : ℕ). record { first = one; count = two }) (sym e) (sym f)
+range_is range first count e f = same_of_both (λ (one two : ℕ). record { first = one; count = two }) (sym e) (sym f)
 
 module _ (old : Lowering) (after : TreeModule) where
   pub statement_put : (statement : Statement) (ends : Bool) (number : StatementNumber)
@@ -83,8 +83,8 @@ module _ (old : Lowering) (after : TreeModule) where
       → put_statement (walk_of old) statement ends
       ≡ (walk_of (record old { tree = after }), record { number = number; reaches_its_end = ends })
   statement_put statement ends number kept at added =
-      both (λ (walk : Walk) (index : ℕ). (walk, record { number = record { index = index }; reaches_its_end = ends }))
-      (both walk_with
+      same_of_both (λ (walk : Walk) (index : ℕ). (walk, record { number = record { index = index }; reaches_its_end = ends }))
+      (same_of_both walk_with
       (ap (λ (all : List Statement). record (nodes_of old.tree) { statements = all }) (sym added)
       ∙ sym (ap nodes_of kept))
       (sym (beside_statements old after kept)))
@@ -99,8 +99,8 @@ module _ (old : Lowering) (after : TreeModule) where
       → put_targets made ≡ (walk_of (record old { tree = after }), range)
   targets_put made targets range is kept first count added =
       ap put_targets is
-      ∙ both (λ (walk : Walk) (one : Range). (walk, one))
-      (both walk_with
+      ∙ same_of_both (λ (walk : Walk) (one : Range). (walk, one))
+      (same_of_both walk_with
       (ap (λ (all : List Target). record (nodes_of old.tree) { targets = all }) (sym added)
       ∙ sym (ap nodes_of kept))
       (sym (beside_targets old after kept)))
@@ -116,8 +116,8 @@ module _ (old : Lowering) (after : TreeModule) where
       ≡ (walk_of (record old { tree = after }), record { range = range; reaches_its_end = ends })
   list_put made numbers ends range is kept first count added =
       ap put_list is
-      ∙ both (λ (walk : Walk) (one : Range). (walk, record { range = one; reaches_its_end = ends }))
-      (both walk_with
+      ∙ same_of_both (λ (walk : Walk) (one : Range). (walk, record { range = one; reaches_its_end = ends }))
+      (same_of_both walk_with
       (ap (λ (all : List StatementNumber). record (nodes_of old.tree) { lists = all }) (sym added)
       ∙ sym (ap nodes_of kept))
       (sym (beside_lists old after kept)))

@@ -6,7 +6,7 @@ use Rattle.treecode.specs.declared.expression.ExpressionForm.TheVariants as form
 use Rattle.treecode.specs.declared.reference.Subscript.{Subscript}
 use Rattle.treecode.specs.declared.reference.Target.TheVariants as targets
 use Rattle.treecode.specs.declared.traits.Keeps.{Keeps}
-use Rattle.treecode.proofs.SameTraits.{both, same_height, same_known, same_place, same_quiet, same_storing, same_traits}
+use Rattle.treecode.proofs.SameTraits.{same_of_both, same_height, same_known, same_place, same_quiet, same_storing, same_traits}
 
 -- a number below a bound is below a greater one
 subscript_up : (bound greater : ℕ) → bound ≤ greater → (index : Option Subscript)
@@ -187,7 +187,7 @@ module _ (before after : Nodes) (bound : ℕ)
   free_with_same : (left right : ExpressionNumber) → left.index < bound → right.index < bound
       → is_free_with after left right ≡ is_free_with before left right
   free_with_same left right one two =
-      both (λ (t u : Traits). t.is_free && is_some (known_number u.known)) (traits_same left one)
+      same_of_both (λ (t u : Traits). t.is_free && is_some (known_number u.known)) (traits_same left one)
       (traits_same right two)
 
   free_form_same : (scalar : ScalarType) (form : ExpressionForm) → PartsAreBelow before bound form
@@ -239,14 +239,14 @@ module _ (before after : Nodes) (bound : ℕ)
       (λ (starts : List Home).
       keeps_of_part (home_at starts reference.object) (keeps_of_subscript after reference.subscript)
       (keeps_of_subscript after reference.member_subscript)) homes
-      ∙ both (keeps_of_part (home_at before.homes reference.object))
+      ∙ same_of_both (keeps_of_part (home_at before.homes reference.object))
       (keeps_index_same reference.subscript below.0) (keeps_index_same reference.member_subscript below.1)
 
   keeps_value_same : (scalar : ScalarType) (reference : Reference) → ReferenceIsBelow bound reference
       → keeps_of_value after scalar reference ≡ keeps_of_value before scalar reference
   keeps_value_same scalars.Byte reference below = keeps_address_same reference below
   keeps_value_same scalars.Address reference below =
-      both (λ (place : Option Place) (keeps : Keeps). record { a = is_some place; de = keeps.de })
+      same_of_both (λ (place : Option Place) (keeps : Keeps). record { a = is_some place; de = keeps.de })
       (same_place before after bound homes same given reference below) (keeps_address_same reference below)
 
   keeps_byte_same : (form : ExpressionForm) → PartsAreBelow before bound form
@@ -285,18 +285,18 @@ module _ (before after : Nodes) (bound : ℕ)
       → right.index < bound
       → keeps_of_binary after operator left right ≡ keeps_of_binary before operator left right
   keeps_binary_same operators.Add left right one two =
-      both
+      same_of_both
       (λ (t u : Traits).
       cond (is_some u.known) t.keeps (cond (is_some t.known) u.keeps keeps_none)) (traits_same left one)
       (traits_same right two)
   keeps_binary_same operators.Multiply left right one two =
-      both
+      same_of_both
       (λ (t u : Traits).
       cond (is_some (known_number u.known)) t.keeps
       (cond (is_some (known_number t.known)) u.keeps keeps_none)) (traits_same left one)
       (traits_same right two)
   keeps_binary_same operators.Subtract left right one two =
-      both (λ (t u : Traits). cond (is_some (known_number u.known)) t.keeps keeps_none) (traits_same left one)
+      same_of_both (λ (t u : Traits). cond (is_some (known_number u.known)) t.keeps keeps_none) (traits_same left one)
       (traits_same right two)
   keeps_binary_same operator left right one two = refl
 
@@ -358,7 +358,7 @@ module _ (before after : Nodes) (bound : ℕ)
         is_free = is_free_of after scalar (known_of before scalar form) form;
         keeps = keeps_of after scalar (known_of before scalar form) form;
       }) (same_height before after bound homes same given form below)
-      ∙ both (λ (quiet storing : Bool). record {
+      ∙ same_of_both (λ (quiet storing : Bool). record {
         known = known_of before scalar form;
         height = height_of_form before form;
         scalar = scalar;
@@ -368,7 +368,7 @@ module _ (before after : Nodes) (bound : ℕ)
         keeps = keeps_of after scalar (known_of before scalar form) form;
       }) (same_quiet before after bound homes same given form below)
       (same_storing before after bound homes same given form below)
-      ∙ both (λ (free : Bool) (keeps : Keeps). record {
+      ∙ same_of_both (λ (free : Bool) (keeps : Keeps). record {
         known = known_of before scalar form;
         height = height_of_form before form;
         scalar = scalar;

@@ -5,8 +5,8 @@ use Rattle.treecode.specs.declared.reference.Subscript.{Subscript}
 use Rattle.treecode.specs.declared.reference.Target.TheVariants as targets
 
 -- two paths through a function of two arguments
-pub both : {A B C : Type 0} (f : A → B → C) {a b : A} {c d : B} → a ≡ b → c ≡ d → f a c ≡ f b d
-both f {b = b} {c = c} e g = ap (λ x. f x c) e ∙ ap (f b) g
+pub same_of_both : {A B C : Type 0} (f : A → B → C) {a b : A} {c d : B} → a ≡ b → c ≡ d → f a c ≡ f b d
+same_of_both f {b = b} {c = c} e g = ap (λ x. f x c) e ∙ ap (f b) g
 
 module _ (before after : Nodes) (bound : ℕ)
     (homes : after.homes ≡ before.homes)
@@ -34,7 +34,7 @@ module _ (before after : Nodes) (bound : ℕ)
       (λ (starts : List Home).
       place_of_part (home_at starts reference.object) reference.offset (distance_of after reference.subscript)
       (distance_of after reference.member_subscript)) homes
-      ∙ both (place_of_part (home_at before.homes reference.object) reference.offset)
+      ∙ same_of_both (place_of_part (home_at before.homes reference.object) reference.offset)
       (same_distance reference.subscript below.0) (same_distance reference.member_subscript below.1)
 
   pub same_known : (scalar : ScalarType) (form : ExpressionForm) → PartsAreBelow before bound form
@@ -52,13 +52,13 @@ module _ (before after : Nodes) (bound : ℕ)
       option_map (λ number. Number (result_of_one scalar operator number)) (known_number t.known))
       (same_traits operand below)
   same_known scalar (forms.Binary operands operator left right) below =
-      both (λ (t u : Traits). result_of_known operands operator t.known u.known) (same_traits left below.0)
+      same_of_both (λ (t u : Traits). result_of_known operands operator t.known u.known) (same_traits left below.0)
       (same_traits right below.1)
   same_known scalar (forms.Call procedure arguments) below = refl
   same_known scalar (forms.Function function operand) below =
       ap (λ (t : Traits). option_and_then (function_of_place function) t.known) (same_traits operand below)
   same_known scalar (forms.Shift function value count) below =
-      both
+      same_of_both
       (λ (t u : Traits). shift_of_known (shifted scalar function) (known_number t.known)
       (known_number u.known))
       (same_traits value below.0) (same_traits count below.1)
@@ -72,7 +72,7 @@ module _ (before after : Nodes) (bound : ℕ)
   same_reference_height : (reference : Reference) → ReferenceIsBelow bound reference
       → height_of_reference after reference ≡ height_of_reference before reference
   same_reference_height reference below =
-      both (λ (one two : ℕ). min (1 + max one two) 65535) (same_index_height reference.subscript below.0)
+      same_of_both (λ (one two : ℕ). min (1 + max one two) 65535) (same_index_height reference.subscript below.0)
       (same_index_height reference.member_subscript below.1)
 
   pub same_target_height : (target : Target) → TargetIsBelow bound target
@@ -85,7 +85,7 @@ module _ (before after : Nodes) (bound : ℕ)
       → height_of_arguments after first count ≡ height_of_arguments before first count
   same_arguments_height first zero below = refl
   same_arguments_height first (suc count) below =
-      both (λ (one two : ℕ). max one two)
+      same_of_both (λ (one two : ℕ). max one two)
       (argument_height first ((below 0 (omega arith)).0)
       (subst (λ (at : ℕ). slice_get before.arguments at
       ≡ Some ((below 0 (omega arith)).0)) (omega arith) ((below 0 (omega arith)).1))
@@ -124,12 +124,12 @@ module _ (before after : Nodes) (bound : ℕ)
   same_height (forms.List offset) below = refl
   same_height (forms.Conversion inner) below = ap (λ (t : Traits). t.height) (same_traits inner below)
   same_height (forms.Assignment target value) below =
-      both (λ (one two : ℕ). min (1 + max one two) 65535) (same_target_height target below.0)
+      same_of_both (λ (one two : ℕ). min (1 + max one two) 65535) (same_target_height target below.0)
       (ap (λ (t : Traits). t.height) (same_traits value below.1))
   same_height (forms.Unary operator operand) below =
       ap (λ (t : Traits). min (1 + t.height) 65535) (same_traits operand below)
   same_height (forms.Binary operands operator left right) below =
-      both (λ (t u : Traits). min (1 + max t.height u.height) 65535) (same_traits left below.0)
+      same_of_both (λ (t u : Traits). min (1 + max t.height u.height) 65535) (same_traits left below.0)
       (same_traits right below.1)
   same_height (forms.Call procedure arguments) below =
       ap (λ (highest : ℕ). min (1 + arguments.count + highest) 65535)
@@ -137,7 +137,7 @@ module _ (before after : Nodes) (bound : ℕ)
   same_height (forms.Function function operand) below =
       ap (λ (t : Traits). min (2 + t.height) 65535) (same_traits operand below)
   same_height (forms.Shift function value count) below =
-      both (λ (t u : Traits). min (3 + max t.height u.height) 65535) (same_traits value below.0)
+      same_of_both (λ (t u : Traits). min (3 + max t.height u.height) 65535) (same_traits value below.0)
       (same_traits count below.1)
   same_height (forms.Input port) below = refl
 
@@ -150,7 +150,7 @@ module _ (before after : Nodes) (bound : ℕ)
   same_reference_quiet : (reference : Reference) → ReferenceIsBelow bound reference
       → reference_is_quiet after reference ≡ reference_is_quiet before reference
   same_reference_quiet reference below =
-      both (λ (one two : Bool). one && two) (same_index_quiet reference.subscript below.0)
+      same_of_both (λ (one two : Bool). one && two) (same_index_quiet reference.subscript below.0)
       (same_index_quiet reference.member_subscript below.1)
 
   pub same_quiet : (form : ExpressionForm) → PartsAreBelow before bound form
@@ -164,12 +164,12 @@ module _ (before after : Nodes) (bound : ℕ)
   same_quiet (forms.Unary operator operand) below =
       ap (λ (t : Traits). t.is_quiet) (same_traits operand below)
   same_quiet (forms.Binary operands operator left right) below =
-      both (λ (t u : Traits). t.is_quiet && u.is_quiet) (same_traits left below.0) (same_traits right below.1)
+      same_of_both (λ (t u : Traits). t.is_quiet && u.is_quiet) (same_traits left below.0) (same_traits right below.1)
   same_quiet (forms.Call procedure arguments) below = refl
   same_quiet (forms.Function function operand) below =
       ap (λ (t : Traits). t.is_quiet) (same_traits operand below)
   same_quiet (forms.Shift function value count) below =
-      both (λ (t u : Traits). t.is_quiet && u.is_quiet) (same_traits value below.0)
+      same_of_both (λ (t u : Traits). t.is_quiet && u.is_quiet) (same_traits value below.0)
       (same_traits count below.1)
   same_quiet (forms.Input port) below = refl
 
@@ -182,7 +182,7 @@ module _ (before after : Nodes) (bound : ℕ)
   same_reference_storing : (reference : Reference) → ReferenceIsBelow bound reference
       → reference_stores_nothing after reference ≡ reference_stores_nothing before reference
   same_reference_storing reference below =
-      both (λ (one two : Bool). one && two) (same_index_storing reference.subscript below.0)
+      same_of_both (λ (one two : Bool). one && two) (same_index_storing reference.subscript below.0)
       (same_index_storing reference.member_subscript below.1)
 
   pub same_storing : (form : ExpressionForm) → PartsAreBelow before bound form
@@ -197,12 +197,12 @@ module _ (before after : Nodes) (bound : ℕ)
   same_storing (forms.Unary operator operand) below =
       ap (λ (t : Traits). t.stores_nothing) (same_traits operand below)
   same_storing (forms.Binary operands operator left right) below =
-      both (λ (t u : Traits). t.stores_nothing && u.stores_nothing) (same_traits left below.0)
+      same_of_both (λ (t u : Traits). t.stores_nothing && u.stores_nothing) (same_traits left below.0)
       (same_traits right below.1)
   same_storing (forms.Call procedure arguments) below = refl
   same_storing (forms.Function function operand) below =
       ap (λ (t : Traits). t.stores_nothing) (same_traits operand below)
   same_storing (forms.Shift function value count) below =
-      both (λ (t u : Traits). t.stores_nothing && u.stores_nothing) (same_traits value below.0)
+      same_of_both (λ (t u : Traits). t.stores_nothing && u.stores_nothing) (same_traits value below.0)
       (same_traits count below.1)
   same_storing (forms.Input port) below = refl

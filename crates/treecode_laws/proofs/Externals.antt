@@ -46,19 +46,19 @@ finds_more any names external count false (Some name) None same named after befo
 finds_more any names external count false (Some name) (Some number) same named after before =
     later_stands name names external count number after
 
-pub finds :
+pub finds_external :
     (typed : TypedModule) (wanted : GlobalItem → Bool) (external : ExternalName)
     → ((item : GlobalItem) → wanted item ≡ true → external_name typed item ≡ Some external)
     → (count : ℕ) (items : List GlobalItem)
     → Finds (list_any wanted items) (filter_map (external_name typed) items) external count
     (external_from typed wanted count items)
-finds typed wanted external named count [] = refl
-finds typed wanted external named count (item ∷ others) =
+finds_external typed wanted external named count [] = refl
+finds_external typed wanted external named count (item ∷ others) =
     finds_more (list_any wanted others) (filter_map (external_name typed) others) external count (wanted item)
     (external_name typed item) (external_from typed wanted (suc count) others)
     (external_from typed wanted count others) (named item)
-    (finds typed wanted external named (suc count) others)
-    (finds typed wanted external named count others)
+    (finds_external typed wanted external named (suc count) others)
+    (finds_external typed wanted external named count others)
 
 -- an EXTERNAL object is one of the globals
 abbrev is_among : (number : ℕ) → List ℕ → Bool
@@ -138,7 +138,7 @@ pub external_is_named :
     → IsNamed typed number object.name
 external_is_named typed number object lists found is =
     by (external_number typed (is_global_object number)) refl
-    (finds typed (is_global_object number) (record { name = object.name })
+    (finds_external typed (is_global_object number) (record { name = object.name })
     (wanted_name typed number object found is) 0 typed.globals)
   where
     stands : list_any (is_global_object number) typed.globals ≡ true

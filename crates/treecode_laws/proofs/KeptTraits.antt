@@ -1,5 +1,5 @@
 -- The traits of a node, that it is quiet or stores nothing, are those of its tree.
-use Rattle.treecode_laws.proofs.Prelude.{◌≡◌, ◌&&◌, Bool, Option, Some, refl, ap, ◌∙◌, slice_get, ℕ, TypedExpression, TypedReference, Subscript, Storage, Expression, ExpressionForm, Reference, IndexNode, Traits, IsExpression, IsNode, IsForm, IsNumber, IsValue, IsLocation, IsConstantList, IsConversion, IsEmbedded, IsUnary, IsBinary, IsCallOf, IsFunction, IsShift, IsInput, IsReference, IsPart, IsSubscript, IsAbsent, IsIndex, Nodes, KeepTraits, is_quiet_form, quiet_at, reference_is_quiet, reference_stores_nothing, stores_nothing_in_form, storing_nothing_at, subscript_is_quiet, subscript_stores_nothing, traits_of, node_traits, both, is_quiet, part_is_quiet, index_is_quiet, stores_nothing, part_stores_nothing, index_stores_nothing}
+use Rattle.treecode_laws.proofs.Prelude.{◌≡◌, ◌&&◌, Bool, Option, Some, refl, ap, ◌∙◌, slice_get, ℕ, TypedExpression, TypedReference, Subscript, Storage, Expression, ExpressionForm, Reference, IndexNode, Traits, IsExpression, IsNode, IsForm, IsNumber, IsValue, IsLocation, IsConstantList, IsConversion, IsEmbedded, IsUnary, IsBinary, IsCallOf, IsFunction, IsShift, IsInput, IsReference, IsPart, IsSubscript, IsAbsent, IsIndex, Nodes, KeepTraits, is_quiet_form, quiet_at, reference_is_quiet, reference_stores_nothing, stores_nothing_in_form, storing_nothing_at, subscript_is_quiet, subscript_stores_nothing, traits_of, node_traits, same_of_both, is_quiet, part_is_quiet, index_is_quiet, stores_nothing, part_stores_nothing, index_stores_nothing}
 
 quiet_of_node : (nodes : Nodes) (number : ℕ) (expression : Expression) → KeepTraits nodes
     → slice_get nodes.expressions number ≡ Some expression
@@ -35,10 +35,10 @@ module _ (nodes : Nodes) (storage : Storage) (keeps : KeepTraits nodes) where
     form_quiet (IsEmbedded target value) = refl
     form_quiet (IsUnary operand) = quiet_kept operand
     form_quiet (IsBinary left right) =
-        both (λ (one two : Bool). one && two) (quiet_kept left) (quiet_kept right)
+        same_of_both (λ (one two : Bool). one && two) (quiet_kept left) (quiet_kept right)
     form_quiet (IsCallOf given) = refl
     form_quiet (IsFunction operand) = quiet_kept operand
-    form_quiet (IsShift moved by) = both (λ (one two : Bool). one && two) (quiet_kept moved) (quiet_kept by)
+    form_quiet (IsShift moved by) = same_of_both (λ (one two : Bool). one && two) (quiet_kept moved) (quiet_kept by)
     form_quiet IsInput = refl
 
     -- the subscripts of a part of an object are quiet if those of its tree are
@@ -46,7 +46,7 @@ module _ (nodes : Nodes) (storage : Storage) (keeps : KeepTraits nodes) where
         → IsReference nodes storage bound reference part
         → reference_is_quiet nodes reference ≡ part_is_quiet part
     part_quiet (IsPart first second) =
-        both (λ (one two : Bool). one && two) (index_quiet first) (index_quiet second)
+        same_of_both (λ (one two : Bool). one && two) (index_quiet first) (index_quiet second)
 
     pub index_quiet : {bound : ℕ} {index : Option IndexNode} {subscript : Subscript}
         → IsSubscript nodes storage bound index subscript
@@ -73,11 +73,11 @@ module _ (nodes : Nodes) (storage : Storage) (keeps : KeepTraits nodes) where
     form_storing (IsEmbedded target value) = refl
     form_storing (IsUnary operand) = storing_kept operand
     form_storing (IsBinary left right) =
-        both (λ (one two : Bool). one && two) (storing_kept left) (storing_kept right)
+        same_of_both (λ (one two : Bool). one && two) (storing_kept left) (storing_kept right)
     form_storing (IsCallOf given) = refl
     form_storing (IsFunction operand) = storing_kept operand
     form_storing (IsShift moved by) =
-        both (λ (one two : Bool). one && two) (storing_kept moved) (storing_kept by)
+        same_of_both (λ (one two : Bool). one && two) (storing_kept moved) (storing_kept by)
     form_storing IsInput = refl
 
     -- the subscripts of a part of an object store nothing if those of its tree store nothing
@@ -85,7 +85,7 @@ module _ (nodes : Nodes) (storage : Storage) (keeps : KeepTraits nodes) where
         → IsReference nodes storage bound reference part
         → reference_stores_nothing nodes reference ≡ part_stores_nothing part
     part_storing (IsPart first second) =
-        both (λ (one two : Bool). one && two) (index_storing first) (index_storing second)
+        same_of_both (λ (one two : Bool). one && two) (index_storing first) (index_storing second)
 
     pub index_storing : {bound : ℕ} {index : Option IndexNode} {subscript : Subscript}
         → IsSubscript nodes storage bound index subscript

@@ -1,5 +1,5 @@
 -- Operands that may be exchanged.
-use Rattle.treecode_laws.proofs.Prelude.{◌≡◌, ◌||◌, ◌&&◌, ℕ, true, Option, Some, None, is_some, subst, refl, sym, ap, ◌∙◌, length, and_parts, ScalarType, Address, type_of, TypedExpression, TypedReference, Storage, Surroundings, Later, located, value, State, Outcome, Gave, Place, Number, Reference, known_value, IsExpression, IsReference, Nodes, Resolves, HaveOperands, KeepTraits, known_at, quiet_at, reference_is_quiet, storing_nothing_at, known_kept, tells, AreAlike, AreSame, may_exchange, stores_nothing}
+use Rattle.treecode_laws.proofs.Prelude.{◌≡◌, ◌||◌, ◌&&◌, ℕ, true, Option, Some, None, is_some, subst, refl, sym, ap, ◌∙◌, length, and_parts, ScalarType, Address, type_of, TypedExpression, TypedReference, Storage, Surroundings, Later, located, value, State, Outcome, Gave, Place, Number, Reference, known_value, IsExpression, IsReference, Nodes, Resolves, HaveOperands, KeepTraits, known_at, quiet_at, reference_is_quiet, storing_nothing_at, known_kept, known_value_tells, AreAlike, AreSame, may_exchange, stores_nothing}
 use Rattle.meaning.specs.Access.{Place as Location}
 use Rattle.treecode_laws.proofs.Exchanging.{alike_turned, in_order, exchanged, known_exchanged, known_second, quiet_exchanged}
 use Rattle.treecode_laws.proofs.KeptTraits.{part_quiet, quiet_kept, storing_kept}
@@ -24,7 +24,7 @@ pub known_gives : (around : Surroundings) (nodes : Nodes) (storage : Storage) (a
     → (s : State) → value later around tree s ≡ Gave (address place) s
 known_gives around nodes storage address resolves later tree place fit is =
     (subst (λ (one : Option Place). Tells address one (type_of tree) (λ s. value later around tree s)) is
-    (tells around nodes.homes storage address resolves later tree fit)).0
+    (known_value_tells around nodes.homes storage address resolves later tree fit)).0
 
 module _ (nodes : Nodes) (storage : Storage) (keeps : KeepTraits nodes) (around : Surroundings)
     (address : Place → ℕ) (resolves : Resolves around nodes.homes storage address) (later : Later) where

@@ -10,7 +10,7 @@ pub use Rattle.layout.proofs.{Resolving.{further}, Segments.{constants_length, d
 pub use Rattle.layout.specs.{Segments.{Absolute, After, Location, Places, SegmentByte, SegmentStart, Target, address_of_location, constant_places, data_places, further_on, location_by_home, location_in, location_of, locations_after, places_by_home, places_in, places_of_bytes, places_of_constant, places_of_location, places_of_object, places_of_value}, StartingMemory.{values_in}, Storage.{Storage, bytes_in_constants, bytes_in_data, constants_before, data_bytes, fits_as_list, fits_as_object, is_list, is_object, slot_of_list, slot_of_object, storage_with}, declared.fault.Fault.TheVariants.{ConstantsTooLarge, DataTooLarge}, declared.slot.Segment.TheVariants.{Code, Data}, declared.slot.Slot.{Slot}, declared.slot.TheConstants.{SEGMENT_LIMIT}}
 unfoldable pub use Rattle.layout.specs.Storage.{storage_of}
 pub use Rattle.meaning.specs.{Access.{InMemory, InTheFrame, Surroundings, frame_bytes, home_of, is_declared, next_place, place_in, place_of, read_byte, read_scalar}, Meaning.{Later, address_in_memory, address_of_list, based_place, computed, displaced, displacement, located, no_displacement, taken_in, value}, Outcomes.{Ended, Gave, More, Outcome, Outside, Program, State, Stopped, then_do}, Values.{as_type, function_of, result_of, result_of_one, shifted}, declared.reason.Reason.TheVariants.{Byte as UndeclaredByte, Divide}}
-pub use Rattle.treecode.proofs.{KeptValues.{known_kept, known_of_node, node_traits}, KnownMeans.{tells}, SameTraits.{both}}
+pub use Rattle.treecode.proofs.{KeptValues.{known_kept, known_of_node, node_traits}, KnownMeans.{known_value_tells}, SameTraits.{same_of_both}}
 pub use Rattle.treecode.specs.{Contents.{constant_object, constants_from, content_of, place_from, public_item, public_object, size_of_value as bytes_of_value, static_object, static_place, variables_from, with_constant, with_gap, with_gap_if_any, with_object}, Homes.{external_from, external_name, external_number, external_object, external_place, externals_of, home_after, home_of_object, homes_from, is_global_object, latest, number_of_place, place_after, place_of_slot}, Known.{known_value, offset_of_list, place_of_part}, Lowered.{IsAbsent, IsBinary, IsCallOf, IsConstantList, IsConversion, IsEmbedded, IsExpression, IsForm, IsFunction, IsIndex, IsInput, IsLocation, IsLowered, IsNode, IsNumber, IsPart, IsReference, IsShift, IsSubscript, IsUnary, IsValue}, Nodes.{Nodes, home_at, nodes_of}, Resolved.{HaveOperands, Resolves}, Traits.{KeepTraits, byte_after, distance_of, free_at, has_immediate, is_direct, is_free_form, is_free_of, is_free_with, is_of_low_byte, is_quiet_form, known_at, known_of, number_at, place_of_reference, quiet_at, reference_is_quiet, reference_stores_nothing, stores_nothing_in_form, storing_nothing_at, subscript_is_quiet, subscript_stores_nothing}, declared.expression.Expression.{Expression}, declared.expression.ExpressionForm.{ExpressionForm}, declared.expression.ExpressionNumber.{ExpressionNumber}, declared.module.Content.{Content, TheVariants.{Gap, Word}}, declared.module.ExternalName.{ExternalName as External, ExternalName}, declared.module.PublicName.{PublicName}, declared.module.TreeModule.{TreeModule}, declared.place.Home.{Home}, declared.place.Place.{Place, TheVariants.{Number}}, declared.reference.Reference.{Reference}, declared.reference.Subscript.{Subscript as IndexNode}, declared.traits.Traits.{Traits}}
 unfoldable pub use Rattle.treecode.specs.{Contents.{constants_of, variables_of}, Homes.{homes_of}, Traits.{traits_of}}
 pub use Rattle.treecode_laws.specs.Laid.{IsLaidOut, IsStored}

@@ -32,15 +32,15 @@ module _ (known : Known) where
       sym (made_goes_on first_typed all_typed grown (λ first others state. refl) trees i tree before after (expression_view next) (after_made made) (after_made (made ++ next ∷ [])) total
       within is (sym left) given (λ rest. ap (λ all. (all, rest.1)) (in_front_more made next rest.0)))
 
-  pub fails : (trees : List Expression) (i : ℕ) (tree : Expression) (made : List Typed) (before : Constants) (total : Checked (TypedArguments × Constants)) (fault : Option Fault)
+  pub argument_fails : (trees : List Expression) (i : ℕ) (tree : Expression) (made : List Typed) (before : Constants) (total : Checked (TypedArguments × Constants)) (fault : Option Fault)
       → i < length trees → tree ≡ get_or trees i tree → total ≡ put_in_front (after_made made) (all_typed (drop i trees) before)
       → FailsBy fault (expression known (expression_tree tree) before) → FailsBy fault total
-  fails trees i tree made before total fault within is left given =
+  argument_fails trees i tree made before total fault within is left given =
       made_fails first_typed all_typed grown (λ first others state. refl) trees i tree before (after_made made) total fault within is (sym left) given
 
-  pub ended : (trees : List Expression) (i : ℕ) (made : List Typed) (now : Constants) (total : Checked (TypedArguments × Constants))
+  pub arguments_ended : (trees : List Expression) (i : ℕ) (made : List Typed) (now : Constants) (total : Checked (TypedArguments × Constants))
       → length trees ≤ i → total ≡ put_in_front (after_made made) (all_typed (drop i trees) now) → total ≡ Ok (arguments_view made, now)
-  ended trees i made now total past left =
+  arguments_ended trees i made now total past left =
       made_ended first_typed all_typed grown (λ first others state. refl) trees i now (after_made made) total (NoArguments, now) (arguments_view made, now)
       past (sym left) refl (ap (λ all. (all, now)) (in_front_end made))
 

@@ -50,14 +50,14 @@ module _ (known : CodeKnown) where
       made_goes_on first_found all_found grown first_of_all targets i target now after (destination_view next) (before made) (before (made ++ next ∷ [])) total
       within is left given (λ rest. ap (λ all. (all, rest.1)) (pushed made next rest.0))
 
-  pub fails : (targets : List Reference) (i : ℕ) (target : Reference) (made : List CodeDestination) (now : Constants) (total : Checked (List Destination × Constants)) (fault : Option Fault)
+  pub destination_fails : (targets : List Reference) (i : ℕ) (target : Reference) (made : List CodeDestination) (now : Constants) (total : Checked (List Destination × Constants)) (fault : Option Fault)
       → i < length targets → target ≡ get_or targets i target → in_front (before made) (all_found (drop i targets) now) ≡ total
       → FailsBy fault (first_found target now) → FailsBy fault total
-  fails targets i target made now total fault within is left given =
+  destination_fails targets i target made now total fault within is left given =
       made_fails first_found all_found grown first_of_all targets i target now (before made) total fault within is left given
 
-  pub ended : (targets : List Reference) (i : ℕ) (made : List CodeDestination) (now : Constants) (total : Checked (List Destination × Constants))
+  pub destinations_ended : (targets : List Reference) (i : ℕ) (made : List CodeDestination) (now : Constants) (total : Checked (List Destination × Constants))
       → length targets ≤ i → in_front (before made) (all_found (drop i targets) now) ≡ total → total ≡ Ok (map destination_view made, now)
-  ended targets i made now total past left =
+  destinations_ended targets i made now total past left =
       made_ended first_found all_found grown first_of_all targets i now (before made) total ([], now) (map destination_view made, now)
       past left refl (ap (λ all. (all, now)) (all_made made))

@@ -73,7 +73,7 @@ fn place_of_reference(reference: &Reference) -> Place
 }
 
 /// The place at which a statement begins, its labels aside.
-#[tactic(auto, using(names::proofs::TreesOfParts::do_is))]
+#[tactic(auto, using(names::proofs::TreesOfParts::do_tree_is))]
 pub fn place_of_kind(kind: &StatementKind) -> Place
     ensures { result ≡ place_of_kind (kind_tree kind.now) }
 {

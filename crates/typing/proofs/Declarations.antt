@@ -1,6 +1,6 @@
 -- Declarations leave the labels that are known as they were, and procedures sound.
 use Rattle.typing.proofs.Prelude.{◌≡◌, ℕ, List, [], ◌∷◌, ◌++◌, take, drop, refl, ap, subst, sym, IfOk, nat_le, not, ◌||◌, All-append, All-cons, All-nil, All-set, Identifier, ItemTree, ElementTree, LiterallyElement, ItemElement, HeadingTree, DeclarationTrees, Here, Body, Names, into_body, after_body, with_object, with_procedure, with_parameter, with_label, is_declared_again, is_parameter_again, is_label_again, declared_by, OBJECT_LIMIT, FRAME_LIMIT, PARAMETER_LIMIT, TypedList, TypedProcedure, BodyIsSound, DeclaredTwice, NestedProcedure, ExternalContents, TooLarge, require, place_of, Block, Progress, is_external, is_reentrant, declares_parameter, TypedItem, declare_names, place_of_item, object_named, with_typed_object, with_objects, typed_item, size_of_item, declare_item, declare_definition, declare_element, declare_elements, declare_labels, declare_parameters, no_more_parameters, check_visibility, check_reentrant, parameter_types, procedure_with, empty_list, open_procedure, close_procedure}
-use Rattle.typing.proofs.Steps.{then, then_any}
+use Rattle.typing.proofs.Steps.{then_checks, then_any}
 use Rattle.typing.proofs.PartsWithoutStatements.{IsIn, AreSound, IsAt}
 
 -- one procedure more; one whose body is still to come does nothing
@@ -58,11 +58,11 @@ module _ {lists : List Names} {outer : List Body} where
       → IsAt lists outer progress.known
       → IfOk (declare_item block item progress) (λ after. IsAt lists outer after.known)
   declare_item_is block item progress at =
-      then _ _ (declare_names block (declared_by item.subject) progress.known.here) _
+      then_checks _ _ (declare_names block (declared_by item.subject) progress.known.here) _
       (declare_names_is block (declared_by item.subject) progress.known.here at.here) (λ here is.
       then_any _ (typed_item progress.known block item) _ (λ typed.
       then_any _ (require (nat_le (size_of_item typed) OBJECT_LIMIT) TooLarge (place_of_item item)) _ (λ fits.
-      then _ _ (with_objects block typed (declared_by item.subject) progress) _
+      then_checks _ _ (with_objects block typed (declared_by item.subject) progress) _
       (with_objects_is block typed (declared_by item.subject) progress at) (λ declared after.
       record { here = is; procedures = after.procedures }))))
 
@@ -89,7 +89,7 @@ module _ {lists : List Names} {outer : List Body} where
       → IfOk (declare_elements block elements progress) (λ after. IsAt lists outer after.known)
   declare_elements_is block [] progress at = at
   declare_elements_is block (element ∷ others) progress at =
-      then _ _ (declare_element block element progress) _ (declare_element_is block element progress at)
+      then_checks _ _ (declare_element block element progress) _ (declare_element_is block element progress at)
       (λ after at_after.
       declare_elements_is block others after at_after)
 
@@ -105,7 +105,7 @@ open_procedure_is block heading declared progress at =
     (place_of heading.name)) _ (λ is_new.
     then_any _ (require (not (is_reentrant block.owner || is_external block.owner)) NestedProcedure
     (place_of heading.name)) _ (λ may_stand.
-    then _ _ (declare_parameters (take PARAMETER_LIMIT heading.parameters) (into_body named)) _
+    then_checks _ _ (declare_parameters (take PARAMETER_LIMIT heading.parameters) (into_body named)) _
     (declare_parameters_is (take PARAMETER_LIMIT heading.parameters) (into_body named)
     (record { lists_are = refl; outer_are = ap (λ (bodies : List Body). named.body ∷ bodies) at.here.outer_are }))
     (λ here is.

@@ -1,6 +1,6 @@
 -- The parts of a module that have no statements in them: expressions, simple statements, heads of loops.
 use Rattle.typing.proofs.Prelude.{◌≡◌, List, Option, None, Some, sym, subst, All, IfOk, IfSome, is_none, ◌==◌, option_map_or, ScalarType, Identifier, Place, ExpressionTree, ReferenceTree, IterationTree, Entity, Procedure, Label, Binding, Declared, BuiltInName, UnknownLabel, Move, jump_of, Here, Body, Names, known_in, TypedArguments, NoTyped, MoreTyped, TypedStatement, TypedProcedure, Constants, LabelsOf, JumpsStay, ListsStand, IsNoLabel, BodyIsSound, ArgumentCount, CallOfTyped, require, Known, Given, place_of, count_of_given, bound, procedure_of, call_arguments, expression, Owner, TheModule, OfProcedure, Progress, with_constants, value, destinations, assignment, moved, call_bound, call, return_with, return_from, goto_bound, goto, counter_bound, step, iteration}
-use Rattle.typing.proofs.Steps.{then, then_any}
+use Rattle.typing.proofs.Steps.{then_checks, then_any}
 use Rattle.typing.proofs.Jumps.KnownLabels.{IsLabelAround, AreAround}
 
 -- a place of a text, with the labels that are known there and the bodies around its own
@@ -41,7 +41,7 @@ call_bound_is around known (Declared (Procedure number)) name given constants =
 call_bound_is around known (BuiltInName Move) name given constants =
     then_any _ (require (count_of_given given == 3) ArgumentCount (place_of name)) _ (λ are_three.
     then_any _ (given.typed constants) _ (λ typed.
-    then _ _ (moved (place_of name) typed.0) _ (moved_is around (place_of name) typed.0) (λ moving is. is)))
+    then_checks _ _ (moved (place_of name) typed.0) _ (moved_is around (place_of name) typed.0) (λ moving is. is)))
 call_bound_is around known binding name given constants = tt
 
 goto_bound_is : (around : List LabelsOf) (place : Place) (found : Option Entity) → IfSome found (IsLabelAround around)
@@ -61,7 +61,7 @@ module _ {lists : List Names} {outer : List Body} where
       → IsAt lists outer progress.known → IfOk (assignment targets source progress) (IsDone around lists outer)
   assignment_is around targets source progress at =
       then_any _ (destinations progress.known targets progress.constants) _ (λ places.
-      then _ _ (value source (with_constants places.1 progress)) _ (value_is source (with_constants places.1 progress) at)
+      then_checks _ _ (value source (with_constants places.1 progress)) _ (value_is source (with_constants places.1 progress) at)
       (λ typed after. (record { jumps = tt; stands = tt; is_no_label = tt }, after)))
 
   pub call_is : (around : List LabelsOf) (name : Identifier) (given : Given)
@@ -69,7 +69,7 @@ module _ {lists : List Names} {outer : List Body} where
       → IsAt lists outer progress.known → IfOk (call name given progress) (IsDone around lists outer)
   call_is around name given progress at =
       then_any _ (bound progress.known name) _ (λ binding.
-      then _ _ (call_bound progress.known binding name given progress.constants) _
+      then_checks _ _ (call_bound progress.known binding name given progress.constants) _
       (call_bound_is around progress.known binding name given progress.constants) (λ typed is. (is, at)))
 
   return_with_is : (around : List LabelsOf) (place : Place)
@@ -77,7 +77,7 @@ module _ {lists : List Names} {outer : List Body} where
       → IsAt lists outer progress.known → IfOk (return_with place result tree progress) (IsDone around lists outer)
   return_with_is around place None None progress at = (record { jumps = tt; stands = tt; is_no_label = tt }, at)
   return_with_is around place (Some scalar) (Some tree) progress at =
-      then _ _ (value tree progress) _ (value_is tree progress at)
+      then_checks _ _ (value tree progress) _ (value_is tree progress at)
       (λ typed after. (record { jumps = tt; stands = tt; is_no_label = tt }, after))
   return_with_is around place result tree progress at = tt
 
@@ -91,7 +91,7 @@ module _ {lists : List Names} {outer : List Body} where
       → AreAround around lists → IsAt lists outer progress.known
       → IfOk (goto label progress) (IsDone around lists outer)
   goto_is {around = around} label progress are at =
-      then _ _ (goto_bound (place_of label) (jump_of progress.known.here label.name)) _
+      then_checks _ _ (goto_bound (place_of label) (jump_of progress.known.here label.name)) _
       (goto_bound_is around (place_of label) (known_in progress.known.here.body.lists label.name)
       (subst (λ (lists : List Names). IfSome (known_in lists label.name) (IsLabelAround around)) (sym at.here.lists_are)
       (are.known label.name)))
@@ -100,13 +100,13 @@ module _ {lists : List Names} {outer : List Body} where
   step_is : (tree : Option ExpressionTree) (progress : Progress)
       → IsAt lists outer progress.known → IfOk (step tree progress) (λ typed. IsAt lists outer typed.1.known)
   step_is None progress at = at
-  step_is (Some tree) progress at = then _ _ (value tree progress) _ (value_is tree progress at) (λ typed after. after)
+  step_is (Some tree) progress at = then_checks _ _ (value tree progress) _ (value_is tree progress at) (λ typed after. after)
 
   pub iteration_is : (tree : IterationTree) (progress : Progress)
       → IsAt lists outer progress.known → IfOk (iteration tree progress) (λ typed. IsAt lists outer typed.1.known)
   iteration_is tree progress at =
       then_any _ (bound progress.known tree.variable) _ (λ binding.
       then_any _ (counter_bound progress.known binding tree.variable) _ (λ counter.
-      then _ _ (value tree.first progress) _ (value_is tree.first progress at) (λ first at_first.
-      then _ _ (value tree.last first.1) _ (value_is tree.last first.1 at_first) (λ last at_last.
-      then _ _ (step tree.step last.1) _ (step_is tree.step last.1 at_last) (λ by at_end. at_end)))))
+      then_checks _ _ (value tree.first progress) _ (value_is tree.first progress at) (λ first at_first.
+      then_checks _ _ (value tree.last first.1) _ (value_is tree.last first.1 at_first) (λ last at_last.
+      then_checks _ _ (step tree.step last.1) _ (step_is tree.step last.1 at_last) (λ by at_end. at_end)))))

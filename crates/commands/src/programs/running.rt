@@ -23,7 +23,7 @@ use tool::{Built, Source};
 
 /// Prints the map of a program, where one is wanted, and then what the program does, as it was ordered; and gathers the bytes
 /// for the files of ports. The answer is how the command ends. After a failure a beginning of that was printed.
-#[tactic(auto, using(crate::proofs::Printed::with_map, crate::proofs::Printed::alone, crate::proofs::Printed::map_stops, crate::proofs::Printed::stops_with_map, crate::proofs::Printed::stops_alone))]
+#[tactic(auto, using(crate::proofs::Printed::with_map, crate::proofs::Printed::prints_without_map, crate::proofs::Printed::map_stops, crate::proofs::Printed::stops_with_map, crate::proofs::Printed::stops_alone))]
 pub(crate) fn print_built<O: Write>(
     alloc: Global,
     order: &ProgramOrder,

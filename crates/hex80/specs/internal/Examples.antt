@@ -62,9 +62,9 @@ pub wrong_sum : judgement_of (ended_line (codes ":09010000CD0401763E08D304C9C9")
 unfolding fault_at judgement_of
 wrong_sum = refl
 
-pub twice : judgement_of (ended_line program_line ++ ended_line program_line ++ end_line) ≡ Err Overlap
+pub program_line_twice : judgement_of (ended_line program_line ++ ended_line program_line ++ end_line) ≡ Err Overlap
 unfolding fault_at judgement_of
-twice = refl
+program_line_twice = refl
 
 -- lower case; another end line; text after the end line; an empty line; CR alone; past the end of memory
 pub lower_case : judgement_of (codes ":00000001ff") ≡ Err BadLine

@@ -7,7 +7,7 @@ use Rattle.treecode.specs.declared.place.Location.TheVariants as locations
 use Rattle.steps8080.specs.declared.step.Step.TheVariants as steps
 use Rattle.steps8080.specs.declared.sites.queries.Base.TheVariants as bases
 use Rattle.measure_laws.specs.internal.Footprints.{Footprint, Ground, HasParts, IsBelow, IsPlaced}
-use Rattle.measure_laws.proofs.{Footprints.Chains.{product_footprint}, Footprints.Found.{of_found}, Footprints.Joining.{after_plain, by_asking, by_finding, by_test, counted, joined, lowered, repeated, restored, two_free, weak, within}, Footprints.Trees.{IndexIs, has_parts, subscripts_are}}
+use Rattle.measure_laws.proofs.{Footprints.Chains.{product_footprint}, Footprints.Found.{of_found}, Footprints.Joining.{after_plain, by_asking, by_finding, by_test, counted, joined, lowered, repeated, restored, two_free, operand_from_below, within}, Footprints.Trees.{IndexIs, has_parts, subscripts_are}}
 
 pub instruction_small : (i : Instr) → size_of_instruction i ≤ 3
 instruction_small (Lxi pair word) = omega arith
@@ -128,7 +128,7 @@ second_footprint {at = at} {free = free} second pushed is =
     by_test (keeps at.site second.index).de
     (after_plain (114 + 128 * beside at.site second.index) refl
     (joined (113 + 128 * beside at.site second.index) 1
-    (product_footprint second.index second.stride pushed (weak is)) (counted refl (omega arith)) (omega arith))
+    (product_footprint second.index second.stride pushed (operand_from_below is)) (counted refl (omega arith)) (omega arith))
     (omega arith))
     (counted (two_free is, kept.go) (omega (arith, kept.small)))
   where
@@ -189,7 +189,7 @@ split_computed_is at free subscript is = by (expression at.site subscript.index)
         → IfSome
         (computed_in (elim found [ Some one ↦ split_form at.site subscript one.form | None ↦ split_whole subscript ]))
         (IsIndexOf at free (1 + beside at.site subscript.index))
-    by (Some one) there = split_form_is at free subscript one.form is (has_parts at (weak is) there)
+    by (Some one) there = split_form_is at free subscript one.form is (has_parts at (operand_from_below is) there)
     by None there = whole_is subscript is
 
 split_is :
@@ -221,16 +221,16 @@ located_footprint at free base one_limit two_limit None None pushed one two =
     within 12 (base_footprint base pushed) (omega arith)
 located_footprint at free base one_limit two_limit (Some first) None pushed one two =
     joined (113 + 128 * beside at.site first.index) 14
-    (product_footprint first.index first.stride pushed (weak one.one)) (base_added_footprint base pushed)
+    (product_footprint first.index first.stride pushed (operand_from_below one.one)) (base_added_footprint base pushed)
     (omega (arith, one.small))
 located_footprint at free base one_limit two_limit None (Some second) pushed one two =
     joined (113 + 128 * beside at.site second.index) 14
-    (product_footprint second.index second.stride pushed (weak two.one)) (base_added_footprint base pushed)
+    (product_footprint second.index second.stride pushed (operand_from_below two.one)) (base_added_footprint base pushed)
     (omega (arith, two.small))
 located_footprint at free base one_limit two_limit (Some first) (Some second) pushed one two =
     joined (229 + 128 * beside at.site first.index + 128 * beside at.site second.index) 14
     (joined (113 + 128 * beside at.site first.index) (116 + 128 * beside at.site second.index)
-    (product_footprint first.index first.stride pushed (weak one.one)) (second_footprint second pushed two.one)
+    (product_footprint first.index first.stride pushed (operand_from_below one.one)) (second_footprint second pushed two.one)
     (omega arith)) (base_added_footprint base pushed) (omega (arith, one.small, two.small))
 
 -- the address of a part of an object

@@ -6,7 +6,7 @@ use Rattle.steps8080.specs.Step.{part}
 use Rattle.operands8080.specs.declared.byte_relations.Form.TheVariants.{Pushed}
 use Rattle.operands8080.specs.internal.ByteRelations.{byte_number_steps, form_of, with_e_steps, with_memory_steps}
 use Rattle.measure_laws.specs.internal.Footprints.{Footprint, Ground, IsBelow}
-use Rattle.measure_laws.proofs.{Footprints.Found.{IsInMemory, operand_is_in_memory}, Footprints.Joining.{after_part, by_finding, by_test, counted, joined, lowered, restored, two_free, weak, within}}
+use Rattle.measure_laws.proofs.{Footprints.Found.{IsInMemory, operand_is_in_memory}, Footprints.Joining.{after_part, by_finding, by_test, counted, joined, lowered, restored, two_free, operand_from_below, within}}
 
 byte_is_footprint :
     {at : Ground} {free : ℕ} (number : ℕ) (setting : Setting)
@@ -52,8 +52,8 @@ pub byte_number_footprint :
     → IsBelow at free operand
     → Footprint at free (byte_number_steps operand question setting) free (78 + 128 * beside at.site operand)
 byte_number_footprint operand question setting is =
-    by_finding (known_answer question) (λ answer known. counted (weak is, refl) (omega arith))
-    (λ none. after_part 2 (weak is) (number_in_a_footprint question setting) (omega arith))
+    by_finding (known_answer question) (λ answer known. counted (operand_from_below is, refl) (omega arith))
+    (λ none. after_part 2 (operand_from_below is) (number_in_a_footprint question setting) (omega arith))
 
 -- two operands that are compared
 pub record AreSides (at : Ground) (free limit : ℕ) (sides : Sides) : Type 0 where
@@ -72,7 +72,7 @@ memory_form_is :
     → AreSides at free limit sides
     → IfSome (memory_form at.site comparison sides) (IsForm at free limit)
 memory_form_is at free limit comparison sides are =
-    by (operand_in_memory at.site sides.second) (operand_is_in_memory at free sides.second (weak are.two))
+    by (operand_in_memory at.site sides.second) (operand_is_in_memory at free sides.second (operand_from_below are.two))
   where
     chosen :
         (b : Bool) (reference : Reference)
@@ -215,7 +215,7 @@ byte_relation_footprint {at = at} {free = free} comparison setting one two =
         ∷ left_back_steps comparison.question)
         (free - 2 + 2) (155 + 128 * (beside at.site comparison.left + beside at.site comparison.right))
     begun =
-        counted (weak one, (two_free two, (lowered two, popped.go)))
+        counted (operand_from_below one, (two_free two, (lowered two, popped.go)))
         (omega (arith, popped.small, one.byte_small, two.byte_small))
 
     by : (form : Form)
@@ -230,9 +230,9 @@ byte_relation_footprint {at = at} {free = free} comparison setting one two =
         let sum : beside at.site sides.first + beside at.site sides.second
         ≤ beside at.site comparison.left + beside at.site comparison.right = is.0.small in
         let place : indices at.site reference ≤ beside at.site sides.second = is.1.small in
-        counted (weak is.0.one, (is.1.place, refl)) (omega (arith, sum, place, is.0.one.byte_small))
+        counted (operand_from_below is.0.one, (is.1.place, refl)) (omega (arith, sum, place, is.0.one.byte_small))
     by (WithE sides) is =
-        counted (weak is.two, (weak is.one, refl))
+        counted (operand_from_below is.two, (operand_from_below is.one, refl))
         (omega (arith, is.small, is.one.byte_small, is.two.byte_small))
     by Pushed is =
         joined (155 + 128 * (beside at.site comparison.left + beside at.site comparison.right)) 1 begun

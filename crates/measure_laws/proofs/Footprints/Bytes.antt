@@ -7,7 +7,7 @@ use Rattle.steps8080.specs.declared.step.Task.TheVariants as tasks
 use Rattle.steps8080.specs.Step.{part}
 use Rattle.steps8080.specs.Widths.{is_byte}
 use Rattle.measure_laws.specs.internal.Footprints.{Footprint, Ground, HasTwo, IsBelow, IsOperand}
-use Rattle.measure_laws.proofs.{Footprints.Addresses.{byte_in_memory_footprint}, Footprints.Chains.{byte_product_footprint}, Footprints.Found.{IsInMemory, high_is_in_memory, of_found, operand_is_in_memory}, Footprints.Joining.{after_part, after_plain, by_asking, by_finding, by_test, counted, joined, lowered, repeated, restored, two_free, weak, within}, Footprints.Pairs.{pair_footprint, pair_in_order_footprint}, Footprints.Relations.{relation_value_footprint}, Footprints.Weights.{type_is}}
+use Rattle.measure_laws.proofs.{Footprints.Addresses.{byte_in_memory_footprint}, Footprints.Chains.{byte_product_footprint}, Footprints.Found.{IsInMemory, high_is_in_memory, of_found, operand_is_in_memory}, Footprints.Joining.{after_part, after_plain, by_asking, by_finding, by_test, counted, joined, lowered, repeated, restored, two_free, operand_from_below, within}, Footprints.Pairs.{pair_footprint, pair_in_order_footprint}, Footprints.Relations.{relation_value_footprint}, Footprints.Weights.{type_is}}
 
 pub byte_number_footprint :
     {at : Ground} {free : ℕ} (number : ℕ)
@@ -41,11 +41,11 @@ unfolding high_byte_steps
 high_byte_footprint {at = at} {free = free} expression pushed is =
     by_finding (number_of at.site expression)
     (λ number there. within 2 (byte_number_footprint (high number)) (omega arith))
-    (λ unknown. by_test (fits_byte at.site expression) (counted (weak is, refl) (omega arith))
+    (λ unknown. by_test (fits_byte at.site expression) (counted (operand_from_below is, refl) (omega arith))
     (by_finding (high_byte_in_memory at.site expression)
     (λ reference there. in_memory reference
-    (of_found (IsInMemory at free expression) (high_is_in_memory at free expression (weak is)) there))
-    (λ none. counted (weak is, refl) (omega arith))))
+    (of_found (IsInMemory at free expression) (high_is_in_memory at free expression (operand_from_below is)) there))
+    (λ none. counted (operand_from_below is, refl) (omega arith))))
   where
     in_memory :
         (reference : Reference)
@@ -86,7 +86,7 @@ zero_footprint :
     → IsBelow at free value
     → Footprint at free (zero_steps value pushed) free (73 + 128 * beside at.site value)
 unfolding zero_steps
-zero_footprint value pushed is = counted (weak is, refl) (omega arith)
+zero_footprint value pushed is = counted (operand_from_below is, refl) (omega arith)
 
 shifted_left_footprint :
     {at : Ground} {free : ℕ} (value : ExpressionNumber) (count pushed : ℕ)
@@ -96,7 +96,7 @@ unfolding shifted_left_steps
 shifted_left_footprint {at = at} value count pushed is =
     by_asking (nat_le 8 count)
     (λ many. within (73 + 128 * beside at.site value) (zero_footprint value pushed is) (omega arith))
-    (λ few. after_part 7 (weak is)
+    (λ few. after_part 7 (operand_from_below is)
     (within count (repeated (with_register Add A) count refl refl) (omega (arith, leb-false 8 count few)))
     (omega arith))
 
@@ -108,7 +108,7 @@ unfolding byte_shifted_right_steps
 byte_shifted_right_footprint {at = at} value count pushed is =
     by_test (nat_le 8 count)
     (within (73 + 128 * beside at.site value) (zero_footprint value pushed is) (omega arith))
-    (after_part 6 (weak is) (right_shift_footprint count) (omega arith))
+    (after_part 6 (operand_from_below is) (right_shift_footprint count) (omega arith))
 
 middle_byte_footprint :
     {at : Ground} {free : ℕ} (value : ExpressionNumber) (count pushed : ℕ)
@@ -116,8 +116,8 @@ middle_byte_footprint :
     → Footprint at free (middle_byte_steps value count pushed) free (85 + 128 * beside at.site value)
 unfolding middle_byte_steps
 middle_byte_footprint value count pushed is =
-    by_test (count == 1) (counted (weak is, refl) (omega arith))
-    (after_part 9 (weak is)
+    by_test (count == 1) (counted (operand_from_below is, refl) (omega arith))
+    (after_part 9 (operand_from_below is)
     (joined 8 1 (within (8 - count) (repeated (Dad Hl) (8 - count) refl refl) (omega arith))
     (counted refl (omega arith)) (omega arith)) (omega arith))
 
@@ -136,7 +136,7 @@ low_byte_shifted_right_footprint {at = at} value count pushed is =
     (by_test (nat_le 8 count)
     (joined (77 + 128 * beside at.site value) 6 (high_byte_footprint value pushed is)
     (right_shift_footprint (count - 8)) (omega arith))
-    (by_test (count == 0) (counted (weak is, refl) (omega arith))
+    (by_test (count == 0) (counted (operand_from_below is, refl) (omega arith))
     (middle_byte_footprint value count pushed is))))
 
 by_number_footprint :
@@ -148,9 +148,9 @@ unfolding by_number_steps
 by_number_footprint ShiftLeft value count pushed is = shifted_left_footprint value count pushed is
 by_number_footprint ShiftRight value count pushed is = low_byte_shifted_right_footprint value count pushed is
 by_number_footprint RotateLeft value count pushed is =
-    after_part 4 (weak is) (rotation_footprint (count % 8)) (omega arith)
+    after_part 4 (operand_from_below is) (rotation_footprint (count % 8)) (omega arith)
 by_number_footprint RotateRight value count pushed is =
-    after_part 4 (weak is) (rotation_footprint ((8 - count % 8) % 8)) (omega arith)
+    after_part 4 (operand_from_below is) (rotation_footprint ((8 - count % 8) % 8)) (omega arith)
 
 count_in_memory_footprint :
     {at : Ground} {free : ℕ} (value count : ExpressionNumber) (reference : Reference) (pushed : ℕ)
@@ -159,7 +159,7 @@ count_in_memory_footprint :
     (155 + 128 * beside at.site value + 128 * beside at.site count)
 unfolding count_in_memory_steps
 count_in_memory_footprint value count reference pushed one has =
-    counted (weak one, (has.place, refl)) (omega (arith, has.small))
+    counted (operand_from_below one, (has.place, refl)) (omega (arith, has.small))
 
 operands_footprint :
     {at : Ground} {free : ℕ} (value count : ExpressionNumber) (pushed : ℕ)
@@ -170,11 +170,11 @@ unfolding operands_steps
 operands_footprint {at = at} {free = free} value count pushed one two =
     by_finding (operand_in_memory at.site count)
     (λ reference there. count_in_memory_footprint value count reference pushed one
-    (of_found (IsInMemory at free count) (operand_is_in_memory at free count (weak two)) there))
+    (of_found (IsInMemory at free count) (operand_is_in_memory at free count (operand_from_below two)) there))
     (λ none. by_test
     ((is_some (known at.site value) || is_free at.site value) && may_exchange at.site value count)
-    (counted (weak two, (weak one, refl)) (omega arith))
-    (counted (weak one, (two_free two, (lowered two, restored two))) (omega arith)))
+    (counted (operand_from_below two, (operand_from_below one, refl)) (omega arith))
+    (counted (operand_from_below one, (two_free two, (lowered two, restored two))) (omega arith)))
 
 address_is_no_byte : scalars.Address ≡ scalars.Byte → ⊥
 address_is_no_byte same = false≢true (ap is_byte same)
@@ -235,13 +235,13 @@ pub with_number_footprint :
     (78 + 128 * beside at.site value)
 unfolding with_number_steps
 with_number_footprint And value number pushed is =
-    by_test (number == 0) (counted (weak is, refl) (omega arith))
-    (after_part 2 (weak is) (immediate_footprint And number) (omega arith))
+    by_test (number == 0) (counted (operand_from_below is, refl) (omega arith))
+    (after_part 2 (operand_from_below is) (immediate_footprint And number) (omega arith))
 with_number_footprint Or value number pushed is =
-    by_test (number == 255) (after_part 2 (weak is) (byte_number_footprint 255) (omega arith))
-    (after_part 2 (weak is) (immediate_footprint Or number) (omega arith))
+    by_test (number == 255) (after_part 2 (operand_from_below is) (byte_number_footprint 255) (omega arith))
+    (after_part 2 (operand_from_below is) (immediate_footprint Or number) (omega arith))
 with_number_footprint operation value number pushed is =
-    after_part 2 (weak is) (immediate_footprint operation number) (omega arith)
+    after_part 2 (operand_from_below is) (immediate_footprint operation number) (omega arith)
 
 from_number_footprint :
     {at : Ground} {free : ℕ} (operation : Operation) (number : ℕ) (value : ExpressionNumber) (pushed : ℕ)
@@ -253,7 +253,7 @@ from_number_footprint {at = at} operation number value pushed is =
     by_test (commutes operation)
     (within (78 + 128 * beside at.site value) (with_number_footprint operation value number pushed is)
     (omega arith))
-    (after_part 3 (weak is) (after_plain 2 refl (added_footprint ((number + 1) % 256)) (omega arith))
+    (after_part 3 (operand_from_below is) (after_plain 2 refl (added_footprint ((number + 1) % 256)) (omega arith))
     (omega arith))
 
 -- an operand that stays in memory is one of the two
@@ -372,7 +372,7 @@ byte_form_is at free operation operands one two =
     by (Some form) has = has
     by None has =
         placed (operand_in_memory at.site operands.right)
-        (operand_is_in_memory at free operands.right (weak two))
+        (operand_is_in_memory at free operands.right (operand_from_below two))
 
 with_stack_footprint :
     {at : Ground} {free : ℕ} (operation : Operation) (operands : Operands) (pushed : ℕ)
@@ -398,7 +398,7 @@ with_stack_footprint {at = at} {free = free} operation operands pushed one two =
         else steps.Plain (copy B A) ∷ steps.Plain (Pop Psw) ∷ []))
         (free - 2 + 2) (155 + 128 * beside at.site operands.left + 128 * beside at.site operands.right)
     begun =
-        counted (weak one, (two_free two, (lowered two, popped.go)))
+        counted (operand_from_below one, (two_free two, (lowered two, popped.go)))
         (omega (arith, popped.small, one.byte_small, two.byte_small))
 
 in_form_footprint :
@@ -408,13 +408,13 @@ in_form_footprint :
     (156 + 128 * beside at.site operands.left + 128 * beside at.site operands.right)
 unfolding in_form_steps with_memory_steps with_e_steps
 in_form_footprint (RightInMemory reference) operation operands pushed one two has =
-    counted (weak one, (has.place, refl)) (omega (arith, has.small))
+    counted (operand_from_below one, (has.place, refl)) (omega (arith, has.small))
 in_form_footprint (LeftInMemory reference) operation operands pushed one two has =
-    counted (weak two, (has.place, refl)) (omega (arith, has.small))
+    counted (operand_from_below two, (has.place, refl)) (omega (arith, has.small))
 in_form_footprint LeftFree operation operands pushed one two has =
-    counted (weak two, (weak one, refl)) (omega arith)
+    counted (operand_from_below two, (operand_from_below one, refl)) (omega arith)
 in_form_footprint RightFree operation operands pushed one two has =
-    counted (weak one, (weak two, refl)) (omega arith)
+    counted (operand_from_below one, (operand_from_below two, refl)) (omega arith)
 in_form_footprint Pushed operation operands pushed one two has =
     with_stack_footprint operation operands pushed one two
 
@@ -468,10 +468,10 @@ unfolding product_byte_steps
 product_byte_footprint {at = at} operands pushed one two =
     by_finding (low_number at.site operands.right)
     (λ factor there. within (113 + 128 * beside at.site operands.left)
-    (byte_product_footprint operands.left factor pushed (weak one)) (omega arith))
+    (byte_product_footprint operands.left factor pushed (operand_from_below one)) (omega arith))
     (λ none. by_finding (low_number at.site operands.left)
     (λ factor there. within (113 + 128 * beside at.site operands.right)
-    (byte_product_footprint operands.right factor pushed (weak two)) (omega arith))
+    (byte_product_footprint operands.right factor pushed (operand_from_below two)) (omega arith))
     (λ neither. joined (159 + 128 * beside at.site operands.left + 128 * beside at.site operands.right) 1
     (computed_product_footprint operands pushed one two) (counted refl (omega arith)) (omega arith)))
 

@@ -3,7 +3,7 @@ use Rattle.measure_laws.proofs.Prelude.{Bool, List, None, Option, Some, [], ap, 
 use Rattle.treecode.specs.declared.expression.ExpressionForm.TheVariants as forms
 use Rattle.steps8080.specs.declared.step.Step.TheVariants as steps
 use Rattle.measure_laws.specs.internal.Footprints.{AreGiven, Footprint, Ground, HasParts, IsAimed, IsBelow, IsOfTree, IsOperand, IsPlaced, bytes_of_task}
-use Rattle.measure_laws.proofs.{Bounds.Ranges.{item_there}, Footprints.Joining.{after_part, by_finding, by_test, counted, joined, weak, within}, Footprints.Trees.{IndexIs, has_parts, needs, subscripts_are}}
+use Rattle.measure_laws.proofs.{Bounds.Ranges.{item_there}, Footprints.Joining.{after_part, by_finding, by_test, counted, joined, operand_from_below, within}, Footprints.Trees.{IndexIs, has_parts, needs, subscripts_are}}
 
 -- a value of a type
 value_is :
@@ -119,8 +119,8 @@ pub embedded_footprint :
     (140 + 128 * weight_in_target (beside_at (nodes_of at.site.tree.now)) target + 128 * beside at.site value)
 unfolding embedded_steps
 embedded_footprint {at = at} target value is_wanted pushed aimed is =
-    counted (value_is at (source_of target) value (weak is), (aimed, refl))
-    (omega (arith, value_small at (source_of target) value (weak is)))
+    counted (value_is at (source_of target) value (operand_from_below is), (aimed, refl))
+    (omega (arith, value_small at (source_of target) value (operand_from_below is)))
 
 subscript_footprint :
     (at : Ground) (free : ℕ) (index : Option Subscript) (pushed : ℕ)
@@ -128,7 +128,7 @@ subscript_footprint :
     → Footprint at free (subscript_effects_steps index pushed) free
     (128 * weight_of_index (beside_at (nodes_of at.site.tree.now)) index)
 unfolding subscript_effects_steps
-subscript_footprint at free (Some subscript) pushed is = counted (weak is, refl) (omega arith)
+subscript_footprint at free (Some subscript) pushed is = counted (operand_from_below is, refl) (omega arith)
 subscript_footprint at free None pushed is = counted refl (omega arith)
 
 reference_footprint :
@@ -160,13 +160,13 @@ form_effects_footprint {at = at} number (forms.Location reference) pushed has =
 form_effects_footprint number (forms.Conversion operand) pushed has =
     counted (has.one, refl) (omega (arith, has.same))
 form_effects_footprint number (forms.Unary operator operand) pushed has =
-    counted (weak has.one, refl) (omega (arith, has.same))
+    counted (operand_from_below has.one, refl) (omega (arith, has.same))
 form_effects_footprint number (forms.Function function operand) pushed has =
-    counted (weak has.one, refl) (omega (arith, has.same))
+    counted (operand_from_below has.one, refl) (omega (arith, has.same))
 form_effects_footprint number (forms.Binary operands operator left right) pushed has =
-    counted (weak has.one, (weak has.two, refl)) (omega (arith, has.same))
+    counted (operand_from_below has.one, (operand_from_below has.two, refl)) (omega (arith, has.same))
 form_effects_footprint number (forms.Shift function value count) pushed has =
-    counted (weak has.one, (weak has.two, refl)) (omega (arith, has.same))
+    counted (operand_from_below has.one, (operand_from_below has.two, refl)) (omega (arith, has.same))
 form_effects_footprint {at = at} number (forms.Assignment target value) pushed has =
     within
     (140 + 128 * weight_in_target (beside_at (nodes_of at.site.tree.now)) target + 128 * beside at.site value)

@@ -3,7 +3,7 @@ use Rattle.measure_laws.proofs.Prelude.{Source, TreeModule, Bool, IfSome, None, 
 use Rattle.trees.specs.declared.declaration.ScalarType.TheVariants as scalars
 use Rattle.treecode.specs.declared.expression.ExpressionForm.TheVariants as forms
 use Rattle.measure_laws.specs.internal.Footprints.{Ground, HasParts, IsOperand, IsPlaced, Places}
-use Rattle.measure_laws.proofs.{Footprints.Joining.{weak}, Footprints.Trees.{has_parts}}
+use Rattle.measure_laws.proofs.{Footprints.Joining.{operand_from_below}, Footprints.Trees.{has_parts}}
 
 -- a property of every value that is found holds for this one
 pub of_found :
@@ -26,8 +26,8 @@ inside_form :
     → IsOperand at free number → HasParts at free number form
     → IsInside at free number (inside number form)
 inside_form at free number (forms.Conversion inner) is has = record { one = has.one; small = omega (arith, has.same) }
-inside_form at free number (forms.Function Low operand) is has = record { one = weak has.one; small = omega (arith, has.same) }
-inside_form at free number (forms.Function Double operand) is has = record { one = weak has.one; small = omega (arith, has.same) }
+inside_form at free number (forms.Function Low operand) is has = record { one = operand_from_below has.one; small = omega (arith, has.same) }
+inside_form at free number (forms.Function Double operand) is has = record { one = operand_from_below has.one; small = omega (arith, has.same) }
 inside_form at free number (forms.Function High operand) is has = record { one = is; small = omega arith }
 inside_form at free number form is has = record { one = is; small = omega arith }
 
@@ -131,7 +131,7 @@ plain_form : (at : Ground) (free : ℕ) (number : ExpressionNumber) (form : Expr
     → IfSome (form_in_memory at.site form) (IsInMemory at free number)
 plain_form at free number (forms.Value reference) has = record { place = has.place; small = omega (arith, has.same) }
 plain_form at free number (forms.Function High operand) has =
-    memory_inside at free number operand (high_in_memory at.site operand) (omega (arith, has.same)) (high_of_operand at free operand (weak has.one))
+    memory_inside at free number operand (high_in_memory at.site operand) (omega (arith, has.same)) (high_of_operand at free operand (operand_from_below has.one))
 plain_form at free number (forms.Function Low operand) has = tt
 plain_form at free number (forms.Function Double operand) has = tt
 plain_form at free number form has = tt

@@ -18,10 +18,10 @@ pub within :
 within less footprint small = record { go = footprint.go; small = omega (arith, footprint.small, small) }
 
 -- an operand that allows a pushed word before it, without one
-pub weak :
+pub operand_from_below :
     {tree : TreeModule} {source : Source tree} {free : ℕ} {number : ExpressionNumber}
     → Needs tree source 2 free number → Needs tree source 0 free number
-weak is = record {
+operand_from_below is = record {
   bound = is.bound;
   expression = is.expression;
   node = is.node;

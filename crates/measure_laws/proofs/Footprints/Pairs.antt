@@ -2,21 +2,21 @@
 use Rattle.measure_laws.proofs.Prelude.{Bool, None, Option, Some, arith, refl, ℕ, ◌*◌, ◌+◌, ExpressionNumber, form_steps, order_of, pair_form, pair_in_order_steps, pair_steps, wish_for_left, wished_steps, PairForm, LeftKeeps, LeftKnown, RightKeeps, RightKnown, PairOrder, LeftInHl, RightInHl, beside}
 use Rattle.operands8080.specs.declared.pairs.PairForm.TheVariants.{RightFree, LeftFree, Pushed}
 use Rattle.measure_laws.specs.internal.Footprints.{Footprint, Ground, IsBelow}
-use Rattle.measure_laws.proofs.{Footprints.Joining.{counted, joined, lowered, restored, two_free, weak}}
+use Rattle.measure_laws.proofs.{Footprints.Joining.{counted, joined, lowered, restored, two_free, operand_from_below}}
 
 pair_form_footprint :
     {at : Ground} {free : ℕ} (form : PairForm) (left right : ExpressionNumber) (pushed : ℕ)
     → IsBelow at free left → IsBelow at free right
     → Footprint at free (form_steps form left right pushed) free
     (155 + 128 * beside at.site left + 128 * beside at.site right)
-pair_form_footprint (RightKnown place) left right pushed one two = counted (weak one, refl) (omega arith)
-pair_form_footprint (LeftKnown place) left right pushed one two = counted (weak two, refl) (omega arith)
-pair_form_footprint RightKeeps left right pushed one two = counted (weak one, (weak two, refl)) (omega arith)
-pair_form_footprint LeftKeeps left right pushed one two = counted (weak two, (weak one, refl)) (omega arith)
-pair_form_footprint RightFree left right pushed one two = counted (weak one, (weak two, refl)) (omega arith)
-pair_form_footprint LeftFree left right pushed one two = counted (weak two, (weak one, refl)) (omega arith)
+pair_form_footprint (RightKnown place) left right pushed one two = counted (operand_from_below one, refl) (omega arith)
+pair_form_footprint (LeftKnown place) left right pushed one two = counted (operand_from_below two, refl) (omega arith)
+pair_form_footprint RightKeeps left right pushed one two = counted (operand_from_below one, (operand_from_below two, refl)) (omega arith)
+pair_form_footprint LeftKeeps left right pushed one two = counted (operand_from_below two, (operand_from_below one, refl)) (omega arith)
+pair_form_footprint RightFree left right pushed one two = counted (operand_from_below one, (operand_from_below two, refl)) (omega arith)
+pair_form_footprint LeftFree left right pushed one two = counted (operand_from_below two, (operand_from_below one, refl)) (omega arith)
 pair_form_footprint Pushed left right pushed one two =
-    counted (weak one, (two_free two, (lowered two, restored two))) (omega arith)
+    counted (operand_from_below one, (two_free two, (lowered two, restored two))) (omega arith)
 
 wished_footprint :
     {at : Ground} {free : ℕ} (wish : Option PairOrder) (order : PairOrder)

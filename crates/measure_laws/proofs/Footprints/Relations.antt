@@ -10,7 +10,7 @@ use Rattle.steps8080.specs.Queries as queries
 use Rattle.operands8080.specs.declared.branches.Branch.{Branch}
 use Rattle.operands8080.specs.declared.relations.Outcome.TheVariants as outcomes
 use Rattle.measure_laws.specs.internal.Footprints.{Footprint, Ground, HasParts, HasTwo, IsBelow, IsOperand}
-use Rattle.measure_laws.proofs.{Footprints.ByteRelations.{byte_number_footprint, byte_relation_footprint}, Footprints.Found.{of_found}, Footprints.Joining.{after_part, by_finding, by_test, counted, joined, weak, within}, Footprints.Trees.{has_parts}, Footprints.WordRelations.{word_number_footprint, word_relation_footprint, words_footprint}}
+use Rattle.measure_laws.proofs.{Footprints.ByteRelations.{byte_number_footprint, byte_relation_footprint}, Footprints.Found.{of_found}, Footprints.Joining.{after_part, by_finding, by_test, counted, joined, operand_from_below, within}, Footprints.Trees.{has_parts}, Footprints.WordRelations.{word_number_footprint, word_relation_footprint, words_footprint}}
 
 -- a question about operands with at most this weight
 abbrev pub IsAsked : (at : Ground) (free limit : ℕ) → Inquiry → Type 0
@@ -233,10 +233,10 @@ junction_is at free number junction has =
         ])
     by (Some value) second quiet =
         with_number_is at free number junction.left value junction.deciding
-        (record { one = weak has.one; small = omega (arith, has.same) })
+        (record { one = operand_from_below has.one; small = omega (arith, has.same) })
     by None (Some value) quiet =
         with_number_is at free number junction.right value junction.deciding
-        (record { one = weak has.two; small = omega (arith, has.same) })
+        (record { one = operand_from_below has.two; small = omega (arith, has.same) })
     by None None true = has
     by None None false = tt
 
@@ -258,13 +258,13 @@ shape_form_is :
 shape_form_is at free number (forms.Conversion inner) has =
     record { one = has.one; small = omega (arith, has.same) }
 shape_form_is at free number (forms.Function Low operand) has =
-    record { one = weak has.one; small = omega (arith, has.same) }
+    record { one = operand_from_below has.one; small = omega (arith, has.same) }
 shape_form_is at free number (forms.Function Double operand) has =
-    record { one = weak has.one; small = omega (arith, has.same) }
+    record { one = operand_from_below has.one; small = omega (arith, has.same) }
 shape_form_is at free number (forms.Unary Not operand) has =
-    record { one = weak has.one; small = omega (arith, has.same) }
+    record { one = operand_from_below has.one; small = omega (arith, has.same) }
 shape_form_is at free number (forms.Unary Negate operand) has =
-    record { one = weak has.one; small = omega (arith, has.same) }
+    record { one = operand_from_below has.one; small = omega (arith, has.same) }
 shape_form_is at free number (forms.Binary operands operator left right) has =
     binary_is at free number operator left right has
 shape_form_is at free number form has = tt
@@ -435,9 +435,9 @@ joined_by :
     ∷ steps.Mark (label_of first)
     ∷ []) (160 + 128 * beside at.site junction.left + 128 * beside at.site junction.right)
 joined_by junction branch first true one two to own =
-    counted ((weak one, refl, to), ((weak two, refl, to), refl)) (omega arith)
+    counted ((operand_from_below one, refl, to), ((operand_from_below two, refl, to), refl)) (omega arith)
 joined_by junction branch first false one two to own =
-    counted ((weak one, refl, own first (inl refl)), ((weak two, refl, to), (omega arith, refl))) (omega arith)
+    counted ((operand_from_below one, refl, own first (inl refl)), ((operand_from_below two, refl, to), (omega arith, refl))) (omega arith)
 
 -- by a condition with this source of its lowest bit
 shape_footprint :

@@ -3,7 +3,7 @@ use Rattle.measure_laws.proofs.Prelude.{ap, arith, refl, true, ℕ, ◌*◌, ◌
 use Rattle.trees.specs.declared.declaration.ScalarType.TheVariants as scalars
 use Rattle.treecode.specs.declared.expression.ExpressionForm.TheVariants as forms
 use Rattle.measure_laws.specs.internal.Footprints.{AreGiven, Footprint, Ground, HasParts, IsOperand}
-use Rattle.measure_laws.proofs.{Footprints.Addresses.{byte_in_memory_footprint, extended_byte_in_memory_footprint, location_address_footprint, word_in_memory_footprint}, Footprints.Bytes.{byte_binary_footprint, byte_number_footprint, byte_shift_footprint, high_byte_footprint}, Footprints.Calls.{call_footprint, embedded_footprint}, Footprints.Found.{IsInMemory, is_in_memory, of_found}, Footprints.Joining.{after_part, by_finding, counted, joined, weak, within}, Footprints.Trees.{has_parts}, Footprints.Words.{word_binary_footprint, word_shift_footprint, word_unary_footprint}, Footprints.Weights.{type_found}}
+use Rattle.measure_laws.proofs.{Footprints.Addresses.{byte_in_memory_footprint, extended_byte_in_memory_footprint, location_address_footprint, word_in_memory_footprint}, Footprints.Bytes.{byte_binary_footprint, byte_number_footprint, byte_shift_footprint, high_byte_footprint}, Footprints.Calls.{call_footprint, embedded_footprint}, Footprints.Found.{IsInMemory, is_in_memory, of_found}, Footprints.Joining.{after_part, by_finding, counted, joined, operand_from_below, within}, Footprints.Trees.{has_parts}, Footprints.Words.{word_binary_footprint, word_shift_footprint, word_unary_footprint}, Footprints.Weights.{type_found}}
 
 known_byte_footprint :
     {at : Ground} {free : ℕ} (place : Place)
@@ -40,16 +40,16 @@ unfolding byte_form_steps byte_function_steps byte_unary_steps byte_of_two_steps
 byte_form_footprint number (forms.Conversion inner) pushed is has =
     counted (has.one, refl) (omega (arith, has.same))
 byte_form_footprint number (forms.Function Low operand) pushed is has =
-    counted (weak has.one, refl) (omega (arith, has.same))
+    counted (operand_from_below has.one, refl) (omega (arith, has.same))
 byte_form_footprint {at = at} number (forms.Function High operand) pushed is has =
     within (77 + 128 * beside at.site operand) (high_byte_footprint operand pushed has.one)
     (omega (arith, has.same))
 byte_form_footprint number (forms.Function Double operand) pushed is has =
-    counted (weak has.one, refl) (omega (arith, has.same))
+    counted (operand_from_below has.one, refl) (omega (arith, has.same))
 byte_form_footprint number (forms.Unary Not operand) pushed is has =
-    counted (weak has.one, refl) (omega (arith, has.same))
+    counted (operand_from_below has.one, refl) (omega (arith, has.same))
 byte_form_footprint number (forms.Unary Negate operand) pushed is has =
-    counted (weak has.one, refl) (omega (arith, has.same))
+    counted (operand_from_below has.one, refl) (omega (arith, has.same))
 byte_form_footprint {at = at} number (forms.Binary operands operator left right) pushed is has =
     byte_binary_footprint number operator (record { left = left; right = right }) pushed is has
 byte_form_footprint number (forms.Shift function value count) pushed is has =
@@ -125,11 +125,11 @@ word_form_footprint number (forms.Location reference) pushed has =
 word_form_footprint number (forms.Conversion inner) pushed has =
     counted (has.one, refl) (omega (arith, has.same))
 word_form_footprint number (forms.Function Double operand) pushed has =
-    counted (weak has.one, refl) (omega (arith, has.same))
+    counted (operand_from_below has.one, refl) (omega (arith, has.same))
 word_form_footprint number (forms.Function Low operand) pushed has = counted refl (omega arith)
 word_form_footprint number (forms.Function High operand) pushed has = counted refl (omega arith)
 word_form_footprint number (forms.Unary operator operand) pushed has =
-    after_part 7 (weak has.one) (word_unary_footprint operator) (omega (arith, has.same))
+    after_part 7 (operand_from_below has.one) (word_unary_footprint operator) (omega (arith, has.same))
 word_form_footprint {at = at} number (forms.Binary operands operator left right) pushed has =
     within (162 + 128 * beside at.site left + 128 * beside at.site right)
     (word_binary_footprint operator (record { left = left; right = right }) pushed has.one has.two)

@@ -9,7 +9,7 @@ use Rattle.steps8080.specs.declared.step.Task.TheVariants as tasks
 use Rattle.steps8080.specs.Step.{part}
 use Rattle.operands8080.specs.internal.WordRelations.{difference_steps, high_byte_steps, with_pair_steps}
 use Rattle.measure_laws.specs.internal.Footprints.{Footprint, Ground, HasParts, IsBelow}
-use Rattle.measure_laws.proofs.{Footprints.ByteRelations.{byte_number_footprint, byte_relation_footprint, number_in_a_footprint}, Footprints.Found.{IsInMemory, high_is_in_memory, of_found}, Footprints.Joining.{after_part, after_plain, by_asking, by_finding, by_test, counted, joined, repeated, weak, within}, Footprints.Pairs.{pair_footprint}, Footprints.Trees.{has_parts}}
+use Rattle.measure_laws.proofs.{Footprints.ByteRelations.{byte_number_footprint, byte_relation_footprint, number_in_a_footprint}, Footprints.Found.{IsInMemory, high_is_in_memory, of_found}, Footprints.Joining.{after_part, after_plain, by_asking, by_finding, by_test, counted, joined, repeated, operand_from_below, within}, Footprints.Pairs.{pair_footprint}, Footprints.Trees.{has_parts}}
 
 -- the high byte of an ADDRESS
 high_byte_footprint :
@@ -19,10 +19,10 @@ high_byte_footprint :
 unfolding high_byte_steps
 high_byte_footprint {at = at} {free = free} operand pushed is =
     by_finding (high_byte_in_memory at.site operand)
-    (λ reference there. by_test (is_word_in_hl at.site operand) (counted (weak is, refl) (omega arith))
+    (λ reference there. by_test (is_word_in_hl at.site operand) (counted (operand_from_below is, refl) (omega arith))
     (in_memory reference
-    (of_found (IsInMemory at free operand) (high_is_in_memory at free operand (weak is)) there)))
-    (λ none. counted (weak is, refl) (omega arith))
+    (of_found (IsInMemory at free operand) (high_is_in_memory at free operand (operand_from_below is)) there)))
+    (λ none. counted (operand_from_below is, refl) (omega arith))
   where
     in_memory : (reference : Reference) → IsInMemory at free operand reference
         → Footprint at free (elim (direct at.site reference) [
@@ -52,7 +52,7 @@ masked_footprint :
     → IsBelow at free operand
     → Footprint at free (masked_steps at.site operand mask pushed) free (79 + 128 * beside at.site operand)
 masked_footprint {at = at} operand mask pushed is =
-    by_test (nat_lt mask 256) (counted (weak is, refl) (omega arith))
+    by_test (nat_lt mask 256) (counted (operand_from_below is, refl) (omega arith))
     (joined (77 + 128 * beside at.site operand) 2 (high_byte_footprint operand pushed is)
     (counted refl (omega arith)) (omega arith))
 
@@ -91,7 +91,7 @@ masked_is at free operand is = by (expression at.site operand) refl
   where
     by : (found : Option Expression) → expression at.site operand ≡ found
         → IfSome (elim found [ Some one ↦ masked_form at.site one.form | None ↦ None ]) (IsMasked at free operand)
-    by (Some one) there = masked_form_is at free operand one.form (has_parts at (weak is) there)
+    by (Some one) there = masked_form_is at free operand one.form (has_parts at (operand_from_below is) there)
     by None there = tt
 
 word_is_zero_footprint :
@@ -103,8 +103,8 @@ word_is_zero_footprint {at = at} {free = free} operand setting is =
     by_finding (masked at.site operand)
     (λ found there. by_test (nat_lt found.1 256 || found.1 % 256 == 0)
     (inner found (of_found (IsMasked at free operand) (masked_is at free operand is) there))
-    (after_part 6 (weak is) (word_is_footprint 0) (omega arith)))
-    (λ none. after_part 2 (weak is) (within 2 (counted refl (omega arith)) (omega arith)) (omega arith))
+    (after_part 6 (operand_from_below is) (word_is_footprint 0) (omega arith)))
+    (λ none. after_part 2 (operand_from_below is) (within 2 (counted refl (omega arith)) (omega arith)) (omega arith))
   where
     inner :
         (found : ExpressionNumber × ℕ)
@@ -125,20 +125,20 @@ word_below_footprint {at = at} operand number setting is =
     by_test (number % 256 == 0)
     (joined (77 + 128 * beside at.site operand) 2 (high_byte_footprint operand setting.pushed is)
     (number_in_a_footprint (Below (number / 256)) setting) (omega arith))
-    (counted (weak is, refl) (omega arith))
+    (counted (operand_from_below is, refl) (omega arith))
 
 word_question_footprint :
     {at : Ground} {free : ℕ} (operand : ExpressionNumber) (question : NumberQuestion) (setting : Setting)
     → IsBelow at free operand
     → Footprint at free (word_question_steps at.site operand question setting) free
     (82 + 128 * beside at.site operand)
-word_question_footprint operand Never setting is = counted (weak is, refl) (omega arith)
+word_question_footprint operand Never setting is = counted (operand_from_below is, refl) (omega arith)
 word_question_footprint operand (Below number) setting is =
     by_test (number == 1) (word_is_zero_footprint operand setting is)
     (word_below_footprint operand number setting is)
 word_question_footprint operand (Is number) setting is =
     by_test (number == 0) (word_is_zero_footprint operand setting is)
-    (after_part 6 (weak is) (word_is_footprint number) (omega arith))
+    (after_part 6 (operand_from_below is) (word_is_footprint number) (omega arith))
 
 pub word_number_footprint :
     {at : Ground} {free : ℕ} (operand : ExpressionNumber) (question : NumberQuestion) (setting : Setting)
@@ -226,7 +226,7 @@ with_place_footprint :
     → Footprint at free (with_place_steps apart question pushed) free (86 + 128 * beside at.site apart.other)
 with_place_footprint {at = at} {free = free} apart question pushed is =
     let begun : Footprint at free (part (tasks.Word apart.other) pushed ∷ load_a_steps apart.place) free
-    (79 + 128 * beside at.site apart.other) = counted (weak is, refl) (omega arith) in
+    (79 + 128 * beside at.site apart.other) = counted (operand_from_below is, refl) (omega arith) in
     joined (84 + 128 * beside at.site apart.other) 2
     (joined (81 + 128 * beside at.site apart.other) 3
     (joined (79 + 128 * beside at.site apart.other) 2 begun (low_footprint in_hl question) (omega arith))
@@ -299,4 +299,4 @@ words_footprint {at = at} {free = free} comparison pushed one two =
         → IsOther at free (beside at.site comparison.left + beside at.site comparison.right) apart
         → Footprint at free (part (tasks.Word apart.other) pushed ∷ []) free
         (156 + 128 * (beside at.site comparison.left + beside at.site comparison.right))
-    other apart is = counted (weak is.one, refl) (omega (arith, is.small, is.one.word_small))
+    other apart is = counted (operand_from_below is.one, refl) (omega (arith, is.small, is.one.word_small))

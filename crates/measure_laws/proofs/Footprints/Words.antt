@@ -6,14 +6,14 @@ use Rattle.exprgen8080.specs.internal.WordShifts.{shifted_left_steps, zero_steps
 use Rattle.steps8080.specs.declared.step.Step.TheVariants as steps
 use Rattle.steps8080.specs.Step.{plain}
 use Rattle.measure_laws.specs.internal.Footprints.{Footprint, Ground, IsBelow}
-use Rattle.measure_laws.proofs.{Footprints.Addresses.{addition_footprint}, Footprints.Bytes.{byte_operation_footprint, byte_shifted_right_footprint, computed_product_footprint, division_footprint, high_byte_footprint, right_shift_footprint, with_number_footprint}, Footprints.Chains.{product_footprint}, Footprints.Found.{of_found}, Footprints.Joining.{after_part, after_plain, by_asking, by_finding, by_test, counted, joined, lowered, repeated, restored, two_free, weak, within}, Footprints.Pairs.{pair_footprint}}
+use Rattle.measure_laws.proofs.{Footprints.Addresses.{addition_footprint}, Footprints.Bytes.{byte_operation_footprint, byte_shifted_right_footprint, computed_product_footprint, division_footprint, high_byte_footprint, right_shift_footprint, with_number_footprint}, Footprints.Chains.{product_footprint}, Footprints.Found.{of_found}, Footprints.Joining.{after_part, after_plain, by_asking, by_finding, by_test, counted, joined, lowered, repeated, restored, two_free, operand_from_below, within}, Footprints.Pairs.{pair_footprint}}
 
 zero_footprint :
     {at : Ground} {free : ℕ} (value : ExpressionNumber) (pushed : ℕ)
     → IsBelow at free value
     → Footprint at free (zero_steps value pushed) free (75 + 128 * beside at.site value)
 unfolding zero_steps
-zero_footprint value pushed is = counted (weak is, refl) (omega arith)
+zero_footprint value pushed is = counted (operand_from_below is, refl) (omega arith)
 
 shifted_left_footprint :
     {at : Ground} {free : ℕ} (value : ExpressionNumber) (count pushed : ℕ)
@@ -24,12 +24,12 @@ shifted_left_footprint {at = at} value count pushed is =
     by_asking (nat_le 16 count)
     (λ most. within (75 + 128 * beside at.site value) (zero_footprint value pushed is) (omega arith))
     (λ few. by_asking (nat_le 8 count)
-    (λ many. after_part 10 (weak is)
+    (λ many. after_part 10 (operand_from_below is)
     (after_plain 9 refl
     (after_plain 7 refl
     (within (count - 8) (repeated (Dad Hl) (count - 8) refl refl) (omega (arith, leb-false 16 count few)))
     (omega arith)) (omega arith)) (omega arith))
-    (λ fewer. after_part 7 (weak is)
+    (λ fewer. after_part 7 (operand_from_below is)
     (within count (repeated (Dad Hl) count refl refl) (omega (arith, leb-false 8 count fewer))) (omega arith)))
 
 half_footprint : {at : Ground} {free : ℕ} → Footprint at free shifted_half_steps free 7
@@ -46,7 +46,7 @@ little_footprint :
     → Footprint at free (shifted_right_little_steps value count pushed) free (90 + 128 * beside at.site value)
 unfolding shifted_right_little_steps
 little_footprint value count pushed is =
-    after_part 14 (weak is)
+    after_part 14 (operand_from_below is)
     (by_test (count == 0) (counted refl (omega arith))
     (by_test (count == 1) (within 7 half_footprint (omega arith))
     (by_test (count == 2) quarter_footprint (counted (two_free is, refl) (omega arith))))) (omega arith)
@@ -58,7 +58,7 @@ word_shifted_right_footprint :
     (90 + 128 * beside at.site value)
 unfolding word_shifted_right_steps
 word_shifted_right_footprint {at = at} value count pushed is =
-    by_test (count == 0) (counted (weak is, refl) (omega arith))
+    by_test (count == 0) (counted (operand_from_below is, refl) (omega arith))
     (by_test (nat_le 16 count)
     (within (75 + 128 * beside at.site value) (zero_footprint value pushed is) (omega arith))
     (by_test (fits_byte at.site value)
@@ -76,7 +76,7 @@ count_footprint :
     → Footprint at free (count_beside_word_steps at.site count pushed) free (78 + 128 * beside at.site count)
 unfolding count_beside_word_steps
 count_footprint {at = at} count pushed is =
-    by_test (is_free at.site count) (counted (weak is, refl) (omega arith))
+    by_test (is_free at.site count) (counted (operand_from_below is, refl) (omega arith))
     (counted (two_free is, (lowered is, restored is)) (omega arith))
 
 computed_count_footprint :
@@ -87,7 +87,7 @@ computed_count_footprint :
 unfolding computed_count_steps
 computed_count_footprint {at = at} shifted pushed one two =
     joined (154 + 128 * beside at.site shifted.value + 128 * beside at.site shifted.count) 3
-    (after_part (78 + 128 * beside at.site shifted.count) (weak one)
+    (after_part (78 + 128 * beside at.site shifted.count) (operand_from_below one)
     (count_footprint shifted.count pushed two) (omega arith)) (counted (two_free one, refl) (omega arith))
     (omega arith)
 
@@ -124,9 +124,9 @@ sum_footprint :
 unfolding sum_steps
 sum_footprint {at = at} operands pushed one two =
     by_finding (known at.site operands.right)
-    (λ place there. after_part 4 (weak one) (addition_footprint place) (omega arith))
+    (λ place there. after_part 4 (operand_from_below one) (addition_footprint place) (omega arith))
     (λ none. by_finding (known at.site operands.left)
-    (λ place there. after_part 4 (weak two) (addition_footprint place) (omega arith))
+    (λ place there. after_part 4 (operand_from_below two) (addition_footprint place) (omega arith))
     (λ neither. joined (156 + 128 * beside at.site operands.left + 128 * beside at.site operands.right) 1
     (pair_footprint operands.left operands.right false pushed one two) (counted refl (omega arith))
     (omega arith)))
@@ -178,12 +178,12 @@ difference_footprint :
 unfolding difference_steps
 difference_footprint {at = at} operands pushed one two =
     by_finding (number_of at.site operands.right)
-    (λ number there. after_part 4 (weak one) (addition_footprint (Number ((65536 - number) % 65536)))
+    (λ number there. after_part 4 (operand_from_below one) (addition_footprint (Number ((65536 - number) % 65536)))
     (omega arith))
     (λ none. by_finding (number_of at.site operands.left)
-    (λ number there. after_part 8 (weak two) (taken_from_footprint number) (omega arith))
+    (λ number there. after_part 8 (operand_from_below two) (taken_from_footprint number) (omega arith))
     (λ neither. by_finding (left_word at.site operands)
-    (λ place there. after_part 10 (weak two) (with_word_footprint place Subtract SubtractWithBorrow)
+    (λ place there. after_part 10 (operand_from_below two) (with_word_footprint place Subtract SubtractWithBorrow)
     (omega arith)) (λ no_place. paired_footprint operands Subtract SubtractWithBorrow pushed one two)))
 
 through_a_footprint :
@@ -226,7 +226,7 @@ both_halves_footprint :
 unfolding both_halves_steps
 both_halves_footprint {at = at} operation value number pushed is =
     joined (80 + 128 * beside at.site value) 4
-    (after_part 4 (weak is) (half_of_word_footprint operation L (low number)) (omega arith))
+    (after_part 4 (operand_from_below is) (half_of_word_footprint operation L (low number)) (omega arith))
     (half_of_word_footprint operation H (high number)) (omega arith)
 
 and_with_number_footprint :
@@ -337,9 +337,9 @@ logic_with_simple_footprint :
     (154 + 128 * beside at.site value + 128 * most)
 unfolding logic_with_simple_steps logic_with_byte_steps
 logic_with_simple_footprint operation value (simple.Byte byte) most pushed one two =
-    counted (weak one, (weak two.0, refl)) (omega (arith, two.1, two.0.byte_small))
+    counted (operand_from_below one, (operand_from_below two.0, refl)) (omega (arith, two.1, two.0.byte_small))
 logic_with_simple_footprint operation value (simple.Word place) most pushed one two =
-    after_part 10 (weak one) (with_word_footprint place operation operation) (omega arith)
+    after_part 10 (operand_from_below one) (with_word_footprint place operation operation) (omega arith)
 
 computed_logic_footprint :
     {at : Ground} {free : ℕ} (operation : Operation) (operands : Operands) (pushed : ℕ)
@@ -391,10 +391,10 @@ unfolding product_word_steps
 product_word_footprint {at = at} operands pushed one two =
     by_finding (number_of at.site operands.right)
     (λ number there. within (113 + 128 * beside at.site operands.left)
-    (product_footprint operands.left number pushed (weak one)) (omega arith))
+    (product_footprint operands.left number pushed (operand_from_below one)) (omega arith))
     (λ none. by_finding (number_of at.site operands.left)
     (λ number there. within (113 + 128 * beside at.site operands.right)
-    (product_footprint operands.right number pushed (weak two)) (omega arith))
+    (product_footprint operands.right number pushed (operand_from_below two)) (omega arith))
     (λ neither. within (159 + 128 * beside at.site operands.left + 128 * beside at.site operands.right)
     (computed_product_footprint operands pushed one two) (omega arith)))
 

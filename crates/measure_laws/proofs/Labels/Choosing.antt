@@ -88,11 +88,11 @@ module _ (ok : ℕ → Type 0) (body : Body) (called : List Bool) (site : Site) 
         either_go (nat_eq (known % 2) 1) (planned_go (then_is, tt)) (any_go else_part else_is)
     if_by else_part else_is None own = tested_by else_part else_is (goto_label body then_part) refl own
 
-    pub if_go :
+    pub if_steps_go :
         (else_part : Option StatementNumber)
         → AnyGoes ok body called else_part
         → ClosedGo ok body called (if_steps body site condition then_part else_part first)
-    if_go else_part else_is own = if_by else_part else_is (number site condition) own
+    if_steps_go else_part else_is own = if_by else_part else_is (number site condition) own
 
   module _ (list : Range) (is : ListGoes ok body called list) (first : ℕ) where
     forever_go :

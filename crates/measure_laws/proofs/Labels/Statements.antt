@@ -4,7 +4,7 @@ use Rattle.treecode.specs.declared.statement.Statement.{Statement}
 use Rattle.treecode.specs.declared.statement.Statement.TheVariants as statements
 use Rattle.treecode.proofs.LabelNumbers.{first_or_later}
 use Rattle.codegen8080.specs.internal.Generated as generated
-use Rattle.measure_laws.proofs.{Labels.Planning.{planned_go}, Labels.Carried.{plan_bound, plan_carried}, Footprints.Items.{Knows, bound_after, bound_first, items_both}, Labels.Assigning.{assignment_go, move_go, return_of_go}, Labels.Looping.{iteration_go}, Labels.Choosing.{AnyGoes, BodyGo, case_go, if_go, while_go}}
+use Rattle.measure_laws.proofs.{Labels.Planning.{planned_go}, Labels.Carried.{plan_bound, plan_carried}, Footprints.Items.{Knows, bound_after, bound_first, items_both}, Labels.Assigning.{assignment_go, move_go, return_of_go}, Labels.Looping.{iteration_go}, Labels.Choosing.{AnyGoes, BodyGo, case_go, if_steps_go, while_go}}
 use Rattle.measure_laws.proofs.Bounds.Statements.{cases_stand, form_fits}
 
 -- the labels of the lists around a place are among these, by their numbers in a body
@@ -228,7 +228,7 @@ module _
       form_go around (IsGoto {number = number} {label = label} named) types stand stay outer facts first own =
           planned_go (outer number label named stay, tt)
       form_go around (IsIf {condition = condition} {body = then_part} {otherwise = else_part} test then_is else_is) types stand stay outer facts first own =
-          if_go ok body called (knowing (site_of body) facts) condition then_part
+          if_steps_go ok body called (knowing (site_of body) facts) condition then_part
           (statement_goes then_part around then_is types.1 stand.1 stay.0 outer) first else_part
           (else_goes around else_is types.2 stand.2 stay.1 outer) own
       form_go around (IsDo {range = range} is) types stand stay outer facts first own =

@@ -152,9 +152,9 @@ first_start [] all = tt
 first_start (main ∷ others) all = all.0.1
 
 -- Segments.
-pub keeps : (publics : List Public) (linked : Linked) (count : ℕ) → Keeps count (target_kept publics linked)
-keeps publics linked count (InSegment segment) h = h
-keeps publics linked count (External number) h = go (public_meant publics linked.object number)
+pub target_kept_keeps : (publics : List Public) (linked : Linked) (count : ℕ) → Keeps count (target_kept publics linked)
+target_kept_keeps publics linked count (InSegment segment) h = h
+target_kept_keeps publics linked count (External number) h = go (public_meant publics linked.object number)
   where
     by_segment : (segment : Segment) (b : Bool) → is_movable segment ≡ b
         → option_map_or (λ (other : Target). is_target 0 other) (cond b (Some (InSegment segment)) None) true ≡ true
@@ -189,7 +189,7 @@ pub piece_valid :
 piece_valid publics linked start count segment h =
     let v = places_are count segment h in
     record {
-      valid = moved_valid count _ _ None segment.places (keeps publics linked count) v.valid;
+      valid = moved_valid count _ _ None segment.places (target_kept_keeps publics linked count) v.valid;
       whole = moved_whole _ _ None segment.places v.whole;
     }
 

@@ -1,5 +1,5 @@
 -- A REENTRANT procedure begins: its last argument is pushed, and zeros for its variables.
-use Rattle.procedure_laws.proofs.Prelude.{◌≡◌, ℕ, zero, suc, ◌+◌, ◌-◌, ◌*◌, ◌<◌, ◌≤◌, ◌⊎◌, inl, inr, true, List, [], ◌∷◌, ◌++◌, length, zip, slice_get, Option, Some, None, refl, sym, ap, subst, ◌∙◌, arith, option_map, slice_get-map, MEMORY_SIZE, IsMemory, byte_at, ScalarType, Byte, Address, charge_of, AreParameters, HasParameters, home_of_parameters, size_of_scalar, Home, InFrame, TypedProcedure, frame_of, parameters_set, Gave, SourceState, Push, HoldBytes, Registers, State, wrap, AgreesIn, size_of_instruction, pushed, pushed_is_memory, pushed_keeps, TreeHome, Parameter, ProcedureKind, TreeProcedure, frame_number, location_of, parameter_at, parameters_of, IsProcedure, home_at, nodes_of, distance_of, parameter_distance, return_distance, return_of, parameter_count, home_in_frame, frame_fits, has_parameters, LiesWell, Owns, Does, at_place, gives, keeps_all, no_facts_hold, Facts, no_facts, with_facts, Body, Planned, holds, plain, Here, argument_facts, entry_steps, entry_steps_by, frame_entry_steps, last_argument_facts, last_argument_steps, pair_of, zeros_steps, InRegister, InWord, bytes_pushed, Know, does_same, BodyContext, Entries, IsEntered, IsOfCall, ModuleCode, ModuleLies, at_start, surroundings_in, IsBodyOf, ReentrantBegins, frame_level, reentrant_body, HasBegun}
+use Rattle.procedure_laws.proofs.Prelude.{◌≡◌, ℕ, zero, suc, ◌+◌, ◌-◌, ◌*◌, ◌<◌, ◌≤◌, ◌⊎◌, inl, inr, true, List, [], ◌∷◌, ◌++◌, length, zip, slice_get, Option, Some, None, refl, sym, ap, subst, ◌∙◌, arith, option_map, slice_get-map, MEMORY_SIZE, IsMemory, byte_at, ScalarType, Byte, Address, charge_of, AreParameters, HasParameters, home_of_parameters, size_of_scalar, Home, InFrame, TypedProcedure, frame_of, parameters_set, Gave, SourceState, Push, HoldBytes, Registers, State, wrap, AgreesIn, size_of_instruction, pushed, pushed_is_memory, pushed_keeps, TreeHome, Parameter, ProcedureKind, TreeProcedure, frame_number, location_of, parameter_at, parameters_of, IsProcedure, home_at, nodes_of, distance_of, parameter_distance, return_distance, return_of, parameter_count, home_in_frame, frame_fits, has_parameters, LiesWell, Owns, Does, at_place, does_without_step, keeps_all, no_facts_hold, Facts, no_facts, with_facts, Body, Planned, holds, plain, Here, argument_facts, entry_steps, entry_steps_by, frame_entry_steps, last_argument_facts, last_argument_steps, pair_of, zeros_steps, InRegister, InWord, bytes_pushed, Know, does_same, BodyContext, Entries, IsEntered, IsOfCall, ModuleCode, ModuleLies, at_start, surroundings_in, IsBodyOf, ReentrantBegins, frame_level, reentrant_body, HasBegun}
 use Rattle.treecode.specs.declared.place.Home.TheVariants as homes
 use Rattle.treecode.specs.declared.place.Location.TheVariants as locations
 use Rattle.treecode.specs.declared.procedure.ProcedureKind.TheVariants as kinds
@@ -123,7 +123,7 @@ module _ (code : ModuleCode) (entries : Entries) (bound : ℕ) (lies : ModuleLie
       (new_lies code entries index procedure found body.frame.now (room - charge_of found) (top + 2 - room) level lies is.there is.is (is.frame kind)
       ended made.zeros) in
       does_same (Gave tt (record s { frame = set.frame })) set.is
-      (gives (record {
+      (does_without_step (record {
         r = now;
         memory = ended;
         is_at = ap (λ (place : ℕ). at_place place now ended s.events) same;

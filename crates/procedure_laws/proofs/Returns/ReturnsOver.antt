@@ -1,5 +1,5 @@
 -- A return over the words of arguments above the return address, and then all returns of REENTRANT procedures.
-use Rattle.procedure_laws.proofs.Prelude.{◌≡◌, ◌≢◌, ℕ, zero, suc, ◌+◌, ◌-◌, ◌*◌, ◌/◌, ◌%◌, ◌<◌, ◌≤◌, nat_eq, min, inr, Bool, true, false, if◌then◌else◌, List, [], ◌∷◌, ◌++◌, length, slice_get, Option, Some, None, refl, sym, ap, subst, ◌∙◌, arith, eqb-true, length-set, MEMORY_SIZE, byte_at, ScalarType, Byte, Address, Gave, SourceState, Pchl, Pop, Push, Ret, StackDe, StackHl, HoldBytes, Registers, State, high_byte, low_byte, word, wrap, with_popped, running, pushed, pushed_is_memory, pushed_is_pushed, pushed_keeps, push_does, LiesWell, Shares, Does, at_place, gives, keeps_all, plain, Here, pops_steps, return_over_any_steps, return_over_steps, ResultLies, BodyContext, IsOfCall, ReturnLies, HasReturned, add-zero}
+use Rattle.procedure_laws.proofs.Prelude.{◌≡◌, ◌≢◌, ℕ, zero, suc, ◌+◌, ◌-◌, ◌*◌, ◌/◌, ◌%◌, ◌<◌, ◌≤◌, nat_eq, min, inr, Bool, true, false, if◌then◌else◌, List, [], ◌∷◌, ◌++◌, length, slice_get, Option, Some, None, refl, sym, ap, subst, ◌∙◌, arith, eqb-true, length-set, MEMORY_SIZE, byte_at, ScalarType, Byte, Address, Gave, SourceState, Pchl, Pop, Push, Ret, StackDe, StackHl, HoldBytes, Registers, State, high_byte, low_byte, word, wrap, with_popped, running, pushed, pushed_is_memory, pushed_is_pushed, pushed_keeps, push_does, LiesWell, Shares, Does, at_place, does_without_step, keeps_all, plain, Here, pops_steps, return_over_any_steps, return_over_steps, ResultLies, BodyContext, IsOfCall, ReturnLies, HasReturned, add-zero}
 use Rattle.procedure_laws.proofs.Frames.FramesSteps.{StepsLie, plain_goes}
 use Rattle.procedure_laws.proofs.Returns.ReturnsDrop.{IsBack, pop_is, word_small, word_there, words_dropped}
 use Rattle.procedure_laws.proofs.Returns.StaticReturns.{result_kept, return_does}
@@ -34,7 +34,7 @@ module _ (at : BodyContext) (result : Option ScalarType) (value above back : ℕ
       → Does at.context.activation.around.program.script t.budget 0 (at_place back now memory t.events) (Gave value t)
       (λ value t end. HasReturned at result above back memory value t end)
   returned_so now bytes pointer lie =
-      gives (record {
+      does_without_step (record {
         r = now;
         memory = memory;
         is_at = refl;
@@ -199,7 +199,7 @@ module _ (at : BodyContext) (result : Option ScalarType) (value above back : ℕ
       (sym (return_does at.context.activation.around.program.script (place + 1 + 1) (above - 2) back
       (record after { sp = wrap (above - 2) }) (pushed above (wrap back) memory) t.events refl
       (let whole = above_in_memory in omega (arith, low, whole)) pushed_return))
-      (gives (record {
+      (does_without_step (record {
         r = record after { sp = wrap (above - 2 + 2) };
         memory = pushed above (wrap back) memory;
         is_at = refl;

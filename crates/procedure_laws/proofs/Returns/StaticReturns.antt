@@ -1,5 +1,5 @@
 -- A procedure that is not REENTRANT returns by RET.
-use Rattle.procedure_laws.proofs.Prelude.{◌≡◌, ℕ, ◌+◌, ◌-◌, ◌*◌, ◌/◌, ◌%◌, ◌≤◌, List, [], ◌∷◌, Option, Some, None, refl, ap, subst, ◌∙◌, arith, MEMORY_SIZE, byte_at, word_at, Event, ScalarType, Byte, Address, Gave, SourceState, Ret, act, Registers, State, wrap, running, step_of, Item, ProcedureKind, TreeProcedure, IsThere, LiesWell, Does, at_place, plain_step, after_step, gives, keeps_all, Body, Planned, plain, AreCarriedOut, return_steps, return_steps_by, ResultLies, BodyContext, IsOfCall, ReturnLies, ModuleCode, StaticReturns, static_body, static_level, HasReturned}
+use Rattle.procedure_laws.proofs.Prelude.{◌≡◌, ℕ, ◌+◌, ◌-◌, ◌*◌, ◌/◌, ◌%◌, ◌≤◌, List, [], ◌∷◌, Option, Some, None, refl, ap, subst, ◌∙◌, arith, MEMORY_SIZE, byte_at, word_at, Event, ScalarType, Byte, Address, Gave, SourceState, Ret, act, Registers, State, wrap, running, step_of, Item, ProcedureKind, TreeProcedure, IsThere, LiesWell, Does, at_place, plain_step, after_step, does_without_step, keeps_all, Body, Planned, plain, AreCarriedOut, return_steps, return_steps_by, ResultLies, BodyContext, IsOfCall, ReturnLies, ModuleCode, StaticReturns, static_body, static_level, HasReturned}
 use Rattle.asm8080.proofs.Stack as stack
 use Rattle.treecode.specs.declared.procedure.ProcedureKind.TheVariants as kinds
 use Rattle.procedure_laws.proofs.Ends.{plain_planned}
@@ -84,7 +84,7 @@ static_returns code bound index number room top procedure found body is static f
     does =
         let bytes = ready.registers in
         after_step step
-        (gives (record {
+        (does_without_step (record {
           r = record r { sp = wrap (static_level found top + 2) };
           memory = memory;
           is_at = refl;

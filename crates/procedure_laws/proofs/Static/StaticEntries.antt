@@ -1,5 +1,5 @@
 -- The entry of a procedure that is not REENTRANT, from its first instruction to the begin of its body.
-use Rattle.procedure_laws.proofs.Prelude.{◌≡◌, ℕ, suc, ◌+◌, ◌-◌, ◌*◌, ◌<◌, ◌≤◌, List, [], ◌∷◌, ◌++◌, length, map, slice_get, Option, Some, None, refl, sym, ap, subst, ◌∙◌, arith, take, MEMORY_SIZE, frame_bytes, Gave, SourceState, Registers, State, Item, Static, Parameter, IsReady, IsThere, Does, at_place, gives, with_facts_hold, Facts, after_word, no_facts, word_item, Planned, holds, Here, AreCarriedOut, below_return_steps, known_from, static_entry_steps, stores_steps, with_argument, ArgumentsLie, InRegister, InWord, IsSound, Know, BodyContext, ReturnLies, at_start, HasBegun}
+use Rattle.procedure_laws.proofs.Prelude.{◌≡◌, ℕ, suc, ◌+◌, ◌-◌, ◌*◌, ◌<◌, ◌≤◌, List, [], ◌∷◌, ◌++◌, length, map, slice_get, Option, Some, None, refl, sym, ap, subst, ◌∙◌, arith, take, MEMORY_SIZE, frame_bytes, Gave, SourceState, Registers, State, Item, Static, Parameter, IsReady, IsThere, Does, at_place, does_without_step, with_facts_hold, Facts, after_word, no_facts, word_item, Planned, holds, Here, AreCarriedOut, below_return_steps, known_from, static_entry_steps, stores_steps, with_argument, ArgumentsLie, InRegister, InWord, IsSound, Know, BodyContext, ReturnLies, at_start, HasBegun}
 use Rattle.statements8080.specs.Plans.{word}
 use Rattle.procedure_laws.proofs.Planned.{EndsKnowing, IsBehind, holds_last, word_behind}
 use Rattle.procedure_laws.proofs.Puts.{AreVariables, EachApart, Slot, put, put_down, set_all, set_down}
@@ -43,7 +43,7 @@ module _ (at : BodyContext) (sound : IsSound at.context)
       → Know at.context held r memory
       → Does at.context.activation.around.program.script t.budget 0 (at_place from r memory t.events) (Gave tt t) Good
   finish held here list from level stacked r memory written there on same returns known =
-      gives (record {
+      does_without_step (record {
         r = r;
         memory = memory;
         is_at = ap (λ (place : ℕ). at_place place r memory t.events) from_is;

@@ -3,7 +3,7 @@ use Rattle.statement_laws.proofs.Prelude.{◌≡◌, ℕ, suc, ◌+◌, ◌*◌,
 use Rattle.treecode.specs.declared.statement.Statement.TheVariants as statements
 use Rattle.statement_laws.proofs.Assignments.Assignments.{Counted, single_does}
 use Rattle.statement_laws.proofs.Assignments.Firsts.{then_each}
-use Rattle.statement_laws.proofs.FirstSteps.{Stand, ended, going, part_first}
+use Rattle.statement_laws.proofs.FirstSteps.{Stand, steps_ended, going, part_first}
 use Rattle.statement_laws.proofs.Outcomes.{Between, ends_onward}
 use Rattle.statement_laws.proofs.Simple.{FormDoes}
 use Rattle.statement_laws.proofs.Targets.{Suits, address_suits, as_register, at_any_value, byte_suits, small_suits, target_of_index, targets_stored}
@@ -98,7 +98,7 @@ module _
         (then_do (stored_in_each at.context.later at.context.activation.around some n t) (λ _ u. Gave Onward u))
         (Leaves at base to last before)
     each_number n known NoTargets index here from t r memory place count some_types some_fit goes stand stage =
-        ends_onward (ended stand) goes stage
+        ends_onward (steps_ended stand) goes stage
     each_number n known (MoreTargets {first = first} {count = left} {target = target} {tree = one} {others = others} is_there target_is more_are) index here from t r memory place count some_types some_fit goes stand stage =
         let less : index < targets.count = omega (arith, count) in
         let found = target_of_index at targets index first target sound place less is_there in
@@ -196,7 +196,7 @@ module _
             (elim given as (λ (g : Option Target). List Planned) [ Some x ↦ single_steps at.body site x of | None ↦ [] ] ++ []) last to)
             found stand)
             target_is some_types.0 (omega (arith, some_fit)) stage
-            (λ here place u now kept goes ends_here next. ends_onward (ended ends_here) goes next)))
+            (λ here place u now kept goes ends_here next. ends_onward (steps_ended ends_here) goes next)))
 
     pub assigned :
         (from : ℕ) (s : SourceState) (r : Registers) (memory : List ℕ)

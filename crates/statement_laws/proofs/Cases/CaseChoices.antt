@@ -1,5 +1,5 @@
 -- The statement that DO CASE chooses, and the jump into it.
-use Rattle.statement_laws.proofs.Prelude.{◌≡◌, ℕ, zero, suc, ◌+◌, ◌*◌, ◌<◌, ◌≤◌, max, Bool, true, nat_eq, if◌then◌else◌, List, slice_get, Option, Some, None, refl, sym, ap, subst, ◌∙◌, arith, option_and_then, lt-ltb, eq-eqb, height_of_statement, height_of_statements, ListsStand, ListsStandInCases, TypedStatement, TypedStatements, NoStatements, MoreStatements, TypesHoldIn, TypesHoldInStatements, done, done_case, SourceState, Outcome, Gave, Flow, Onward, Returned, Jumped, Registers, State, step_of, Range, Statement, StatementNumber, AreStatements, AreNoStatements, AreMoreStatements, IsGoto, IsNull, IsStatement, IsStatementForm, IsStatementNode, Nodes, nodes_of, item, statement, Does, at_place, after_step, gives, Facts, LabelNumber, Site, body_label, entry_of, entry_of_statement, label_at, Here, nodes_in, Stage, does_same, script_of, BodyContext, IsSoundBody, Leaves, suc_moved}
+use Rattle.statement_laws.proofs.Prelude.{◌≡◌, ℕ, zero, suc, ◌+◌, ◌*◌, ◌<◌, ◌≤◌, max, Bool, true, nat_eq, if◌then◌else◌, List, slice_get, Option, Some, None, refl, sym, ap, subst, ◌∙◌, arith, option_and_then, lt-ltb, eq-eqb, height_of_statement, height_of_statements, ListsStand, ListsStandInCases, TypedStatement, TypedStatements, NoStatements, MoreStatements, TypesHoldIn, TypesHoldInStatements, done, done_case, SourceState, Outcome, Gave, Flow, Onward, Returned, Jumped, Registers, State, step_of, Range, Statement, StatementNumber, AreStatements, AreNoStatements, AreMoreStatements, IsGoto, IsNull, IsStatement, IsStatementForm, IsStatementNode, Nodes, nodes_of, item, statement, Does, at_place, after_step, does_without_step, Facts, LabelNumber, Site, body_label, entry_of, entry_of_statement, label_at, Here, nodes_in, Stage, does_same, script_of, BodyContext, IsSoundBody, Leaves, suc_moved}
 use Rattle.treecode.specs.declared.statement.Statement.TheVariants as statements
 use Rattle.statement_laws.proofs.Cases.CaseTables.{EntriesStand, EntryStands, reaches_end}
 use Rattle.statement_laws.proofs.Loops.LoopTurns.{step_pays}
@@ -89,10 +89,10 @@ leaves_whole {at = at} {base = base} {middle = middle} {to = to} {need = need} {
         subst (λ (state : State). Does (script_of at.context) u.budget 0 state (Gave Onward u) (Leaves at base to after budget)) (sym comes.is_at)
         (ends u comes.r comes.memory goes.goes_on
         (record { below = omega (arith, below, fewer); room = room; ready = comes.ready; known = comes.holds }))
-    by (Returned value) u end comes fewer = gives comes
+    by (Returned value) u end comes fewer = does_without_step comes
     by (Jumped label) u end comes fewer =
         let before = comes.spent in
-        gives (record { place = comes.place; lies = comes.lies; spent = omega (arith, before, less); comes = comes.comes })
+        does_without_step (record { place = comes.place; lies = comes.lies; spent = omega (arith, before, less); comes = comes.comes })
 
 -- the entry of a statement is in the list
 pub entry_is :
@@ -197,7 +197,7 @@ enters {at = at} {base = base} {to = to} {need = need} {bound = bound} {budget =
                 (done at.context.later at.context.activation.around tree u) (Leaves at base to after budget)
             by_goto _ label (IsGoto {label = to_label} is_label) there =
                 step_pays u (λ t. Gave (Jumped to_label) t) refl refl there
-                (λ left is. gives (record {
+                (λ left is. does_without_step (record {
                   place = place_of (body_label at.body label);
                   lies = record { number = label; is_label = is_label; place_is = refl };
                   spent = omega (arith, is, fewer);

@@ -1,9 +1,9 @@
 -- The table of DO CASE and the statements after it.
-use Rattle.statement_laws.proofs.Prelude.{◌≡◌, ℕ, zero, suc, ◌+◌, ◌-◌, ◌*◌, ◌<◌, Bool, true, false, nat_lt, nat_eq, if◌then◌else◌, List, [], ◌∷◌, ◌++◌, Option, Some, None, refl, sym, ap, subst, ◌∙◌, arith, ltb-false, same_Some, SourceState, Gave, Onward, Registers, AtLabel, Jump, Range, StatementNumber, item, IsThere, Does, at_place, word_step, after_step, gives, Facts, LabelNumber, after_form, no_facts, jump_item, Planned, cases_end_steps, entry_of, statement_at, jump, label_at, mark, steps_from, Here, jump_on_steps, JumpThere, Know, Stage, script_of, BodyContext, IsSoundBody, Leaves, StatementDoes, add-zero, suc_moved}
+use Rattle.statement_laws.proofs.Prelude.{◌≡◌, ℕ, zero, suc, ◌+◌, ◌-◌, ◌*◌, ◌<◌, Bool, true, false, nat_lt, nat_eq, if◌then◌else◌, List, [], ◌∷◌, ◌++◌, Option, Some, None, refl, sym, ap, subst, ◌∙◌, arith, ltb-false, same_Some, SourceState, Gave, Onward, Registers, AtLabel, Jump, Range, StatementNumber, item, IsThere, Does, at_place, word_step, after_step, does_without_step, Facts, LabelNumber, after_form, no_facts, jump_item, Planned, cases_end_steps, entry_of, statement_at, jump, label_at, mark, steps_from, Here, jump_on_steps, JumpThere, Know, Stage, script_of, BodyContext, IsSoundBody, Leaves, StatementDoes, add-zero, suc_moved}
 use Rattle.steps8080.specs.declared.step.Step.TheVariants as steps
 use Rattle.statements8080.specs.declared.plan.Planned.TheVariants as planned
 use Rattle.statement_laws.proofs.Loops.LoopCode.{Steps}
-use Rattle.statement_laws.proofs.FirstSteps.{Stand, ended, going, jump_first, jump_on_first, mark_first, reaches_first, statement_first}
+use Rattle.statement_laws.proofs.FirstSteps.{Stand, steps_ended, going, jump_first, jump_on_first, mark_first, reaches_first, statement_first}
 
 -- jumps one after another
 pub record TableStands
@@ -86,7 +86,7 @@ pub reaches_end :
     → Stage at.context at.context.activation.level 0 need base u facts now memory_now
     → Does (script_of at.context) u.budget 0 (at_place to now memory_now u.events) (Gave Onward u) (Leaves at base to after budget)
 reaches_end {at = at} {base = base} {to = to} {need = need} {after = after} {budget = budget} u now memory_now is stage =
-    gives (record {
+    does_without_step (record {
       goes_on = ap (λ (here : Here). here.goes_on) (sym is);
       comes = record {
         r = now;
@@ -149,7 +149,7 @@ pub behind_parted :
 unfolding cases_end_steps
 behind_parted {at = at} {after = after} {to = to} list own end zero index here from sound count stand =
     let marked = mark_first stand in
-    let ends = ended (reaches_first marked.rest) in
+    let ends = steps_ended (reaches_first marked.rest) in
     record {
       end_is = marked.lies ∙ (sym ends.place);
       after_is = (sym ends.same);

@@ -1,5 +1,5 @@
 -- Code of DO CASE does what it says.
-use Rattle.statement_laws.proofs.Prelude.{◌≡◌, ℕ, ◌+◌, ◌*◌, ◌%◌, ◌≤◌, max, Bool, true, false, nat_lt, nat_eq, if◌then◌else◌, List, [], ◌∷◌, ◌++◌, slice_get, Option, Some, None, refl, sym, ap, subst, ◌∙◌, arith, option_and_then, ltb-true, ltb-false, eqb-true, same_Some, ScalarType, Byte, Address, height_of, height_of_statement, height_of_statements, type_of, ListsStand, TypedExpression, TypedStatement, TypedStatements, TypesHoldIn, done, done_case, SourceState, Outcome, Gave, then_do, Onward, NoCarry, AccumulateImmediate, Xchg, Compare, Subtract, SubtractWithBorrow, A, D, E, H, L, Registers, JumpWhere, ExpressionNumber, Range, Statement, StatementNumber, IsCase, IsStatementForm, IsStatementNode, Nodes, nodes_of, item, HasRoom, Does, at_place, gives, Facts, LabelNumber, copy, high, low, set, label_of, plain, Site, number, scalar, knowing, Planned, case_steps, cases_end_steps, choice_at_steps, choice_steps, computed_case_steps, into_table_steps, known_case_steps, number_in_de_steps, statements_steps, table_steps, all, jump, nth_label, part, plan, Here, statement_steps, nodes_in, number_means, value_in, Stage, at_effects, does_same, script_of, PartThere, Know, BodyContext, IsSoundBody, Leaves, StatementDoes, StatementStands, scalar_is}
+use Rattle.statement_laws.proofs.Prelude.{◌≡◌, ℕ, ◌+◌, ◌*◌, ◌%◌, ◌≤◌, max, Bool, true, false, nat_lt, nat_eq, if◌then◌else◌, List, [], ◌∷◌, ◌++◌, slice_get, Option, Some, None, refl, sym, ap, subst, ◌∙◌, arith, option_and_then, ltb-true, ltb-false, eqb-true, same_Some, ScalarType, Byte, Address, height_of, height_of_statement, height_of_statements, type_of, ListsStand, TypedExpression, TypedStatement, TypedStatements, TypesHoldIn, done, done_case, SourceState, Outcome, Gave, then_do, Onward, NoCarry, AccumulateImmediate, Xchg, Compare, Subtract, SubtractWithBorrow, A, D, E, H, L, Registers, JumpWhere, ExpressionNumber, Range, Statement, StatementNumber, IsCase, IsStatementForm, IsStatementNode, Nodes, nodes_of, item, HasRoom, Does, at_place, does_without_step, Facts, LabelNumber, copy, high, low, set, label_of, plain, Site, number, scalar, knowing, Planned, case_steps, cases_end_steps, choice_at_steps, choice_steps, computed_case_steps, into_table_steps, known_case_steps, number_in_de_steps, statements_steps, table_steps, all, jump, nth_label, part, plan, Here, statement_steps, nodes_in, number_means, value_in, Stage, at_effects, does_same, script_of, PartThere, Know, BodyContext, IsSoundBody, Leaves, StatementDoes, StatementStands, scalar_is}
 use Rattle.treecode.specs.declared.statement.Statement.TheVariants as statements
 use Rattle.steps8080.specs.declared.step.Step.TheVariants as steps
 use Rattle.steps8080.specs.declared.step.Task.TheVariants as tasks
@@ -8,7 +8,7 @@ use Rattle.statement_laws.proofs.Cases.CaseChoices.{IsNth, leaves_whole, nth_is,
 use Rattle.statement_laws.proofs.Cases.CaseForms.{Choice, byte_bounded, byte_bring, byte_compare, byte_part, byte_unbounded, case_of, high_bounded, high_compare, word_bounded, word_compare, word_part, word_unbounded}
 use Rattle.statement_laws.proofs.Cases.Cases.{bounded, choice_parted}
 use Rattle.statement_laws.proofs.Loops.LoopCode.{steps_over}
-use Rattle.statement_laws.proofs.FirstSteps.{Stand, ended, statement_first}
+use Rattle.statement_laws.proofs.FirstSteps.{Stand, steps_ended, statement_first}
 use Rattle.statement_laws.proofs.Loops.PlannedParts.{code_parted}
 
 -- the code after that of the number
@@ -83,9 +83,9 @@ goes_on_there :
     → Stage at.context at.context.activation.level 0 need base u here.facts now memory_now
     → Does (script_of at.context) u.budget 0 (at_place place now memory_now u.events) (Gave Onward u) (Leaves at base to after budget)
 goes_on_there {at = at} {base = base} {need = need} {budget = budget} {place = place} {to = to} {after = after} u now memory_now here goes stand stage =
-    let ends = ended stand in
+    let ends = steps_ended stand in
     subst (λ (n : ℕ). Does (script_of at.context) u.budget 0 (at_place n now memory_now u.events) (Gave Onward u) (Leaves at base to after budget)) (ends.place)
-    (gives (record {
+    (does_without_step (record {
       goes_on = ap (λ (here : Here). here.goes_on) (ends.same) ∙ goes;
       comes = record {
         r = now;

@@ -43,8 +43,8 @@ count_to last turn =
     steps.Plain (load registers.A) ∷ steps.Plain (AccumulateImmediate Compare (low last)) ∷ steps.Plain (Inr M)
     ∷ steps.Jump (JumpWhere Carry) turn ∷ []
 
-pub stays : (n budget limit : ℕ) → n ≡ budget → budget ≤ limit → n ≤ limit
-stays n budget limit same less = omega (arith, same, less)
+pub within_limit : (n budget limit : ℕ) → n ≡ budget → budget ≤ limit → n ≤ limit
+within_limit n budget limit same less = omega (arith, same, less)
 
 pub strict : (n budget limit most : ℕ) → n ≡ budget → budget ≤ limit → limit < most → n < most
 strict n budget limit most same less more = omega (arith, same, less, more)
@@ -100,7 +100,7 @@ counts_to_top {at = at} loop last limit turn turn_facts t r memory counts great 
     (strict u.budget t.budget limit loop.budget budget_is fewer counts.less) is_put
     (omega (arith, small, is_not)) (omega (arith, small, is_not, great))
     (to_turn loop limit (at.context.activation.layout.place_of turn.index) turn_facts u (middle + 1) after left counts.turns
-    (stays u.budget t.budget limit budget_is fewer)
+    (within_limit u.budget t.budget limit budget_is fewer)
     (record { below = ready_now.below; room = ready_now.room; ready = ready_now.ready; known = counts.enters after left holds.hl })
     step))
     (λ passed rest.
@@ -111,7 +111,7 @@ counts_to_top {at = at} loop last limit turn turn_facts t r memory counts great 
     (strict u.budget t.budget limit loop.budget budget_is fewer counts.less) is_put
     (λ of_type. absurd (omega (arith, is, of_type)))
     (subst (λ (place : ℕ). Does (script_of at.context) u.budget 0 (at_place place after left u.events) (Gave Onward u) (Out loop)) (sym over.1)
-    (goes u after left (stays u.budget t.budget limit budget_is fewer)
+    (goes u after left (within_limit u.budget t.budget limit budget_is fewer)
     (subst (λ (facts : Facts). StageAt at loop.need loop.base u facts after left) over.0 ready_now))))))))
 
 -- to less than 255
@@ -169,7 +169,7 @@ counts_to {at = at} loop last limit turn turn_facts t r memory counts little sta
     (strict u.budget t.budget limit loop.budget budget_is fewer counts.less) is_put
     (omega (arith, is, little)) (omega (arith, is))
     (to_turn loop limit (at.context.activation.layout.place_of turn.index) turn_facts u (place_compared + 1) after left counts.turns
-    (stays u.budget t.budget limit budget_is fewer)
+    (within_limit u.budget t.budget limit budget_is fewer)
     (record { below = ready_now.below; room = ready_now.room; ready = ready_now.ready; known = counts.enters after left holds.hl })
     step))
     (λ passed rest.
@@ -179,7 +179,7 @@ counts_to {at = at} loop last limit turn turn_facts t r memory counts little sta
     (strict u.budget t.budget limit loop.budget budget_is fewer counts.less) is_put
     (λ of_type. omega (arith, is))
     (subst (λ (place : ℕ). Does (script_of at.context) u.budget 0 (at_place place after left u.events) (Gave Onward u) (Out loop)) (sym over.1)
-    (goes u after left (stays u.budget t.budget limit budget_is fewer)
+    (goes u after left (within_limit u.budget t.budget limit budget_is fewer)
     (subst (λ (facts : Facts). StageAt at loop.need loop.base u facts after left) over.0 ready_now))))))))))
   where
     low_is : (n : ℕ) → n < 255 → n % 256 ≡ n

@@ -2,7 +2,7 @@
 use Rattle.statement_laws.proofs.Prelude.{◌≡◌, ℕ, ◌+◌, ◌*◌, ◌/◌, ◌%◌, ◌<◌, ◌≤◌, nat_lt, List, [], ◌∷◌, ◌++◌, sym, ap, subst, ◌∙◌, arith, ltb-true, ltb-false, byte_at, byte_small, Address, next_turn, step_value, value, SourceState, Gave, Onward, Carry, Instr, AccumulateImmediate, Inx, Subtract, SubtractWithBorrow, Hl, A, H, L, Registers, high_byte, low_byte, word, wrap, JumpWhere, StoreHl, Place, Does, at_place, IsSteady, location_at, Facts, LabelNumber, Step, copy, high, low, distances_in, Know, effect, at_instructions, script_of, BodyContext, IsSoundBody}
 use Rattle.treecode.specs.declared.place.Location.TheVariants as locations
 use Rattle.steps8080.specs.declared.step.Step.TheVariants as steps
-use Rattle.statement_laws.proofs.Loops.CountedBytes.{Goes, stays, strict}
+use Rattle.statement_laws.proofs.Loops.CountedBytes.{Goes, within_limit, strict}
 use Rattle.statement_laws.proofs.Loops.CountedVariables.{IsCounted, variable_address, variable_place}
 use Rattle.statement_laws.proofs.Loops.LoopCode.{Steps, jump_then, steps_over}
 use Rattle.statement_laws.proofs.Loops.LoopMeaning.{scalar_at, stepped_by, stepped_with, turns_again, turns_end}
@@ -112,7 +112,7 @@ counts_word {at = at} loop last limit turn turn_facts place t r memory counts li
     (strict u.budget t.budget limit loop.budget budget_is fewer counts.less) is_put
     (omega (arith, is, last_small)) (omega (arith, is))
     (to_turn loop limit (at.context.activation.layout.place_of turn.index) turn_facts u (middle + 3) after left counts.turns
-    (stays u.budget t.budget limit budget_is fewer)
+    (within_limit u.budget t.budget limit budget_is fewer)
     (record {
       below = ready_now.below;
       room = ready_now.room;
@@ -127,5 +127,5 @@ counts_word {at = at} loop last limit turn turn_facts place t r memory counts li
     (strict u.budget t.budget limit loop.budget budget_is fewer counts.less) is_put
     (λ of_type. omega (arith, is))
     (subst (λ (place : ℕ). Does (script_of at.context) u.budget 0 (at_place place after left u.events) (Gave Onward u) (Out loop)) (sym over.1)
-    (goes u after left (stays u.budget t.budget limit budget_is fewer)
+    (goes u after left (within_limit u.budget t.budget limit budget_is fewer)
     (subst (λ (facts : Facts). StageAt at loop.need loop.base u facts after left) over.0 ready_now)))))))

@@ -1,5 +1,5 @@
 -- The variable of an iterative DO gets its first value, with a step to spare, and what is planned after it stands.
-use Rattle.statement_laws.proofs.Prelude.{◌≡◌, ℕ, true, List, ◌++◌, None, refl, sym, ap, subst, ◌∙◌, ScalarType, type_of, StoredIn, SourcePlace, write_scalar, stored, value, write_variable, SourceState, Outcome, Gave, Stopped, then_do, as_type, Registers, State, Range, Stored, Iteration, IsStored, Arrives, Does, at_place, gives, Facts, Site, scalar, knowing, Planned, single_steps, whole, counter_of, first_steps, site_of, Know, does_same, script_of, BodyContext}
+use Rattle.statement_laws.proofs.Prelude.{◌≡◌, ℕ, true, List, ◌++◌, None, refl, sym, ap, subst, ◌∙◌, ScalarType, type_of, StoredIn, SourcePlace, write_scalar, stored, value, write_variable, SourceState, Outcome, Gave, Stopped, then_do, as_type, Registers, State, Range, Stored, Iteration, IsStored, Arrives, Does, at_place, does_without_step, Facts, Site, scalar, knowing, Planned, single_steps, whole, counter_of, first_steps, site_of, Know, does_same, script_of, BodyContext}
 use Rattle.statement_laws.proofs.Assignments.Assigned.{scalar_there}
 use Rattle.statement_laws.proofs.Assignments.Assignments.{single_does}
 use Rattle.statement_laws.proofs.Loops.Counted.{counted_does}
@@ -59,7 +59,7 @@ first_stores {at = at} loop head list facts from others s r memory iterates stan
     (refl, (iterates.counted).refers, whole_types at.context (loop.head).variable)
     iterates.enough stage
     (λ here place u now kept goes there next.
-    gives (record {
+    does_without_step (record {
       known = here.facts;
       place = place;
       stand =

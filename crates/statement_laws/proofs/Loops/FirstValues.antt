@@ -1,5 +1,5 @@
 -- The first value of the variable of an iterative DO is there after its store.
-use Rattle.statement_laws.proofs.Prelude.{◌≡◌, ℕ, ◌+◌, ◌*◌, ◌/◌, ◌%◌, ◌<◌, ◌≤◌, Bool, true, false, if◌then◌else◌, List, [], slice_set, refl, sym, ap, subst, ◌∙◌, arith, MEMORY_SIZE, byte_at, ScalarType, Byte, Address, size_of_scalar, UndeclaredByte, Constant, InMemory, InTheFrame, is_constant, is_declared, next_place, write_byte, write_scalar, SourceState, Outside, Outcome, Gave, Stopped, then_do, values_of, Registers, State, wrap, running, byte_put, Does, Lands, Activation, IsReady, gives, Context, IsSound, address_on_machine, FitsIn, frame_is, script_of, byte_written, first_fits, next_address, second_fits, word_written, low_of_byte}
+use Rattle.statement_laws.proofs.Prelude.{◌≡◌, ℕ, ◌+◌, ◌*◌, ◌/◌, ◌%◌, ◌<◌, ◌≤◌, Bool, true, false, if◌then◌else◌, List, [], slice_set, refl, sym, ap, subst, ◌∙◌, arith, MEMORY_SIZE, byte_at, ScalarType, Byte, Address, size_of_scalar, UndeclaredByte, Constant, InMemory, InTheFrame, is_constant, is_declared, next_place, write_byte, write_scalar, SourceState, Outside, Outcome, Gave, Stopped, then_do, values_of, Registers, State, wrap, running, byte_put, Does, Lands, Activation, IsReady, does_without_step, Context, IsSound, address_on_machine, FitsIn, frame_is, script_of, byte_written, first_fits, next_address, second_fits, word_written, low_of_byte}
 use Rattle.meaning.specs.Access.{Place}
 use Rattle.statement_laws.proofs.Loops.CountedVariables.{IsCounted, variable_address, variable_place}
 use Rattle.statement_laws.proofs.Loops.LoopMeaning.{IsSteadyScalar, scalar_at}
@@ -149,7 +149,7 @@ written_is {context = context} {top = top} {base = base} {memory = memory} {r = 
     (λ found t. Gave found t) sound (omega arith) ready counted.fits
     (λ t events budget steady_there ready_there.
     subst (λ (budget : ℕ). Does (script_of context) budget 0 nowhere (Gave tt t) Good) budget
-    (gives (ready_there, steady_there.1)))) in
+    (does_without_step (ready_there, steady_there.1)))) in
     let good = there.good in
     let below = good.1 in
     same_written Byte (variable_place context variable) number s sound counted.fits is ready_now good.0
@@ -166,7 +166,7 @@ written_is {context = context} {top = top} {base = base} {memory = memory} {r = 
     (λ found t. Gave found t) sound small ready counted.fits
     (λ t events budget steady_there steady_too ready_there.
     subst (λ (budget : ℕ). Does (script_of context) budget 0 nowhere (Gave tt t) Good) budget
-    (gives (ready_there, steady_there.1, steady_too.1)))) in
+    (does_without_step (ready_there, steady_there.1, steady_too.1)))) in
     let good = there.good in
     same_written Address (variable_place context variable) number s sound counted.fits is ready_now good.0
     ∙ word_put memory address number size good.1 good.2

@@ -9,7 +9,7 @@ use Rattle.statement_laws.proofs.Loops.LoopRules.{Checks}
 use Rattle.statement_laws.proofs.Loops.LoopTests.{Enters}
 use Rattle.statement_laws.proofs.Loops.LoopTurns.{Loop, Out, Runs, StageAt, after_list, from_list}
 use Rattle.statement_laws.proofs.Meetings.{first_meets, second_meets}
-use Rattle.statement_laws.proofs.FirstSteps.{Stand, ended, going, meet_first}
+use Rattle.statement_laws.proofs.FirstSteps.{Stand, steps_ended, going, meet_first}
 use Rattle.statement_laws.proofs.Loops.PlannedParts.{code_parted}
 
 -- a planned step that is code, with no label and no way that ends
@@ -61,7 +61,7 @@ pub all_code :
     → Steps at.context here.facts from code last.facts to
 all_code {at = at} {here = here} {from = from} {to = to} code stand =
     let parts = code_parted code [] here from stand in
-    let ends = ended parts.rest in
+    let ends = steps_ended parts.rest in
     subst (λ (one : Here). Steps at.context here.facts from code one.facts to) (sym ends.same)
     (subst (λ (n : ℕ). Steps at.context here.facts from code parts.known n) (sym ends.place) parts.first)
 

@@ -6,7 +6,7 @@ use Rattle.statement_laws.proofs.Loops.FirstStored.{FirstThere, first_stored, fi
 use Rattle.statement_laws.proofs.Loops.IterateHeads.{KnownEntry, entry_value, iterates_so, known_entry, loop_of, number_of_head}
 use Rattle.statement_laws.proofs.Loops.LoopEnds.{Iterates, goes_at_end}
 use Rattle.statement_laws.proofs.Loops.LoopTurns.{Loop, Out, StageAt, from_test}
-use Rattle.statement_laws.proofs.FirstSteps.{Stand, ended, going}
+use Rattle.statement_laws.proofs.FirstSteps.{Stand, steps_ended, going}
 use Rattle.statement_laws.proofs.Simple.{FormDoes}
 use Rattle.statement_laws.proofs.Loops.ToKnownLoops.{to_known_enters}
 
@@ -107,7 +107,7 @@ module _
         enters_never loop (loop.head).scalar entry.last from facts [] s r memory iterates.sound refl last_is.0 iterates.counted
         (stores [] stand) budget_is stage
         (λ known place u now memory_now ends there.
-        let is_over = ended ends in
+        let is_over = steps_ended ends in
         goes_at_end loop u.budget known place (sym is_over.same) (sym is_over.place) u now memory_now (omega arith) there)
         (λ u now memory_now is ready_now steady.
         leb-false _ _ (entry_value loop head list facts false s u iterates entry is stage.ready ready_now steady))

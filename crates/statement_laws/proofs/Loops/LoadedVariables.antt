@@ -4,7 +4,7 @@ use Rattle.mem80.specs.Memory.{word_at}
 use Rattle.treecode.specs.declared.place.Location.TheVariants as locations
 use Rattle.steps8080.specs.declared.step.Step.TheVariants as steps
 use Rattle.operands8080.specs.internal.Addresses.{word_at_hl_steps}
-use Rattle.task_laws.proofs.Machine.Rules.{split}
+use Rattle.task_laws.proofs.Machine.Rules.{steps_split}
 use Rattle.statement_laws.proofs.Loops.CountedVariables.{IsCounted, variable_address}
 use Rattle.statement_laws.proofs.Loops.LoopCode.{Steps, address_then, load_then}
 
@@ -226,7 +226,7 @@ word_loaded {context = context} {top = top} {need = need} {more = more} {from = 
     by_location (locations.Frame variable_of offset) is stand =
         address_then counted enough stand stage
         (λ found middle there memory_now rest holds here.
-        let parts = split word_at_hl_steps (steps.Holds (word_in_hl (locations.Frame variable_of offset)) ∷ []) rest in
+        let parts = steps_split word_at_hl_steps (steps.Holds (word_in_hl (locations.Frame variable_of offset)) ∷ []) rest in
         word_at_hl_goes address there sound steady holds.hl parts.first (record { ready = here.ready; known = here.known })
         (λ now loaded on.
         held_word address (locations.Frame variable_of offset) loaded.low loaded.high steady steady_too

@@ -6,7 +6,7 @@ use Rattle.statement_laws.proofs.Loops.CountedBytes.{Goes}
 use Rattle.statement_laws.proofs.Loops.CountedVariables.{IsCounted}
 use Rattle.statement_laws.proofs.Loops.LoopCode.{knowing_nothing, mark_then, steps_over}
 use Rattle.statement_laws.proofs.Loops.LoopTurns.{Loop, Out, StageAt, loop_ends}
-use Rattle.statement_laws.proofs.FirstSteps.{Stand, ended, reaches_first}
+use Rattle.statement_laws.proofs.FirstSteps.{Stand, steps_ended, reaches_first}
 use Rattle.statement_laws.proofs.Loops.PlannedParts.{code_parted}
 
 -- what is true of an iterative DO of a body: its variable, its values and its list
@@ -52,7 +52,7 @@ ends_known {at = at} loop true end here place stand =
     let parts = code_parted (steps.Mark end ∷ []) (planned.Reaches true ∷ []) here place stand in
     let marked = mark_then parts.first in
     let after_mark = steps_over marked.1 in
-    let ends = ended (reaches_first parts.rest) in
+    let ends = steps_ended (reaches_first parts.rest) in
     let is_after : record { facts = no_facts; goes_on = true } ≡ loop.after =
     ap (λ (facts : Facts). record { facts = facts; goes_on = true }) after_mark.0 ∙ (sym ends.same) in
     let is_to : place ≡ loop.to = after_mark.1 ∙ (sym ends.place) in
@@ -63,7 +63,7 @@ ends_known {at = at} loop true end here place stand =
       after = λ tested. is_after;
     }
 ends_known loop false end here place stand =
-    let ends = ended (reaches_first stand) in
+    let ends = steps_ended (reaches_first stand) in
     record {
       goes = λ limit. goes_at_end loop limit here.facts place (sym ends.same) (sym ends.place);
       label = λ tested. absurd cc;

@@ -1,7 +1,7 @@
 -- The step of an iterative DO whose variable is an ADDRESS in the frame: DE is added to it, byte by byte.
 use Rattle.statement_laws.proofs.Prelude.{◌≡◌, ℕ, ◌+◌, ◌*◌, ◌/◌, ◌%◌, ◌<◌, ◌≤◌, Bool, true, false, nat_le, List, [], ◌∷◌, slice_set, refl, sym, ap, subst, ◌∙◌, arith, leb-true, leb-false, le-leb, lt-leb, MEMORY_SIZE, byte_at, byte_small, Address, SourcePlace, next_place, write_byte, next_turn, SourceState, Outcome, then_do, Flow, Carry, Inx, MovToMemory, Add, AddWithCarry, Hl, A, D, E, bit, Registers, word, wrap, JumpWhere, byte_kept, address_asks, Does, at_place, carry_shows, same_test, Facts, LabelNumber, Step, load, with_register, distances_in, effect, at_instructions, does_same, script_of, first_fits, next_address, second_fits, BodyContext, next_is_other, next_word, then_again}
 use Rattle.steps8080.specs.declared.step.Step.TheVariants as steps
-use Rattle.statement_laws.proofs.Loops.CountedBytes.{stays}
+use Rattle.statement_laws.proofs.Loops.CountedBytes.{within_limit}
 use Rattle.statement_laws.proofs.Loops.CountedVariables.{variable_address, variable_place}
 use Rattle.statement_laws.proofs.Loops.LoopCode.{Steps, address_step, address_then, byte_then, load_then}
 use Rattle.statement_laws.proofs.Loops.LoopMeaning.{stepped_by, stepped_with}
@@ -91,7 +91,7 @@ add_de_in_frame {at = at} loop limit n end t r memory has de stand fewer stage c
     (low_sum low high now.e n e_is))
     (λ u budget_is steady_there at_next ready_now.
     let left : List ℕ = slice_set there (word now.h now.l) (new % 256) in
-    let fewer_now = stays u.budget t.budget limit budget_is fewer in
+    let fewer_now = within_limit u.budget t.budget limit budget_is fewer in
     let is_variable : word now.h now.l < MEMORY_SIZE = steady_there.1 in
     let in_memory : address < MEMORY_SIZE = subst (λ (m : ℕ). m < MEMORY_SIZE) holds.hl is_variable in
     let high_stays : byte_at left (wrap (address + 1)) ≡ high =
@@ -126,7 +126,7 @@ add_de_in_frame {at = at} loop limit n end t r memory has de stand fewer stage c
     (λ events. ap (λ (m : ℕ). at_place (place_sum + 1) three (slice_set left (word two.h two.l) m) events) a_is)
     (λ v budget_again steady_next jump ready_then.
     let ended : List ℕ = slice_set left (word two.h two.l) (new / 256) in
-    let fewer_then = stays v.budget u.budget limit budget_again fewer_now in
+    let fewer_then = within_limit v.budget u.budget limit budget_again fewer_now in
     sum_jumps loop Address limit (number + n) end Carry v three ended has.sound has.scalar_is has.less
     cy_is jump fewer_then ready_then has.ends
     (λ of_type over. checks_at loop limit v three ended checks over fewer_then ready_then)))))))))))

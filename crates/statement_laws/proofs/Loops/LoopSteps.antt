@@ -2,7 +2,7 @@
 -- loop ends.
 use Rattle.statement_laws.proofs.Prelude.{◌≡◌, ◌≢◌, ℕ, ◌+◌, ◌*◌, ◌/◌, ◌%◌, ◌<◌, ◌≤◌, ◌==◌, not, nat_le, List, [], ◌∷◌, slice_set, refl, sym, ap, subst, ◌∙◌, arith, eqb-true, eqb-false, le-leb, lt-leb, MEMORY_SIZE, byte_at, byte_small, Event, ScalarType, Byte, Address, SourcePlace, next_place, write_byte, next_turn, step_value, SourceState, Outcome, Gave, then_do, Flow, Onward, NotZero, Zero, Inr, Inx, M, Hl, Flags, increment_of, Registers, word, wrap, step_of, JumpWhere, byte_kept, Does, at_place, IsReady, no_facts_hold, count_shows, same_test, after_step, Facts, LabelNumber, no_facts, address_on_machine, set_same, effect, at_instructions, does_same, script_of, first_fits, next_address, second_fits, byte_written, BodyContext, IsSoundBody, next_is_other, next_word, not-false, not-true, then_again}
 use Rattle.steps8080.specs.declared.step.Step.TheVariants as steps
-use Rattle.statement_laws.proofs.Loops.CountedBytes.{Goes, stays, one_more_now}
+use Rattle.statement_laws.proofs.Loops.CountedBytes.{Goes, within_limit, one_more_now}
 use Rattle.statement_laws.proofs.Loops.CountedVariables.{IsCounted, variable_address, variable_place}
 use Rattle.statement_laws.proofs.Loops.LoopCode.{Steps, address_step, address_then, byte_then, jump_then}
 use Rattle.statement_laws.proofs.Loops.LoopMeaning.{next_tests, stepped_by, stepped_with, stepped_with_is}
@@ -65,7 +65,7 @@ count_byte {at = at} loop limit end t r memory has step_is stand fewer stage che
     (ap (λ (n : ℕ). (byte_at there n + 1) % 256) holds.hl ∙ one_more_now number))
     (λ u budget_is steady_there last_steps ready_now.
     let left : List ℕ = slice_set there (word now.h now.l) byte in
-    let fewer_now = stays u.budget t.budget limit budget_is fewer in
+    let fewer_now = within_limit u.budget t.budget limit budget_is fewer in
     sum_jumps loop Byte limit (number + 1) end Zero u after left has.sound has.scalar_is has.less
     (is_zero ∙ top_is number small) last_steps fewer_now ready_now has.ends
     (λ of_type over. checks_at loop limit u after left checks over fewer_now ready_now)))))
@@ -139,7 +139,7 @@ count_word {at = at} loop limit test end t r memory has step_is stand fewer stag
     (ap (λ (n : ℕ). (byte_at there n + 1) % 256) holds.hl ∙ sum_low low high))
     (λ u budget_is steady_there last_steps ready_now.
     let left : List ℕ = slice_set there (word now.h now.l) (new % 256) in
-    let fewer_now = stays u.budget t.budget limit budget_is fewer in
+    let fewer_now = within_limit u.budget t.budget limit budget_is fewer in
     let is_variable : word now.h now.l < MEMORY_SIZE = steady_there.1 in
     let in_memory : address < MEMORY_SIZE = subst (λ (n : ℕ). n < MEMORY_SIZE) holds.hl is_variable in
     let high_stays : byte_at left (wrap (address + 1)) ≡ high =
@@ -155,7 +155,7 @@ count_word {at = at} loop limit test end t r memory has step_is stand fewer stag
     byte_written {r = after} (next_place place) (new / 256) u go sound (omega arith) ready_now.ready
     (second_fits at.context.activation place counted.fits)
     (λ v events_same budget_same steady_next ready_next.
-    let fewer_then = stays v.budget u.budget limit budget_same fewer_now in
+    let fewer_then = within_limit v.budget u.budget limit budget_same fewer_now in
     let less = has.less in
     let step_then : step_of (script_of at.context) (at_place (middle + 1) after left v.events)
     ≡ at_place (at.context.activation.layout.place_of test.index) after left v.events =
@@ -192,7 +192,7 @@ count_word {at = at} loop limit test end t r memory has step_is stand fewer stag
     (ap (λ (n : ℕ). (n + 1) % 256) high_is ∙ sum_high_more low high high_small is))
     (λ v budget_again steady_next jump ready_then.
     let ended : List ℕ = slice_set left (word two.h two.l) (new / 256) in
-    let fewer_then = stays v.budget u.budget limit budget_again fewer_now in
+    let fewer_then = within_limit v.budget u.budget limit budget_again fewer_now in
     sum_jumps loop Address limit (number + 1) end Zero v three ended has.sound has.scalar_is has.less
     (ap (λ (n : ℕ). (increment_of n two.flags).flags.z) high_is ∙ count_shows high two.flags high_small ∙ sum_top low high high_small is)
     jump fewer_then ready_then has.ends

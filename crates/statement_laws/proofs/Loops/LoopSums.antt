@@ -1,7 +1,7 @@
 -- The step of an iterative DO in general, where it is added to the variable: where the sum passes the type the loop ends.
 use Rattle.statement_laws.proofs.Prelude.{◌≡◌, ℕ, ◌+◌, ◌*◌, ◌/◌, ◌%◌, ◌<◌, ◌≤◌, ◌==◌, Bool, true, false, not, nat_le, List, [], ◌∷◌, slice_set, Option, Some, refl, sym, ap, subst, ◌∙◌, arith, bit_or, leb-true, leb-false, le-leb, lt-leb, eqb-true, eqb-false, or_self, byte_at, byte_small, Byte, height_of, type_of, TypedExpression, TypesHold, next_turn, step_value, value, SourceState, Gave, then_do, Onward, values_of, Carry, NotZero, Accumulate, MovToMemory, Xchg, M, Add, AddWithCarry, Or, A, D, E, bit, Registers, word, JumpWhere, ExpressionNumber, IsExpressionIn, address_asks, Does, at_place, carry_shows, same_test, after_step, Facts, LabelNumber, copy, set, with_register, distances_in, nodes_in, effect, at_instructions, does_same, script_of, BodyContext}
 use Rattle.steps8080.specs.declared.step.Step.TheVariants as steps
-use Rattle.statement_laws.proofs.Loops.CountedBytes.{stays}
+use Rattle.statement_laws.proofs.Loops.CountedBytes.{within_limit}
 use Rattle.statement_laws.proofs.Loops.CountedVariables.{variable_address, variable_place}
 use Rattle.statement_laws.proofs.Loops.LoopCode.{Steps, address_step, address_then, byte_then, jump_then, knowing_nothing}
 use Rattle.statement_laws.proofs.Loops.LoopMeaning.{next_tests, stepped_by, stepped_with, stepped_with_is}
@@ -66,7 +66,7 @@ add_byte {at = at} loop limit step tree end t r memory has added_value is_byte s
     (byte_sum at_variable.a number n a_is))
     (λ v budget_is steady_there jump ready_now.
     let left : List ℕ = slice_set memory_then (word at_variable.h at_variable.l) ((number + n) % 256 % 256) in
-    let fewer_now = stays v.budget u.budget limit budget_is (omega (arith, spent, fewer)) in
+    let fewer_now = within_limit v.budget u.budget limit budget_is (omega (arith, spent, fewer)) in
     sum_jumps loop Byte limit (number + n) end Carry v after left has.sound has.scalar_is has.less
     (carry_shows at_variable.a number ∙ ap (nat_le 256) (same_sum at_variable.a number n a_is)) jump fewer_now ready_now has.ends
     (λ of_type over. checks_at loop limit v after left checks over fewer_now ready_now)))))))
@@ -173,7 +173,7 @@ add_word_to_byte {at = at} loop limit step tree end t r memory has added_value s
     (low_sum at_variable.e number n e_is))
     (λ v budget_is steady_there at_high ready_now.
     let left : List ℕ = slice_set memory_then (word at_variable.h at_variable.l) ((number + n) % 256 % 256) in
-    let fewer_now = stays v.budget u.budget limit budget_is (omega (arith, spent, fewer)) in
+    let fewer_now = within_limit v.budget u.budget limit budget_is (omega (arith, spent, fewer)) in
     let less = has.less in
     at_instructions (set A 0 ∷ with_register AddWithCarry D ∷ [])
     (steps.Jump (JumpWhere Carry) end ∷ steps.Plain (with_register Or A) ∷ steps.Jump (JumpWhere NotZero) end ∷ [])

@@ -10,7 +10,7 @@ use Rattle.statement_laws.proofs.Loops.LoopMeaning.{counted_read, scalar_at, sca
 use Rattle.statement_laws.proofs.Loops.LoopRules.{HasTurns, address_of_variable_known, after_last, byte_comes, byte_known, from_test_is, if_not_above, not_above, operate_then, operated, pair_is_less, place_known, test_jumps, word_comes}
 use Rattle.statement_laws.proofs.Loops.LoopTurns.{Loop, Out, StageAt, from_list, from_test, to_turn}
 use Rattle.statement_laws.proofs.Loops.SteadyReads.{steady_byte_read, steady_read}
-use Rattle.statement_laws.proofs.Loops.TestedLoops.{word_test, low_is, on_registers, other_way, shows}
+use Rattle.statement_laws.proofs.Loops.TestedLoops.{word_test, low_is, on_registers, other_way, word_test_shows}
 use Rattle.statement_laws.proofs.Numbers.{byte_is_small, whole_of_halves}
 
 -- the last value of a loop, as its code has it
@@ -138,7 +138,7 @@ word_below_tests {at = at} loop limit last turn turn_facts none t r memory turns
     counted_read Address t (if_not_above loop last) sound counted compared.ready
     (λ steady_again.
     test_jumps loop limit turn turn_facts Carry last (scalar_at Address memory_now address) t after memory_now turns
-    (shows last none now there.ready.registers.l little low_none
+    (word_test_shows last none now there.ready.registers.l little low_none
     ∙ ap (λ (n : ℕ). nat_lt n (last + 1))
     (other_way now.h now.l (byte_at memory_now address) (byte_at memory_now (wrap (address + 1))) in_hl.low in_hl.high)
     ∙ not_above (scalar_at Address memory_now address) last)

@@ -1,5 +1,5 @@
 -- Turns of an iterative DO: each takes one of the budget, for which a step pays that leads to its code.
-use Rattle.statement_laws.proofs.Prelude.{◌≡◌, ◌≢◌, ℕ, zero, suc, ◌+◌, ◌-◌, ◌*◌, ◌<◌, ◌≤◌, ◌==◌, Bool, true, false, nat_lt, if◌then◌else◌, List, refl, sym, ap, subst, arith, eqb-true, eqb-false, same_after, height_of_list, TypedIteration, TypedList, ListStands, TypesHoldInList, IterateTurn, Later, done_list, iterated, next_turn, stepped, turn_of, SourceState, Ended, More, Outside, Outcome, Gave, Stopped, then_do, taking_one, Flow, Onward, Returned, Jumped, values_of, again_is, Running, Registers, State, step_of, Range, IsList, Facts, Here, Does, Lands, at_place, after_paid_step, gives, then_does, told_on, nodes_in, Stage, script_of, BodyContext, IsSoundBody, Leaves, ListDoes}
+use Rattle.statement_laws.proofs.Prelude.{◌≡◌, ◌≢◌, ℕ, zero, suc, ◌+◌, ◌-◌, ◌*◌, ◌<◌, ◌≤◌, ◌==◌, Bool, true, false, nat_lt, if◌then◌else◌, List, refl, sym, ap, subst, arith, eqb-true, eqb-false, same_after, height_of_list, TypedIteration, TypedList, ListStands, TypesHoldInList, IterateTurn, Later, done_list, iterated, next_turn, stepped, turn_of, SourceState, Ended, More, Outside, Outcome, Gave, Stopped, then_do, taking_one, Flow, Onward, Returned, Jumped, values_of, again_is, Running, Registers, State, step_of, Range, IsList, Facts, Here, Does, Lands, at_place, after_paid_step, does_without_step, then_does, told_on, nodes_in, Stage, script_of, BodyContext, IsSoundBody, Leaves, ListDoes}
 
 -- a machine at nothing pushed, of which this is known
 abbrev pub StageAt :
@@ -198,10 +198,10 @@ list_goes {at = at} loop bound range facts after from middle t r memory does is 
         subst (λ (state : State). Does (script_of at.context) u.budget 0 state (after_list loop Onward u) (Out loop)) (sym comes.is_at)
         (rest goes.goes_on u comes.r comes.memory spent
         (record { below = omega (arith, below, spent); room = stage.room; ready = comes.ready; known = comes.holds }))
-    by_flow (Returned value) u end comes spent = gives comes
+    by_flow (Returned value) u end comes spent = does_without_step comes
     by_flow (Jumped label) u end comes spent =
         let before = comes.spent in
-        gives (record { place = comes.place; lies = comes.lies; spent = omega (arith, before, less); comes = comes.comes })
+        does_without_step (record { place = comes.place; lies = comes.lies; spent = omega (arith, before, less); comes = comes.comes })
 
 -- whether it goes on there or not
 pub list_then :
@@ -243,7 +243,7 @@ pub loop_ends :
     → StageAt at loop.need loop.base t (loop.after).facts r memory
     → Does (script_of at.context) t.budget 0 (at_place loop.to r memory t.events) (Gave Onward t) (Out loop)
 loop_ends loop t r memory goes_on stage =
-    gives (record {
+    does_without_step (record {
       goes_on = goes_on;
       comes = record { r = r; memory = memory; is_at = refl; ready = stage.ready; holds = stage.known };
     })

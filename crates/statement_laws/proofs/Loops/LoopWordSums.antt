@@ -3,7 +3,7 @@
 use Rattle.statement_laws.proofs.Prelude.{◌≡◌, ℕ, ◌+◌, ◌*◌, ◌/◌, ◌%◌, ◌<◌, ◌≤◌, List, [], ◌∷◌, Option, Some, None, refl, ap, ◌∙◌, arith, byte_at, Address, type_of, TypedExpression, next_turn, value, write_scalar, SourceState, Outcome, then_do, Flow, as_type, Carry, Dad, Xchg, De, Registers, carries, high_byte, low_byte, word, wrap, JumpWhere, LoadPair, StoreHl, ExpressionNumber, Place, location_at, place_at, Does, at_place, Facts, LabelNumber, Step, known, knowing, load_word_steps, whole, distances_in, NoneThere, WordThere, known_small, effect, ready_with_registers, word_goes, known_means, at_end, at_instructions, does_same, script_of, BodyContext, IsSoundBody, high_is_byte, value_is_word}
 use Rattle.treecode.specs.declared.place.Location.TheVariants as locations
 use Rattle.steps8080.specs.declared.step.Step.TheVariants as steps
-use Rattle.statement_laws.proofs.Loops.CountedBytes.{stays}
+use Rattle.statement_laws.proofs.Loops.CountedBytes.{within_limit}
 use Rattle.statement_laws.proofs.Loops.CountedVariables.{variable_address, variable_place}
 use Rattle.statement_laws.proofs.Loops.LoadedVariables.{word_loaded}
 use Rattle.statement_laws.proofs.Loops.LoopCode.{Steps}
@@ -129,7 +129,7 @@ add_de_in_memory {at = at} loop limit n end place t r memory has lies de loads s
     counted.fits at_store added
     (λ v budget_is there there_too jump ready_now.
     let left : List ℕ = with_word memory_then address new in
-    let fewer_now = stays v.budget t.budget limit budget_is fewer in
+    let fewer_now = within_limit v.budget t.budget limit budget_is fewer in
     sum_jumps loop Address limit (number + n) end Carry v after left has.sound has.scalar_is has.less
     (ap carries sum_is) jump fewer_now ready_now has.ends
     (λ of_type over. checks_at loop limit v after left checks over fewer_now ready_now))))))

@@ -1,5 +1,5 @@
 -- The test of an ADDRESS in memory against an ADDRESS at a place, which stays there.
-use Rattle.statement_laws.proofs.Prelude.{◌≡◌, ℕ, ◌+◌, ◌*◌, ◌/◌, ◌%◌, ◌≤◌, ◌⊎◌, inl, inr, false, not, nat_lt, List, [], ◌∷◌, Option, Some, None, refl, sym, ap, subst, ◌∙◌, arith, byte_at, byte_small, ScalarType, Byte, Address, value, SourceState, Outcome, Gave, NoCarry, Subtract, SubtractWithBorrow, H, L, subtract_of, Registers, wrap, JumpWhere, LoadA, Expression, ExpressionForm, ExpressionNumber, Place, place_after, IsSteady, place_at, Does, at_place, GoesOutside, Facts, LabelNumber, Step, no_facts, with_register, Site, direct, expression, option_and_then, direct_word, word_in_memory, word_of, knowing, load_word_steps, site_of, whole, test_steps, word_at, word_of_form, PlainThere, WordThere, WordAtPlace, words_at_places, read_then, at_a, at_load_a, does_same, script_of, BodyContext, IsSoundBody, same_given}
+use Rattle.statement_laws.proofs.Prelude.{◌≡◌, ℕ, ◌+◌, ◌*◌, ◌/◌, ◌%◌, ◌≤◌, ◌⊎◌, inl, inr, false, not, nat_lt, List, [], ◌∷◌, Option, Some, None, refl, sym, ap, subst, ◌∙◌, arith, byte_at, byte_small, ScalarType, Byte, Address, value, SourceState, Outcome, Gave, NoCarry, Subtract, SubtractWithBorrow, H, L, subtract_of, Registers, wrap, JumpWhere, LoadA, Expression, ExpressionForm, ExpressionNumber, Place, place_after, IsSteady, place_at, Does, at_place, GoesOutside, Facts, LabelNumber, Step, no_facts, with_register, Site, direct, expression, option_and_then, direct_word, word_in_memory, word_of, knowing, load_word_steps, site_of, whole, test_steps, word_at, word_of_form, PlainThere, WordThere, WordAtPlace, words_at_places, read_then, stage_with_a, at_load_a, does_same, script_of, BodyContext, IsSoundBody, same_given}
 use Rattle.treecode.specs.declared.expression.ExpressionForm.TheVariants as forms
 use Rattle.steps8080.specs.declared.step.Step.TheVariants as steps
 use Rattle.statement_laws.proofs.Loops.CountedBytes.{Goes}
@@ -55,9 +55,9 @@ compared_with_place {at = at} loop limit n turn turn_facts place t r memory turn
     let hi : ℕ = byte_at memory (place_at at.context.activation.layout (place_after place 1)) in
     let held = stage.ready.registers in
     at_load_a sound first low_steady stage
-    (λ loaded. at_a (subtract_of lo r.l false).value (subtract_of lo r.l false).flags sound loaded low_taken refl (omega arith) tt
+    (λ loaded. stage_with_a (subtract_of lo r.l false).value (subtract_of lo r.l false).flags sound loaded low_taken refl (omega arith) tt
     (λ lower. at_load_a sound second high_steady lower
-    (λ again. at_a (subtract_of hi r.h (subtract_of lo r.l false).flags.cy).value (subtract_of hi r.h (subtract_of lo r.l false).flags.cy).flags sound again high_taken refl (omega arith) tt
+    (λ again. stage_with_a (subtract_of hi r.h (subtract_of lo r.l false).flags.cy).value (subtract_of hi r.h (subtract_of lo r.l false).flags.cy).flags sound again high_taken refl (omega arith) tt
     (λ compared.
     let after : Registers = record r {
       a = (subtract_of hi r.h (subtract_of lo r.l false).flags.cy).value;

@@ -126,15 +126,15 @@ pub on_registers : (last : ℕ) (none : Bool) → AreOnRegisters (word_test last
 on_registers last true = (tt, (tt, tt))
 on_registers last false = (tt, (tt, (tt, (tt, tt))))
 
-pub shows : (last : ℕ) (none : Bool) (r : Registers)
+pub word_test_shows : (last : ℕ) (none : Bool) (r : Registers)
     → r.l < 256
     → last + 1 < 65536
     → (none ≡ true → (last + 1) % 256 ≡ 0)
     → (effect (word_test last none) r).flags.cy ≡ nat_lt (256 * r.h + r.l) (last + 1)
-shows last true r low small is =
+word_test_shows last true r low small is =
     borrow_shows r.h ((last + 1) / 256) (omega (arith, small))
     ∙ high_is_less r.h r.l (last + 1) low small (is refl)
-shows last false r low small is = word_is_less r.h r.l (last + 1) low small
+word_test_shows last false r low small is = word_is_less r.h r.l (last + 1) low small
 
 pub other_way : (h l low high : ℕ) → l ≡ low → h ≡ high → 256 * h + l ≡ low + 256 * high
 other_way h l low high one two = omega (arith, one, two)
@@ -172,7 +172,7 @@ word_tested {at = at} loop last place end turn_facts none u r memory sound to_kn
     (λ place_compared known rest compared.
     jump_tests loop Address last place_compared place end turn_facts u (effect (word_test last none) now) memory_now
     sound to_known counted
-    (shows last none now there.ready.registers.l little low_none
+    (word_test_shows last none now there.ready.registers.l little low_none
     ∙ ap (λ (n : ℕ). nat_lt n (last + 1))
     (other_way now.h now.l (byte_at memory_now (variable_address at.context (loop.head).variable))
     (byte_at memory_now (wrap (variable_address at.context (loop.head).variable + 1))) in_hl.low in_hl.high))

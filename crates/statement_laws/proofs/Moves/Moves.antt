@@ -1,12 +1,12 @@
 -- Code of CALL MOVE does what it says.
-use Rattle.statement_laws.proofs.Prelude.{◌≡◌, ℕ, ◌+◌, ◌-◌, ◌*◌, ◌/◌, ◌%◌, ◌<◌, ◌≤◌, min, max, Bool, true, false, if◌then◌else◌, List, [], ◌∷◌, ◌++◌, map, slice_get, Option, Some, None, refl, sym, ap, subst, ◌∙◌, arith, same_Some, ScalarType, Address, height_of, height_of_statement, type_of, TypedExpression, TypedStatement, MoveStatement, HasType, TypesHoldIn, done, moved, SourceState, Outcome, Gave, then_do, Flow, Onward, values_of, Pop, Push, Xchg, Bc, De, StackBc, StackDe, StackHl, Registers, State, high_byte, low_byte, with_popped, word, wrap, LoadPair, Move, ExpressionNumber, Place, Statement, StatementNumber, IsExpressionIn, IsMove, IsStatementForm, IsStatementNode, pushed_word, Does, at_place, gives, place_at, Facts, Step, Site, keeps, known, expression, knowing, Planned, ends_steps, move_steps, Here, statement_steps, Context, IsSound, nodes_in, PartThere, PlainThere, WordThere, NoneThere, WordIsGiven, known_small, ready_with_registers, word_goes, known_means, value_in, Stage, at_instructions, at_pop, at_push, at_word, does_same, script_of, BodyContext, IsSoundBody, Leaves, StatementDoes, StatementStands, word_from_halves, low_byte_small}
+use Rattle.statement_laws.proofs.Prelude.{◌≡◌, ℕ, ◌+◌, ◌-◌, ◌*◌, ◌/◌, ◌%◌, ◌<◌, ◌≤◌, min, max, Bool, true, false, if◌then◌else◌, List, [], ◌∷◌, ◌++◌, map, slice_get, Option, Some, None, refl, sym, ap, subst, ◌∙◌, arith, same_Some, ScalarType, Address, height_of, height_of_statement, type_of, TypedExpression, TypedStatement, MoveStatement, HasType, TypesHoldIn, done, moved, SourceState, Outcome, Gave, then_do, Flow, Onward, values_of, Pop, Push, Xchg, Bc, De, StackBc, StackDe, StackHl, Registers, State, high_byte, low_byte, with_popped, word, wrap, LoadPair, Move, ExpressionNumber, Place, Statement, StatementNumber, IsExpressionIn, IsMove, IsStatementForm, IsStatementNode, pushed_word, Does, at_place, does_without_step, place_at, Facts, Step, Site, keeps, known, expression, knowing, Planned, ends_steps, move_steps, Here, statement_steps, Context, IsSound, nodes_in, PartThere, PlainThere, WordThere, NoneThere, WordIsGiven, known_small, ready_with_registers, word_goes, known_means, value_in, Stage, at_instructions, at_pop, at_push, at_word, does_same, script_of, BodyContext, IsSoundBody, Leaves, StatementDoes, StatementStands, word_from_halves, low_byte_small}
 use Rattle.treecode.specs.declared.statement.Statement.TheVariants as statements
 use Rattle.steps8080.specs.declared.step.Step.TheVariants as steps
 use Rattle.steps8080.specs.declared.step.Task.TheVariants as tasks
 use Rattle.statements8080.specs.declared.plan.Planned.TheVariants as planned
 use Rattle.statement_laws.proofs.Loops.LoopCode.{Steps}
 use Rattle.statement_laws.proofs.Moves.MoveCalls.{move_then}
-use Rattle.statement_laws.proofs.FirstSteps.{Stand, ended}
+use Rattle.statement_laws.proofs.FirstSteps.{Stand, steps_ended}
 use Rattle.statement_laws.proofs.Loops.PlannedParts.{code_parted}
 
 -- the word of a part comes into HL
@@ -294,9 +294,9 @@ move_ends :
     → Stage at.context at.context.activation.level 0 need base u facts now memory_now
     → Does (script_of at.context) u.budget 0 (at_place place now memory_now u.events) (Gave Onward u) (Leaves at base to after before)
 move_ends {at = at} {base = base} {to = to} {need = need} {after = after} {before = before} {place = place} u now memory_now stand stage =
-    let ends = ended stand in
+    let ends = steps_ended stand in
     subst (λ (n : ℕ). Does (script_of at.context) u.budget 0 (at_place n now memory_now u.events) (Gave Onward u) (Leaves at base to after before)) (ends.place)
-    (gives (record {
+    (does_without_step (record {
       goes_on = ap (λ (here : Here). here.goes_on) (ends.same);
       comes = record {
         r = now;

@@ -6,9 +6,9 @@ use Rattle.operands8080.specs.declared.branches.Branch.{Branch}
 use Rattle.task_laws.proofs.Bytes.BytesAsked.{BytesAsked}
 use Rattle.task_laws.proofs.Branches.Jumps.{jumps_known, jumps_where}
 use Rattle.task_laws.proofs.Relations.Relations.{IsRelation, OutcomeShows, relation_shown}
-use Rattle.task_laws.proofs.Machine.Rules.{split}
+use Rattle.task_laws.proofs.Machine.Rules.{steps_split}
 use Rattle.task_laws.proofs.Machine.SiteNodes.{value_in}
-use Rattle.task_laws.proofs.Machine.Stages.{Stage, at_a, at_byte, does_same, script_of}
+use Rattle.task_laws.proofs.Machine.Stages.{Stage, stage_with_a, at_byte, does_same, script_of}
 
 -- a value that is passed on
 pub given_itself : {A : Type 0} (outcome : Outcome A) → outcome ≡ then_do outcome (λ found u. Gave found u)
@@ -61,7 +61,7 @@ pub relation_jumps :
     → Does (script_of context) s.budget 0 (at_place from r memory s.events) (value_in context tree s)
     (Parts context last tree branch.label branch.sense top base to)
 relation_jumps {context = context} {top = top} {need = need} {base = base} {s = s} {facts = facts} {last = last} {r = r} {memory = memory} {from = from} {to = to} {bound = bound} {tree = tree} branch relation asked sound is types fewer stand stage =
-    let parts = split (relation_steps (knowing context.site facts) relation (branch_setting branch.pushed))
+    let parts = steps_split (relation_steps (knowing context.site facts) relation (branch_setting branch.pushed))
     (outcome_branch_steps branch (relation_outcome (knowing context.site facts) relation)) stand in
     does_same _ (given_itself (value_in context tree s))
     (relation_shown ℕ context top need base facts parts.found memory parts.middle 0
@@ -91,7 +91,7 @@ bit_jumps {context = context} {s = s} {tree = tree} condition branch sound node 
     (at_byte _ _ _ does node types fewer stage
     (λ v u now memory_now is given next.
     let a_small = next.ready.registers.a in
-    at_a (rotate_right_of now.a now.flags).value (rotate_right_of now.a now.flags).flags sound next turned refl
+    stage_with_a (rotate_right_of now.a now.flags).value (rotate_right_of now.a now.flags).flags sound next turned refl
     (omega (arith, a_small)) tt
     (λ then_stage.
     jumps_where branch Carry v sound (ap (λ n. n % 2 == 1) given.a ∙ low_bit v) stand then_stage)))

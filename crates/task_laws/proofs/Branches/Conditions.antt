@@ -1,5 +1,5 @@
 -- Conditions with the lowest bit of a part, or of both parts.
-use Rattle.task_laws.proofs.Prelude.{◌≡◌, ℕ, ◌*◌, ◌≤◌, Bool, true, false, not, List, [], ◌∷◌, refl, sym, ap, ◌∙◌, subst, arith, if◌then◌else◌, false≢true, height_of, TypedExpression, TypesHold, SourceState, Outcome, Gave, then_do, is_true, Registers, State, ExpressionNumber, IsExpression, Facts, LabelNumber, Part, label_of, Does, at_place, after_step, gives, no_facts_hold, Found, Fails, IsQuiet, outcome_of, in_order, branch_part, joined_steps, agree, jumps_once, Context, nodes_in, StepsStand, NoneThere, PartThere, MarkThere, BranchDoes, Know, Parts, Goes, Passes, PartDoes, not-not}
+use Rattle.task_laws.proofs.Prelude.{◌≡◌, ℕ, ◌*◌, ◌≤◌, Bool, true, false, not, List, [], ◌∷◌, refl, sym, ap, ◌∙◌, subst, arith, if◌then◌else◌, false≢true, height_of, TypedExpression, TypesHold, SourceState, Outcome, Gave, then_do, is_true, Registers, State, ExpressionNumber, IsExpression, Facts, LabelNumber, Part, label_of, Does, at_place, after_step, does_without_step, no_facts_hold, Found, Fails, IsQuiet, outcome_of, in_order, branch_part, joined_steps, agree, jumps_once, Context, nodes_in, StepsStand, NoneThere, PartThere, MarkThere, BranchDoes, Know, Parts, Goes, Passes, PartDoes, not-not}
 use Rattle.steps8080.specs.declared.step.Step.TheVariants as steps
 use Rattle.treecode_laws.specs.internal.Evaluations.{Answer}
 use Rattle.operands8080.specs.declared.branches.Branch.{Branch}
@@ -61,7 +61,7 @@ part_jumps {context = context} {top = top} {base = base} {s = s} {r = r} {memory
     (does bound inner node types top base s r memory stage.below (room_for (2 * height_of inner) fewer stage.room)
     stage.ready stage.known)
     (λ v u end is parts spent.
-    let both = bits v u is in gives (same_parts parts both.0 both.1 once))
+    let both = bits v u is in does_without_step (same_parts parts both.0 both.1 once))
 
 -- a quiet value that is not used
 quiet_given :
@@ -128,7 +128,7 @@ joined_jumps {context = context} {top = top} {need = need} {base = base} {t = t}
         → Does (script_of context) u.budget 0 end (go v u) (Parts context last tree branch.label branch.sense top base to)
     after_left alike v u end does spent (Goes there is step arrives) =
         quiet_given (λ s. value_in context second s) (λ w s. Gave (f v w) s) u quiet
-        (λ w. gives (Goes there (decides v w (is ∙ alike) ∙ sym alike) step
+        (λ w. does_without_step (Goes there (decides v w (is ∙ alike) ∙ sym alike) step
         (record { r = arrives.r; memory = arrives.memory; is_at = arrives.is_at; ready = arrives.ready; holds = λ single. absurd (false≢true (sym many ∙ single)) })))
     after_left alike v u end {middle = middle} does spent (Passes is arrives) =
         let below = stage.below in
@@ -173,7 +173,7 @@ joined_jumps {context = context} {top = top} {need = need} {base = base} {t = t}
     after_other unlike v u end does mark spent (Goes there is step arrives) =
         quiet_given (λ s. value_in context second s) (λ w s. Gave (f v w) s) u quiet
         (λ w. after_step step
-        (gives (Passes (decides v w is ∙ (sym (not-not deciding) ∙ ap not (sym unlike)))
+        (does_without_step (Passes (decides v w is ∙ (sym (not-not deciding) ∙ ap not (sym unlike)))
         (record {
           r = arrives.r;
           memory = arrives.memory;
@@ -191,7 +191,7 @@ joined_jumps {context = context} {top = top} {need = need} {base = base} {t = t}
         (does bound second two other_types top base u arrives.r arrives.memory next.below
         (room_for (2 * height_of second) less next.room) next.ready next.known)
         (λ w s late given parts more_spent.
-        gives (moved (other_decides v w is) mark parts)))
+        does_without_step (moved (other_decides v w is) mark parts)))
 
     by : (same : Bool) → agree branch.sense deciding ≡ same
         → StepsStand context (PartDoes context) facts from

@@ -1,5 +1,5 @@
 -- Jumps by flags, and without them.
-use Rattle.task_laws.proofs.Prelude.{◌≡◌, ℕ, ◌+◌, Bool, true, false, not, List, [], ◌∷◌, refl, sym, ap, ◌∙◌, if◌then◌else◌, TypedExpression, SourceState, Gave, is_true, Condition, NotZero, NoCarry, ParityOdd, ParityEven, Plus, Minus, Flags, Registers, holds, AtLabel, Facts, LabelNumber, Jump, Does, at_place, jump_passed, word_step, gives, no_facts_hold, known_branch_steps, opposite_condition, where_flags_steps, agree, Context, IsSound, StepsStand, JumpThere, NoneThere, Parts, Goes, Passes, PartDoes, not-not}
+use Rattle.task_laws.proofs.Prelude.{◌≡◌, ℕ, ◌+◌, Bool, true, false, not, List, [], ◌∷◌, refl, sym, ap, ◌∙◌, if◌then◌else◌, TypedExpression, SourceState, Gave, is_true, Condition, NotZero, NoCarry, ParityOdd, ParityEven, Plus, Minus, Flags, Registers, holds, AtLabel, Facts, LabelNumber, Jump, Does, at_place, jump_passed, word_step, does_without_step, no_facts_hold, known_branch_steps, opposite_condition, where_flags_steps, agree, Context, IsSound, StepsStand, JumpThere, NoneThere, Parts, Goes, Passes, PartDoes, not-not}
 use Rattle.isa8080.specs.declared.instr.Condition.TheVariants.{Zero, Carry}
 use Rattle.asm8080.specs.declared.item.WordForm.TheVariants as forms
 use Rattle.operands8080.specs.declared.branches.Branch.{Branch}
@@ -15,7 +15,7 @@ pub passes :
     → Does (script_of context) u.budget 0 (at_place to r memory u.events) (Gave found u)
     (Parts context last tree label sense top base to)
 passes {r = r} {memory = memory} to found is stage =
-    gives (Passes is (record { r = r; memory = memory; is_at = refl; ready = stage.ready; holds = stage.known }))
+    does_without_step (Passes is (record { r = r; memory = memory; is_at = refl; ready = stage.ready; holds = stage.known }))
 
 opposite_holds : (c : Condition) (f : Flags) → holds (opposite_condition c) f ≡ not (holds c f)
 opposite_holds NotZero f = sym (not-not f.z)
@@ -69,7 +69,7 @@ jumps_where {context = context} {top = top} {base = base} {u = u} {facts = facts
         → Does (script_of context) u.budget 0 (at_place from r memory u.events) (Gave found u)
         (Parts context facts tree branch.label branch.sense top base (from + 3))
     by true here =
-        gives (Goes (at_place (context.activation.layout.place_of branch.label.index) r memory u.events)
+        does_without_step (Goes (at_place (context.activation.layout.place_of branch.label.index) r memory u.events)
         (agreed branch.sense (is_true found) (shown ∙ here))
         (word_step (script_of context) context.activation (forms.JumpWhere wanted) (AtLabel branch.label.index) [] from (from + 3) r
         memory u.events sound.lies stage.ready.shares.code there
@@ -92,7 +92,7 @@ jumps_always :
     → Does (script_of context) u.budget 0 (at_place from r memory u.events) (Gave found u)
     (Parts context last tree label sense top base to)
 jumps_always {context = context} {u = u} {r = r} {memory = memory} {from = from} {label = label} found sound is (JumpThere there NoneThere) stage =
-    gives (Goes (at_place (context.activation.layout.place_of label.index) r memory u.events) is
+    does_without_step (Goes (at_place (context.activation.layout.place_of label.index) r memory u.events) is
     (word_step (script_of context) context.activation forms.Jump (AtLabel label.index) [] from (from + 3) r
     memory u.events sound.lies stage.ready.shares.code there)
     (record { r = r; memory = memory; is_at = refl; ready = stage.ready; holds = λ once. no_facts_hold }))

@@ -1,11 +1,11 @@
 -- The low byte of a value with one part that counts: code on registers follows that of the part.
-use Rattle.task_laws.proofs.Prelude.{◌≡◌, ℕ, zero, suc, ◌*◌, ◌/◌, ◌%◌, ◌<◌, ◌≤◌, Bool, true, false, List, [], ◌∷◌, replicate, refl, sym, ap, ◌∙◌, subst, arith, false≢true, height_of, type_of, TypedExpression, TypesHold, SourceState, Ended, More, Outside, Outcome, Gave, Stopped, then_do, values_of, Instr, Dcr, Inr, Of, A, Flags, decrement_of, increment_of, Registers, State, times, ExpressionNumber, IsExpression, Facts, Part, Step, part, plain, Arrives, Does, Lands, at_place, gives, is_free, Context, IsSound, SourceFits, nodes_in, StepsStand, PartThere, PlainThere, ByteIsGiven, Carries, ChangesAOnly, EffectsDo, Know, Nothing, PartDoes}
+use Rattle.task_laws.proofs.Prelude.{◌≡◌, ℕ, zero, suc, ◌*◌, ◌/◌, ◌%◌, ◌<◌, ◌≤◌, Bool, true, false, List, [], ◌∷◌, replicate, refl, sym, ap, ◌∙◌, subst, arith, false≢true, height_of, type_of, TypedExpression, TypesHold, SourceState, Ended, More, Outside, Outcome, Gave, Stopped, then_do, values_of, Instr, Dcr, Inr, Of, A, Flags, decrement_of, increment_of, Registers, State, times, ExpressionNumber, IsExpression, Facts, Part, Step, part, plain, Arrives, Does, Lands, at_place, does_without_step, is_free, Context, IsSound, SourceFits, nodes_in, StepsStand, PartThere, PlainThere, ByteIsGiven, Carries, ChangesAOnly, EffectsDo, Know, Nothing, PartDoes}
 use Rattle.steps8080.specs.declared.step.Task.TheVariants as tasks
 use Rattle.task_laws.proofs.Bytes.ByteForms.{byte_given}
 use Rattle.task_laws.proofs.Ranges.Ranges.{ready_fits}
 use Rattle.task_laws.proofs.Machine.RegisterCode.{AreOnRegisters, IsOnRegisters, does_to, effect}
 use Rattle.task_laws.proofs.Machine.SiteNodes.{value_in}
-use Rattle.task_laws.proofs.Machine.Stages.{Stage, at_a, at_byte, at_carried, at_effects, at_end, at_instructions, at_word, does_same, gives_then, script_of}
+use Rattle.task_laws.proofs.Machine.Stages.{Stage, stage_with_a, at_byte, at_carried, at_effects, at_end, at_instructions, at_word, does_same, gives_then, script_of}
 
 -- B, C, D, E, H and L are the same
 pub record IsBeside (r now : Registers) : Type 0 where
@@ -96,10 +96,10 @@ pub at_last_instructions :
     → Does (script_of context) budget more (at_place from r memory t.events) outcome Good
 at_last_instructions [] sound on stand stage rest = at_end stand stage rest
 at_last_instructions (Inr (Of A) ∷ others) {r = r} sound on (PlainThere there stand) stage rest =
-    at_a (increment_of r.a r.flags).value (increment_of r.a r.flags).flags sound stage there refl (omega arith) tt
+    stage_with_a (increment_of r.a r.flags).value (increment_of r.a r.flags).flags sound stage there refl (omega arith) tt
     (λ next. at_last_instructions others sound on.1 stand next rest)
 at_last_instructions (Dcr (Of A) ∷ others) {r = r} sound on (PlainThere there stand) stage rest =
-    at_a (decrement_of r.a r.flags).value (decrement_of r.a r.flags).flags sound stage there refl (omega arith) tt
+    stage_with_a (decrement_of r.a r.flags).value (decrement_of r.a r.flags).flags sound stage there refl (omega arith) tt
     (λ next. at_last_instructions others sound on.1 stand next rest)
 at_last_instructions (i ∷ others) sound on stand stage rest =
     at_instructions (i ∷ []) (plain others) sound (on.0, tt) stand stage
@@ -150,7 +150,7 @@ FreeEffects context =
 pub free_effects : (context : Context) → FreeEffects context
 free_effects context facts last number pushed from to bound tree does free is types top base s r memory below room ready known asked =
     gives_then (value_in context tree s) (does bound tree is types top base s r memory below room ready known tt)
-    (λ found t end arrives spent. gives (record {
+    (λ found t end arrives spent. does_without_step (record {
       r = arrives.r;
       memory = arrives.memory;
       is_at = arrives.is_at;

@@ -1,9 +1,9 @@
 -- The low byte of a value with one part: conversions, LOW, DOUBLE, NOT and `-`.
-use Rattle.task_laws.proofs.Prelude.{◌≡◌, ℕ, ◌+◌, ◌-◌, ◌*◌, ◌%◌, ◌<◌, ◌≤◌, true, List, [], ◌∷◌, Option, None, refl, ap, ◌∙◌, arith, option_map_or, ScalarType, Byte, Address, Not, Negate, height_of, type_of, TypedExpression, TypesHold, SourceState, Gave, then_do, as_type, result_of_one, values_of, Cma, Inr, Of, A, increment_of, Registers, Expression, ExpressionNumber, Place, IsExpression, is_free_form, is_free_of, known_of, no_traits, traits_of, Facts, Plain, part, Arrives, Does, at_place, gives, is_free, Context, IsSound, nodes_in, StepsStand, PartThere, PlainThere, ByteIsGiven, Carries, ChangesAOnly, Nothing, PartDoes}
+use Rattle.task_laws.proofs.Prelude.{◌≡◌, ℕ, ◌+◌, ◌-◌, ◌*◌, ◌%◌, ◌<◌, ◌≤◌, true, List, [], ◌∷◌, Option, None, refl, ap, ◌∙◌, arith, option_map_or, ScalarType, Byte, Address, Not, Negate, height_of, type_of, TypedExpression, TypesHold, SourceState, Gave, then_do, as_type, result_of_one, values_of, Cma, Inr, Of, A, increment_of, Registers, Expression, ExpressionNumber, Place, IsExpression, is_free_form, is_free_of, known_of, no_traits, traits_of, Facts, Plain, part, Arrives, Does, at_place, does_without_step, is_free, Context, IsSound, nodes_in, StepsStand, PartThere, PlainThere, ByteIsGiven, Carries, ChangesAOnly, Nothing, PartDoes}
 use Rattle.steps8080.specs.declared.step.Task.TheVariants as tasks
 use Rattle.task_laws.proofs.Machine.Nodes.{NodeOf}
 use Rattle.task_laws.proofs.Machine.SiteNodes.{free_is, value_in}
-use Rattle.task_laws.proofs.Machine.Stages.{Stage, at_a, at_byte, at_end, script_of}
+use Rattle.task_laws.proofs.Machine.Stages.{Stage, stage_with_a, at_byte, at_end, script_of}
 
 -- a node without a known value is free if its form is
 pub free_by_form :
@@ -29,7 +29,7 @@ pub byte_given :
     → Does (script_of context) u.budget 0 (at_place to now memory_now u.events) (Gave found u)
     (Arrives context.activation top base to (ByteIsGiven context last number scalar r memory))
 byte_given {now = now} {memory_now = memory_now} to number found a small free stage =
-    gives (record {
+    does_without_step (record {
       r = now;
       memory = memory_now;
       is_at = refl;
@@ -88,7 +88,7 @@ module _
       Rattle.task_laws.proofs.Machine.Stages.does_same _ (means s)
       (at_byte _ _ _ does node types fewer (record { below = below; room = room; ready = ready; known = known })
       (λ v u now memory_now is given next.
-      at_a (255 - now.a) now.flags sound next there refl (omega arith) tt
+      stage_with_a (255 - now.a) now.flags sound next there refl (omega arith) tt
       (λ turned. at_end ends turned
       (λ final. byte_given to number (f v) (ap (λ n. 255 - n) given.a ∙ bytes v given.small) (small v given.small)
       (λ free. changes_a (255 - now.a) now.flags (given.free (is_free_too free))) final))))
@@ -103,9 +103,9 @@ module _
       Rattle.task_laws.proofs.Machine.Stages.does_same _ (means s)
       (at_byte _ _ _ does node types fewer (record { below = below; room = room; ready = ready; known = known })
       (λ v u now memory_now is given next.
-      at_a (255 - now.a) now.flags sound next there refl (omega arith) tt
+      stage_with_a (255 - now.a) now.flags sound next there refl (omega arith) tt
       (λ turned.
-      at_a (increment_of (255 - now.a) now.flags).value (increment_of (255 - now.a) now.flags).flags sound turned counted refl (omega arith) tt
+      stage_with_a (increment_of (255 - now.a) now.flags).value (increment_of (255 - now.a) now.flags).flags sound turned counted refl (omega arith) tt
       (λ more. at_end ends more
       (λ final. byte_given to number (f v) (ap (λ n. (255 - n + 1) % 256) given.a ∙ bytes v given.small) (small v given.small)
       (λ free. changes_a _ _ (changes_a (255 - now.a) now.flags (given.free (is_free_too free)))) final)))))

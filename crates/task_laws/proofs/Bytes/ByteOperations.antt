@@ -3,7 +3,7 @@ use Rattle.task_laws.proofs.Prelude.{◌≡◌, ℕ, ◌+◌, ◌*◌, ◌%◌, 
 use Rattle.steps8080.specs.declared.step.Task.TheVariants.{Address, Byte}
 use Rattle.task_laws.proofs.Bytes.BytesAsked.{BytesAsked, ByteIsAtHl}
 use Rattle.task_laws.proofs.Machine.SiteNodes.{value_in}
-use Rattle.task_laws.proofs.Machine.Stages.{Stage, at_a, at_byte, at_carried, at_end, at_pop, at_push, at_registers, pushed_is_small, script_of}
+use Rattle.task_laws.proofs.Machine.Stages.{Stage, stage_with_a, at_byte, at_carried, at_end, at_pop, at_push, at_registers, pushed_is_small, script_of}
 use Rattle.task_laws.proofs.Heights.{some_height}
 
 -- an operation of bytes gives a byte
@@ -122,7 +122,7 @@ operated_with_memory {context = context} {other = other} {second = second} {refe
     let small = operate_small operation late.a (byte_at memory_late (word late.h late.l)) late.flags
     stage_late.ready.registers.a
     (subst (λ n. n < 256) (sym lies.is_there) (omega arith)) in
-    at_a (operate operation late.a (byte_at memory_late (word late.h late.l)) late.flags).value
+    stage_with_a (operate operation late.a (byte_at memory_late (word late.h late.l)) late.flags).value
     (operate operation late.a (byte_at memory_late (word late.h late.l)) late.flags).flags
     sound stage_late there refl small tt
     (λ last_stage. at_end ends last_stage
@@ -165,7 +165,7 @@ operated_with_e {context = context} {operation = operation} go asked sound one t
     (λ v s late memory_late other_is other_given stage_late.
     let e = (other_given.free free).e ∙ given.a in
     let small = operate_small operation late.a late.e late.flags stage_late.ready.registers.a stage_late.ready.registers.e in
-    at_a (operate operation late.a late.e late.flags).value (operate operation late.a late.e late.flags).flags
+    stage_with_a (operate operation late.a late.e late.flags).value (operate operation late.a late.e late.flags).flags
     sound stage_late there refl small tt
     (λ last_stage. at_end ends last_stage
     (λ final.
@@ -211,7 +211,7 @@ operated_with_first_in_b {context = context} {top = top} {need = need} {second =
     let back : Registers = record (with_popped StackBc (word now.a (flag_byte now.flags)) late) { sp = wrap top } in
     let b : back.b ≡ v % 256 = high_of_pair now.a (flag_byte now.flags) flags_small ∙ given.a in
     let small = operate_small operation back.a back.b back.flags popped.ready.registers.a popped.ready.registers.b in
-    at_a (operate operation back.a back.b back.flags).value (operate operation back.a back.b back.flags).flags
+    stage_with_a (operate operation back.a back.b back.flags).value (operate operation back.a back.b back.flags).flags
     sound popped there refl small tt
     (λ last_stage. at_end ends last_stage
     (λ final.
@@ -261,7 +261,7 @@ operated_with_second_in_b {context = context} {top = top} {need = need} {second 
     let back : Registers = record (with_popped Psw (word now.a (flag_byte now.flags)) (record late { b = late.a })) { sp = wrap top } in
     let a : back.a ≡ v % 256 = high_of_pair now.a (flag_byte now.flags) flags_small ∙ given.a in
     let small = operate_small operation back.a back.b back.flags popped.ready.registers.a popped.ready.registers.b in
-    at_a (operate operation back.a back.b back.flags).value (operate operation back.a back.b back.flags).flags
+    stage_with_a (operate operation back.a back.b back.flags).value (operate operation back.a back.b back.flags).flags
     sound popped there refl small tt
     (λ last_stage. at_end ends last_stage
     (λ final.

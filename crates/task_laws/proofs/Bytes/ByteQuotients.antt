@@ -1,5 +1,5 @@
 -- The low byte of operators with one operand that is a number, by their meaning; quotients and remainders.
-use Rattle.task_laws.proofs.Prelude.{◌≡◌, ℕ, ◌+◌, ◌-◌, ◌/◌, ◌%◌, ◌^◌, ◌<◌, ◌≤◌, ◌==◌, true, false, [], ◌∷◌, ◌++◌, Option, Some, None, is_some, option_and_then, bit_and, refl, sym, ap, ◌∙◌, subst, arith, if◌then◌else◌, ne_eqb, and_mask, pow_pos, mod-le, none-some, same_Some, and_mod, ScalarType, BinaryOperator, height_of, type_of, type_of_result, BinaryNode, TypedExpression, TypesHold, computed, Gave, result_of, values_of, And, A, E, word, ExpressionNumber, Number, IsExpression, gives, Facts, CallRoutine, Plain, copy, low, is_free, number_of, power, power_of_two, LeftInHl, pair_steps, number_of_two, quotient_byte_steps, remainder_byte_steps, with_number_steps, low_byte_shifted_right_steps, knowing, Context, IsSound, nodes_in, StepsStand, PartDoes, value_is_word, word_from_halves, L, append_assoc, division_steps}
+use Rattle.task_laws.proofs.Prelude.{◌≡◌, ℕ, ◌+◌, ◌-◌, ◌/◌, ◌%◌, ◌^◌, ◌<◌, ◌≤◌, ◌==◌, true, false, [], ◌∷◌, ◌++◌, Option, Some, None, is_some, option_and_then, bit_and, refl, sym, ap, ◌∙◌, subst, arith, if◌then◌else◌, ne_eqb, and_mask, pow_pos, mod-le, none-some, same_Some, and_mod, ScalarType, BinaryOperator, height_of, type_of, type_of_result, BinaryNode, TypedExpression, TypesHold, computed, Gave, result_of, values_of, And, A, E, word, ExpressionNumber, Number, IsExpression, does_without_step, Facts, CallRoutine, Plain, copy, low, is_free, number_of, power, power_of_two, LeftInHl, pair_steps, number_of_two, quotient_byte_steps, remainder_byte_steps, with_number_steps, low_byte_shifted_right_steps, knowing, Context, IsSound, nodes_in, StepsStand, PartDoes, value_is_word, word_from_halves, L, append_assoc, division_steps}
 use Rattle.trees.specs.declared.declaration.ScalarType.TheVariants as scalars
 use Rattle.trees.specs.declared.expression.BinaryOperator.TheVariants as operators
 use Rattle.runtime8080.specs.declared.routine.Routine.TheVariants as routines
@@ -251,7 +251,7 @@ module _
           registers_then (copy A E ∷ []) [] after sound (tt, tt) stand_on going_last
           (λ at_end at_end_found ends going_end.
           nothing_more ends going_end
-          (λ going. gives (record {
+          (λ going. does_without_step (record {
             r = record after { a = after.e };
             memory = last_memory;
             is_at = refl;

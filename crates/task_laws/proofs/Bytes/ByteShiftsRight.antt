@@ -10,7 +10,7 @@ use Rattle.task_laws.proofs.Bytes.BytesAsked.{HighIsGiven}
 use Rattle.task_laws.proofs.Bytes.HighHalves.{high_byte_law}
 use Rattle.task_laws.proofs.Words.Multiples.{both_on, doubled_is, effect_on, plain_on, repeated, repeated_on}
 use Rattle.task_laws.proofs.Ranges.Ranges.{fits_means, ready_fits}
-use Rattle.task_laws.proofs.Machine.Rules.{split}
+use Rattle.task_laws.proofs.Machine.Rules.{steps_split}
 use Rattle.task_laws.proofs.Machine.Stages.{at_carried, does_same}
 
 -- by the high byte alone
@@ -142,7 +142,7 @@ module _
       by_byte true is wide given less = λ top base s r memory below room ready known nothing.
           let most = leb-true 8 count is in
           let few = leb-false 16 count less in
-          let parts = split (high_byte_steps (knowing context.site facts) inner pushed) (right_shift_steps (count - 8)) given in
+          let parts = steps_split (high_byte_steps (knowing context.site facts) inner pushed) (right_shift_steps (count - 8)) given in
           let code = shifted_code (count - 8) (omega (arith, few)) in
           does_same _ (one.means s)
           (at_carried _ _ _ (high_byte_law sound one.node one.types parts.first) one.fewer tt

@@ -1,5 +1,5 @@
 -- Two operands are put into HL and DE, as comparisons require.
-use Rattle.task_laws.proofs.Prelude.{ℕ, List, [], refl, sym, subst, arith, append-nil, Gave, Registers, Step, gives, PairOrder, LeftInHl, RightInHl, pair_order, pair_steps, wish_for_left, knowing, Context, IsSound, StepsStand, PartDoes}
+use Rattle.task_laws.proofs.Prelude.{ℕ, List, [], refl, sym, subst, arith, append-nil, Gave, Registers, Step, does_without_step, PairOrder, LeftInHl, RightInHl, pair_order, pair_steps, wish_for_left, knowing, Context, IsSound, StepsStand, PartDoes}
 use Rattle.task_laws.proofs.Machine.Addresses.{nothing_goes}
 use Rattle.task_laws.proofs.Bytes.BytesAsked.{PairLies, PairsGiven}
 use Rattle.task_laws.proofs.Words.PairedWords.{pair_below}
@@ -21,7 +21,7 @@ pairs_given context sound facts last left right wants pushed from to bound first
     nothing_goes now ends on
     (λ final.
     let small = pair_below (pair_order (knowing context.site facts) left right wants) x y now final.ready.registers has in
-    gives (record {
+    does_without_step (record {
       r = now;
       memory = ended;
       is_at = refl;

@@ -1,5 +1,5 @@
 -- The high byte of an ADDRESS is put into A; the word that an ADDRESS expression reads is in memory.
-use Rattle.task_laws.proofs.Prelude.{◌≡◌, ℕ, ◌+◌, ◌*◌, ◌/◌, ◌≤◌, ◌⊎◌, inl, inr, Bool, true, false, if◌then◌else◌, List, [], ◌∷◌, Option, Some, None, option_map, refl, sym, ap, subst, ◌∙◌, arith, option_and_then, byte_at, ScalarType, height_of, height_of_reference, type_of, TypedExpression, TypedReference, ValueNode, TypesHold, SourcePlace, next_place, read_scalar, SourceState, Outcome, Gave, then_do, Registers, State, word, wrap, Expression, ExpressionForm, ExpressionNumber, Location, Place, Reference, place_after, IsExpression, IsForm, IsReference, IsValue, Does, at_place, Arrives, gives, IsSteady, place_at, location_after_is, Facts, Plain, load, part, GoesOutside, direct, location_of, place_in_memory, reference_after, direct_word, high_byte_in_memory, is_word_in_hl, word_in_memory, word_of, high_by_hl_steps, load_a_steps, knowing, Context, IsSound, distances_in, nodes_in, PartThere, PlainThere, StepsStand, WordThere, PartDoes, address_on_machine, same_Some, same_given, given_again}
+use Rattle.task_laws.proofs.Prelude.{◌≡◌, ℕ, ◌+◌, ◌*◌, ◌/◌, ◌≤◌, ◌⊎◌, inl, inr, Bool, true, false, if◌then◌else◌, List, [], ◌∷◌, Option, Some, None, option_map, refl, sym, ap, subst, ◌∙◌, arith, option_and_then, byte_at, ScalarType, height_of, height_of_reference, type_of, TypedExpression, TypedReference, ValueNode, TypesHold, SourcePlace, next_place, read_scalar, SourceState, Outcome, Gave, then_do, Registers, State, word, wrap, Expression, ExpressionForm, ExpressionNumber, Location, Place, Reference, place_after, IsExpression, IsForm, IsReference, IsValue, Does, at_place, Arrives, does_without_step, IsSteady, place_at, location_after_is, Facts, Plain, load, part, GoesOutside, direct, location_of, place_in_memory, reference_after, direct_word, high_byte_in_memory, is_word_in_hl, word_in_memory, word_of, high_by_hl_steps, load_a_steps, knowing, Context, IsSound, distances_in, nodes_in, PartThere, PlainThere, StepsStand, WordThere, PartDoes, address_on_machine, same_Some, same_given, given_again}
 use Rattle.trees.specs.declared.declaration.ScalarType.TheVariants as scalars
 use Rattle.isa8080.specs.declared.instr.Register.TheVariants as registers
 use Rattle.treecode.specs.declared.place.Location.TheVariants as locations
@@ -16,7 +16,7 @@ use Rattle.task_laws.proofs.Machine.Nodes.{node_of}
 use Rattle.task_laws.proofs.Places.ReadPlaces.{HighIsAt, WordIsAt, does_outside, word_found}
 use Rattle.task_laws.proofs.Machine.Rules.{GoesOn, room_for}
 use Rattle.task_laws.proofs.Machine.SiteNodes.{value_in}
-use Rattle.task_laws.proofs.Machine.Stages.{Stage, at_a, at_end, at_load_a, at_word, does_same}
+use Rattle.task_laws.proofs.Machine.Stages.{Stage, stage_with_a, at_end, at_load_a, at_word, does_same}
 use Rattle.task_laws.proofs.Stores.WordWriting.{next_address}
 
 -- an ADDRESS expression is the value of a part of an object
@@ -137,7 +137,7 @@ high_given :
     (Arrives context.activation top base to (HighIsGiven context last r memory))
 high_given outcome address t now ended a high on =
     does_same (Gave high.found t) high.is
-    (gives (record {
+    (does_without_step (record {
       r = now;
       memory = ended;
       is_at = refl;
@@ -170,9 +170,9 @@ high_bytes_given context sound facts last number pushed from to bound tree node 
         (at_word from middle number does node types (omega arith) stage
         (λ n t now ended is given next.
         let held = next.ready.registers in
-        at_a now.h now.flags sound next there refl held.h tt
+        stage_with_a now.h now.flags sound next there refl held.h tt
         (λ moved. at_end ends moved
-        (λ final. gives (record {
+        (λ final. does_without_step (record {
           r = record now { a = now.h };
           memory = ended;
           is_at = refl;

@@ -1,5 +1,5 @@
 -- The code of the high byte of a value.
-use Rattle.task_laws.proofs.Prelude.{◌≡◌, ℕ, ◌*◌, ◌/◌, ◌==◌, Bool, true, false, List, [], ◌∷◌, Option, Some, None, option_map, option_and_then, refl, sym, ap, ◌∙◌, subst, arith, if◌then◌else◌, eqb-true, none-some, same_Some, ScalarType, Byte, Address, height_of, type_of, TypedExpression, TypedReference, ValueNode, TypesHold, SourceState, Gave, A, H, Registers, Expression, ExpressionForm, ExpressionNumber, Reference, IsExpression, IsReference, IsForm, IsNumber, IsValue, IsLocation, IsConstantList, IsConversion, IsEmbedded, IsUnary, IsBinary, IsCallOf, IsFunction, IsShift, IsInput, Arrives, HasRoom, Does, at_place, gives, Facts, Plain, clear_a, copy, high, set, part, number_of, reference_after, fits_byte, high_byte_in_memory, word_in_memory, word_of, byte_in_memory_steps, knowing, byte_number_steps, high_byte_steps, Context, IsSound, nodes_in, StepsStand, PartThere, Carries, Nothing, PartDoes}
+use Rattle.task_laws.proofs.Prelude.{◌≡◌, ℕ, ◌*◌, ◌/◌, ◌==◌, Bool, true, false, List, [], ◌∷◌, Option, Some, None, option_map, option_and_then, refl, sym, ap, ◌∙◌, subst, arith, if◌then◌else◌, eqb-true, none-some, same_Some, ScalarType, Byte, Address, height_of, type_of, TypedExpression, TypedReference, ValueNode, TypesHold, SourceState, Gave, A, H, Registers, Expression, ExpressionForm, ExpressionNumber, Reference, IsExpression, IsReference, IsForm, IsNumber, IsValue, IsLocation, IsConstantList, IsConversion, IsEmbedded, IsUnary, IsBinary, IsCallOf, IsFunction, IsShift, IsInput, Arrives, HasRoom, Does, at_place, does_without_step, Facts, Plain, clear_a, copy, high, set, part, number_of, reference_after, fits_byte, high_byte_in_memory, word_in_memory, word_of, byte_in_memory_steps, knowing, byte_number_steps, high_byte_steps, Context, IsSound, nodes_in, StepsStand, PartThere, Carries, Nothing, PartDoes}
 use Rattle.steps8080.specs.declared.step.Task.TheVariants as tasks
 use Rattle.task_laws.proofs.Branches.Branches.{given_itself}
 use Rattle.task_laws.proofs.Bytes.ByteCode.{CodeOfA, at_last_instructions, beside_a, with_outcome}
@@ -42,7 +42,7 @@ high_given :
     → Does (script_of context) u.budget 0 (at_place to now memory_now u.events) (Gave found u)
     (Arrives context.activation top base to (HighIsGiven context last r memory))
 high_given {now = now} {memory_now = memory_now} to found a stage =
-    gives (record {
+    does_without_step (record {
       r = now;
       memory = memory_now;
       is_at = refl;

@@ -1,5 +1,5 @@
 -- The low byte of values that are computed through HL, of calls and of ports.
-use Rattle.task_laws.proofs.Prelude.{◌≡◌, ℕ, ◌*◌, ◌%◌, ◌<◌, true, List, [], ◌∷◌, ◌++◌, Some, refl, sym, ◌∙◌, subst, arith, ScalarType, height_of, type_of, CallNode, InputNode, TypedArguments, TypedExpression, Takes, TypesHold, TypesHoldInArguments, SourceState, Outcome, Gave, values_of, In, A, L, Registers, State, ExpressionNumber, Range, AreArguments, IsExpression, Arrives, IsReady, Does, at_place, gives, Facts, Plain, copy, is_free, low_of_value_steps, call_steps, knowing, low_of_word_steps, Context, InRegister, IsSound, nodes_in, StepsStand, PlainThere, ByteIsGiven, Know, PartDoes, byte_as_low, byte_is_low, Event, IsReference, LocationNode, NoneThere, Part, PartThere, Reference, TypedReference, address_in_memory, height_of_reference, part_of, word}
+use Rattle.task_laws.proofs.Prelude.{◌≡◌, ℕ, ◌*◌, ◌%◌, ◌<◌, true, List, [], ◌∷◌, ◌++◌, Some, refl, sym, ◌∙◌, subst, arith, ScalarType, height_of, type_of, CallNode, InputNode, TypedArguments, TypedExpression, Takes, TypesHold, TypesHoldInArguments, SourceState, Outcome, Gave, values_of, In, A, L, Registers, State, ExpressionNumber, Range, AreArguments, IsExpression, Arrives, IsReady, Does, at_place, does_without_step, Facts, Plain, copy, is_free, low_of_value_steps, call_steps, knowing, low_of_word_steps, Context, InRegister, IsSound, nodes_in, StepsStand, PlainThere, ByteIsGiven, Know, PartDoes, byte_as_low, byte_is_low, Event, IsReference, LocationNode, NoneThere, Part, PartThere, Reference, TypedReference, address_in_memory, height_of_reference, part_of, word}
 use Rattle.trees.specs.declared.declaration.ScalarType.TheVariants as scalars
 use Rattle.steps8080.specs.declared.step.Task.TheVariants as tasks
 use Rattle.task_laws.proofs.Branches.Branches.{given_itself}
@@ -9,7 +9,7 @@ use Rattle.task_laws.proofs.Calls.Calls.{call_does}
 use Rattle.task_laws.proofs.Machine.EffectForms.{input_goes}
 use Rattle.task_laws.proofs.Ranges.Ranges.{ready_fits, value_fits}
 use Rattle.task_laws.proofs.Machine.RegisterCode.{registers_then}
-use Rattle.task_laws.proofs.Machine.Rules.{GoesOn, Parted, room_for, split}
+use Rattle.task_laws.proofs.Machine.Rules.{GoesOn, Parted, room_for, steps_split}
 use Rattle.task_laws.proofs.Machine.SiteNodes.{value_in}
 use Rattle.task_laws.proofs.Machine.Stages.{Stage, at_end, gives_then, script_of}
 use Rattle.task_laws.proofs.Machine.Values.{then_does_where}
@@ -106,7 +106,7 @@ low_of_hl {memory = memory} found now sound stand going same =
     registers_then (copy A L ∷ []) [] now sound (tt, tt) stand going
     (λ middle middle_facts ends going_end.
     nothing_more ends going_end
-    (λ going_last. gives (record {
+    (λ going_last. does_without_step (record {
       r = record now { a = now.l };
       memory = memory;
       is_at = refl;
@@ -197,7 +197,7 @@ called_law {context = context} {facts = facts} {last = last} {from = from} {to =
     scalar found sound arrives.holds.lies parts.second
     (record { below = omega (arith, spent, below); room = room; ready = arrives.ready; known = arrives.holds.known })
     (λ now a final.
-    gives (record {
+    does_without_step (record {
       r = now;
       memory = arrives.memory;
       is_at = refl;
@@ -207,4 +207,4 @@ called_law {context = context} {facts = facts} {last = last} {from = from} {to =
   where
     parts : Parted context (PartDoes context) facts from
         (call_steps (knowing context.site facts) procedure range pushed) (low_of_value_steps scalar) last to
-    parts = split (call_steps (knowing context.site facts) procedure range pushed) (low_of_value_steps scalar) stand
+    parts = steps_split (call_steps (knowing context.site facts) procedure range pushed) (low_of_value_steps scalar) stand

@@ -1,5 +1,5 @@
 -- Tests whether an ADDRESS is 0: by its value in HL, or by the byte that a mask keeps.
-use Rattle.task_laws.proofs.Prelude.{◌≡◌, ℕ, ◌*◌, ◌/◌, ◌%◌, ◌<◌, ◌≤◌, ◌==◌, Bool, true, false, ◌||◌, nat_lt, bit_and, List, [], ◌∷◌, ◌++◌, refl, sym, ap, ◌∙◌, subst, arith, if◌then◌else◌, ltb-true, eqb-true, eqb-false, eq-eqb, ne_eqb, and_le_l, and_le_r, and_mod, and_shr, height_of, type_of, TypedExpression, TypesHold, SourceState, Gave, then_do, values_of, AccumulateImmediate, And, operate, Registers, ExpressionNumber, IsExpression, Facts, Plain, high, low, part, Arrives, Does, at_place, gives, same_test, Is, Purpose, Branch, Value, Setting, number_in_a_steps, masked_steps, zero_by_hl_steps, knowing, Context, IsSound, nodes_in, StepsStand, PartThere, PlainThere, Carries, Nothing, PartDoes, low_of_byte}
+use Rattle.task_laws.proofs.Prelude.{◌≡◌, ℕ, ◌*◌, ◌/◌, ◌%◌, ◌<◌, ◌≤◌, ◌==◌, Bool, true, false, ◌||◌, nat_lt, bit_and, List, [], ◌∷◌, ◌++◌, refl, sym, ap, ◌∙◌, subst, arith, if◌then◌else◌, ltb-true, eqb-true, eqb-false, eq-eqb, ne_eqb, and_le_l, and_le_r, and_mod, and_shr, height_of, type_of, TypedExpression, TypesHold, SourceState, Gave, then_do, values_of, AccumulateImmediate, And, operate, Registers, ExpressionNumber, IsExpression, Facts, Plain, high, low, part, Arrives, Does, at_place, does_without_step, same_test, Is, Purpose, Branch, Value, Setting, number_in_a_steps, masked_steps, zero_by_hl_steps, knowing, Context, IsSound, nodes_in, StepsStand, PartThere, PlainThere, Carries, Nothing, PartDoes, low_of_byte}
 use lib.Bits.{and_zero_r}
 use Rattle.trees.specs.declared.declaration.ScalarType.TheVariants as scalars
 use Rattle.steps8080.specs.declared.step.Task.TheVariants as tasks
@@ -8,9 +8,9 @@ use Rattle.task_laws.proofs.Relations.Answers.{ZeroShows}
 use Rattle.task_laws.proofs.Branches.Branches.{given_itself}
 use Rattle.task_laws.proofs.Bytes.BytesAsked.{HighBytesGiven, HighIsGiven, ZeroIsShown}
 use Rattle.task_laws.proofs.Relations.NumberComparisons.{number_in_a}
-use Rattle.task_laws.proofs.Machine.Rules.{split}
+use Rattle.task_laws.proofs.Machine.Rules.{steps_split}
 use Rattle.task_laws.proofs.Machine.SiteNodes.{value_in}
-use Rattle.task_laws.proofs.Machine.Stages.{Stage, at_a, at_byte, at_carried, at_end, at_word, does_same, script_of}
+use Rattle.task_laws.proofs.Machine.Stages.{Stage, stage_with_a, at_byte, at_carried, at_end, at_word, does_same, script_of}
 use Rattle.task_laws.proofs.Relations.WordNumbers.{word_is}
 
 abbrev IsBranch : Purpose → Type 0
@@ -68,7 +68,7 @@ module _
       (λ v u now memory_now is given next.
       word_is sound v 0 given.h given.l (subst (λ scalar. v < values_of scalar) is_address given.small) (omega arith) stand next
       (λ end flag zero final.
-      gives (record {
+      does_without_step (record {
         r = end;
         memory = memory_now;
         is_at = refl;
@@ -90,11 +90,11 @@ module _
       → Carries context facts setting.pushed (2 * height_of tree) 0 from to Nothing (value_in context tree)
       (ZeroIsShown context last setting.purpose)
   zero_by_mask inner tree inside mask node types is_address less means one_byte stand top base s r memory below room ready known nothing =
-      does_same _ (means s) (by (nat_lt mask 256) refl (split (masked_steps (knowing context.site facts) inner mask setting.pushed) (number_in_a_steps (Is 0) setting) stand).first)
+      does_same _ (means s) (by (nat_lt mask 256) refl (steps_split (masked_steps (knowing context.site facts) inner mask setting.pushed) (number_in_a_steps (Is 0) setting) stand).first)
     where
       parts : Rattle.task_laws.proofs.Machine.Rules.Parted context (PartDoes context) facts from
           (masked_steps (knowing context.site facts) inner mask setting.pushed) (number_in_a_steps (Is 0) setting) last to
-      parts = split (masked_steps (knowing context.site facts) inner mask setting.pushed) (number_in_a_steps (Is 0) setting) stand
+      parts = steps_split (masked_steps (knowing context.site facts) inner mask setting.pushed) (number_in_a_steps (Is 0) setting) stand
 
       stage : Stage context top setting.pushed (2 * height_of tree) base s facts r memory
       stage = record { below = below; room = room; ready = ready; known = known }
@@ -110,7 +110,7 @@ module _
       arrived v byte u now memory_now a small same next =
           number_in_a sound (Is 0) setting byte a small parts.second next
           (λ end shows final.
-          gives (record {
+          does_without_step (record {
             r = end;
             memory = memory_now;
             is_at = refl;
@@ -132,7 +132,7 @@ module _
           (λ v u now memory_now equal given next.
           let smaller = and_le_l now.a (low mask) in
           let a_small = next.ready.registers.a in
-          at_a (bit_and now.a (low mask)) (operate And now.a (low mask) now.flags).flags sound next there refl (omega (arith, smaller, a_small)) tt
+          stage_with_a (bit_and now.a (low mask)) (operate And now.a (low mask) now.flags).flags sound next there refl (omega (arith, smaller, a_small)) tt
           (λ masked. at_end ends masked
           (λ final.
           let mask_small = ltb-true mask 256 is in
@@ -141,7 +141,7 @@ module _
           arrived v (bit_and v mask) u _ memory_now (ap (λ n. bit_and n (low mask)) given.a ∙ all)
           (omega (arith, bounded, mask_small)) refl final)))
       by false is stands =
-          let inner_parts = split (high_byte_steps (knowing context.site facts) inner setting.pushed) (Plain (AccumulateImmediate And (high mask)) ∷ []) stands in
+          let inner_parts = steps_split (high_byte_steps (knowing context.site facts) inner setting.pushed) (Plain (AccumulateImmediate And (high mask)) ∷ []) stands in
           at_carried {top = top} {need = 2 * height_of tree} {base = base} _ _ _
           (highs facts inner_parts.found inner setting.pushed from inner_parts.middle bound inside node types is_address inner_parts.first)
           (omega (arith, less)) tt
@@ -161,7 +161,7 @@ module _
           after_high v u now memory_now a (PlainThere there ends) next =
               let smaller = and_le_l now.a (high mask) in
               let a_small = next.ready.registers.a in
-              at_a (bit_and now.a (high mask)) (operate And now.a (high mask) now.flags).flags sound next there refl (omega (arith, smaller, a_small)) tt
+              stage_with_a (bit_and now.a (high mask)) (operate And now.a (high mask) now.flags).flags sound next there refl (omega (arith, smaller, a_small)) tt
               (λ masked. at_end ends masked
               (λ final.
               arrived v (bit_and now.a (high mask)) u _ memory_now refl (omega (arith, smaller, a_small))

@@ -2,7 +2,7 @@
 use Rattle.task_laws.proofs.Prelude.{◌≡◌, ℕ, zero, suc, ◌+◌, ◌-◌, ◌*◌, ◌%◌, ◌<◌, ◌≤◌, inl, inr, nat_lt, true, List, [], ◌∷◌, ◌++◌, length, slice_get, Some, None, refl, sym, ap, subst, ◌∙◌, arith, lt-ltb, length-set, MEMORY_SIZE, byte_at, ScalarType, Byte, Address, count_of_arguments, height_of_arguments, type_of, MoreArguments, NoArguments, TypedArguments, TypedExpression, TypesHoldInArguments, types_of, value, values, SourceState, Outcome, Gave, then_do, flag_byte, Registers, State, word, wrap, pushed_word, pushed_keeps, IsPushed, pushed_is_pushed, ExpressionNumber, Range, AreArguments, AreMore, AreNone, IsExpression, argument, Facts, Step, scalar, Activation, IsReady, LiesWell, Owns, Does, at_place, keeps_all, keeps_both, keeps_wider, owns_more, pushed_is_not_owned, argument_steps, arguments_steps, last_argument_steps, push_of, pushed_argument_steps, value_task, knowing, ArgumentsLie, Context, InRegister, InWord, IsSound, bytes_pushed, nodes_in, NoneThere, PartThere, PlainThere, StepsStand, PartDoes, TaskDoes, word_high_byte, flag_byte_small}
 use Rattle.asm8080.specs.Standing.{Keeps}
 use Rattle.task_laws.proofs.Machine.Nodes.{node_of}
-use Rattle.task_laws.proofs.Machine.Rules.{Parted, split}
+use Rattle.task_laws.proofs.Machine.Rules.{Parted, steps_split}
 use Rattle.task_laws.proofs.Machine.Stages.{Stage, at_push, does_same, script_of}
 use Rattle.task_laws.proofs.Machine.Effects.{then_again}
 use Rattle.task_laws.proofs.Machine.StoredValues.{at_value}
@@ -205,7 +205,7 @@ pub at_arguments :
 unfolding argument_steps last_argument_steps pushed_argument_steps arguments_steps
 at_arguments {context = context} {top = top} {pushed = pushed} {need = need} {base = base} {t = t} {facts = facts} {last = last} {r = r} {memory = memory} {first = first} {others = zero} {Good = Good} known arguments from to go sound place within (AreMore {number = number} {tree = tree} there node AreNone) types stand fewer stage rest =
     let around = context.activation.around in
-    let parts = split _ _ (argument_split known arguments first 0 pushed number place within there stand) in
+    let parts = steps_split _ _ (argument_split known arguments first 0 pushed number place within there stand) in
     single parts.first parts.second
   where
     single : {middle : ℕ} {found : Facts}
@@ -229,7 +229,7 @@ at_arguments {context = context} {top = top} {pushed = pushed} {need = need} {ba
           height = omega arith;
         })))
 at_arguments {context = context} {top = top} {pushed = pushed} {need = need} {base = base} {t = t} {facts = facts} {last = last} {r = r} {memory = memory} {first = first} {others = suc more} {Good = Good} known arguments from to go sound place within (AreMore {number = number} {tree = tree} there node (AreMore {number = second} {tree = next} {others = nexts} there_next node_next more_are)) types stand fewer stage rest =
-    let parts = split _ _ (argument_split known arguments first (suc more) pushed number place within there stand) in
+    let parts = steps_split _ _ (argument_split known arguments first (suc more) pushed number place within there stand) in
     several (λ place_now facts_now base_now u now memory_now go_on stand_now stage_now rest_now.
     at_arguments {top = top - 2} {pushed = (pushed + 2) % 65536} {need = need - 2} {base = base_now} {t = u} {facts = facts_now} {r = now} {memory = memory_now} {first = suc first} {others = more} {trees = MoreArguments next nexts} known arguments place_now to go_on sound (omega (arith, place, within)) (omega (arith, within))
     (AreMore there_next node_next more_are) types.1 stand_now (omega (arith, fewer)) stage_now rest_now)
@@ -240,7 +240,7 @@ at_arguments {context = context} {top = top} {pushed = pushed} {need = need} {ba
         (argument_steps (knowing context.site known) number (suc more) pushed) found middle
         → Parted context (PartDoes context) facts from (last_argument_steps (knowing context.site known) number pushed)
         (Rattle.steps8080.specs.declared.step.Step.TheVariants.Plain (push_of (scalar (knowing context.site known) number)) ∷ []) found middle
-    after_value stand = split _ _ stand
+    after_value stand = steps_split _ _ stand
 
     several : {middle : ℕ} {found : Facts}
         → ArgumentsDo context Good known arguments (suc more) (MoreArguments next nexts) (top - 2) ((pushed + 2) % 65536) (need - 2) to last

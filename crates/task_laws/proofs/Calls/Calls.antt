@@ -1,9 +1,9 @@
 -- Code of a call of a procedure.
-use Rattle.task_laws.proofs.Prelude.{◌≡◌, ℕ, suc, ◌+◌, ◌%◌, ◌-◌, ◌*◌, ◌<◌, ◌≤◌, ◌⊎◌, inl, inr, get_or, List, [], ◌∷◌, ◌++◌, length, slice_get, Option, Some, None, refl, sym, ap, subst, ◌∙◌, arith, slice_get_cases, slice_get_within, IsSomeAnd, ScalarType, count_of_arguments, height_of_arguments, MoreArguments, NoArguments, TypedArguments, TypedProcedure, Takes, TypesHoldInArguments, types_of, called_for, callee_in, values, SourceState, then_do, Registers, Range, ProcedureKind, TreeProcedure, AreArguments, AreMore, AreNone, Facts, no_facts, Arrives, IsReady, IsThere, Owns, Does, at_place, gives, keeps_both, no_facts_hold, arguments_steps, call_steps, call_items, items_of_call, knowing, ArgumentsLie, Context, IsSound, ResultLies, bytes_pushed, nodes_in, CallThere, NoneThere, StepsStand, CallDoes, PartDoes, ResultIsGiven}
+use Rattle.task_laws.proofs.Prelude.{◌≡◌, ℕ, suc, ◌+◌, ◌%◌, ◌-◌, ◌*◌, ◌<◌, ◌≤◌, ◌⊎◌, inl, inr, get_or, List, [], ◌∷◌, ◌++◌, length, slice_get, Option, Some, None, refl, sym, ap, subst, ◌∙◌, arith, slice_get_cases, slice_get_within, IsSomeAnd, ScalarType, count_of_arguments, height_of_arguments, MoreArguments, NoArguments, TypedArguments, TypedProcedure, Takes, TypesHoldInArguments, types_of, called_for, callee_in, values, SourceState, then_do, Registers, Range, ProcedureKind, TreeProcedure, AreArguments, AreMore, AreNone, Facts, no_facts, Arrives, IsReady, IsThere, Owns, Does, at_place, does_without_step, keeps_both, no_facts_hold, arguments_steps, call_steps, call_items, items_of_call, knowing, ArgumentsLie, Context, IsSound, ResultLies, bytes_pushed, nodes_in, CallThere, NoneThere, StepsStand, CallDoes, PartDoes, ResultIsGiven}
 use Rattle.asm8080.specs.Standing.{Keeps}
 use Rattle.treecode.specs.declared.procedure.ProcedureKind.TheVariants as kinds
 use Rattle.steps8080.specs.declared.step.Step.TheVariants as steps
-use Rattle.task_laws.proofs.Machine.Rules.{split}
+use Rattle.task_laws.proofs.Machine.Rules.{steps_split}
 use Rattle.task_laws.proofs.Machine.Stages.{Stage, gives_then, script_of}
 use Rattle.task_laws.proofs.Calls.Arguments.{ArePassed, at_arguments, ready_now}
 
@@ -85,7 +85,7 @@ at_call {context = context} {result = result} {top = top} {low = low} {from = fr
     (omega (arith, height, below)) passed.ready
     (subst (λ types. ArgumentsLie types given low now memory_now) (sym of.types_are) passed.lie))
     (λ found t end arrives spent.
-    gives (record {
+    does_without_step (record {
       r = arrives.r;
       memory = arrives.memory;
       is_at = arrives.is_at ∙ ap (λ n. at_place n arrives.r arrives.memory t.events) (sym place);
@@ -144,7 +144,7 @@ call_goes {context = context} procedure arguments sound same_first same_count Ar
 call_goes {context = context} {facts = facts} {last = last} {pushed = pushed} {from = from} {to = to} {result = result} procedure arguments sound same_first same_count (AreMore {first = first} {count = others} {number = number} {tree = tree} {others = more} at node are) takes types stand top base s r memory stage =
     let depth = stage.room.depth in
     let even = stage.room.even in
-    let parts = split (arguments_steps (knowing context.site facts) arguments (suc others) pushed) (steps.CallProcedure procedure ∷ []) stand in
+    let parts = steps_split (arguments_steps (knowing context.site facts) arguments (suc others) pushed) (steps.CallProcedure procedure ∷ []) stand in
     finishes parts.first parts.second (omega (arith, depth)) (omega (arith, depth, even))
   where
     finishes : {found final : Facts} {middle finish : ℕ}

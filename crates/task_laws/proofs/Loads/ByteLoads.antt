@@ -1,5 +1,5 @@
 -- The code that puts the low byte of a value in memory into A.
-use Rattle.task_laws.proofs.Prelude.{◌≡◌, ℕ, ◌+◌, ◌*◌, ◌%◌, ◌<◌, true, List, [], ◌∷◌, Option, Some, None, refl, sym, ap, subst, ◌∙◌, arith, MEMORY_SIZE, byte_at, byte_small, ScalarType, Byte, Address, height_of_reference, size_of_scalar, TypedReference, RefersToScalar, TypesHoldInReference, SourcePlace, InMemory, InTheFrame, read_scalar, SourceState, Outcome, Gave, then_do, values_of, Registers, State, wrap, Location, Reference, IsReference, is_static_location, Does, at_place, Activation, Arrives, IsReady, gives, IsSteady, Facts, Plain, load, part, location_of, byte_in_memory_steps, location_byte_steps, knowing, Context, IsSound, nodes_in, StepsStand, PartThere, Carries, ChangesAOnly, Know, Nothing, PartDoes, address_on_machine, same_Some, two_bytes_fit, given_again}
+use Rattle.task_laws.proofs.Prelude.{◌≡◌, ℕ, ◌+◌, ◌*◌, ◌%◌, ◌<◌, true, List, [], ◌∷◌, Option, Some, None, refl, sym, ap, subst, ◌∙◌, arith, MEMORY_SIZE, byte_at, byte_small, ScalarType, Byte, Address, height_of_reference, size_of_scalar, TypedReference, RefersToScalar, TypesHoldInReference, SourcePlace, InMemory, InTheFrame, read_scalar, SourceState, Outcome, Gave, then_do, values_of, Registers, State, wrap, Location, Reference, IsReference, is_static_location, Does, at_place, Activation, Arrives, IsReady, does_without_step, IsSteady, Facts, Plain, load, part, location_of, byte_in_memory_steps, location_byte_steps, knowing, Context, IsSound, nodes_in, StepsStand, PartThere, Carries, ChangesAOnly, Know, Nothing, PartDoes, address_on_machine, same_Some, two_bytes_fit, given_again}
 use Rattle.isa8080.specs.declared.instr.Register.TheVariants as registers
 use Rattle.steps8080.specs.declared.step.Task.TheVariants as tasks
 use Rattle.task_laws.proofs.Machine.Values.{then_does_where}
@@ -91,7 +91,7 @@ byte_in_memory_law {context = context} {facts = facts} {last = last} {reference 
         (subst (λ (n : ℕ). n < MEMORY_SIZE) lies.is_at (place_small context.activation (size_of_scalar scalar) lies.place fits))
         (subst (λ (n : ℕ). IsSteady context.activation n) lies.is_at steady)
         known stand (record { ready = ready; known = known })
-        (λ now loaded on. gives (record {
+        (λ now loaded on. does_without_step (record {
           r = now;
           memory = memory;
           is_at = refl;
@@ -119,7 +119,7 @@ byte_in_memory_law {context = context} {facts = facts} {last = last} {reference 
         (scalar_read scalar place t (λ n u. Gave n u) sound given.ready (located_fits context scalar tree place s t sound refers same)
         (λ n steady low small.
         load_a_goes address there sound steady (given.holds).hl stand (record { ready = given.ready; known = (given.holds).known })
-        (λ now loaded on. gives (record {
+        (λ now loaded on. does_without_step (record {
           r = now;
           memory = ended;
           is_at = refl;

@@ -13,7 +13,7 @@ use Rattle.task_laws.proofs.Bytes.LocatedBytes.{ByteLies, byte_lies, where_locat
 use Rattle.task_laws.proofs.Places.LocationBytes.{at_one}
 use Rattle.task_laws.proofs.Places.LocationWords.{frame_away, high_there, low_there, top_word_goes, at_none}
 use Rattle.task_laws.proofs.Places.ReadPlaces.{LowIsAt, does_outside}
-use Rattle.task_laws.proofs.Machine.Rules.{GoesOn, ready_with_registers, registers_go, room_for, split, word_acts}
+use Rattle.task_laws.proofs.Machine.Rules.{GoesOn, ready_with_registers, registers_go, room_for, steps_split, word_acts}
 use Rattle.task_laws.proofs.Machine.SiteNodes.{value_in}
 use Rattle.task_laws.proofs.Machine.Stages.{does_same}
 use Rattle.task_laws.proofs.Places.Located.{located_in}
@@ -153,10 +153,10 @@ module _
             e = refl;
           })))
       by_test false false none_is one_is stand =
-          let whole = split
+          let whole = steps_split
           (location_address_steps (knowing context.site used) (locations.Frame variable offset) pushed ++ (Plain (load L) ∷ []))
           (Plain (set H 0) ∷ []) stand in
-          let parts = split (location_address_steps (knowing context.site used) (locations.Frame variable offset) pushed)
+          let parts = steps_split (location_address_steps (knowing context.site used) (locations.Frame variable offset) pushed)
           (Plain (load L) ∷ []) whole.first in
           ended parts.first parts.second whole.second
         where

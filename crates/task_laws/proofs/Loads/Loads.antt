@@ -1,5 +1,5 @@
 -- The code of values in memory.
-use Rattle.task_laws.proofs.Prelude.{◌≡◌, ℕ, ◌&&◌, ◌+◌, ◌*◌, ◌/◌, ◌%◌, ◌<◌, Bool, true, List, ◌∷◌, Option, Some, None, refl, sym, ap, subst, ◌∙◌, arith, IsSomeAnd, slice_get, byte_at, byte_small, Address, height_of_reference, PartOf, Subscript, TypedObject, TypedReference, IsSeen, RefersToScalar, TypesHoldInReference, SourcePlace, InMemory, InTheFrame, home_of, read_scalar, Displacement, based_place, displacement, SourceState, Outcome, Gave, then_do, Registers, State, wrap, Location, Reference, IndexNode, IsPart, IsReference, home, is_static_location, Does, at_place, Arrives, gives, IsSteady, location_at, place_at, Facts, part, Base, base_after, base_of, keeps_of_address, location_of, base_location, located_at, location_word_steps, word_at_hl_steps, word_in_memory_steps, knowing, Context, IsSound, distances_in, nodes_in, StepsStand, PartThere, Carries, IsReferred, Know, Left, Nothing, PartDoes, address_on_machine, none-some, same_Some, two_bytes_fit, given_again}
+use Rattle.task_laws.proofs.Prelude.{◌≡◌, ℕ, ◌&&◌, ◌+◌, ◌*◌, ◌/◌, ◌%◌, ◌<◌, Bool, true, List, ◌∷◌, Option, Some, None, refl, sym, ap, subst, ◌∙◌, arith, IsSomeAnd, slice_get, byte_at, byte_small, Address, height_of_reference, PartOf, Subscript, TypedObject, TypedReference, IsSeen, RefersToScalar, TypesHoldInReference, SourcePlace, InMemory, InTheFrame, home_of, read_scalar, Displacement, based_place, displacement, SourceState, Outcome, Gave, then_do, Registers, State, wrap, Location, Reference, IndexNode, IsPart, IsReference, home, is_static_location, Does, at_place, Arrives, does_without_step, IsSteady, location_at, place_at, Facts, part, Base, base_after, base_of, keeps_of_address, location_of, base_location, located_at, location_word_steps, word_at_hl_steps, word_in_memory_steps, knowing, Context, IsSound, distances_in, nodes_in, StepsStand, PartThere, Carries, IsReferred, Know, Left, Nothing, PartDoes, address_on_machine, none-some, same_Some, two_bytes_fit, given_again}
 use Rattle.steps8080.specs.declared.step.Task.TheVariants as tasks
 use Rattle.steps8080.specs.declared.sites.queries.Base.TheVariants as bases
 use Rattle.steps8080.specs.Queries.{located}
@@ -171,7 +171,7 @@ word_in_memory_law {context = context} {facts = facts} {last = last} {reference 
         (subst (λ (n : ℕ). IsSteady context.activation n) lies.is_at steady)
         (subst (λ (n : ℕ). IsSteady context.activation (wrap (n + 1))) lies.is_at next)
         known stand (record { ready = ready; known = known })
-        (λ now loaded on. gives (record {
+        (λ now loaded on. does_without_step (record {
           r = now;
           memory = memory;
           is_at = refl;
@@ -206,7 +206,7 @@ word_in_memory_law {context = context} {facts = facts} {last = last} {reference 
         (word_read place t (λ n u. Gave n u) sound given.ready (located_fits context Address tree place s t sound refers same)
         (λ steady next.
         word_at_hl_goes address there sound steady (given.holds).hl stand (record { ready = given.ready; known = (given.holds).known })
-        (λ now loaded on. gives (record {
+        (λ now loaded on. does_without_step (record {
           r = now;
           memory = ended;
           is_at = refl;

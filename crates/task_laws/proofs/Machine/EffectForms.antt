@@ -1,5 +1,5 @@
 -- The code for the effects of an expression of each form.
-use Rattle.task_laws.proofs.Prelude.{◌≡◌, ℕ, ◌+◌, ◌*◌, ◌<◌, ◌≤◌, ◌⊎◌, inl, inr, Bool, true, false, if◌then◌else◌, List, [], ◌∷◌, ◌++◌, Option, Some, None, refl, sym, ap, subst, ◌∙◌, arith, zero, suc, All, slice_get, slice_index_or, read_event, input_value, queue_of, ScalarType, height_of, TypedExpression, TypesHold, address_in_memory, computed, value, read_scalar, SourceState, Outcome, Gave, Stopped, then_do, as_type, function_of, result_of, result_of_one, shifted, In, after, Registers, State, Expression, ExpressionForm, ExpressionNumber, IsExpression, IsForm, IsNumber, IsValue, IsLocation, IsConstantList, IsConversion, IsEmbedded, IsUnary, IsBinary, IsCallOf, IsFunction, IsShift, IsInput, is_free, is_quiet, keeps, option_map_or, is_some, Low, High, Double, Site, expression, Keeps, nodes_of, free_at, has_immediate, is_free_form, is_free_with, is_of_low_byte, is_quiet_form, keeps_at, no_traits, number_at, quiet_at, quiet_computed, quiet_gave, quiet_scalar, Facts, Arrives, IsThere, Does, at_place, gives, both_effects_steps, effects_steps, form_effects_steps, knowing, Context, IsSound, nodes_in, NoneThere, PartThere, PlainThere, StepsStand, ChangesAOnly, EffectsAreGiven, EffectsDo, Know, NothingIsGiven, PartDoes, false≢true, and_parts}
+use Rattle.task_laws.proofs.Prelude.{◌≡◌, ℕ, ◌+◌, ◌*◌, ◌<◌, ◌≤◌, ◌⊎◌, inl, inr, Bool, true, false, if◌then◌else◌, List, [], ◌∷◌, ◌++◌, Option, Some, None, refl, sym, ap, subst, ◌∙◌, arith, zero, suc, All, slice_get, slice_index_or, read_event, input_value, queue_of, ScalarType, height_of, TypedExpression, TypesHold, address_in_memory, computed, value, read_scalar, SourceState, Outcome, Gave, Stopped, then_do, as_type, function_of, result_of, result_of_one, shifted, In, after, Registers, State, Expression, ExpressionForm, ExpressionNumber, IsExpression, IsForm, IsNumber, IsValue, IsLocation, IsConstantList, IsConversion, IsEmbedded, IsUnary, IsBinary, IsCallOf, IsFunction, IsShift, IsInput, is_free, is_quiet, keeps, option_map_or, is_some, Low, High, Double, Site, expression, Keeps, nodes_of, free_at, has_immediate, is_free_form, is_free_with, is_of_low_byte, is_quiet_form, keeps_at, no_traits, number_at, quiet_at, quiet_computed, quiet_gave, quiet_scalar, Facts, Arrives, IsThere, Does, at_place, does_without_step, both_effects_steps, effects_steps, form_effects_steps, knowing, Context, IsSound, nodes_in, NoneThere, PartThere, PlainThere, StepsStand, ChangesAOnly, EffectsAreGiven, EffectsDo, Know, NothingIsGiven, PartDoes, false≢true, and_parts}
 use Rattle.asm8080.specs.declared.item.Item.TheVariants as items
 use Rattle.treecode.specs.declared.expression.ExpressionForm.TheVariants as forms
 use Rattle.task_laws.proofs.Machine.FreeForms.{high_is_quiet, not_known, number_is_free, value_is_quiet}
@@ -149,7 +149,7 @@ form_goes {context = context} {last = last} {to = to} (forms.Call procedure rang
     gives_then _
     (Rattle.task_laws.proofs.Calls.Calls.call_does procedure range sound stand _ (Some scalar) trees are types.0 types.1 top base s r memory stage.below (room_for _ (omega arith) stage.room) stage.ready stage.known tt)
     (λ found t end arrives spent.
-    gives (record {
+    does_without_step (record {
       r = arrives.r;
       memory = arrives.memory;
       is_at = arrives.is_at;
@@ -183,7 +183,7 @@ quiet_arrives {A = A} {context = context} {top = top} {base = base} {u = u} {now
         (Arrives context.activation top base to Holds)
     answered (Rattle.treecode_laws.specs.internal.Evaluations.Found found) is =
         does_same (Gave found u) is
-        (gives (record { r = now; memory = memory_now; is_at = refl; ready = stage.ready; holds = holds found }))
+        (does_without_step (record { r = now; memory = memory_now; is_at = refl; ready = stage.ready; holds = holds found }))
     answered (Rattle.treecode_laws.specs.internal.Evaluations.Fails reason) is =
         Rattle.code_meaning.proofs.Access.outside_does reason u is
 
@@ -230,7 +230,7 @@ one_free :
     (Arrives context.activation top base to (OnlyAIsGiven context last r memory))
 one_free {context = context} {from = from} {number = number} go top need base s r memory free (PartThere does NoneThere) node types fewer stage =
     effects_then from s r memory does node types stage.below stage.room fewer (record { ready = stage.ready; known = stage.known })
-    (λ n t now ended same less on given. gives (record {
+    (λ n t now ended same less on given. does_without_step (record {
       r = now;
       memory = ended;
       is_at = refl;
@@ -322,7 +322,7 @@ free_form_goes {context = context} (forms.Shift function count_of count) scalar 
     stand first second types.1.0 types.2.0 (omega arith) (omega arith) stage
 free_form_goes {to = to} (forms.Input port) scalar sound free loud IsInput types (PlainThere there NoneThere) top base s r memory stage =
     input_goes port sound there stage
-    (λ small next. gives (record {
+    (λ small next. does_without_step (record {
       r = _;
       memory = memory;
       is_at = refl;
@@ -417,7 +417,7 @@ effects_do {context = context} {facts = facts} {last = last} {pushed = pushed} {
             (sym (quiet_of_entry (nodes_in context) context.storage sound.lowered.traits number.index of.found of.is_there) ∙ loud_at))
             shape types stand top base s r memory stage)
             (λ found t end arrives spent.
-            gives (record {
+            does_without_step (record {
               r = arrives.r;
               memory = arrives.memory;
               is_at = arrives.is_at;
@@ -427,7 +427,7 @@ effects_do {context = context} {facts = facts} {last = last} {pushed = pushed} {
         by_free false told =
             gives_then _ (form_goes form sound shape types stand top base s r memory stage)
             (λ found t end arrives spent.
-            gives (record {
+            does_without_step (record {
               r = arrives.r;
               memory = arrives.memory;
               is_at = arrives.is_at;

@@ -1,8 +1,8 @@
 -- The code for the effects of an expression.
-use Rattle.task_laws.proofs.Prelude.{◌≡◌, ℕ, ◌+◌, ◌*◌, ◌≤◌, ◌&&◌, List, Option, refl, ap, arith, height_of_reference, height_of_subscript, TypedReference, Subscript, TypesHoldInReference, TypesHoldInSubscript, Displacement, based_place, displacement, displaced, located, no_displacement, value, home_of, SourceState, Outcome, Gave, Stopped, then_do, Registers, State, Reference, IndexNode, IsReference, IsPart, IsSubscript, IsAbsent, IsIndex, Found, Fails, IsQuiet, outcome_of, quiet_base, Facts, Arrives, Does, at_place, outside_does, gives, reference_effects_steps, subscript_effects_steps, Context, nodes_in, NoneThere, PartThere, StepsStand, NothingIsGiven, PartDoes}
+use Rattle.task_laws.proofs.Prelude.{◌≡◌, ℕ, ◌+◌, ◌*◌, ◌≤◌, ◌&&◌, List, Option, refl, ap, arith, height_of_reference, height_of_subscript, TypedReference, Subscript, TypesHoldInReference, TypesHoldInSubscript, Displacement, based_place, displacement, displaced, located, no_displacement, value, home_of, SourceState, Outcome, Gave, Stopped, then_do, Registers, State, Reference, IndexNode, IsReference, IsPart, IsSubscript, IsAbsent, IsIndex, Found, Fails, IsQuiet, outcome_of, quiet_base, Facts, Arrives, Does, at_place, outside_does, does_without_step, reference_effects_steps, subscript_effects_steps, Context, nodes_in, NoneThere, PartThere, StepsStand, NothingIsGiven, PartDoes}
 use Rattle.meaning.specs.Access.{Place}
 use Rattle.treecode_laws.specs.internal.Evaluations.{Answer}
-use Rattle.task_laws.proofs.Machine.Rules.{split}
+use Rattle.task_laws.proofs.Machine.Rules.{steps_split}
 use Rattle.task_laws.proofs.Machine.Stages.{Stage, at_effects, does_same, script_of}
 
 -- one part after two is two parts after one
@@ -37,7 +37,7 @@ pub ends_here :
     → Does (script_of context) u.budget 0 (at_place to now memory_now u.events) (Gave found u)
     (Arrives context.activation top base to (NothingIsGiven context facts r memory))
 ends_here {now = now} {memory_now = memory_now} to found stage =
-    gives (record {
+    does_without_step (record {
       r = now;
       memory = memory_now;
       is_at = refl;
@@ -103,7 +103,7 @@ pub at_reference :
 unfolding reference_effects_steps
 at_reference {context = context} {pushed = pushed} {t = t} {go = go} from middle (IsPart {object = object} {offset = offset} {first = first} {second = second} {subscript = subscript} {member_subscript = member_subscript} one two) types stand fewer stage rest =
     let around = context.activation.around in
-    let parts = split (subscript_effects_steps first pushed) (subscript_effects_steps second pushed) stand in
+    let parts = steps_split (subscript_effects_steps first pushed) (subscript_effects_steps second pushed) stand in
     does_same _ (then_again (displacement context.later around subscript t) _ go)
     (at_subscript from parts.middle one types.0 parts.first (omega (arith, fewer)) stage
     (λ before u now memory_now next.

@@ -12,41 +12,41 @@ pub record Parted
   pub first : StepsStand context PartIs facts from one found middle
   pub second : StepsStand context PartIs found middle other last to
 
-pub split :
+pub steps_split :
     {context : Context} {PartIs : (before : Facts) → Part → (from : ℕ) → (after : Facts) → (to : ℕ) → Type 0}
     (one other : List Step) {facts last : Facts} {from to : ℕ}
     → StepsStand context PartIs facts from (one ++ other) last to
     → Parted context PartIs facts from one other last to
-split [] other {facts = facts} {from = from} stand = record { found = facts; middle = from; first = NoneThere; second = stand }
-split (steps.Plain i ∷ one) other (PlainThere there rest) =
-    let parts = split one other rest in
+steps_split [] other {facts = facts} {from = from} stand = record { found = facts; middle = from; first = NoneThere; second = stand }
+steps_split (steps.Plain i ∷ one) other (PlainThere there rest) =
+    let parts = steps_split one other rest in
     record { found = parts.found; middle = parts.middle; first = PlainThere there parts.first; second = parts.second }
-split (steps.Word form place ∷ one) other (WordThere there rest) =
-    let parts = split one other rest in
+steps_split (steps.Word form place ∷ one) other (WordThere there rest) =
+    let parts = steps_split one other rest in
     record { found = parts.found; middle = parts.middle; first = WordThere there parts.first; second = parts.second }
-split (steps.Jump form label ∷ one) other (JumpThere there rest) =
-    let parts = split one other rest in
+steps_split (steps.Jump form label ∷ one) other (JumpThere there rest) =
+    let parts = steps_split one other rest in
     record { found = parts.found; middle = parts.middle; first = JumpThere there parts.first; second = parts.second }
-split (steps.Mark label ∷ one) other (MarkThere there rest) =
-    let parts = split one other rest in
+steps_split (steps.Mark label ∷ one) other (MarkThere there rest) =
+    let parts = steps_split one other rest in
     record { found = parts.found; middle = parts.middle; first = MarkThere there parts.first; second = parts.second }
-split (steps.CallRoutine routine ∷ one) other (RoutineThere has there rest) =
-    let parts = split one other rest in
+steps_split (steps.CallRoutine routine ∷ one) other (RoutineThere has there rest) =
+    let parts = steps_split one other rest in
     record { found = parts.found; middle = parts.middle; first = RoutineThere has there parts.first; second = parts.second }
-split (steps.CallProcedure procedure ∷ one) other (CallThere there rest) =
-    let parts = split one other rest in
+steps_split (steps.CallProcedure procedure ∷ one) other (CallThere there rest) =
+    let parts = steps_split one other rest in
     record { found = parts.found; middle = parts.middle; first = CallThere there parts.first; second = parts.second }
-split (steps.TestA ∷ one) other (TestThere there rest) =
-    let parts = split one other rest in
+steps_split (steps.TestA ∷ one) other (TestThere there rest) =
+    let parts = steps_split one other rest in
     record { found = parts.found; middle = parts.middle; first = TestThere there parts.first; second = parts.second }
-split (steps.Holds held ∷ one) other (HoldsThere rest) =
-    let parts = split one other rest in
+steps_split (steps.Holds held ∷ one) other (HoldsThere rest) =
+    let parts = steps_split one other rest in
     record { found = parts.found; middle = parts.middle; first = HoldsThere parts.first; second = parts.second }
-split (steps.MemoryChanged ∷ one) other (ChangeThere rest) =
-    let parts = split one other rest in
+steps_split (steps.MemoryChanged ∷ one) other (ChangeThere rest) =
+    let parts = steps_split one other rest in
     record { found = parts.found; middle = parts.middle; first = ChangeThere parts.first; second = parts.second }
-split (steps.Part part ∷ one) other (PartThere is rest) =
-    let parts = split one other rest in
+steps_split (steps.Part part ∷ one) other (PartThere is rest) =
+    let parts = steps_split one other rest in
     record { found = parts.found; middle = parts.middle; first = PartThere is parts.first; second = parts.second }
 
 -- Code may go on here: the activation is ready, and this is known.

@@ -101,7 +101,7 @@ at_registers {A = A} {context = context} {top = top} {pushed = pushed} {need = n
     })))
 
 -- one that changes A and the flags
-pub at_a :
+pub stage_with_a :
     {A : Type 0} {context : Context} {top pushed need : ℕ} {base : List ℕ} {t : SourceState} {facts : Facts}
     {r : Registers} {memory : List ℕ} {from budget more : ℕ} {i : Instr} {outcome : Outcome A}
     {Good : A → SourceState → State → Type 0}
@@ -118,7 +118,7 @@ pub at_a :
     → Does (script_of context) budget more
     (at_place (from + size_of_instruction i) (record r { a = value; flags = flags }) memory t.events) outcome Good)
     → Does (script_of context) budget more (at_place from r memory t.events) outcome Good
-at_a {r = r} value flags sound stage there acts small asks rest =
+stage_with_a {r = r} value flags sound stage there acts small asks rest =
     let held = stage.ready.registers in
     at_registers (record r { a = value; flags = flags }) sound stage there acts refl
     (record { a = small; b = held.b; c = held.c; d = held.d; e = held.e; h = held.h; l = held.l }) asks rest

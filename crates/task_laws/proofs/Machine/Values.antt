@@ -1,5 +1,5 @@
 -- Parts of code that give values: the code after them uses the value in its register.
-use Rattle.task_laws.proofs.Prelude.{◌≡◌, ℕ, ◌*◌, ◌/◌, ◌%◌, ◌<◌, ◌≤◌, List, [], ◌∷◌, refl, sym, subst, arith, ScalarType, height_of, type_of, TypedExpression, TypesHold, value, SourceState, Ended, More, Outside, Outcome, Gave, Stopped, then_do, values_of, Registers, State, ExpressionNumber, IsExpression, Does, Lands, at_place, Arrives, HasRoom, IsReady, gives, told_on, Facts, Part, Step, keeps, Context, nodes_in, StepsStand, NoneThere, PartThere, PartDoes, ByteDoes, ByteIsGiven, EffectsDo, Left, EffectsAreGiven, WordDoes, WordIsGiven}
+use Rattle.task_laws.proofs.Prelude.{◌≡◌, ℕ, ◌*◌, ◌/◌, ◌%◌, ◌<◌, ◌≤◌, List, [], ◌∷◌, refl, sym, subst, arith, ScalarType, height_of, type_of, TypedExpression, TypesHold, value, SourceState, Ended, More, Outside, Outcome, Gave, Stopped, then_do, values_of, Registers, State, ExpressionNumber, IsExpression, Does, Lands, at_place, Arrives, HasRoom, IsReady, does_without_step, told_on, Facts, Part, Step, keeps, Context, nodes_in, StepsStand, NoneThere, PartThere, PartDoes, ByteDoes, ByteIsGiven, EffectsDo, Left, EffectsAreGiven, WordDoes, WordIsGiven}
 use Rattle.steps8080.specs.declared.step.Step.TheVariants as steps
 use Rattle.task_laws.proofs.Machine.Rules.{GoesOn, room_for}
 
@@ -141,7 +141,7 @@ pub word_given :
     → Does context.activation.around.program.script t.budget 0 (at_place to now ended t.events) (Gave n t)
     (Arrives context.activation top base to (WordIsGiven context after number scalar r memory))
 word_given {context = context} {after = after} {number = number} {scalar = scalar} {top = top} {base = base} {to = to} {n = n} {r = r} {now = now} {memory = memory} {ended = ended} t small has kept going =
-    gives (record {
+    does_without_step (record {
       r = now;
       memory = ended;
       is_at = refl;

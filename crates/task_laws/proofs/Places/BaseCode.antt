@@ -2,7 +2,7 @@
 use Rattle.task_laws.proofs.Prelude.{◌≡◌, ℕ, ◌+◌, ◌*◌, ◌<◌, Bool, true, false, List, [], ◌∷◌, ◌++◌, refl, sym, ap, subst, ◌∙◌, arith, byte_at, SourcePlace, InMemory, InTheFrame, home_of, place_of, based_place, SourceState, Outcome, Gave, Dad, Lxi, Xchg, Bc, De, Sp, Registers, State, high_byte, low_byte, word, wrap, Number, is_static_location, Does, at_place, Activation, HasRoom, location_at, place_at, no_facts_hold, Facts, Part, Plain, no_facts, Base, distance, addition_steps, base_added_steps, base_steps, location_word_steps, knowing, Context, IsSound, distances_in, StepsStand, Know, Left, address_on_machine}
 use Rattle.treecode.specs.declared.place.Location.TheVariants as locations
 use Rattle.steps8080.specs.declared.sites.queries.Base.TheVariants as bases
-use Rattle.task_laws.proofs.Machine.Rules.{GoesOn, split}
+use Rattle.task_laws.proofs.Machine.Rules.{GoesOn, steps_split}
 use Rattle.task_laws.proofs.Machine.RegisterCode.{registers_then}
 use Rattle.task_laws.proofs.Machine.Addresses.{addition_goes, back_together, location_address_goes, registers_end}
 use Rattle.task_laws.proofs.Places.LocationWords.{frame_away, location_word_goes}
@@ -86,7 +86,7 @@ base_goes {Good = Good} {context = context} {PartIs = PartIs} {last = last} {to 
     (sym (at bytes is_inside s))
     (word_read (place_of context.activation.around base) s (λ start t. Gave (InMemory (wrap (start + bytes))) t) sound on.ready fits
     (λ steady next.
-    let parts = split (location_word_steps (knowing context.site used) pointer pushed) (addition_steps (Number offset)) stand in
+    let parts = steps_split (location_word_steps (knowing context.site used) pointer pushed) (addition_steps (Number offset)) stand in
     let place : SourcePlace = place_of context.activation.around base in
     let low : ℕ = byte_at memory (address_on_machine context.activation place) in
     let high : ℕ = byte_at memory (wrap (address_on_machine context.activation place + 1)) in
@@ -182,7 +182,7 @@ base_added_goes {Good = Good} {context = context} {PartIs = PartIs} {last = last
     (location_word_steps (knowing context.site no_facts) pointer pushed ++ (Plain (Dad De) ∷ addition_steps (Number offset)))
     r sound (tt, tt) stand on
     (λ middle found stand on_one.
-    let parts = split (location_word_steps (knowing context.site no_facts) pointer pushed)
+    let parts = steps_split (location_word_steps (knowing context.site no_facts) pointer pushed)
     (Plain (Dad De) ∷ addition_steps (Number offset)) stand in
     location_word_goes no_facts pointer one sound room
     (subst (λ (n : ℕ). Rattle.code_meaning.specs.Holding.IsSteady context.activation n) pointer_is steady)

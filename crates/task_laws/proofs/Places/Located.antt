@@ -1,8 +1,8 @@
 -- The code of the address of an object or a part of it puts the address of its place into HL.
-use Rattle.task_laws.proofs.Prelude.{◌≡◌, ℕ, ◌+◌, ◌*◌, ◌%◌, ◌<◌, ◌≤◌, Bool, true, false, not, ◌&&◌, ◌||◌, List, ◌++◌, Option, Some, None, is_some, max, refl, sym, ap, subst, ◌∙◌, arith, IsSomeAnd, slice_get, height_of, height_of_reference, height_of_subscript, PartOf, Subscript, TypedObject, TypedReference, IsSeen, SourcePlace, home_of, Displacement, based_place, displacement, value, SourceState, Outcome, Gave, Stopped, then_do, Registers, word, wrap, Home, Reference, IndexNode, Keeps, IsPart, home_at, home, is_static_location, keeps_of_part, keeps_of_subscript, keeps_of_sum, Does, at_place, Arrives, HasRoom, gives, Facts, Base, base_after, base_of, keeps_of_address, located_at, address_steps, base_added_steps, located_steps, second_steps, product_steps, knowing, Context, IsSound, nodes_in, StepsStand, AddressDoes, AddressIsGiven, PartDoes, false≢true, and_parts}
+use Rattle.task_laws.proofs.Prelude.{◌≡◌, ℕ, ◌+◌, ◌*◌, ◌%◌, ◌<◌, ◌≤◌, Bool, true, false, not, ◌&&◌, ◌||◌, List, ◌++◌, Option, Some, None, is_some, max, refl, sym, ap, subst, ◌∙◌, arith, IsSomeAnd, slice_get, height_of, height_of_reference, height_of_subscript, PartOf, Subscript, TypedObject, TypedReference, IsSeen, SourcePlace, home_of, Displacement, based_place, displacement, value, SourceState, Outcome, Gave, Stopped, then_do, Registers, word, wrap, Home, Reference, IndexNode, Keeps, IsPart, home_at, home, is_static_location, keeps_of_part, keeps_of_subscript, keeps_of_sum, Does, at_place, Arrives, HasRoom, does_without_step, Facts, Base, base_after, base_of, keeps_of_address, located_at, address_steps, base_added_steps, located_steps, second_steps, product_steps, knowing, Context, IsSound, nodes_in, StepsStand, AddressDoes, AddressIsGiven, PartDoes, false≢true, and_parts}
 use Rattle.treecode.specs.declared.place.Home.TheVariants as homes
 use Rattle.steps8080.specs.Queries.{located}
-use Rattle.task_laws.proofs.Machine.Rules.{GoesOn, split as split_steps}
+use Rattle.task_laws.proofs.Machine.Rules.{GoesOn, steps_split as split_steps}
 use Rattle.task_laws.proofs.Places.Products.{ProductsDo, product_then}
 use Rattle.task_laws.proofs.Places.Subscripts.{IsSplit, AllKnown, IsComputed, is_split}
 use Rattle.task_laws.proofs.Places.SecondSubscripts.{second_then}
@@ -157,7 +157,7 @@ located_goes {context = context} {facts = facts} {last = last} {from = from} {to
     (small_after context (base_after (base_after (base_of (home context.site.tree.now object)) (offset % 65536)) one_known) two_known sound)
     (base_with_is context object offset one_known two_known sound referred)
     (all_known shift.bytes offset shift_too.bytes one_known two_known bytes bytes_too) on.known stand on
-    (λ now found beside on_now. gives (record {
+    (λ now found beside on_now. does_without_step (record {
       r = now;
       memory = memory;
       is_at = refl;
@@ -202,7 +202,7 @@ located_goes {context = context} {facts = facts} {last = last} {pushed = pushed}
     (base_with_is context object offset one_known two_known sound referred)
     (first_computed (shift n).bytes offset shift_too.bytes one_known two_known (n * index.stride) (word there.h there.l) (bytes n) bytes_too given.hl)
     parts.second on_there
-    (λ now found beside on_now. gives (record {
+    (λ now found beside on_now. does_without_step (record {
       r = now;
       memory = ended;
       is_at = refl;
@@ -250,7 +250,7 @@ located_goes {context = context} {facts = facts} {last = last} {pushed = pushed}
     (base_with_is context object offset one_known two_known sound referred)
     (second_computed shift.bytes offset (shift_too n).bytes one_known two_known (n * index.stride) (word there.h there.l) bytes (bytes_too n) given.hl)
     parts.second on_there
-    (λ now found beside on_now. gives (record {
+    (λ now found beside on_now. does_without_step (record {
       r = now;
       memory = ended;
       is_at = refl;
@@ -312,7 +312,7 @@ located_goes {context = context} {facts = facts} {last = last} {pushed = pushed}
     (both_computed (shift n).bytes offset (shift_too m).bytes one_known two_known (n * index.stride) (m * index_too.stride)
     (word there.h there.l) (word summed.h summed.l) (bytes n) (bytes_too m) given.hl sum)
     later.second on_summed
-    (λ now found beside on_now. gives (record {
+    (λ now found beside on_now. does_without_step (record {
       r = now;
       memory = left;
       is_at = refl;

@@ -1,7 +1,7 @@
 -- The code that puts the byte at a location into A.
 use Rattle.task_laws.proofs.Prelude.{◌≡◌, ℕ, ◌+◌, ◌<◌, ◌≤◌, ◌⊎◌, inl, inr, ◌==◌, Bool, true, false, if◌then◌else◌, List, [], ◌∷◌, ◌++◌, Option, Some, None, refl, sym, ap, subst, ◌∙◌, arith, cases_lt, eqb-true, MEMORY_SIZE, byte_at, word_at, byte_small, Event, SourceState, Outcome, Instr, A, H, L, Registers, State, high_byte, low_byte, word, wrap, LoadA, Place, Location, is_static_location, Does, at_place, Item, Activation, HasRoom, IsThere, LiesWell, IsSteady, location_at, place_at, after_before, location_after_is, address_asks, address_in_hl_is, byte_in_a_is, byte_in_h_is, word_in_hl_is, Facts, Part, Step, Plain, Word, before, is_at, no_facts, copy, load, distance, note_word_steps, location_address_steps, frame_byte_steps, location_byte_steps, top_word_steps, knowing, Context, IsSound, distances_in, StepsStand, PlainThere, WordThere, HoldsThere, ChangesAOnly, Know}
 use Rattle.treecode.specs.declared.place.Location.TheVariants as locations
-use Rattle.task_laws.proofs.Machine.Rules.{GoesOn, holds_go, ready_with_registers, registers_go, split, word_goes}
+use Rattle.task_laws.proofs.Machine.Rules.{GoesOn, holds_go, ready_with_registers, registers_go, steps_split, word_goes}
 use Rattle.task_laws.proofs.Machine.Addresses.{location_address_goes, nothing_goes}
 use Rattle.task_laws.proofs.Places.LocationWords.{frame_away, high_there, low_there, top_word_goes, word_known, at_none}
 use Rattle.task_laws.proofs.Machine.EffectForms.{only_itself}
@@ -279,7 +279,7 @@ frame_byte_goes {outcome = outcome} {Good = Good} {context = context} {PartIs = 
         copy_goes true address now sound high stand on
         (λ last_one beside on. rest last_one (record { a = beside.a; others = λ never. absurd cc }) on)))
     by_test false false none_is one_is stand =
-        let parts = split (location_address_steps (knowing context.site used) (locations.Frame variable offset) pushed) (Plain (load A) ∷ []) stand in
+        let parts = steps_split (location_address_steps (knowing context.site used) (locations.Frame variable offset) pushed) (Plain (load A) ∷ []) stand in
         location_address_goes used (locations.Frame variable offset) r sound room (omega arith) known parts.first on
         (λ there beside on_there.
         load_a_goes (location_at context.activation (distances_in context) (locations.Frame variable offset)) there sound steady beside.hl parts.second on_there

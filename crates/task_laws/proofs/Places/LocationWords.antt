@@ -1,7 +1,7 @@
 -- The code that puts the word at a location into HL.
 use Rattle.task_laws.proofs.Prelude.{◌≡◌, ℕ, zero, suc, ◌+◌, ◌*◌, ◌<◌, ◌==◌, Bool, true, false, if◌then◌else◌, List, [], ◌∷◌, ◌++◌, Some, slice_set, slice_index, refl, sym, ap, subst, ◌∙◌, arith, eqb-true, MEMORY_SIZE, IsMemory, byte_at, word_at, byte_small, Event, SourceState, Outcome, Mov, Pop, Push, Of, A, L, StackPair, StackBc, StackHl, Registers, State, high_byte, low_byte, one_less, pushed_of, two_less, word, wrap, act, LoadHl, Place, Location, is_static_location, Does, at_place, HasRoom, plain_first, IsSteady, location_at, place_at, without_hl_holds, address_asks, word_in_hl_is, Facts, Part, Step, Word, is_at, no_facts, plain, distance, frame_word_steps, note_word_steps, location_address_steps, location_word_steps, word_at_hl_steps, knowing, Context, IsSound, distances_in, StepsStand, NoneThere, PlainThere, WordThere, HoldsThere, Know, next_word}
 use Rattle.treecode.specs.declared.place.Location.TheVariants as locations
-use Rattle.task_laws.proofs.Machine.Rules.{GoesOn, holds_go, pushed_anywhere, ready_with_registers, registers_go, split, word_goes}
+use Rattle.task_laws.proofs.Machine.Rules.{GoesOn, holds_go, pushed_anywhere, ready_with_registers, registers_go, steps_split, word_goes}
 use Rattle.task_laws.proofs.Machine.Addresses.{frame_address, location_address_goes, nothing_goes, registers_end}
 use Rattle.task_laws.proofs.Numbers.{up_and_down, up_and_one_down}
 
@@ -317,9 +317,9 @@ frame_word_goes {outcome = outcome} {Good = Good} {context = context} {PartIs = 
         }) on))
     by_test false false none_is two_is stand =
         let address : ℕ = location_at context.activation (distances_in context) (locations.Frame variable offset) in
-        let later = split (location_address_steps (knowing context.site used) (locations.Frame variable offset) pushed ++ word_at_hl_steps)
+        let later = steps_split (location_address_steps (knowing context.site used) (locations.Frame variable offset) pushed ++ word_at_hl_steps)
         (note_word_steps (locations.Frame variable offset)) stand in
-        let parts = split (location_address_steps (knowing context.site used) (locations.Frame variable offset) pushed)
+        let parts = steps_split (location_address_steps (knowing context.site used) (locations.Frame variable offset) pushed)
         word_at_hl_steps later.first in
         location_address_goes used (locations.Frame variable offset) r sound room (omega arith) known parts.first on
         (λ there beside on_there.

@@ -1,6 +1,6 @@
 -- The code that adds a second subscript to a first one, which is kept in DE or on the stack meanwhile.
 use Rattle.task_laws.proofs.Prelude.{◌≡◌, ℕ, ◌+◌, ◌-◌, ◌*◌, ◌%◌, ◌<◌, ◌≤◌, Bool, true, false, if◌then◌else◌, List, [], ◌∷◌, ◌++◌, refl, sym, ap, ◌∙◌, arith, Address, height_of, type_of, TypedExpression, TypesHold, value, SourceState, Outcome, then_do, Dad, Pop, Push, Xchg, De, StackDe, StackHl, Registers, State, high_byte, low_byte, pushed_of, word, wrap, pushed_memory, ExpressionNumber, IndexNode, IsExpression, Does, at_place, HasRoom, Facts, Plain, plain, keeps, expression, second_steps, product_steps, knowing, Context, IsSound, nodes_in, StepsStand, PlainThere, Left, PartDoes, word_of_bytes}
-use Rattle.task_laws.proofs.Machine.Rules.{GoesOn, more_pushed, pop_goes, push_goes, pushed_word_small, split}
+use Rattle.task_laws.proofs.Machine.Rules.{GoesOn, more_pushed, pop_goes, push_goes, pushed_word_small, steps_split}
 use Rattle.task_laws.proofs.Machine.RegisterCode.{registers_then}
 use Rattle.task_laws.proofs.Machine.Addresses.{back_together, registers_end}
 use Rattle.task_laws.proofs.Places.Products.{ProductIsGiven, ProductsDo, product_then}
@@ -62,7 +62,7 @@ second_then {more = more} {go = go} {Good = Good} {context = context} {facts = f
         let one : Registers = record r { h = r.d; l = r.e; d = r.h; e = r.l } in
         registers_then (Xchg ∷ []) (product_steps second.index second.stride pushed ++ (Plain (Dad De) ∷ [])) r sound (tt, tt) stand on
         (λ middle found stand on_one.
-        let parts = split (product_steps second.index second.stride pushed) (Plain (Dad De) ∷ []) stand in
+        let parts = steps_split (product_steps second.index second.stride pushed) (Plain (Dad De) ∷ []) stand in
         product_then middle s one memory
         (products found parts.found second.index second.stride pushed middle parts.middle small parts.first)
         is types address less room (high_enough (height_of tree) need high) on_one
@@ -78,7 +78,7 @@ second_then {more = more} {go = go} {Good = Good} {context = context} {facts = f
         let number : ℕ = pushed_of StackHl r in
         let lower : Registers = record r { sp = wrap (top - 2) } in
         let after : List ℕ = pushed_memory top number memory in
-        let parts = split (product_steps second.index second.stride ((pushed + 2) % 65536)) (plain (Pop StackDe ∷ Dad De ∷ [])) stand in
+        let parts = steps_split (product_steps second.index second.stride ((pushed + 2) % 65536)) (plain (Pop StackDe ∷ Dad De ∷ [])) stand in
         let two : 2 ≤ need = omega (arith, high) in
         push_goes StackHl r sound there on two room
         (λ on_lower.

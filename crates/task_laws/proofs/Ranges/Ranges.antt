@@ -92,15 +92,15 @@ right_by_eight x count small most =
     let less : x / 256 / 2 ^ (count - 8) ≤ x / 256 = quotient_less (x / 256) (2 ^ (count - 8)) in
     omega (arith, same, less, small)
 
-pub wide : (operator : BinaryOperator) (operands : ScalarType) → type_of_result operator operands ≡ Address
+pub operands_are_addresses : (operator : BinaryOperator) (operands : ScalarType) → type_of_result operator operands ≡ Address
     → operands ≡ Address
-wide Equal operands same = let bad : Byte ≡ Address = same in cc
-wide Less operands same = let bad : Byte ≡ Address = same in cc
-wide Greater operands same = let bad : Byte ≡ Address = same in cc
-wide LessOrEqual operands same = let bad : Byte ≡ Address = same in cc
-wide GreaterOrEqual operands same = let bad : Byte ≡ Address = same in cc
-wide Unequal operands same = let bad : Byte ≡ Address = same in cc
-wide operator operands same = same
+operands_are_addresses Equal operands same = let bad : Byte ≡ Address = same in cc
+operands_are_addresses Less operands same = let bad : Byte ≡ Address = same in cc
+operands_are_addresses Greater operands same = let bad : Byte ≡ Address = same in cc
+operands_are_addresses LessOrEqual operands same = let bad : Byte ≡ Address = same in cc
+operands_are_addresses GreaterOrEqual operands same = let bad : Byte ≡ Address = same in cc
+operands_are_addresses Unequal operands same = let bad : Byte ≡ Address = same in cc
+operands_are_addresses operator operands same = same
 
 module _ (context : Context) (sound : IsSound context) (facts : Facts) where
   abbrev meant : TypedExpression → State → Outcome ℕ
@@ -240,7 +240,7 @@ module _ (context : Context) (sound : IsSound context) (facts : Facts) where
       (λ n t one. IsGiven (of_type (type_of inner) Byte n (scalar_is is fits) one.0))
   form_below s (IsBinary {operands = operands} {operator = operator} {left = left} {right = right} {first = first} {second = second} one two) address types fits source =
       subst (λ (scalar : ScalarType). Gives (λ n t. n < 256) (meant (BinaryNode scalar operator first second) s))
-      (sym (wide operator operands address)) (two_below operator s one two (types.1).0 (types.2).0 fits)
+      (sym (operands_are_addresses operator operands address)) (two_below operator s one two (types.1).0 (types.2).0 fits)
   form_below s (IsShift {scalar = scalar} {function = function} {value = of} {count = count} {shifted = moved} {by = by} one two) address types fits source =
       subst (λ (of_scalar : ScalarType). Gives (λ n t. n < 256) (meant (ShiftNode of_scalar function moved by) s)) (sym address)
       (shift_below function s one two (types.1).0 ((types.1).1 ∙ address) (types.2).0 fits source)

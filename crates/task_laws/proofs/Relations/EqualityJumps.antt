@@ -1,10 +1,10 @@
 -- Jumps if two ADDRESSes are equal, or if they are not.
-use Rattle.task_laws.proofs.Prelude.{◌≡◌, ℕ, ◌+◌, ◌/◌, ◌%◌, ◌<◌, ◌==◌, Bool, true, false, not, List, [], ◌∷◌, ◌++◌, None, refl, sym, ap, ◌∙◌, subst, arith, if◌then◌else◌, eqb-true, eqb-false, eq-eqb, ne_eqb, byte_at, TypedExpression, SourceState, Outcome, Gave, is_true, Condition, NotZero, subtract_of, Registers, State, holds, AtLabel, Place, place_after, Facts, LabelNumber, Part, Step, Jump, Mark, label_of, jump_item, IsThere, Does, at_place, jump_passed, jump_taken, word_step, gives, IsSteady, place_at, Words, PlaceAndHl, DeAndHl, high_difference_steps, low_difference_steps, Context, IsSound, StepsStand, JumpThere, NoneThere, PlainThere, WordThere, Know, Parts, Goes, Passes, PartDoes}
+use Rattle.task_laws.proofs.Prelude.{◌≡◌, ℕ, ◌+◌, ◌/◌, ◌%◌, ◌<◌, ◌==◌, Bool, true, false, not, List, [], ◌∷◌, ◌++◌, None, refl, sym, ap, ◌∙◌, subst, arith, if◌then◌else◌, eqb-true, eqb-false, eq-eqb, ne_eqb, byte_at, TypedExpression, SourceState, Outcome, Gave, is_true, Condition, NotZero, subtract_of, Registers, State, holds, AtLabel, Place, place_after, Facts, LabelNumber, Part, Step, Jump, Mark, label_of, jump_item, IsThere, Does, at_place, jump_passed, jump_taken, word_step, does_without_step, IsSteady, place_at, Words, PlaceAndHl, DeAndHl, high_difference_steps, low_difference_steps, Context, IsSound, StepsStand, JumpThere, NoneThere, PlainThere, WordThere, Know, Parts, Goes, Passes, PartDoes}
 use Rattle.isa8080.specs.declared.instr.Condition.TheVariants.{Zero}
 use Rattle.asm8080.specs.declared.item.WordForm.TheVariants as forms
 use Rattle.operands8080.specs.declared.branches.Branch.{Branch}
 use Rattle.task_laws.proofs.Branches.Conditions.{marked}
-use Rattle.task_laws.proofs.Machine.Stages.{Stage, at_a, at_load_a, script_of}
+use Rattle.task_laws.proofs.Machine.Stages.{Stage, stage_with_a, at_load_a, script_of}
 use Rattle.task_laws.proofs.Relations.WordFlags.{low_equal}
 
 -- two words that can be compared byte by byte
@@ -46,13 +46,13 @@ module _
   low_taken {r = r} {x = x} {y = y} others small (InMemory {place = place} h l high low two one) (WordThere first (PlainThere there rest_stand)) stage rest =
       let lo = byte_at memory (place_at context.activation.layout place) in
       at_load_a sound first one stage
-      (λ loaded. at_a (subtract_of lo r.l false).value (subtract_of lo r.l false).flags sound loaded there refl (omega arith) tt
+      (λ loaded. stage_with_a (subtract_of lo r.l false).value (subtract_of lo r.l false).flags sound loaded there refl (omega arith) tt
       (λ next. rest _ _ rest_stand (InMemory h l high low two one)
       (low_equal lo r.l loaded.ready.registers.a stage.ready.registers.l
       ∙ same_bytes lo r.l (x % 256) (y % 256) (sym low) l) next))
   low_taken {r = r} {x = x} {y = y} others small (InRegisters h l d e) (PlainThere first (PlainThere there rest_stand)) stage rest =
-      at_a r.e r.flags sound stage first refl stage.ready.registers.e tt
-      (λ copied. at_a (subtract_of r.e r.l false).value (subtract_of r.e r.l false).flags sound copied there refl (omega arith) tt
+      stage_with_a r.e r.flags sound stage first refl stage.ready.registers.e tt
+      (λ copied. stage_with_a (subtract_of r.e r.l false).value (subtract_of r.e r.l false).flags sound copied there refl (omega arith) tt
       (λ next. rest _ _ rest_stand (InRegisters h l d e)
       (low_equal r.e r.l stage.ready.registers.e stage.ready.registers.l
       ∙ same_bytes r.e r.l (x % 256) (y % 256) e l) next))
@@ -71,13 +71,13 @@ module _
   high_taken {r = r} {x = x} {y = y} others (InMemory {place = place} h l high low two one) (WordThere first (PlainThere there rest_stand)) stage rest =
       let hi = byte_at memory (place_at context.activation.layout (place_after place 1)) in
       at_load_a sound first two stage
-      (λ loaded. at_a (subtract_of hi r.h false).value (subtract_of hi r.h false).flags sound loaded there refl (omega arith) tt
+      (λ loaded. stage_with_a (subtract_of hi r.h false).value (subtract_of hi r.h false).flags sound loaded there refl (omega arith) tt
       (λ next. rest _ _ rest_stand
       (low_equal hi r.h loaded.ready.registers.a stage.ready.registers.h
       ∙ same_bytes hi r.h (x / 256) (y / 256) (sym high) h) next))
   high_taken {r = r} {x = x} {y = y} others (InRegisters h l d e) (PlainThere first (PlainThere there rest_stand)) stage rest =
-      at_a r.d r.flags sound stage first refl stage.ready.registers.d tt
-      (λ copied. at_a (subtract_of r.d r.h false).value (subtract_of r.d r.h false).flags sound copied there refl (omega arith) tt
+      stage_with_a r.d r.flags sound stage first refl stage.ready.registers.d tt
+      (λ copied. stage_with_a (subtract_of r.d r.h false).value (subtract_of r.d r.h false).flags sound copied there refl (omega arith) tt
       (λ next. rest _ _ rest_stand
       (low_equal r.d r.h stage.ready.registers.d stage.ready.registers.h
       ∙ same_bytes r.d r.h (x / 256) (y / 256) d h) next))
@@ -114,7 +114,7 @@ goes_there :
     → Does (script_of context) u.budget 0 (at_place from r memory u.events) (Gave found u)
     (Parts context last tree label sense top base to)
 goes_there {context = context} {u = u} {r = r} {memory = memory} from to c label found sound here is there known stage =
-    gives (Goes (at_place (context.activation.layout.place_of label.index) r memory u.events) is
+    does_without_step (Goes (at_place (context.activation.layout.place_of label.index) r memory u.events) is
     (word_step (script_of context) context.activation (forms.JumpWhere c) (AtLabel label.index) [] from (from + 3) r
     memory u.events sound.lies stage.ready.shares.code there
     ∙ ap (λ b. if b then at_place (context.activation.layout.place_of label.index) r memory u.events
@@ -164,7 +164,7 @@ equal_jumps {context = context} {top = top} {pushed = pushed} {need = need} {bas
     after_high place now low (JumpThere there mark) shows next false is =
         let ending = marked mark in
         jump_passed now sound.lies next.ready.shares.code there (shows ∙ is)
-        (gives (Passes (stays (high_decides x y false low is)) (record {
+        (does_without_step (Passes (stays (high_decides x y false low is)) (record {
           r = now;
           memory = memory;
           is_at = ap (λ n. at_place n now memory u.events) ending.1;
@@ -190,7 +190,7 @@ equal_jumps {context = context} {top = top} {pushed = pushed} {need = need} {bas
         (λ place end others flag final. after_high place end is others flag final (x / 256 == y / 256) refl))
     by middle now (JumpThere there rest_stand) ending has_still shows next false is =
         jump_taken now sound.lies next.ready.shares.code there (ap not (shows ∙ is))
-        (gives (Passes (stays (low_differs x y is)) (record {
+        (does_without_step (Passes (stays (low_differs x y is)) (record {
           r = now;
           memory = memory;
           is_at = ap (λ n. at_place n now memory u.events) ending.0;
@@ -254,7 +254,7 @@ equal_jumps {context = context} {top = top} {pushed = pushed} {need = need} {bas
     after_high place now low (JumpThere there ends) shows next true is =
         let ending = ends_known ends in
         jump_passed now sound.lies next.ready.shares.code there (ap not (shows ∙ is))
-        (gives (Passes (stays (high_decides x y true low is)) (record {
+        (does_without_step (Passes (stays (high_decides x y true low is)) (record {
           r = now;
           memory = memory;
           is_at = ap (λ n. at_place n now memory u.events) ending.1;

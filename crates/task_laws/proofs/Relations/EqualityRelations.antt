@@ -6,7 +6,7 @@ use Rattle.task_laws.proofs.Bytes.BytesAsked.{BytesAsked, PairIsGiven, PairLies}
 use Rattle.task_laws.proofs.Relations.ByteComparisons.{asking}
 use Rattle.task_laws.proofs.Relations.EqualityJumps.{HasWords, InMemory, InRegisters}
 use Rattle.task_laws.proofs.Relations.PlaceComparisons.{IsApart, LeftStays, RightStays, is_apart, read_then}
-use Rattle.task_laws.proofs.Machine.Rules.{split}
+use Rattle.task_laws.proofs.Machine.Rules.{steps_split}
 use Rattle.task_laws.proofs.Machine.SiteNodes.{does_exchanged, value_in}
 use Rattle.task_laws.proofs.Machine.Stages.{Stage, at_carried, at_word, does_same, script_of}
 use Rattle.task_laws.proofs.Relations.WordComparisons.{pair_then}
@@ -104,7 +104,7 @@ words_come {C = C} {context = context} {top = top} {pushed = pushed} {need = nee
     by (Some apart) is stand rest =
         apart_comes apart (is_apart (knowing context.site facts) scalars.Address left right Equal apart is) stand rest
     by None is stand rest =
-        let parts = split (pair_steps (knowing context.site facts) left right false pushed) others stand in
+        let parts = steps_split (pair_steps (knowing context.site facts) left right false pushed) others stand in
         does_same _ (pair_then context first second go t)
         (at_carried _ _ _
         (asked.pairs facts parts.found left right false pushed from parts.middle bound first second one types two

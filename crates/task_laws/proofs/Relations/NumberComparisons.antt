@@ -6,7 +6,7 @@ use Rattle.task_laws.proofs.Bytes.BytesAsked.{BytesAsked}
 use Rattle.task_laws.proofs.Bytes.ByteOperations.{IsValueOf, value_of}
 use Rattle.task_laws.proofs.Machine.Rules.{test_goes}
 use Rattle.task_laws.proofs.Machine.SiteNodes.{value_in}
-use Rattle.task_laws.proofs.Machine.Stages.{Stage, at_a, at_byte, at_effects, at_end, script_of}
+use Rattle.task_laws.proofs.Machine.Stages.{Stage, stage_with_a, at_byte, at_effects, at_end, script_of}
 
 -- A counted down becomes 0 if it was 1
 down_shows : (x : ℕ) → x < 256 → ((x + 254 + 1) % 256 == 0) ≡ (x == 1)
@@ -77,7 +77,7 @@ module _
       → Does (script_of context) budget more (at_place to now memory t.events) outcome Good)
       → Does (script_of context) budget more (at_place from r memory t.events) outcome Good
   compared_in_a {r = r} v n is small other_small (PlainThere there ends) stage rest =
-      at_a r.a (subtract_of r.a n false).flags sound stage there refl stage.ready.registers.a tt
+      stage_with_a r.a (subtract_of r.a n false).flags sound stage there refl stage.ready.registers.a tt
       (λ next. at_end ends next
       (λ final. rest _
       (borrow_shows r.a n other_small ∙ ap (λ m. nat_lt m n) is)
@@ -111,17 +111,17 @@ module _
       by Branch is_one one is_last two stand stage rest =
           compared_in_a v n is small other_small stand stage (λ now carry zero final. rest now zero final)
       by Value true one is_last two (PlainThere there ends) stage rest =
-          at_a (decrement_of r.a r.flags).value (decrement_of r.a r.flags).flags sound stage there refl (omega arith) tt
+          stage_with_a (decrement_of r.a r.flags).value (decrement_of r.a r.flags).flags sound stage there refl (omega arith) tt
           (λ next. at_end ends next
           (λ final. rest _
           (down_shows r.a stage.ready.registers.a ∙ ap (λ m. m == 1) is ∙ ap (λ m. v == m) (sym (eqb-true n 1 one))) final))
       by Value false one true two (PlainThere there ends) stage rest =
-          at_a (increment_of r.a r.flags).value (increment_of r.a r.flags).flags sound stage there refl (omega arith) tt
+          stage_with_a (increment_of r.a r.flags).value (increment_of r.a r.flags).flags sound stage there refl (omega arith) tt
           (λ next. at_end ends next
           (λ final. rest _
           (count_shows r.a r.flags stage.ready.registers.a ∙ ap (λ m. m == 255) is ∙ ap (λ m. v == m) (sym (eqb-true n 255 two))) final))
       by Value false one false two (PlainThere there ends) stage rest =
-          at_a (subtract_of r.a n false).value (subtract_of r.a n false).flags sound stage there refl (omega arith) tt
+          stage_with_a (subtract_of r.a n false).value (subtract_of r.a n false).flags sound stage there refl (omega arith) tt
           (λ next. at_end ends next
           (λ final. rest _
           (zero_shows r.a n stage.ready.registers.a other_small ∙ ap (λ m. m == n) is) final))

@@ -4,7 +4,7 @@ use Rattle.task_laws.proofs.Relations.Answers.{AnswerShows, question_truth, same
 use Rattle.task_laws.proofs.Bytes.BytesAsked.{BytesAsked, WordAtPlace}
 use Rattle.task_laws.proofs.Relations.ByteComparisons.{asking}
 use Rattle.task_laws.proofs.Machine.SiteNodes.{does_exchanged, value_in}
-use Rattle.task_laws.proofs.Machine.Stages.{Stage, at_a, at_end, at_load_a, at_registers, at_word, does_same, script_of}
+use Rattle.task_laws.proofs.Machine.Stages.{Stage, stage_with_a, at_end, at_load_a, at_registers, at_word, does_same, script_of}
 use Rattle.task_laws.proofs.Relations.WordComparisons.{GoesOnBoth, zero_for}
 use Rattle.task_laws.proofs.Relations.WordFlags.{word_below, word_equal}
 
@@ -142,9 +142,9 @@ taken_from_place {context = context} {r = r} {memory = memory} place x y LeftBel
     let lo = byte_at memory (place_at context.activation.layout place) in
     let hi = byte_at memory (place_at context.activation.layout (place_after place 1)) in
     at_load_a sound first one stage
-    (λ loaded. at_a (subtract_of lo r.l false).value (subtract_of lo r.l false).flags sound loaded low_taken refl (omega arith) tt
+    (λ loaded. stage_with_a (subtract_of lo r.l false).value (subtract_of lo r.l false).flags sound loaded low_taken refl (omega arith) tt
     (λ lower. at_load_a sound second two lower
-    (λ again. at_a (subtract_of hi r.h (subtract_of lo r.l false).flags.cy).value (subtract_of hi r.h (subtract_of lo r.l false).flags.cy).flags sound again high_taken refl (omega arith) tt
+    (λ again. stage_with_a (subtract_of hi r.h (subtract_of lo r.l false).flags.cy).value (subtract_of hi r.h (subtract_of lo r.l false).flags.cy).flags sound again high_taken refl (omega arith) tt
     (λ next. at_end ends next
     (λ final. rest _
     (λ same. absurd (differ same))
@@ -157,9 +157,9 @@ taken_from_place {context = context} {r = r} {memory = memory} place x y RightBe
     let lo = byte_at memory (place_at context.activation.layout place) in
     let hi = byte_at memory (place_at context.activation.layout (place_after place 1)) in
     at_load_a sound first one stage
-    (λ loaded. at_a (subtract_of lo r.l false).value (subtract_of lo r.l false).flags sound loaded low_taken refl (omega arith) tt
+    (λ loaded. stage_with_a (subtract_of lo r.l false).value (subtract_of lo r.l false).flags sound loaded low_taken refl (omega arith) tt
     (λ lower. at_load_a sound second two lower
-    (λ again. at_a (subtract_of hi r.h (subtract_of lo r.l false).flags.cy).value (subtract_of hi r.h (subtract_of lo r.l false).flags.cy).flags sound again high_taken refl (omega arith) tt
+    (λ again. stage_with_a (subtract_of hi r.h (subtract_of lo r.l false).flags.cy).value (subtract_of hi r.h (subtract_of lo r.l false).flags.cy).flags sound again high_taken refl (omega arith) tt
     (λ next. at_end ends next
     (λ final. rest _
     (λ same. absurd (differ same))
@@ -174,14 +174,14 @@ taken_from_place {context = context} {r = r} {memory = memory} place x y Equal s
     let low_difference = (subtract_of lo r.l false).value in
     let high_difference = (subtract_of hi r.h (subtract_of lo r.l false).flags.cy).value in
     at_load_a sound first one stage
-    (λ loaded. at_a low_difference (subtract_of lo r.l false).flags sound loaded low_taken refl (omega arith) tt
+    (λ loaded. stage_with_a low_difference (subtract_of lo r.l false).flags sound loaded low_taken refl (omega arith) tt
     (λ lower.
     let held = lower.ready.registers in
     at_registers (record r { a = low_difference; b = low_difference; flags = (subtract_of lo r.l false).flags }) sound lower kept refl refl
     (record { a = held.a; b = held.a; c = held.c; d = held.d; e = held.e; h = held.h; l = held.l }) tt
     (λ in_b. at_load_a sound second two in_b
-    (λ again. at_a high_difference (subtract_of hi r.h (subtract_of lo r.l false).flags.cy).flags sound again high_taken refl (omega arith) tt
-    (λ upper. at_a (bit_or high_difference low_difference) (operate Or high_difference low_difference (subtract_of hi r.h (subtract_of lo r.l false).flags.cy).flags).flags
+    (λ again. stage_with_a high_difference (subtract_of hi r.h (subtract_of lo r.l false).flags.cy).flags sound again high_taken refl (omega arith) tt
+    (λ upper. stage_with_a (bit_or high_difference low_difference) (operate Or high_difference low_difference (subtract_of hi r.h (subtract_of lo r.l false).flags.cy).flags).flags
     sound upper ored refl (or_of_8 high_difference low_difference (omega arith) (omega arith)) tt
     (λ next. at_end ends next
     (λ final.

@@ -1,14 +1,14 @@
 -- A relation as a value: 0FFH in A if it holds, else 0.
-use Rattle.task_laws.proofs.Prelude.{◌≡◌, ℕ, ◌+◌, ◌*◌, ◌%◌, ◌<◌, ◌≤◌, ◌==◌, Bool, true, false, not, nat_le, List, ◌++◌, Some, bit_xor, refl, sym, ap, ◌∙◌, arith, false≢true, eqb-true, le-leb, xor_self, height_of, type_of, TypedExpression, TypesHold, SourceState, Outcome, Gave, truth, values_of, ScalarType, Byte, Address, Flags, add_of, operate, subtract_of, ExclusiveOr, Registers, State, ExpressionNumber, IsExpression, Facts, Arrives, Does, at_place, gives, borrow_shows, Relation, relation_of, is_free, Shown, Known, Where, outcome_value_steps, relation_outcome, relation_steps, value_setting, knowing, Context, IsSound, nodes_in, StepsStand, PlainThere, ByteIsGiven, Carries, Nothing, PartDoes, not-not}
+use Rattle.task_laws.proofs.Prelude.{◌≡◌, ℕ, ◌+◌, ◌*◌, ◌%◌, ◌<◌, ◌≤◌, ◌==◌, Bool, true, false, not, nat_le, List, ◌++◌, Some, bit_xor, refl, sym, ap, ◌∙◌, arith, false≢true, eqb-true, le-leb, xor_self, height_of, type_of, TypedExpression, TypesHold, SourceState, Outcome, Gave, truth, values_of, ScalarType, Byte, Address, Flags, add_of, operate, subtract_of, ExclusiveOr, Registers, State, ExpressionNumber, IsExpression, Facts, Arrives, Does, at_place, does_without_step, borrow_shows, Relation, relation_of, is_free, Shown, Known, Where, outcome_value_steps, relation_outcome, relation_steps, value_setting, knowing, Context, IsSound, nodes_in, StepsStand, PlainThere, ByteIsGiven, Carries, Nothing, PartDoes, not-not}
 use Rattle.isa8080.specs.declared.instr.Condition.TheVariants as conditions
 use Rattle.operands8080.specs.declared.answers.Purpose.TheVariants as purposes
 use Rattle.task_laws.proofs.Branches.Branches.{given_itself}
 use Rattle.task_laws.proofs.Bytes.BytesAsked.{BytesAsked}
 use Rattle.task_laws.proofs.Relations.NumberComparisons.{below_one}
 use Rattle.task_laws.proofs.Relations.Relations.{OutcomeShows, relation_is, relation_shown}
-use Rattle.task_laws.proofs.Machine.Rules.{split}
+use Rattle.task_laws.proofs.Machine.Rules.{steps_split}
 use Rattle.task_laws.proofs.Machine.SiteNodes.{value_in}
-use Rattle.task_laws.proofs.Machine.Stages.{Stage, at_a, at_end, does_same, script_of}
+use Rattle.task_laws.proofs.Machine.Stages.{Stage, stage_with_a, at_end, does_same, script_of}
 
 borrow_fills : (a : ℕ) (carry holds : Bool) → a < 256 → carry ≡ holds → (subtract_of a a carry).value ≡ truth holds
 borrow_fills a true true small is = omega (arith, small)
@@ -43,36 +43,36 @@ outcome_in_a :
     → Does (script_of context) budget more (at_place to now memory t.events) outcome Good)
     → Does (script_of context) budget more (at_place from r memory t.events) outcome Good
 outcome_in_a {r = r} (Known true) holds sound shows (PlainThere there ends) stage rest =
-    at_a 255 r.flags sound stage there refl (omega arith) tt
+    stage_with_a 255 r.flags sound stage there refl (omega arith) tt
     (λ next. at_end ends next (λ final. rest _ (ap truth (sym shows)) final))
 outcome_in_a {r = r} (Known false) holds sound shows (PlainThere there ends) stage rest =
     let is = xor_self r.a in
-    at_a (bit_xor r.a r.a) (operate ExclusiveOr r.a r.a r.flags).flags sound stage there refl (omega (arith, is)) tt
+    stage_with_a (bit_xor r.a r.a) (operate ExclusiveOr r.a r.a r.flags).flags sound stage there refl (omega (arith, is)) tt
     (λ next. at_end ends next (λ final. rest _ (is ∙ ap truth (sym shows)) final))
 outcome_in_a {r = r} (Where conditions.Carry) holds sound shows (PlainThere there ends) stage rest =
-    at_a (subtract_of r.a r.a r.flags.cy).value (subtract_of r.a r.a r.flags.cy).flags sound stage there refl (omega arith) tt
+    stage_with_a (subtract_of r.a r.a r.flags.cy).value (subtract_of r.a r.a r.flags.cy).flags sound stage there refl (omega arith) tt
     (λ next. at_end ends next
     (λ final. rest _ (borrow_fills r.a r.flags.cy holds stage.ready.registers.a shows) final))
 outcome_in_a {r = r} (Where conditions.NoCarry) holds sound shows (PlainThere turned (PlainThere there ends)) stage rest =
     let flags : Flags = record r.flags { cy = not r.flags.cy } in
-    at_a r.a flags sound stage turned refl stage.ready.registers.a tt
+    stage_with_a r.a flags sound stage turned refl stage.ready.registers.a tt
     (λ middle.
-    at_a (subtract_of r.a r.a flags.cy).value (subtract_of r.a r.a flags.cy).flags sound middle there refl (omega arith) tt
+    stage_with_a (subtract_of r.a r.a flags.cy).value (subtract_of r.a r.a flags.cy).flags sound middle there refl (omega arith) tt
     (λ next. at_end ends next
     (λ final. rest _ (borrow_fills r.a (not r.flags.cy) holds stage.ready.registers.a (ap not shows ∙ not-not holds)) final)))
 outcome_in_a {r = r} (Where conditions.Zero) holds sound shows (PlainThere turned (PlainThere there ends)) stage rest =
     let one = subtract_of r.a 1 false in
     let carry : one.flags.cy ≡ holds = borrow_shows r.a 1 (omega arith) ∙ sym (below_one r.a) ∙ shows in
-    at_a one.value one.flags sound stage turned refl (omega arith) tt
+    stage_with_a one.value one.flags sound stage turned refl (omega arith) tt
     (λ middle.
-    at_a (subtract_of one.value one.value one.flags.cy).value (subtract_of one.value one.value one.flags.cy).flags sound middle there refl (omega arith) tt
+    stage_with_a (subtract_of one.value one.value one.flags.cy).value (subtract_of one.value one.value one.flags.cy).flags sound middle there refl (omega arith) tt
     (λ next. at_end ends next
     (λ final. rest _ (borrow_fills one.value one.flags.cy holds (omega arith) carry) final)))
 outcome_in_a {r = r} (Where conditions.NotZero) holds sound shows (PlainThere turned (PlainThere there ends)) stage rest =
     let one = add_of r.a 255 false in
-    at_a one.value one.flags sound stage turned refl (omega arith) tt
+    stage_with_a one.value one.flags sound stage turned refl (omega arith) tt
     (λ middle.
-    at_a (subtract_of one.value one.value one.flags.cy).value (subtract_of one.value one.value one.flags.cy).flags sound middle there refl (omega arith) tt
+    stage_with_a (subtract_of one.value one.value one.flags.cy).value (subtract_of one.value one.value one.flags.cy).flags sound middle there refl (omega arith) tt
     (λ next. at_end ends next
     (λ final. rest _ (borrow_fills one.value one.flags.cy holds (omega arith) (sum_carries r.a holds shows)) final)))
 outcome_in_a (Where conditions.ParityOdd) holds sound shows stand stage rest = absurd shows
@@ -106,7 +106,7 @@ pub relation_value :
     → Carries context facts pushed (2 * height_of tree) 0 from to Nothing (value_in context tree)
     (ByteIsGiven context last number (type_of tree))
 relation_value {context = context} {facts = facts} {last = last} {from = from} {to = to} {pushed = pushed} {tree = tree} number relation asked sound node types is bound_free stand top base s r memory below room ready known nothing =
-    let parts = split (relation_steps (knowing context.site facts) relation (value_setting pushed))
+    let parts = steps_split (relation_steps (knowing context.site facts) relation (value_setting pushed))
     (outcome_value_steps (relation_outcome (knowing context.site facts) relation)) stand in
     does_same _ (given_itself (value_in context tree s))
     (relation_shown ℕ context top (2 * height_of tree) base facts parts.found memory parts.middle 0
@@ -117,7 +117,7 @@ relation_value {context = context} {facts = facts} {last = last} {from = from} {
     (λ holds u now memory_now shows next.
     outcome_in_a (relation_outcome (knowing context.site facts) relation) holds sound shows parts.second next
     (λ end a final.
-    gives (record {
+    does_without_step (record {
       r = end;
       memory = memory_now;
       is_at = refl;

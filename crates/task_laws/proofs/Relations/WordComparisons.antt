@@ -3,7 +3,7 @@ use Rattle.task_laws.proofs.Prelude.{◌≡◌, ℕ, ◌+◌, ◌*◌, ◌<◌, 
 use Rattle.task_laws.proofs.Relations.Answers.{AnswerShows, ZeroShows, question_truth, same_turned}
 use Rattle.task_laws.proofs.Bytes.BytesAsked.{BytesAsked, PairIsGiven, PairLies, pair_of_values}
 use Rattle.task_laws.proofs.Relations.ByteComparisons.{asking}
-use Rattle.task_laws.proofs.Machine.Rules.{split}
+use Rattle.task_laws.proofs.Machine.Rules.{steps_split}
 use Rattle.task_laws.proofs.Machine.SiteNodes.{value_in}
 use Rattle.task_laws.proofs.Machine.Stages.{Stage, at_carried, at_end, at_instructions, does_same, script_of}
 use Rattle.task_laws.proofs.Relations.WordFlags.{word_below, word_equal}
@@ -125,7 +125,7 @@ pub pair_compared :
 pair_compared {context = context} {t = t} {facts = facts} {bound = bound} {first = first} {second = second} operands left right question setting go asked sound one types two other_types fewer stand stage rest =
     let site = knowing context.site facts in
     let order = pair_order site left right false in
-    let parts = split (pair_steps site left right false setting.pushed)
+    let parts = steps_split (pair_steps site left right false setting.pushed)
     (taken_steps (word_taken_from question order) (other_word (word_taken_from question order)) question) stand in
     does_same _ (pair_then context first second go t)
     (at_carried _ _ _

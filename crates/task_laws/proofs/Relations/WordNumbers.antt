@@ -6,7 +6,7 @@ use Rattle.task_laws.proofs.Relations.Answers.{AnswerShows, ZeroShows, number_tr
 use Rattle.task_laws.proofs.Bytes.BytesAsked.{BytesAsked, HighIsGiven, ZeroIsShown}
 use Rattle.task_laws.proofs.Bytes.ByteOperations.{IsValueOf, value_of}
 use Rattle.task_laws.proofs.Relations.NumberComparisons.{GoesOnAsked, below_one, byte_asked, number_in_a}
-use Rattle.task_laws.proofs.Machine.Rules.{split}
+use Rattle.task_laws.proofs.Machine.Rules.{steps_split}
 use Rattle.task_laws.proofs.Machine.SiteNodes.{value_in}
 use Rattle.task_laws.proofs.Machine.Stages.{Stage, at_carried, at_effects, at_end, at_instructions, at_word, script_of}
 use Rattle.task_laws.proofs.Relations.WordComparisons.{zero_for}
@@ -249,7 +249,7 @@ module _
           → GoesOn (if is_even then number_in_a_answer (Below (n / 256)) else Carry) (λ v. nat_lt v n)
           → Comes
       by true is stand stage rest =
-          let parts = split (high_byte_steps (knowing context.site facts) operand setting.pushed)
+          let parts = steps_split (high_byte_steps (knowing context.site facts) operand setting.pushed)
           (number_in_a_steps (Below (n / 256)) setting) stand in
           at_carried _ _ _
           (asked.high_bytes facts parts.found operand setting.pushed from parts.middle bound tree node types is_address parts.first)

@@ -5,7 +5,7 @@ use Rattle.steps8080.specs.declared.step.Task.TheVariants as tasks
 use Rattle.task_laws.specs.internal.Tasks.{IsStored}
 use Rattle.task_laws.proofs.Bytes.ByteForms.{byte_given}
 use Rattle.task_laws.proofs.Machine.SiteNodes.{value_in}
-use Rattle.task_laws.proofs.Machine.Stages.{at_a, at_byte, at_carried, at_end, at_word}
+use Rattle.task_laws.proofs.Machine.Stages.{stage_with_a, at_byte, at_carried, at_end, at_word}
 
 fewer_steps :
     {script : List (List ℕ)} {budget left : ℕ} {from : State} {Good : State → Type 0}
@@ -79,7 +79,7 @@ module _
       (λ found late memory_late (kept : IsStored context _ (type_of inside) true v now memory_now found late memory_late). kept.known) next
       (λ found t late memory_late stored_is kept final_stage.
       let hl : (late.h ≡ v / 256) × (late.l ≡ v % 256) = subst (λ scalar. InRegister scalar v late) is_address (kept.wanted refl) in
-      at_a late.l late.flags sound final_stage there refl final_stage.ready.registers.l tt
+      stage_with_a late.l late.flags sound final_stage there refl final_stage.ready.registers.l tt
       (λ moved. at_end ends moved
       (λ final.
       byte_given to number v hl.1 (subst (λ scalar. v < values_of scalar) (sym same_type) given.small)

@@ -4,7 +4,7 @@ use Rattle.task_laws.proofs.Places.LocationWords.{push_back, word_small}
 use Rattle.task_laws.proofs.Places.Reading.{FitsIn}
 use Rattle.task_laws.proofs.Machine.Rules.{GoesOn, pushed_anywhere, ready_with_registers}
 use Rattle.task_laws.proofs.Stores.StoreRules.{WordLiesAt, word_lies_at}
-use Rattle.task_laws.proofs.Stores.Stores.{gains}
+use Rattle.task_laws.proofs.Stores.Stores.{does_gaining}
 use Rattle.task_laws.proofs.Stores.WordWriting.{word_written}
 use Rattle.task_laws.proofs.Numbers.{up_and_down, up_and_one_down}
 
@@ -114,7 +114,7 @@ near_stored {A = A} {Good = Good} {context = context} {facts = facts} {last = la
     (word_lies_at context.activation ended (address_on_machine context.activation place) number is.size steady steady_too) in
     let ready_left : IsReady context.activation top base u.memory u.frame r left
     = subst (λ (memory : List ℕ). IsReady context.activation top base u.memory u.frame r memory) same ready in
-    gains (plain_step script context.activation (Pop StackBc) [] from (from + 1) r ended t.events sound.lies shares.code there)
+    does_gaining (plain_step script context.activation (Pop StackBc) [] from (from + 1) r ended t.events sound.lies shares.code there)
     (plain_first after_pop sound.lies shares.code again
     (subst (λ (s : State). Does script t.budget 0 s (go tt u) Good)
     (sym (push_there script StackHl (from + 1 + 1) r.sp number after_pop ended t.events refl low
@@ -166,7 +166,7 @@ near_stored {A = A} {Good = Good} {context = context} {facts = facts} {last = la
     let ready_left : IsReady context.activation top base u.memory u.frame r left
     = subst (λ (memory : List ℕ). IsReady context.activation top base u.memory u.frame r memory) same ready in
     let shares_left = ready_left.shares in
-    gains (plain_step script context.activation (Pop StackBc) [] from (from + 1) r ended t.events sound.lies shares.code there)
+    does_gaining (plain_step script context.activation (Pop StackBc) [] from (from + 1) r ended t.events sound.lies shares.code there)
     (plain_first one sound.lies shares.code next
     (plain_first two sound.lies shares.code again
     (subst (λ (s : State). Does script t.budget 0 s (go tt u) Good)

@@ -1,5 +1,5 @@
 -- The code that sends the low byte of a value to a port.
-use Rattle.task_laws.proofs.Prelude.{◌≡◌, ℕ, ◌+◌, ◌%◌, ◌<◌, Bool, List, [], ◌∷◌, ◌++◌, refl, sym, ap, subst, ◌∙◌, write_event, ScalarType, Byte, Address, SourceState, values_of, Out, Registers, Sent, IsSent, Does, at_place, Arrives, gives, Facts, Plain, send_steps, Context, InRegister, IsSound, StepsStand, PlainThere, PartDoes, StoreDoes, byte_is_low}
+use Rattle.task_laws.proofs.Prelude.{◌≡◌, ℕ, ◌+◌, ◌%◌, ◌<◌, Bool, List, [], ◌∷◌, ◌++◌, refl, sym, ap, subst, ◌∙◌, write_event, ScalarType, Byte, Address, SourceState, values_of, Out, Registers, Sent, IsSent, Does, at_place, Arrives, does_without_step, Facts, Plain, send_steps, Context, InRegister, IsSound, StepsStand, PlainThere, PartDoes, StoreDoes, byte_is_low}
 use Rattle.task_laws.specs.internal.Tasks.{IsStored}
 use Rattle.task_laws.proofs.Machine.Rules.{GoesOn, registers_go}
 use Rattle.task_laws.proofs.Machine.Addresses.{nothing_goes}
@@ -22,7 +22,7 @@ out_goes {context = context} {top = top} {from = from} {to = to} {base = base} H
     (ap (λ (n : ℕ). at_place (from + 2) r memory (s.events ++ write_event port n ∷ [])) a)
     (λ known.
     nothing_goes r stand (record { ready = on.ready; known = known })
-    (λ on_last. gives (record { r = r; memory = memory; is_at = refl; ready = on_last.ready; holds = holds on_last })))
+    (λ on_last. does_without_step (record { r = r; memory = memory; is_at = refl; ready = on_last.ready; holds = holds on_last })))
 
 pub send_law :
     {context : Context} {facts last : Facts} {pushed from to port : ℕ} {scalar : ScalarType} (is_wanted : Bool)

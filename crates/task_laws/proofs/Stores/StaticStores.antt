@@ -2,7 +2,7 @@
 use Rattle.task_laws.proofs.Prelude.{◌≡◌, ℕ, ◌+◌, ◌<◌, List, [], ◌∷◌, slice_set, refl, sym, ap, subst, ◌∙◌, Event, SourcePlace, write_byte, SourceState, Outcome, then_do, Registers, State, wrap, act, WordForm, StoreA, instruction_with, Place, Does, at_place, IsReady, IsThere, word_step, IsSteadyByte, WordAsks, place_at, facts_after_word, Facts, Word, after_word, word_item, Context, IsSound, distances_in, StepsStand, WordThere, Know, PartDoes, address_on_machine}
 use Rattle.task_laws.proofs.Machine.Rules.{GoesOn, bytes_at_place}
 use Rattle.task_laws.proofs.Machine.Addresses.{nothing_goes}
-use Rattle.task_laws.proofs.Stores.Stores.{gains}
+use Rattle.task_laws.proofs.Stores.Stores.{does_gaining}
 use Rattle.task_laws.proofs.Stores.Writing.{byte_written}
 
 -- an instruction with the word of a place that makes a step to spare
@@ -29,7 +29,7 @@ word_gains {A = A} {budget = budget} {outcome = outcome} {Good = Good} {context 
     (facts_after_word script context.activation (distances_in context) facts form place
     (at_place (from + 3) r memory events)
     shares.is_memory (bytes_at_place (wrap (from + 3)) r on.ready.registers) asks on.known) in
-    gains
+    does_gaining
     (word_step script context.activation form _ [] from (from + 3) r memory events sound.lies shares.code there ∙ does)
     (rest known)
 

@@ -1,5 +1,5 @@
 -- The code of stores, for each target.
-use Rattle.task_laws.proofs.Prelude.{◌≡◌, ℕ, ◌+◌, ◌*◌, ◌/◌, ◌%◌, ◌<◌, ◌==◌, Bool, true, false, ◌&&◌, not, if◌then◌else◌, List, [], ◌∷◌, ◌++◌, Option, Some, None, slice_set, refl, sym, ap, subst, ◌∙◌, arith, eqb-true, append_assoc, MEMORY_SIZE, ScalarType, Byte, Address, height_of_reference, TypedReference, RefersToScalar, TypesHoldInReference, SourcePlace, write_byte, write_scalar, SourceState, Outcome, Gave, then_do, as_type, values_of, Inx, MovToMemory, Mvi, M, Hl, Registers, State, word, wrap, StoreA, StoreHl, Location, Place, Reference, Target, Sent, Stored, IsReference, IsStoredIn, Does, at_place, Arrives, HasRoom, gives, location_at, address_asks, Facts, Step, Holds, MemoryChanged, Plain, Word, after, no_facts, copy, set, extension_steps, keeps_of_address, location_of, distance, Goal, Near, First, Second, address_beside_de_steps, byte_is_here_steps, exchange_near, goal_of, goal_steps, store_a_at_steps, store_a_steps, store_extended_steps, store_hl_at_steps, store_low_byte_at_steps, store_low_byte_steps, store_near_steps, store_steps, store_word_steps, value_back_steps, word_is_here_steps, word_near, knowing, Context, InRegister, IsSound, distances_in, nodes_in, HoldsThere, PlainThere, StepsStand, Carries, PartDoes, StoreDoes, address_on_machine, given_again}
+use Rattle.task_laws.proofs.Prelude.{◌≡◌, ℕ, ◌+◌, ◌*◌, ◌/◌, ◌%◌, ◌<◌, ◌==◌, Bool, true, false, ◌&&◌, not, if◌then◌else◌, List, [], ◌∷◌, ◌++◌, Option, Some, None, slice_set, refl, sym, ap, subst, ◌∙◌, arith, eqb-true, append_assoc, MEMORY_SIZE, ScalarType, Byte, Address, height_of_reference, TypedReference, RefersToScalar, TypesHoldInReference, SourcePlace, write_byte, write_scalar, SourceState, Outcome, Gave, then_do, as_type, values_of, Inx, MovToMemory, Mvi, M, Hl, Registers, State, word, wrap, StoreA, StoreHl, Location, Place, Reference, Target, Sent, Stored, IsReference, IsStoredIn, Does, at_place, Arrives, HasRoom, does_without_step, location_at, address_asks, Facts, Step, Holds, MemoryChanged, Plain, Word, after, no_facts, copy, set, extension_steps, keeps_of_address, location_of, distance, Goal, Near, First, Second, address_beside_de_steps, byte_is_here_steps, exchange_near, goal_of, goal_steps, store_a_at_steps, store_a_steps, store_extended_steps, store_hl_at_steps, store_low_byte_at_steps, store_low_byte_steps, store_near_steps, store_steps, store_word_steps, value_back_steps, word_is_here_steps, word_near, knowing, Context, InRegister, IsSound, distances_in, nodes_in, HoldsThere, PlainThere, StepsStand, Carries, PartDoes, StoreDoes, address_on_machine, given_again}
 use Rattle.isa8080.specs.declared.instr.Register.TheVariants as registers
 use Rattle.treecode.specs.declared.place.Location.TheVariants as locations
 use Rattle.operands8080.specs.internal.Stores.{high_byte_steps}
@@ -114,7 +114,7 @@ module _
       → Does context.activation.around.program.script u.budget 0 (at_place to now left u.events) (Gave tt u)
       (Arrives context.activation top base to (IsStored context last of is_wanted number r memory))
   stored_ends of r memory u now left wanted on =
-      gives (record {
+      does_without_step (record {
         r = now;
         memory = left;
         is_at = refl;

@@ -21,19 +21,19 @@ lands_gaining script budget left from to Good same lands =
     }
 
 -- a step that makes one to spare
-pub gains :
+pub does_gaining :
     {A : Type 0} {script : List (List ℕ)} {budget : ℕ} {from to : State} {outcome : Outcome A}
     {Good : A → SourceState → State → Type 0}
     → step_of script from ≡ to
     → Does script budget 0 to outcome Good
     → Does script budget 1 from outcome Good
-gains {script = script} {budget = budget} {from = from} {to = to} {outcome = Gave found t} {Good = Good} same does =
+does_gaining {script = script} {budget = budget} {from = from} {to = to} {outcome = Gave found t} {Good = Good} same does =
     record { told = lands_gaining script budget t.budget from to (Good found t) same does.told }
-gains {script = script} {budget = budget} {from = from} {to = to} {outcome = Stopped Ended t} same does =
+does_gaining {script = script} {budget = budget} {from = from} {to = to} {outcome = Stopped Ended t} same does =
     after_step same (record { told = does.told })
-gains {script = script} {budget = budget} {from = from} {to = to} {outcome = Stopped More t} same does =
+does_gaining {script = script} {budget = budget} {from = from} {to = to} {outcome = Stopped More t} same does =
     after_step same (record { told = does.told })
-gains {outcome = Stopped (Outside reason) t} same does = record { told = tt }
+does_gaining {outcome = Stopped (Outside reason) t} same does = record { told = tt }
 
 -- an instruction that makes a step to spare
 pub plain_gains :
@@ -59,7 +59,7 @@ plain_gains {budget = budget} {outcome = outcome} {Good = Good} {context = conte
     = subst (λ (s : State). Know context (after facts i) s.registers s.memory) does
     (facts_after script context.activation (distances_in context) facts i (at_place place r memory events)
     shares.is_memory (bytes_at_place (wrap place) r on.ready.registers) asks on.known) in
-    gains (plain_step script context.activation i [] from place r memory events sound.lies shares.code there ∙ does) (rest known)
+    does_gaining (plain_step script context.activation i [] from place r memory events sound.lies shares.code there ∙ does) (rest known)
 
 -- the facts about the registers do not change which registers the code of an address keeps
 pub address_keeps_anywhere : (context : Context) (used : Facts) (reference : Reference)

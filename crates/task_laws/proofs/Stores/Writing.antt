@@ -17,10 +17,10 @@ set_there (first ∷ xs) zero (suc other) x d differ = refl
 set_there (first ∷ xs) (suc i) zero x d differ = refl
 set_there (first ∷ xs) (suc i) (suc other) x d differ = set_there xs i other x d (λ same. differ (ap suc same))
 
-pub past : (frame : List (List ℕ)) (object : ℕ) → length frame ≤ object → frame_bytes frame object ≡ []
-past [] object less = refl
-past (first ∷ frame) zero less = absurd (omega (arith, less))
-past (first ∷ frame) (suc object) less = past frame object (omega (arith, less))
+pub no_bytes_past_frame : (frame : List (List ℕ)) (object : ℕ) → length frame ≤ object → frame_bytes frame object ≡ []
+no_bytes_past_frame [] object less = refl
+no_bytes_past_frame (first ∷ frame) zero less = absurd (omega (arith, less))
+no_bytes_past_frame (first ∷ frame) (suc object) less = no_bytes_past_frame frame object (omega (arith, less))
 
 -- an object with bytes is in the frame
 pub sized_in_frame :
@@ -34,7 +34,7 @@ sized_in_frame activation frame object offset within size =
     by_cases : (object < length frame) ⊎ (length frame ≤ object) → object < length frame
     by_cases (inl less) = less
     by_cases (inr more) =
-        let none : length (frame_bytes frame object) ≡ 0 = ap (λ (xs : List ℕ). length xs) (past frame object more) in
+        let none : length (frame_bytes frame object) ≡ 0 = ap (λ (xs : List ℕ). length xs) (no_bytes_past_frame frame object more) in
         absurd (omega (arith, size, none, within))
 
 in_frame :

@@ -6,7 +6,7 @@ use Rattle.task_laws.proofs.Bytes.BytesAsked.{BytesAsked}
 use Rattle.task_laws.proofs.Places.Fitting.{gave_first}
 use Rattle.task_laws.proofs.Words.LogicPairs.{LogicGiven}
 use Rattle.task_laws.proofs.Ranges.Ranges.{bytes_fit_after, fits_means, ready_fits}
-use Rattle.task_laws.proofs.Machine.Rules.{GoesOn, Parted, split}
+use Rattle.task_laws.proofs.Machine.Rules.{GoesOn, Parted, steps_split}
 use Rattle.task_laws.proofs.Machine.SiteNodes.{value_in}
 use Rattle.task_laws.proofs.Machine.Stages.{at_carried, script_of}
 use Rattle.task_laws.proofs.Bytes.TwoBytes.{two_bytes}
@@ -102,7 +102,7 @@ of_bytes_does {context = context} {pushed = pushed} {top = top} {need = need} {t
     parts : Parted context (PartDoes context) facts from
         (in_form_steps (form_of (knowing context.site facts) And operands) And operands pushed) extension_steps last to
     parts =
-        split (in_form_steps (form_of (knowing context.site facts) And operands) And operands pushed) extension_steps
+        steps_split (in_form_steps (form_of (knowing context.site facts) And operands) And operands pushed) extension_steps
         (by_number (number_of (knowing context.site facts) operands.right) (number_of (knowing context.site facts) operands.left)
         refl refl right_none left_none stand)
 

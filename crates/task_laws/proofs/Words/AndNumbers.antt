@@ -6,7 +6,7 @@ use Rattle.task_laws.proofs.Words.LogicNumbers.{and_full, bits_high, bits_low, h
 use Rattle.task_laws.proofs.Words.PairedWords.{kept_none}
 use Rattle.task_laws.proofs.Words.Pairs.{IsOperand}
 use Rattle.task_laws.proofs.Machine.RegisterCode.{effect}
-use Rattle.task_laws.proofs.Machine.Rules.{GoesOn, split}
+use Rattle.task_laws.proofs.Machine.Rules.{GoesOn, steps_split}
 use Rattle.task_laws.proofs.Machine.SiteNodes.{value_in}
 use Rattle.task_laws.proofs.Machine.Stages.{Stage, at_byte, at_carried, at_effects, at_end, at_instructions, script_of}
 use Rattle.task_laws.proofs.Machine.Values.{HasWord, word_given}
@@ -129,7 +129,7 @@ module _
         (Arrives context.activation top base to (WordIsGiven context last number Address r memory))
     unfolding high_half_steps
     high_half_does n from s r memory highs address fits even less room height stand going =
-        let parts = split (high_byte_steps (knowing context.site facts) other pushed)
+        let parts = steps_split (high_byte_steps (knowing context.site facts) other pushed)
         ((if high n == 255 then [] else Plain (AccumulateImmediate And (high n)) ∷ []) ++ plain (copy H A ∷ set L 0 ∷ []))
         (subst (λ (steps : List Step). StepsStand context (PartDoes context) facts from steps last to)
         (append_assoc (high_byte_steps (knowing context.site facts) other pushed)

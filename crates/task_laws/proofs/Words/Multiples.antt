@@ -1,5 +1,5 @@
 -- HL times a number, by sums.
-use Rattle.task_laws.proofs.Prelude.{◌≡◌, ℕ, zero, suc, ◌+◌, ◌*◌, ◌/◌, ◌%◌, ◌^◌, ◌<◌, ◌≤◌, ◌==◌, Bool, true, false, ◌||◌, if◌then◌else◌, List, [], ◌∷◌, ◌++◌, replicate, Option, Some, None, refl, sym, ap, ◌∙◌, subst, arith, eqb-true, eqb-false, eq-eqb, false≢true, true≢false, lt-ltb, div-div-eq-div-mul, pow-suc, Event, value, SourceState, Outcome, Gave, Stopped, then_do, Instr, Dad, Bc, Hl, B, C, H, L, Registers, State, high_byte, low_byte, word, wrap, LoadPair, ExpressionNumber, Number, Does, at_place, Arrives, gives, Facts, Part, Step, Plain, Word, copy, set, part_of, plain, repeat_steps, power_from, power_of_two, bit_steps, chain_from, chain_steps, has_bit, multiple_steps, product_steps, small_multiple_steps, Context, IsSound, StepsStand, PartThere, WordThere, PartDoes, same_Some, suc_moved, word_from_halves}
+use Rattle.task_laws.proofs.Prelude.{◌≡◌, ℕ, zero, suc, ◌+◌, ◌*◌, ◌/◌, ◌%◌, ◌^◌, ◌<◌, ◌≤◌, ◌==◌, Bool, true, false, ◌||◌, if◌then◌else◌, List, [], ◌∷◌, ◌++◌, replicate, Option, Some, None, refl, sym, ap, ◌∙◌, subst, arith, eqb-true, eqb-false, eq-eqb, false≢true, true≢false, lt-ltb, div-div-eq-div-mul, pow-suc, Event, value, SourceState, Outcome, Gave, Stopped, then_do, Instr, Dad, Bc, Hl, B, C, H, L, Registers, State, high_byte, low_byte, word, wrap, LoadPair, ExpressionNumber, Number, Does, at_place, Arrives, does_without_step, Facts, Part, Step, Plain, Word, copy, set, part_of, plain, repeat_steps, power_from, power_of_two, bit_steps, chain_from, chain_steps, has_bit, multiple_steps, product_steps, small_multiple_steps, Context, IsSound, StepsStand, PartThere, WordThere, PartDoes, same_Some, suc_moved, word_from_halves}
 use Rattle.steps8080.specs.declared.step.Task.TheVariants as tasks
 use Rattle.task_laws.proofs.Machine.Addresses.{nothing_goes, registers_end}
 use Rattle.task_laws.proofs.Machine.Rules.{GoesOn, ready_with_registers, word_goes}
@@ -445,7 +445,7 @@ products_do context sound facts last index stride pushed from to fits stand boun
         multiple_goes stride x now sound (λ zero_now. absurd (true≢false (sym (eq-eqb stride 0 zero_now) ∙ test))) fits
         (word_below x now.h now.l given.h going_on.ready.registers.h) (record { h = given.h; l = given.l }) rest going_on
         (λ after beside going_last.
-        gives (record {
+        does_without_step (record {
           r = after;
           memory = ended;
           is_at = refl;
@@ -473,7 +473,7 @@ products_do context sound facts last index stride pushed from to fits stand boun
           known = known_now;
         })
         (λ going_last.
-        gives (record {
+        does_without_step (record {
           r = cleared;
           memory = ended;
           is_at = refl;

@@ -14,7 +14,7 @@ use Rattle.task_laws.proofs.Words.PairedWords.{kept_none}
 use Rattle.task_laws.proofs.Words.Pairs.{IsOperand}
 use Rattle.task_laws.proofs.Ranges.Ranges.{fits_means, ready_fits, value_fits}
 use Rattle.task_laws.proofs.Machine.RegisterCode.{AreOnRegisters, effect, registers_then}
-use Rattle.task_laws.proofs.Machine.Rules.{GoesOn, split}
+use Rattle.task_laws.proofs.Machine.Rules.{GoesOn, steps_split}
 use Rattle.task_laws.proofs.Machine.SiteNodes.{value_in}
 use Rattle.task_laws.proofs.Machine.Stages.{Stage, at_byte, at_carried, at_effects, at_instructions, script_of}
 use Rattle.task_laws.proofs.Machine.Values.{HasWord, word_given, word_then}
@@ -202,7 +202,7 @@ module _
       (then_do (value_in context tree s) (λ x t. Gave (x / 2 ^ count) t))
       (Arrives context.activation top base to (WordIsGiven context last number Address r memory))
   high_shift_does highs most few stand =
-      let parts = split (high_byte_steps (knowing context.site facts) other pushed) (right_shift_steps (count - 8) ++ extension_steps)
+      let parts = steps_split (high_byte_steps (knowing context.site facts) other pushed) (right_shift_steps (count - 8) ++ extension_steps)
       (subst (λ (steps : List Step). StepsStand context (PartDoes context) facts from steps last to)
       (append_assoc (high_byte_steps (knowing context.site facts) other pushed) (right_shift_steps (count - 8)) extension_steps) stand) in
       at_carried from parts.middle parts.found

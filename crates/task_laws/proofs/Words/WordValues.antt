@@ -1,5 +1,5 @@
 -- Values in HL that are not computed: words in memory, locations, assignments within expressions, and calls.
-use Rattle.task_laws.proofs.Prelude.{◌≡◌, ℕ, ◌+◌, ◌*◌, ◌/◌, ◌%◌, ◌<◌, ◌&&◌, Bool, true, List, [], ◌∷◌, Option, Some, None, is_some, refl, sym, ap, ◌∙◌, subst, arith, IsSomeAnd, slice_get, MEMORY_SIZE, ScalarType, height_of_reference, type_of, type_of_target, IsPartOf, TypedHome, InData, InConstants, Placed, BasedOn, Elsewhere, Nowhere, InFrame, TypedExpression, TypedArguments, TypedObject, TypedReference, TypedTarget, AssignmentNode, CallNode, LocationNode, PartOf, SentTo, StoredIn, ValueNode, HasLocation, IsSeen, RefersToLocation, TypesHold, TypesHoldInTarget, InMemory, home_of, place_of, read_scalar, address_in_memory, based_place, displacement, located, stored, SourceState, Outcome, Gave, then_do, values_of, Registers, State, word, ExpressionNumber, Range, Static, Reference, Target, AreArguments, IsExpression, IsReference, IsTarget, IsStored, IsSent, source, keeps_none, keeps_of_form, place_of_reference, Does, Activation, Arrives, gives, Facts, part_of, keeps, keeps_of_address, word_in_memory_steps, embedded_steps, call_steps, value_task, knowing, Context, InRegister, IsSound, nodes_in, StepsStand, PartThere, IsReferred, IsStoredThere, PartDoes, ResultIsGiven, WordIsGiven, address_on_machine, same_given}
+use Rattle.task_laws.proofs.Prelude.{◌≡◌, ℕ, ◌+◌, ◌*◌, ◌/◌, ◌%◌, ◌<◌, ◌&&◌, Bool, true, List, [], ◌∷◌, Option, Some, None, is_some, refl, sym, ap, ◌∙◌, subst, arith, IsSomeAnd, slice_get, MEMORY_SIZE, ScalarType, height_of_reference, type_of, type_of_target, IsPartOf, TypedHome, InData, InConstants, Placed, BasedOn, Elsewhere, Nowhere, InFrame, TypedExpression, TypedArguments, TypedObject, TypedReference, TypedTarget, AssignmentNode, CallNode, LocationNode, PartOf, SentTo, StoredIn, ValueNode, HasLocation, IsSeen, RefersToLocation, TypesHold, TypesHoldInTarget, InMemory, home_of, place_of, read_scalar, address_in_memory, based_place, displacement, located, stored, SourceState, Outcome, Gave, then_do, values_of, Registers, State, word, ExpressionNumber, Range, Static, Reference, Target, AreArguments, IsExpression, IsReference, IsTarget, IsStored, IsSent, source, keeps_none, keeps_of_form, place_of_reference, Does, Activation, Arrives, does_without_step, Facts, part_of, keeps, keeps_of_address, word_in_memory_steps, embedded_steps, call_steps, value_task, knowing, Context, InRegister, IsSound, nodes_in, StepsStand, PartThere, IsReferred, IsStoredThere, PartDoes, ResultIsGiven, WordIsGiven, address_on_machine, same_given}
 use Rattle.trees.specs.declared.declaration.ScalarType.TheVariants as scalars
 use Rattle.meaning.specs.Access.{Place}
 use Rattle.treecode.specs.declared.expression.ExpressionForm.TheVariants as forms
@@ -29,7 +29,7 @@ pub ends_with :
 ends_with outcome does turn =
     gives_then outcome does
     (λ found t end arrives spent.
-    gives (record {
+    does_without_step (record {
       r = arrives.r;
       memory = arrives.memory;
       is_at = arrives.is_at;
@@ -234,7 +234,7 @@ call_carried {context = context} {facts = facts} {last = last} {number = number}
     (λ found t end arrives spent.
     let given : ResultIsGiven context last (Some scalars.Address) r memory found arrives.r arrives.memory = arrives.holds in
     let kept = kept_none context number r arrives.r none in
-    gives (record {
+    does_without_step (record {
       r = arrives.r;
       memory = arrives.memory;
       is_at = arrives.is_at;

@@ -9,7 +9,7 @@ use Rattle.task_laws.proofs.Machine.Addresses.{location_address_goes}
 use Rattle.task_laws.proofs.Loads.BytesInMemory.{memory_same}
 use Rattle.task_laws.proofs.Machine.Nodes.{NodeOf, node_of}
 use Rattle.task_laws.proofs.Machine.KnownOperands.{bytes_differ, known_small, number_known, word_fits}
-use Rattle.task_laws.proofs.Ranges.Ranges.{wide}
+use Rattle.task_laws.proofs.Ranges.Ranges.{operands_are_addresses}
 use Rattle.task_laws.proofs.Machine.Values.{word_ends, word_given, word_then}
 use Rattle.task_laws.proofs.Words.Pairs.{IsOperand}
 use Rattle.task_laws.proofs.Words.WordArithmetic.{has_word}
@@ -440,7 +440,7 @@ module _ (context : Context) (sound : IsSound context) (asked : BytesAsked conte
       })
       (IsBinary one two) types address kept stand
   form_carried (IsBinary {operands = Byte} {operator = operator} one two) types address unknown kept stand =
-      bytes_differ (wide operator Byte address)
+      bytes_differ (operands_are_addresses operator Byte address)
   form_carried {number = number} (IsFunction {function = Double} {operand = inner} {tree = tree} is) types address unknown kept stand =
       λ top need base s r memory less room height going.
       double_carried number is types (inside_keeps number inner (forms.Function Double inner) is kept (double_form inner tree is)) stand top need base s r memory less room height going

@@ -6,7 +6,7 @@ use Rattle.names.specs.{Environment.{into_block, into_list, out_of_block, out_of
 use Rattle.typed_trees.specs.TypedTrees.{TypedElse, TypedObject}
 use Rattle.typing.specs.{Modules.{entered, inner_block}, Procedures.{own_block}, References.{Known}, internal.Expressions.{arguments}, internal.ProcedureChecks.{check_body}, internal.StatementChecks.{without_label}, internal.Typing.{declaration, else_part, kind}}
 use Rattle.typing.proofs.DeclarationsBack.{declare_elements-walk, open_procedure-opens}
-use Rattle.typing.proofs.Parameters.{Opening.{opens}, ParametersOfTexts.{assignment_same, call_same, goto_same, iteration_same, return_same, value_same}}
+use Rattle.typing.proofs.Parameters.{Opening.{opens_procedure}, ParametersOfTexts.{assignment_same, call_same, goto_same, iteration_same, return_same, value_same}}
 use Rattle.typing.proofs.Tables.{at_the_start-fits, into_block-fits, into_list-fits, out_of_block-fits, out_of_list-fits}
 use Rattle.types.proofs.Declares.Entries.{Adds, adds_from_here, adds_here, adds_none, adds_then, closed_holds, elements_add, procedure_adds}
 
@@ -130,7 +130,7 @@ mutual
   declaration_walks block (ProcedureTree heading declared body end_name) progress holds =
       let own : Block = own_block heading progress in
       in_turn
-      (both (open_procedure-opens block heading declared progress holds) (opens block heading declared progress))
+      (both (open_procedure-opens block heading declared progress holds) (opens_procedure block heading declared progress))
       λ opened heads.
       in_turn (declarations_walk own declared opened heads.0.holds) λ within one.
       in_turn (objects_are within.known.here heading.parameters) λ places named.

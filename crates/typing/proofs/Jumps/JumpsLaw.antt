@@ -1,7 +1,7 @@
 -- In a typed module each GOTO goes to a label of a list around it, labels stand where their places say, and no two
 -- labels have the same number.
 use Rattle.typing.proofs.Prelude.{◌≡◌, ℕ, ◌+◌, List, [], ◌∷◌, length, drop, Ok, refl, ap, subst, IfOk, All-nil, Identifier, StatementTree, LabelledStatement, StatementKindTree, NullStatement, AssignmentStatement, CallStatement, ReturnStatement, HaltStatement, GotoStatement, IfStatement, DoStatement, WhileStatement, IterateStatement, CaseStatement, ElseTree, NoElse, ElseStatement, StatementTrees, NoStatements, MoreStatements, DeclarationTree, DeclareTree, ProcedureTree, DeclarationTrees, NoDeclarations, MoreDeclarations, ModuleTree, Body, Names, numbered_from, into_list, body_after_block, with_procedure, labels_of, TypedStatements, TypedList, TypedModule, LabelsOf, JumpsStayInElse, JumpsStayInStatements, JumpsStayInList, LabelsStand, ListsStandInElse, ListsStandInStatements, ListsStandInCases, ListStands, BodyIsSound, JumpsAreSound, Checked, arguments, Block, Progress, with_here, value, iteration, labels_before, declare_labels, without_label, places_from, list_of, open_procedure, own_block, parameter_objects, check_body, close_procedure, inner_block, entered, left, kind, labelled, alone, else_part, cases, statements, declaration, declarations, module_block, at_the_beginning, typing_of}
-use Rattle.typing.proofs.Steps.{then, then_any}
+use Rattle.typing.proofs.Steps.{then_checks, then_any}
 use Rattle.typing.proofs.Jumps.KnownLabels.{AreAround, none_around, around_entered}
 use Rattle.typing.proofs.Jumps.LabelPlaces.{labels_stand, list_count, jumps_after_labels, lists_after_labels, labels_differ}
 use Rattle.typing.proofs.PartsWithoutStatements.{AreSound, IsAt, IsDone, value_is, assignment_is, call_is, return_is, goto_is, iteration_is}
@@ -34,7 +34,7 @@ list_is {around = around} {lists = lists} trees typed_from progress are at each 
     let first : ℕ = progress.known.here.labels in
     let table : Names = numbered_from first (labels_of trees) [] in
     let inside : Progress = with_here (into_list (labels_of trees) progress.known.here) progress in
-    then _ _ (typed_from first inside) _
+    then_checks _ _ (typed_from first inside) _
     (each _ _ first inside
     (around_entered first (length (places_from 0 trees)) (labels_of trees) around lists (list_count 0 trees) are)
     (record {
@@ -87,9 +87,9 @@ mutual
   kind_is block (HaltStatement place) progress are at = (record { jumps = tt; stands = tt; is_no_label = tt }, at)
   kind_is block (GotoStatement place label) progress are at = goto_is label progress are at
   kind_is block (IfStatement place condition body otherwise) progress are at =
-      then _ _ (value condition progress) _ (value_is condition progress at) (λ tested at_body.
-      then _ _ (alone block body tested.1) _ (alone_is block body tested.1 are at_body) (λ chosen one.
-      then _ _ (else_part block otherwise chosen.1) _ (else_part_is block otherwise chosen.1 are one.1) (λ other two. (
+      then_checks _ _ (value condition progress) _ (value_is condition progress at) (λ tested at_body.
+      then_checks _ _ (alone block body tested.1) _ (alone_is block body tested.1 are at_body) (λ chosen one.
+      then_checks _ _ (else_part block otherwise chosen.1) _ (else_part_is block otherwise chosen.1 are one.1) (λ other two. (
         record {
           jumps = (one.0.jumps, two.0);
           stands = (one.0.is_no_label, one.0.stands, two.1);
@@ -98,32 +98,32 @@ mutual
         two.2,
       ))))
   kind_is block (DoStatement place declared body) progress are at =
-      then _ _ (declarations (inner_block block) declared (entered progress)) _
+      then_checks _ _ (declarations (inner_block block) declared (entered progress)) _
       (declarations_is (inner_block block) declared (entered progress)
       (record {
         here = record { lists_are = at.here.lists_are; outer_are = at.here.outer_are };
         procedures = at.procedures;
       })) (λ opened at_body.
-      then _ _ (list_of body (λ label. statements (inner_block block) body label) opened) _
+      then_checks _ _ (list_of body (λ label. statements (inner_block block) body label) opened) _
       (list_is body (λ label. statements (inner_block block) body label) opened are at_body
       (λ inside tables label start known at_start. statements_is (inner_block block) body label start known at_start))
       (λ typed done.
       (record { jumps = done.jumps; stands = done.stands; is_no_label = tt }, left_is typed.1 done.after)))
   kind_is block (WhileStatement place condition body) progress are at =
-      then _ _ (value condition progress) _ (value_is condition progress at) (λ tested at_body.
-      then _ _ (list_of body (λ label. statements block body label) tested.1) _
+      then_checks _ _ (value condition progress) _ (value_is condition progress at) (λ tested at_body.
+      then_checks _ _ (list_of body (λ label. statements block body label) tested.1) _
       (list_is body (λ label. statements block body label) tested.1 are at_body
       (λ inside tables label start known at_start. statements_is block body label start known at_start))
       (λ typed done. (record { jumps = done.jumps; stands = done.stands; is_no_label = tt }, done.after)))
   kind_is block (IterateStatement place head body) progress are at =
-      then _ _ (iteration head progress) _ (iteration_is head progress at) (λ counted at_body.
-      then _ _ (list_of body (λ label. statements block body label) counted.1) _
+      then_checks _ _ (iteration head progress) _ (iteration_is head progress at) (λ counted at_body.
+      then_checks _ _ (list_of body (λ label. statements block body label) counted.1) _
       (list_is body (λ label. statements block body label) counted.1 are at_body
       (λ inside tables label start known at_start. statements_is block body label start known at_start))
       (λ typed done. (record { jumps = done.jumps; stands = done.stands; is_no_label = tt }, done.after)))
   kind_is block (CaseStatement place choice body) progress are at =
-      then _ _ (value choice progress) _ (value_is choice progress at) (λ chosen at_body.
-      then _ _ (cases block body chosen.1) _ (cases_is block body chosen.1 are at_body) (λ typed done.
+      then_checks _ _ (value choice progress) _ (value_is choice progress at) (λ chosen at_body.
+      then_checks _ _ (cases block body chosen.1) _ (cases_is block body chosen.1 are at_body) (λ typed done.
       (record { jumps = done.0; stands = done.1; is_no_label = tt }, done.2)))
 
   labelled_is : {around : List LabelsOf} {lists : List Names} {outer : List Body} (block : Block)
@@ -146,7 +146,7 @@ mutual
       (λ typed. JumpsStayInElse around typed.0 × ListsStandInElse typed.0 × IsAt lists outer typed.1.known)
   else_part_is block NoElse progress are at = (tt, tt, at)
   else_part_is block (ElseStatement body) progress are at =
-      then _ _ (alone block body progress) _ (alone_is block body progress are at) (λ typed done.
+      then_checks _ _ (alone block body progress) _ (alone_is block body progress are at) (λ typed done.
       (done.0.jumps, (done.0.is_no_label, done.0.stands), done.1))
 
   cases_is : {around : List LabelsOf} {lists : List Names} {outer : List Body} (block : Block)
@@ -156,8 +156,8 @@ mutual
       (λ typed. JumpsStayInStatements around typed.0 × ListsStandInCases typed.0 × IsAt lists outer typed.1.known)
   cases_is block NoStatements progress are at = (tt, tt, at)
   cases_is block (MoreStatements first others) progress are at =
-      then _ _ (alone block first progress) _ (alone_is block first progress are at) (λ typed one.
-      then _ _ (cases block others typed.1) _ (cases_is block others typed.1 are one.1) (λ rest more.
+      then_checks _ _ (alone block first progress) _ (alone_is block first progress are at) (λ typed one.
+      then_checks _ _ (cases block others typed.1) _ (cases_is block others typed.1 are one.1) (λ rest more.
       ((one.0.jumps, more.0), (one.0.is_no_label, one.0.stands, more.1), more.2)))
 
   statements_is : {around : List LabelsOf} {lists : List Names} {outer : List Body} (block : Block)
@@ -168,12 +168,12 @@ mutual
       record { jumps = tt; stand = tt; labels = λ place. refl; after = at }
   statements_is {around = around} block (MoreStatements first others) label progress are at =
       let names : List Identifier = labels_before first in
-      then _ _ (declare_labels names progress.known.here) _ (declare_labels_is names progress.known.here at.here)
+      then_checks _ _ (declare_labels names progress.known.here) _ (declare_labels_is names progress.known.here at.here)
       (λ here is.
-      then _ _ (labelled block first (with_here here progress)) _
+      then_checks _ _ (labelled block first (with_here here progress)) _
       (labelled_is block first (with_here here progress) are (record { here = is; procedures = at.procedures }))
       (λ typed one.
-      then _ _ (statements block others (label + length names) typed.1) _
+      then_checks _ _ (statements block others (label + length names) typed.1) _
       (statements_is block others (label + length names) typed.1 are one.1) (λ rest more.
       record {
         jumps = jumps_after_labels around label names _ (one.0.jumps, more.jumps);
@@ -192,12 +192,12 @@ mutual
   declaration_is {lists = lists} {outer = outer} block (ProcedureTree heading declared body end_name) progress at =
       let own : Block = own_block heading progress in
       let around : Body = (with_procedure heading.name.name progress.known.here).body in
-      then _ _ (open_procedure block heading declared progress) _ (open_procedure_is block heading declared progress at)
+      then_checks _ _ (open_procedure block heading declared progress) _ (open_procedure_is block heading declared progress at)
       (λ opened at_opened.
-      then _ _ (declarations own declared opened) _ (declarations_is own declared opened at_opened) (λ within at_body.
+      then_checks _ _ (declarations own declared opened) _ (declarations_is own declared opened at_opened) (λ within at_body.
       then_any _ (parameter_objects within.known.here heading.parameters) _ (λ parameters.
       then_any _ (check_body heading body) _ (λ may_stand.
-      then _ _ (list_of body (λ label. statements own body label) within) _
+      then_checks _ _ (list_of body (λ label. statements own body label) within) _
       (list_is body (λ label. statements own body label) within (none_around []) at_body
       (λ inside tables label start known at_start. statements_is own body label start known at_start))
       (λ typed done.
@@ -213,17 +213,17 @@ mutual
       → IfOk (declarations block trees progress) (λ after. IsAt lists outer after.known)
   declarations_is block NoDeclarations progress at = at
   declarations_is block (MoreDeclarations first others) progress at =
-      then _ _ (declaration block first progress) _ (declaration_is block first progress at) (λ after at_rest.
+      then_checks _ _ (declaration block first progress) _ (declaration_is block first progress at) (λ after at_rest.
       declarations_is block others after at_rest)
 
 typing_is : (tree : ModuleTree)
     → IfOk (typing_of tree) (λ typed. AreSound typed.procedures × BodyIsSound typed.main.body)
 unfolding typing_of
 typing_is tree =
-    then _ _ (declarations module_block tree.declarations at_the_beginning) _
+    then_checks _ _ (declarations module_block tree.declarations at_the_beginning) _
     (declarations_is module_block tree.declarations at_the_beginning
     (record { here = record { lists_are = refl; outer_are = refl }; procedures = All-nil _ })) (λ declared at_body.
-    then _ _ (list_of tree.statements (λ label. statements module_block tree.statements label) declared) _
+    then_checks _ _ (list_of tree.statements (λ label. statements module_block tree.statements label) declared) _
     (list_is tree.statements (λ label. statements module_block tree.statements label) declared (none_around []) at_body
     (λ inside tables label start known at_start. statements_is module_block tree.statements label start known at_start))
     (λ typed done.

@@ -1,7 +1,7 @@
 -- The labels of a list stand where its places say, and no two labels of a module have the same number.
 use Rattle.typing.proofs.Prelude.{◌≡◌, ◌≢◌, ℕ, zero, suc, ◌+◌, ◌-◌, ◌≤◌, min, List, [], ◌∷◌, ◌++◌, length, take, drop, flat_map, slice_set, Option, None, Some, Ok, Err, refl, ap, sym, subst, ◌∙◌, append-nil, arith, length-append, IfOk, AllPairs, is_none, nat_le, not, ◌||◌, ◌==◌, AllByRecursion, flat_map-append, All-from_recursion, AllPairs-cons, ScalarType, Identifier, Place, ExpressionTree, ReferenceTree, IterationTree, StatementTree, LabelledStatement, StatementKindTree, NullStatement, AssignmentStatement, CallStatement, ReturnStatement, HaltStatement, GotoStatement, IfStatement, DoStatement, WhileStatement, IterateStatement, CaseStatement, ElseTree, NoElse, ElseStatement, StatementTrees, NoStatements, MoreStatements, ItemTree, ElementTree, LiterallyElement, ItemElement, HeadingTree, DeclarationTree, DeclareTree, ProcedureTree, DeclarationTrees, NoDeclarations, MoreDeclarations, ModuleTree, Binding, Declared, BuiltInName, Move, Procedure, Label, jump_of, Here, Body, into_list, into_body, after_body, with_object, with_procedure, with_parameter, with_label, is_declared_again, is_parameter_again, is_label_again, labels_of, declared_by, OBJECT_LIMIT, FRAME_LIMIT, PARAMETER_LIMIT, TypedArguments, NoTyped, TypedStatement, LabelStatement, TypedStatements, TypedList, TypedProcedure, TypedModule, Constants, LabelsOf, JumpsStayInStatements, LabelsStand, IsNoLabel, ListsStandInStatements, labels_in, labels_in_else, labels_in_statements, labels_in_list, labels_in_procedure, labels_in_module, DeclaredTwice, ArgumentCount, CallOfTyped, NestedProcedure, ExternalContents, TooLarge, Checked, require, Known, Given, place_of, count_of_given, bound, procedure_of, call_arguments, expression, arguments, Owner, TheModule, OfProcedure, Block, Progress, is_external, is_reentrant, declares_parameter, TypedItem, declare_names, place_of_item, object_named, with_typed_object, with_objects, typed_item, size_of_item, declare_item, declare_definition, declare_element, declare_elements, with_here, with_constants, value, destinations, assignment, moved, call_bound, call, return_with, return_from, goto_bound, goto, counter_bound, step, iteration, declare_labels, without_label, places_of, places_from, after_labels, list_of, declare_parameters, no_more_parameters, check_visibility, check_reentrant, parameter_types, procedure_with, empty_list, open_procedure, own_block, parameter_objects, check_body, close_procedure, inner_block, entered, kind, labelled, alone, else_part, cases, statements, declaration, declarations, module_block, at_the_beginning, typing_of}
 use Rattle.typed_trees.specs.TypedTrees.{MoreArguments, MoreStatements as MoreTyped}
-use Rattle.typing.proofs.Steps.{then, then_any}
+use Rattle.typing.proofs.Steps.{then_checks, then_any}
 
 stand_after : (label place : ℕ) (places : List ℕ) (statement : TypedStatement) (others : TypedStatements)
     → IsNoLabel statement → LabelsStand label (place + 1) places others
@@ -164,7 +164,7 @@ module _ (n : ℕ) where
       → IfOk (assignment targets source progress) (AddsStatement progress)
   assignment_adds targets source progress =
       then_any _ (destinations progress.known targets progress.constants) _ (λ places.
-      then _ _ (value source (with_constants places.1 progress)) _ (value_adds source (with_constants places.1 progress))
+      then_checks _ _ (value source (with_constants places.1 progress)) _ (value_adds source (with_constants places.1 progress))
       (λ typed adds. adds))
 
   moved_has_none : (place : Place) (values : TypedArguments) → IfOk (moved place values) (λ typed. labels_in typed ≡ [])
@@ -180,14 +180,14 @@ module _ (n : ℕ) where
   call_bound_has_none known (BuiltInName Move) name given constants =
       then_any _ (require (count_of_given given == 3) ArgumentCount (place_of name)) _ (λ are_three.
       then_any _ (given.typed constants) _ (λ typed.
-      then _ _ (moved (place_of name) typed.0) _ (moved_has_none (place_of name) typed.0) (λ moving none. none)))
+      then_checks _ _ (moved (place_of name) typed.0) _ (moved_has_none (place_of name) typed.0) (λ moving none. none)))
   call_bound_has_none known binding name given constants = tt
 
   call_adds : (name : Identifier) (given : Given) (progress : Progress)
       → IfOk (call name given progress) (AddsStatement progress)
   call_adds name given progress =
       then_any _ (bound progress.known name) _ (λ binding.
-      then _ _ (call_bound progress.known binding name given progress.constants) _
+      then_checks _ _ (call_bound progress.known binding name given progress.constants) _
       (call_bound_has_none progress.known binding name given progress.constants)
       (λ typed none. without (labels_in typed.0) progress.known none))
 
@@ -195,7 +195,7 @@ module _ (n : ℕ) where
       → IfOk (return_with place result tree progress) (AddsStatement progress)
   return_with_adds place None None progress = stays progress.known
   return_with_adds place (Some scalar) (Some tree) progress =
-      then _ _ (value tree progress) _ (value_adds tree progress) (λ typed adds. adds)
+      then_checks _ _ (value tree progress) _ (value_adds tree progress) (λ typed adds. adds)
   return_with_adds place result tree progress = tt
 
   return_adds : (place : Place) (owner : Owner) (tree : Option ExpressionTree) (progress : Progress)
@@ -209,23 +209,23 @@ module _ (n : ℕ) where
 
   goto_adds : (label : Identifier) (progress : Progress) → IfOk (goto label progress) (AddsStatement progress)
   goto_adds label progress =
-      then _ _ (goto_bound (place_of label) (jump_of progress.known.here label.name)) _
+      then_checks _ _ (goto_bound (place_of label) (jump_of progress.known.here label.name)) _
       (goto_has_none (place_of label) (jump_of progress.known.here label.name))
       (λ typed none. without (labels_in typed) progress.known none)
 
   step_adds : (tree : Option ExpressionTree) (progress : Progress)
       → IfOk (step tree progress) (λ typed. AddsNone progress typed.1)
   step_adds None progress = stays progress.known
-  step_adds (Some tree) progress = then _ _ (value tree progress) _ (value_adds tree progress) (λ typed adds. adds)
+  step_adds (Some tree) progress = then_checks _ _ (value tree progress) _ (value_adds tree progress) (λ typed adds. adds)
 
   iteration_adds : (tree : IterationTree) (progress : Progress)
       → IfOk (iteration tree progress) (λ typed. AddsNone progress typed.1)
   iteration_adds tree progress =
       then_any _ (bound progress.known tree.variable) _ (λ binding.
       then_any _ (counter_bound progress.known binding tree.variable) _ (λ counter.
-      then _ _ (value tree.first progress) _ (value_adds tree.first progress) (λ first one.
-      then _ _ (value tree.last first.1) _ (value_adds tree.last first.1) (λ last two.
-      then _ _ (step tree.step last.1) _ (step_adds tree.step last.1) (λ by three.
+      then_checks _ _ (value tree.first progress) _ (value_adds tree.first progress) (λ first one.
+      then_checks _ _ (value tree.last first.1) _ (value_adds tree.last first.1) (λ last two.
+      then_checks _ _ (step tree.step last.1) _ (step_adds tree.step last.1) (λ by three.
       omega (arith, one, two, three))))))
 
   -- names and labels that are declared leave the counter of labels as it was
@@ -264,11 +264,11 @@ module _ (n : ℕ) where
   declare_item_adds : (block : Block) (item : ItemTree) (progress : Progress)
       → IfOk (declare_item block item progress) (AddsNone progress)
   declare_item_adds block item progress =
-      then _ _ (declare_names block (declared_by item.subject) progress.known.here) _
+      then_checks _ _ (declare_names block (declared_by item.subject) progress.known.here) _
       (declare_names_keeps block (declared_by item.subject) progress.known.here) (λ here labels.
       then_any _ (typed_item progress.known block item) _ (λ typed.
       then_any _ (require (nat_le (size_of_item typed) OBJECT_LIMIT) TooLarge (place_of_item item)) _ (λ fits.
-      then _ _ (with_objects block typed (declared_by item.subject) progress) _
+      then_checks _ _ (with_objects block typed (declared_by item.subject) progress) _
       (with_objects_keeps block typed (declared_by item.subject) progress) (λ declared procedures.
       same_adds progress.known (record declared.known { here = here }) procedures labels))))
 
@@ -289,7 +289,7 @@ module _ (n : ℕ) where
       → IfOk (declare_elements block elements progress) (AddsNone progress)
   declare_elements_add block [] progress = stays progress.known
   declare_elements_add block (element ∷ others) progress =
-      then _ _ (declare_element block element progress) _ (declare_element_adds block element progress) (λ between one.
+      then_checks _ _ (declare_element block element progress) _ (declare_element_adds block element progress) (λ between one.
       goes_on progress between (declare_elements block others between) one (declare_elements_add block others between))
 
   -- into a procedure, whose body is still to come, and out of it
@@ -309,7 +309,7 @@ module _ (n : ℕ) where
       (place_of heading.name)) _ (λ is_new.
       then_any _ (require (not (is_reentrant block.owner || is_external block.owner)) NestedProcedure
       (place_of heading.name)) _ (λ may_stand.
-      then _ _ (declare_parameters (take PARAMETER_LIMIT heading.parameters) (into_body named)) _
+      then_checks _ _ (declare_parameters (take PARAMETER_LIMIT heading.parameters) (into_body named)) _
       (declare_parameters_keeps (take PARAMETER_LIMIT heading.parameters) (into_body named)) (λ here labels.
       then_any _ (no_more_parameters (drop PARAMETER_LIMIT heading.parameters)) _ (λ are_all.
       then_any _ (check_visibility block heading.linkage) _ (λ is_visible.
@@ -377,7 +377,7 @@ module _ (n : ℕ) where
   list_adds trees typed_from progress each =
       let first : ℕ = progress.known.here.labels in
       let inside : Progress = with_here (into_list (labels_of trees) progress.known.here) progress in
-      then _ _ (typed_from first inside) _ (each first inside) (λ typed adds. omega (arith, adds))
+      then_checks _ _ (typed_from first inside) _ (each first inside) (λ typed adds. omega (arith, adds))
 
   mutual
     kind_adds : (block : Block) (tree : StatementKindTree) (progress : Progress)
@@ -390,33 +390,33 @@ module _ (n : ℕ) where
     kind_adds block (HaltStatement place) progress = stays progress.known
     kind_adds block (GotoStatement place label) progress = goto_adds label progress
     kind_adds block (IfStatement place condition body otherwise) progress =
-        then _ _ (value condition progress) _ (value_adds condition progress) (λ tested first.
-        then _ _ (alone block body tested.1) _ (alone_adds block body tested.1) (λ chosen one.
-        then _ _ (else_part block otherwise chosen.1) _ (else_part_adds block otherwise chosen.1) (λ other two.
+        then_checks _ _ (value condition progress) _ (value_adds condition progress) (λ tested first.
+        then_checks _ _ (alone block body tested.1) _ (alone_adds block body tested.1) (λ chosen one.
+        then_checks _ _ (else_part block otherwise chosen.1) _ (else_part_adds block otherwise chosen.1) (λ other two.
         then_adds progress.known tested.1.known other.1.known (labels_in chosen.0 ++ labels_in_else other.0) first
         (both_add tested.1.known chosen.1.known other.1.known (labels_in chosen.0) (labels_in_else other.0) one two))))
     kind_adds block (DoStatement place declared body) progress =
-        then _ _ (declarations (inner_block block) declared (entered progress)) _
+        then_checks _ _ (declarations (inner_block block) declared (entered progress)) _
         (declarations_add (inner_block block) declared (entered progress)) (λ opened first.
-        then _ _ (list_of body (λ label. statements (inner_block block) body label) opened) _
+        then_checks _ _ (list_of body (λ label. statements (inner_block block) body label) opened) _
         (list_adds body (λ label. statements (inner_block block) body label) opened
         (λ label start. statements_add (inner_block block) body label start)) (λ typed one.
         then_adds progress.known opened.known typed.1.known (labels_in_list typed.0) first one))
     kind_adds block (WhileStatement place condition body) progress =
-        then _ _ (value condition progress) _ (value_adds condition progress) (λ tested first.
-        then _ _ (list_of body (λ label. statements block body label) tested.1) _
+        then_checks _ _ (value condition progress) _ (value_adds condition progress) (λ tested first.
+        then_checks _ _ (list_of body (λ label. statements block body label) tested.1) _
         (list_adds body (λ label. statements block body label) tested.1
         (λ label start. statements_add block body label start)) (λ typed one.
         then_adds progress.known tested.1.known typed.1.known (labels_in_list typed.0) first one))
     kind_adds block (IterateStatement place head body) progress =
-        then _ _ (iteration head progress) _ (iteration_adds head progress) (λ counted first.
-        then _ _ (list_of body (λ label. statements block body label) counted.1) _
+        then_checks _ _ (iteration head progress) _ (iteration_adds head progress) (λ counted first.
+        then_checks _ _ (list_of body (λ label. statements block body label) counted.1) _
         (list_adds body (λ label. statements block body label) counted.1
         (λ label start. statements_add block body label start)) (λ typed one.
         then_adds progress.known counted.1.known typed.1.known (labels_in_list typed.0) first one))
     kind_adds block (CaseStatement place choice body) progress =
-        then _ _ (value choice progress) _ (value_adds choice progress) (λ chosen first.
-        then _ _ (cases block body chosen.1) _ (cases_add block body chosen.1) (λ typed one.
+        then_checks _ _ (value choice progress) _ (value_adds choice progress) (λ chosen first.
+        then_checks _ _ (cases block body chosen.1) _ (cases_add block body chosen.1) (λ typed one.
         then_adds progress.known chosen.1.known typed.1.known (labels_in_statements typed.0) first one))
 
     labelled_adds : (block : Block) (tree : StatementTree) (progress : Progress)
@@ -433,15 +433,15 @@ module _ (n : ℕ) where
         (λ typed. Adds progress.known (labels_in_else typed.0) typed.1.known)
     else_part_adds block NoElse progress = stays progress.known
     else_part_adds block (ElseStatement body) progress =
-        then _ _ (alone block body progress) _ (alone_adds block body progress) (λ typed adds. adds)
+        then_checks _ _ (alone block body progress) _ (alone_adds block body progress) (λ typed adds. adds)
 
     cases_add : (block : Block) (trees : StatementTrees) (progress : Progress)
         → IfOk (cases block trees progress)
         (λ typed. Adds progress.known (labels_in_statements typed.0) typed.1.known)
     cases_add block NoStatements progress = stays progress.known
     cases_add block (MoreStatements first others) progress =
-        then _ _ (alone block first progress) _ (alone_adds block first progress) (λ typed one.
-        then _ _ (cases block others typed.1) _ (cases_add block others typed.1) (λ rest more.
+        then_checks _ _ (alone block first progress) _ (alone_adds block first progress) (λ typed one.
+        then_checks _ _ (cases block others typed.1) _ (cases_add block others typed.1) (λ rest more.
         both_add progress.known typed.1.known rest.1.known (labels_in typed.0) (labels_in_statements rest.0) one more))
 
     statements_add : (block : Block) (trees : StatementTrees) (label : ℕ) (progress : Progress)
@@ -453,11 +453,11 @@ module _ (n : ℕ) where
         let next : ℕ = label + length names in
         let same : below (label + length (names ++ labels_of others)) n ≡ below (next + length (labels_of others)) n =
         ap (λ (limit : ℕ). below limit n) (omega (arith, length-append names (labels_of others))) in
-        then _ _ (declare_labels names progress.known.here) _ (declare_labels_keeps names progress.known.here)
+        then_checks _ _ (declare_labels names progress.known.here) _ (declare_labels_keeps names progress.known.here)
         (λ here keeps.
-        then _ _ (labelled block (LabelledStatement names done) (with_here here progress)) _
+        then_checks _ _ (labelled block (LabelledStatement names done) (with_here here progress)) _
         (labelled_adds block (LabelledStatement names done) (with_here here progress)) (λ typed one.
-        then _ _ (statements block others next typed.1) _ (statements_add block others next typed.1) (λ rest more.
+        then_checks _ _ (statements block others next typed.1) _ (statements_add block others next typed.1) (λ rest more.
         let kept : below here.labels n ≡ below progress.known.here.labels n =
         ap (λ (limit : ℕ). below limit n) keeps in
         omega (
@@ -475,12 +475,12 @@ module _ (n : ℕ) where
     declaration_adds block (DeclareTree elements) progress = declare_elements_add block elements progress
     declaration_adds block (ProcedureTree heading declared body end_name) progress =
         let own : Block = own_block heading progress in
-        then _ _ (open_procedure block heading declared progress) _ (open_procedure_adds block heading declared progress)
+        then_checks _ _ (open_procedure block heading declared progress) _ (open_procedure_adds block heading declared progress)
         (λ opened first.
-        then _ _ (declarations own declared opened) _ (declarations_add own declared opened) (λ within second.
+        then_checks _ _ (declarations own declared opened) _ (declarations_add own declared opened) (λ within second.
         then_any _ (parameter_objects within.known.here heading.parameters) _ (λ parameters.
         then_any _ (check_body heading body) _ (λ may_stand.
-        then _ _ (list_of body (λ label. statements own body label) within) _
+        then_checks _ _ (list_of body (λ label. statements own body label) within) _
         (list_adds body (λ label. statements own body label) within
         (λ label start. statements_add own body label start)) (λ typed third.
         close_procedure_adds progress.known heading declared (length progress.known.procedures) parameters typed.0 typed.1
@@ -490,15 +490,15 @@ module _ (n : ℕ) where
         → IfOk (declarations block trees progress) (AddsNone progress)
     declarations_add block NoDeclarations progress = stays progress.known
     declarations_add block (MoreDeclarations first others) progress =
-        then _ _ (declaration block first progress) _ (declaration_adds block first progress) (λ between one.
+        then_checks _ _ (declaration block first progress) _ (declaration_adds block first progress) (λ between one.
         goes_on progress between (declarations block others between) one (declarations_add block others between))
 
   at_most_once : (tree : ModuleTree) → IfOk (typing_of tree) (λ typed. times n (labels_in_module typed) ≤ 1)
   unfolding typing_of
   at_most_once tree =
-      then _ _ (declarations module_block tree.declarations at_the_beginning) _
+      then_checks _ _ (declarations module_block tree.declarations at_the_beginning) _
       (declarations_add module_block tree.declarations at_the_beginning) (λ declared first.
-      then _ _ (list_of tree.statements (λ label. statements module_block tree.statements label) declared) _
+      then_checks _ _ (list_of tree.statements (λ label. statements module_block tree.statements label) declared) _
       (list_adds tree.statements (λ label. statements module_block tree.statements label) declared
       (λ label start. statements_add module_block tree.statements label start)) (λ typed second.
       omega (

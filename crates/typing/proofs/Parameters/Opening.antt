@@ -91,9 +91,9 @@ pub record Opened (heading : HeadingTree) (declared : DeclarationTrees) (before 
   pub few : length heading.parameters ≤ PARAMETER_LIMIT
   pub new : not (is_declared_again before.known.here heading.name.name) ≡ true
 
-pub opens : (block : Block) (heading : HeadingTree) (declared : DeclarationTrees) (progress : Progress)
+pub opens_procedure : (block : Block) (heading : HeadingTree) (declared : DeclarationTrees) (progress : Progress)
     → Gives (Opened heading declared progress) (open_procedure block heading declared progress)
-opens block heading declared progress =
+opens_procedure block heading declared progress =
     in_turn (required (not (is_declared_again progress.known.here heading.name.name)) DeclaredTwice
     (place_of heading.name)) λ _ once.
     gives_after (require (not (is_reentrant block.owner || is_external block.owner)) _ _) λ plain.

@@ -6,7 +6,7 @@ use Rattle.typing.proofs.Parameters.Closing.{closed_goes, nothing, own_begins, o
 use Rattle.typing.proofs.Parameters.Elements.{GoesOn, both_more, declare_elements-go, goes_then, may_below, owned_as}
 use Rattle.typing.proofs.Parameters.Grown.{Grown, NoMore, Numbered, Standing, grown_between, grown_more, grown_same, grown_then, standing_after}
 use Rattle.typing.proofs.Parameters.ParameterItems.{Owned, owned_by}
-use Rattle.typing.proofs.Parameters.Opening.{opens}
+use Rattle.typing.proofs.Parameters.Opening.{opens_procedure}
 use Rattle.typing.proofs.Parameters.OwnBlock.{Scan}
 use Rattle.typing.proofs.Parameters.Parameters.{objects_are}
 use Rattle.typing.proofs.Options.{nothing_more}
@@ -218,7 +218,7 @@ mutual
       declare_elements-go block elements progress scan stands owned
   declaration_grows block (ProcedureTree heading declared body end_name) progress scan stands owned =
       let own : Block = own_block heading progress in
-      in_turn (opens block heading declared progress) λ opened heads.
+      in_turn (opens_procedure block heading declared progress) λ opened heads.
       let at : Standing own.owner opened = own_stands heading declared block progress opened stands heads in
       in_turn
       (declarations_grow own declared opened nothing at

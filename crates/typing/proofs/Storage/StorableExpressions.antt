@@ -4,7 +4,7 @@ use Rattle.names.specs.declared.entity.BuiltIn.TheVariants as built_ins
 use Rattle.typed_trees.specs.declared.parts.Measure.TheVariants as measures
 use Rattle.typed_trees.specs.declared.parts.ShiftFunction.TheVariants as shifts
 use Rattle.typed_trees.specs.declared.parts.UnaryFunction.TheVariants as functions
-use Rattle.typing.proofs.Steps.{then, then_any}
+use Rattle.typing.proofs.Steps.{then_checks, then_any}
 use Rattle.typing.proofs.Storage.Storable.{AreStorable, list_more}
 
 -- arguments, a member or a reference that keep the constants of these objects storable
@@ -33,7 +33,7 @@ module _ {objects : List TypedObject} where
       then_any _ (found (member_named members name.name) UnknownName (place_of name)) _ (λ place.
       then_any _ (require (takes_subscripts extent place.member.dimension (count_of_given given)) SubscriptMismatch
       (place_of name)) _ (λ takes.
-      then _ _ (given.typed constants) _ (keeps constants are) (λ typed is. is))))
+      then_checks _ _ (given.typed constants) _ (keeps constants are) (λ typed is. is))))
 
   part_of_is : (number : ℕ) (object : TypedObject) (extent : Extent) (given : GivenReference) (constants : Constants)
       → ReferenceKeeps objects given → AreStorable objects constants
@@ -41,14 +41,14 @@ module _ {objects : List TypedObject} where
   part_of_is number object extent given constants keeps are =
       then_any _ (require (takes_subscripts extent object.dimension (count_of_given given.arguments)) SubscriptMismatch
       (place_of given.name)) _ (λ takes.
-      then _ _ (given.arguments.typed constants) _ (keeps.arguments constants are) (λ typed is.
+      then_checks _ _ (given.arguments.typed constants) _ (keeps.arguments constants are) (λ typed is.
       part_with_member_is number object.object_type _ extent given.member typed.1 keeps.member is))
 
   scalar_part_is : (number : ℕ) (object : TypedObject) (given : GivenReference) (constants : Constants)
       → ReferenceKeeps objects given → AreStorable objects constants
       → IfOk (scalar_part number object given constants) (λ typed. AreStorable objects typed.2)
   scalar_part_is number object given constants keeps are =
-      then _ _ (part_of number object AnElement given constants) _
+      then_checks _ _ (part_of number object AnElement given constants) _
       (part_of_is number object AnElement given constants keeps are) (λ part is.
       then_any _ (found part.0.scalar MemberMismatch (place_of given.name)) _ (λ scalar. is))
 
@@ -59,7 +59,7 @@ module _ {objects : List TypedObject} where
   location_of_bound_is known (Declared (Object number)) given constants keeps are =
       then_any _ (object_of known given.name number) _ (λ object.
       then_any _ (require (has_location object.home) NoLocation (place_of given.name)) _ (λ has.
-      then _ _ (part_of number object AlsoTheWhole given constants) _
+      then_checks _ _ (part_of number object AlsoTheWhole given constants) _
       (part_of_is number object AlsoTheWhole given constants keeps are) (λ part is. is)))
   location_of_bound_is known (Declared (Procedure number)) given constants keeps are = tt
   location_of_bound_is known binding given constants keeps are = tt
@@ -78,7 +78,7 @@ module _ {objects : List TypedObject} where
   destination_of_bound_is known (Declared (Object number)) given constants keeps are =
       then_any _ (object_of known given.name number) _ (λ object.
       then_any _ (is_writable object given.name) _ (λ is_variable.
-      then _ _ (scalar_part number object given constants) _
+      then_checks _ _ (scalar_part number object given constants) _
       (scalar_part_is number object given constants keeps are) (λ part is. is)))
   destination_of_bound_is known (BuiltInName built_ins.Output) given constants keeps are =
       then_any _ (port_of (place_of given.name) given.arguments.trees) _ (λ port.
@@ -98,14 +98,14 @@ module _ {objects : List TypedObject} where
       → IfOk (call_arguments procedure place given constants) (λ typed. AreStorable objects typed.1)
   call_arguments_is procedure place given constants keeps are =
       then_any _ (require (count_of_given given == length procedure.parameter_types) ArgumentCount place) _ (λ are_all.
-      then _ _ (given.typed constants) _ (keeps constants are) (λ typed is. is))
+      then_checks _ _ (given.typed constants) _ (keeps constants are) (λ typed is. is))
 
   call_of_is : (number : ℕ) (procedure : TypedProcedure) (given : GivenReference) (constants : Constants)
       → ReferenceKeeps objects given → AreStorable objects constants
       → IfOk (call_of number procedure given constants) (λ typed. AreStorable objects typed.1)
   call_of_is number procedure given constants keeps are =
       then_any _ (found procedure.result ValueOfUntyped (place_of given.name)) _ (λ result.
-      then _ _ (call_arguments procedure (place_of given.name) given.arguments constants) _
+      then_checks _ _ (call_arguments procedure (place_of given.name) given.arguments constants) _
       (call_arguments_is procedure (place_of given.name) given.arguments constants keeps.arguments are) (λ typed is.
       then_any _ (without_member given.member) _ (λ has_none. is)))
 
@@ -115,7 +115,7 @@ module _ {objects : List TypedObject} where
       → IfOk (unary_function function given constants) (λ typed. AreStorable objects typed.1)
   unary_function_is function given constants keeps are =
       then_any _ (require (count_of_given given.arguments == 1) ArgumentCount (place_of given.name)) _ (λ is_one.
-      then _ _ (given.arguments.typed constants) _ (keeps.arguments constants are) (λ typed is.
+      then_checks _ _ (given.arguments.typed constants) _ (keeps.arguments constants are) (λ typed is.
       then_any _ (without_member given.member) _ (λ has_none.
       then_any _ (function_of function (place_of given.name) typed.0) _ (λ node. is))))
 
@@ -124,7 +124,7 @@ module _ {objects : List TypedObject} where
       → IfOk (shift_function function given constants) (λ typed. AreStorable objects typed.1)
   shift_function_is function given constants keeps are =
       then_any _ (require (count_of_given given.arguments == 2) ArgumentCount (place_of given.name)) _ (λ are_two.
-      then _ _ (given.arguments.typed constants) _ (keeps.arguments constants are) (λ typed is.
+      then_checks _ _ (given.arguments.typed constants) _ (keeps.arguments constants are) (λ typed is.
       then_any _ (without_member given.member) _ (λ has_none.
       then_any _ (shift_of function (place_of given.name) typed.0) _ (λ node. is))))
 
@@ -174,7 +174,7 @@ module _ {objects : List TypedObject} where
       → IfOk (value_of_bound known binding given constants) (λ typed. AreStorable objects typed.1)
   value_of_bound_is known (Declared (Object number)) given constants keeps are =
       then_any _ (object_of known given.name number) _ (λ object.
-      then _ _ (scalar_part number object given constants) _
+      then_checks _ _ (scalar_part number object given constants) _
       (scalar_part_is number object given constants keeps are) (λ part is. is))
   value_of_bound_is known (Declared (Procedure number)) given constants keeps are =
       then_any _ (procedure_of known given.name number) _ (λ procedure.
@@ -201,16 +201,16 @@ module _ {objects : List TypedObject} where
     expression_is known (ListLeaf list) constants are = list_more list are
     expression_is known (ParenthesizedNode inner) constants are = expression_is known inner constants are
     expression_is known (AssignmentNode target value) constants are =
-        then _ _ (destination_of known (given_reference known target) constants) _
+        then_checks _ _ (destination_of known (given_reference known target) constants) _
         (destination_of_is known (given_reference known target) constants (reference_is known target) are)
         (λ destination is.
-        then _ _ (expression known value destination.1) _ (expression_is known value destination.1 is)
+        then_checks _ _ (expression known value destination.1) _ (expression_is known value destination.1 is)
         (λ typed after. after))
     expression_is known (UnaryNode operator operand) constants are =
-        then _ _ (expression known operand constants) _ (expression_is known operand constants are) (λ typed is. is)
+        then_checks _ _ (expression known operand constants) _ (expression_is known operand constants are) (λ typed is. is)
     expression_is known (BinaryNode operator left right) constants are =
-        then _ _ (expression known left constants) _ (expression_is known left constants are) (λ first is.
-        then _ _ (expression known right first.1) _ (expression_is known right first.1 is) (λ second after. after))
+        then_checks _ _ (expression known left constants) _ (expression_is known left constants are) (λ first is.
+        then_checks _ _ (expression known right first.1) _ (expression_is known right first.1 is) (λ second after. after))
 
     reference_is : (known : Known) (reference : ReferenceTree)
         → ReferenceKeeps objects (given_reference known reference)
@@ -226,8 +226,8 @@ module _ {objects : List TypedObject} where
         → IfOk (arguments known trees constants) (λ typed. AreStorable objects typed.1)
     arguments_is known NoArguments constants are = are
     arguments_is known (MoreArguments first others) constants are =
-        then _ _ (expression known first constants) _ (expression_is known first constants are) (λ typed is.
-        then _ _ (arguments known others typed.1) _ (arguments_is known others typed.1 is) (λ rest after. after))
+        then_checks _ _ (expression known first constants) _ (expression_is known first constants are) (λ typed is.
+        then_checks _ _ (arguments known others typed.1) _ (arguments_is known others typed.1 is) (λ rest after. after))
 
   pub destination_is : (known : Known) (reference : ReferenceTree) (constants : Constants)
       → AreStorable objects constants

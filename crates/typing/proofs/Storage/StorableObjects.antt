@@ -1,7 +1,7 @@
 -- Objects that are declared stand among the constants where they have DATA, AT looks back at objects that have a
 -- place, and values have room in their objects.
 use Rattle.typing.proofs.Prelude.{◌≡◌, ℕ, zero, suc, ◌+◌, ◌-◌, ◌*◌, ◌<◌, ◌≤◌, Bool, true, false, List, [], ◌∷◌, ◌++◌, length, take, drop, replicate, flat_map, sum_by, slice_get, Option, Some, None, Ok, Err, refl, sym, ap, ◌∙◌, subst, append_assoc, length-append, cond, arith, zero-le, zero-mul, one-mul, suc-mul, mod-lt, div-add-mod', IfOk, IfSome, IsSomeAnd, is_none, is_some, nat_le, nat_lt, not, ◌&&◌, ◌||◌, repeat, option_map_or, sum_by-append, sum_by-cons, slice_get_within, ScalarType, Byte, Address, Identifier, Place, StringTree, StringConstant, OriginTree, ConstantOrigin, LocationOrigin, OffsetTree, RestrictedTree, AtTree, ValueListTree, ItemTree, ElementTree, LiterallyElement, ItemElement, HeadingTree, DeclarationTrees, Binding, Declared, Object, Procedure, Here, into_body, with_procedure, is_declared_again, declared_by, OBJECT_LIMIT, FRAME_LIMIT, PARAMETER_LIMIT, AtAddress, ByteValue, WordValue, LocationValue, InitialValue, TypedMember, ObjectType, ScalarObject, StructureObject, Home, InData, InConstants, Placed, BasedOn, Elsewhere, Nowhere, InFrame, TypedObject, size_of_scalar, count_of, size_of_member, size_of_element, scalars_of_member, scalars_of_element, scalars_of_elements, LooksBack, HasPlace, LooksAtPlace, size_of_value, bytes_filled, Cause, DeclaredTwice, NoVariable, MisplacedAt, MisplacedValues, NestedProcedure, ExternalContents, StringNotNumber, ImpliedWithoutValues, NotByte, TooLarge, Checked, ◌>>=◌, require, found, number_of_characters, number_of_constant, with_offsets, Known, place_of, bound, object_of, Owner, TheModule, OfProcedure, Block, Progress, is_external, is_external_linkage, is_reentrant, ThisModule, OtherModulesToo, with_address, static_bound, static_object, RestrictedValue, ANumber, FromObject, restricted_value, address_of, at_address, Filled, and_before, fill_scalar, fill_characters, fill_string, place_of_origin, fill_value, fill, Extents, NoArray, Elements, AsListed, Contents, enough_elements, elements_for, contents, TypedItem, declare_names, place_of_item, base_of, typed_base, extents_of, typed_type, check_linkage, is_plain, typed_at, place_of_storage, typed_contents, is_data, home_in, home_with_values, home_of, object_named, with_typed_object, with_objects, typed_item, size_of_item, declare_item, declare_definition, declare_element, declare_elements, declare_parameters, no_more_parameters, check_visibility, check_reentrant, open_procedure}
-use Rattle.typing.proofs.Steps.{then, then_any}
+use Rattle.typing.proofs.Steps.{then_checks, then_any}
 use Rattle.typing.proofs.Storage.Storable.{AreStorable, object_more, back_later, place_later}
 
 -- a text so far
@@ -75,7 +75,7 @@ static_bound_is : (known : Known) (binding : Binding) (name : Identifier)
 static_bound_is known (Declared (Object number)) name =
     let table : List TypedObject = known.objects in
     let IsPlace : Option TypedObject → Type 0 = λ found. IsSomeAnd found (λ (object : TypedObject). HasPlace object.home) in
-    then _ _ (object_of known name number) _ (found_is (slice_get table number) NoVariable (place_of name)) (λ object is.
+    then_checks _ _ (object_of known name number) _ (found_is (slice_get table number) NoVariable (place_of name)) (λ object is.
     if_ok_more (λ found. (found ≡ number) × HasPlace object.home) (IsPlaceIn table)
     (with_address ThisModule object.home number (place_of name))
     (with_address_is object.home number (place_of name)) (λ found has.
@@ -99,13 +99,13 @@ restricted_value_is known (ConstantOrigin constant) offsets =
     then_any _ (number_of_constant constant) _ (λ number.
     then_any _ (with_offsets number offsets) _ (λ sum. (tt, tt)))
 restricted_value_is known (LocationOrigin name) offsets =
-    then _ _ (static_object ThisModule known name) _ (static_object_is known name) (λ object is.
+    then_checks _ _ (static_object ThisModule known name) _ (static_object_is known name) (λ object is.
     then_any _ (with_offsets 0 offsets) _ (λ offset. is))
 
 at_address_is : (known : Known) (restricted : RestrictedTree)
     → IfOk (at_address known restricted) (AddressStands known.objects)
 at_address_is known restricted =
-    then _ _ (restricted_value ThisModule known restricted.origin restricted.offsets) _
+    then_checks _ _ (restricted_value ThisModule known restricted.origin restricted.offsets) _
     (restricted_value_is known restricted.origin restricted.offsets) (λ value stands. stands)
 
 typed_at_is : (known : Known) (block : Block) (item : ItemTree) (at : Option AtTree)
@@ -113,7 +113,7 @@ typed_at_is : (known : Known) (block : Block) (item : ItemTree) (at : Option AtT
 typed_at_is known block item None = tt
 typed_at_is known block item (Some at) =
     then_any _ (require (is_plain block item) MisplacedAt at.place) _ (λ may_stand.
-    then _ _ (at_address known at.address) _ (at_address_is known at.address) (λ address stands. stands))
+    then_checks _ _ (at_address known at.address) _ (at_address_is known at.address) (λ address stands. stands))
 
 -- The values of a list take as many bytes as the scalars that they fill, which are the first of those given.
 record Fills (scalars : List ScalarType) (filled : Filled) : Type 0 where
@@ -154,7 +154,7 @@ fill_characters_is : (place : Place) (characters : List ℕ) (scalars : List Sca
     → IfOk (fill_characters place characters scalars) (Fills scalars)
 fill_characters_is place [] scalars = fills_none scalars
 fill_characters_is place (character ∷ others) (Byte ∷ left) =
-    then _ _ (fill_characters place others left) _ (fill_characters_is place others left) (λ filled fills.
+    then_checks _ _ (fill_characters place others left) _ (fill_characters_is place others left) (λ filled fills.
     fills_more (ByteValue character) Byte left filled refl fills)
 fill_characters_is place characters scalars = tt
 
@@ -182,9 +182,9 @@ fill_is : (known : Known) (values : List RestrictedTree) (scalars : List ScalarT
     → IfOk (fill known values scalars) (Fills scalars)
 fill_is known [] scalars = fills_none scalars
 fill_is known (value ∷ others) scalars =
-    then _ _ (fill_value known scalars value.origin value.offsets) _
+    then_checks _ _ (fill_value known scalars value.origin value.offsets) _
     (fill_value_is known scalars value.origin value.offsets) (λ first one.
-    then _ _ (fill known others first.left) _ (fill_is known others first.left) (λ rest more. record {
+    then_checks _ _ (fill known others first.left) _ (fill_is known others first.left) (λ rest more. record {
       taken = one.taken ++ more.taken;
       are_first = one.are_first ∙ ap (λ (left : List ScalarType). one.taken ++ left) more.are_first
           ∙ sym (append_assoc one.taken more.taken rest.left);
@@ -336,16 +336,16 @@ contents_is : (known : Known) (place : Place) (object_type : ObjectType) (extent
     → IfOk (contents known place object_type extents values) (HasRoomIn object_type)
 contents_is known place object_type NoArray values =
     let scalars : List ScalarType = scalars_of_element object_type in
-    then _ _ (fill known values scalars) _ (fill_is known values scalars) (λ filled fills.
+    then_checks _ _ (fill known values scalars) _ (fill_is known values scalars) (λ filled fills.
     omega (arith, fills_at_most scalars filled fills, element_bytes object_type, one-mul (size_of_element object_type)))
 contents_is known place object_type (Elements count) values =
     let scalars : List ScalarType = scalars_of_elements count object_type in
-    then _ _ (fill known values scalars) _ (fill_is known values scalars) (λ filled fills.
+    then_checks _ _ (fill known values scalars) _ (fill_is known values scalars) (λ filled fills.
     omega (arith, fills_at_most scalars filled fills, elements_bytes count object_type))
 contents_is known place object_type AsListed values =
     let all : ℕ = enough_elements values in
     let scalars : List ScalarType = scalars_of_elements all object_type in
-    then _ _ (fill known values scalars) _ (fill_is known values scalars) (λ filled fills.
+    then_checks _ _ (fill known values scalars) _ (fill_is known values scalars) (λ filled fills.
     let used : ℕ = length scalars - length filled.left in
     let is : used ≡ length fills.taken =
     omega (arith, ap length fills.are_first, length-append fills.taken filled.left) in
@@ -390,8 +390,8 @@ typed_item_is known block item =
     then_any _ (extents_of block item item.dimension) _ (λ extents.
     then_any _ (typed_type block item item.item_type) _ (λ object_type.
     then_any _ (check_linkage block item item.linkage) _ (λ may_stand.
-    then _ _ (typed_at known block item item.at) _ (typed_at_is known block item item.at) (λ at stands.
-    then _ _ (typed_contents known block item object_type extents item.value_list) _
+    then_checks _ _ (typed_at known block item item.at) _ (typed_at_is known block item item.at) (λ at stands.
+    then_checks _ _ (typed_contents known block item object_type extents item.value_list) _
     (typed_contents_is known block item object_type extents item.value_list) (λ filled fits.
     let size : ℕ = count_of filled.dimension * size_of_element object_type in
     home_of_is (HomeStands known.objects size) filled.values (any_home known.objects size filled.values fits)
@@ -419,9 +419,9 @@ declare_item_is : (block : Block) (item : ItemTree) (progress : Progress)
     → StandsSoFar progress → IfOk (declare_item block item progress) StandsSoFar
 declare_item_is block item progress so_far =
     then_any _ (declare_names block (declared_by item.subject) progress.known.here) _ (λ here.
-    then _ _ (typed_item progress.known block item) _ (typed_item_is progress.known block item) (λ typed stands.
+    then_checks _ _ (typed_item progress.known block item) _ (typed_item_is progress.known block item) (λ typed stands.
     then_any _ (require (nat_le (size_of_item typed) OBJECT_LIMIT) TooLarge (place_of_item item)) _ (λ fits.
-    then _ _ (with_objects block typed (declared_by item.subject) progress) _
+    then_checks _ _ (with_objects block typed (declared_by item.subject) progress) _
     (with_objects_is block typed (declared_by item.subject) progress stands so_far) (λ declared after. after))))
 
 declare_definition_is : (block : Block) (name : Identifier) (progress : Progress)
@@ -440,7 +440,7 @@ pub declare_elements_is : (block : Block) (elements : List ElementTree) (progres
     → StandsSoFar progress → IfOk (declare_elements block elements progress) StandsSoFar
 declare_elements_is block [] progress so_far = so_far
 declare_elements_is block (element ∷ others) progress so_far =
-    then _ _ (declare_element block element progress) _ (declare_element_is block element progress so_far)
+    then_checks _ _ (declare_element block element progress) _ (declare_element_is block element progress so_far)
     (λ after so_far_after. declare_elements_is block others after so_far_after)
 
 -- into a procedure

@@ -57,7 +57,7 @@ product = refl
 
 -- OUTPUT(1) = INPUT('A') + .V, W = .(1, 300): ports are numbers or strings of one character; lists are
 -- numbered
-pub ports :
+pub ports_as_numbers :
     main_of (doing (assigns (at_subscript 3 (codes "OUTPUT") (a_number 3 1 ∷ []) ∷ [])
     (Binary Add
     (value_of (at_subscript 3 (codes "INPUT") (ConstantLeaf (string_on 3 (codes "A")) ∷ [])))
@@ -66,17 +66,17 @@ pub ports :
     (SentTo Address 1 ∷ [])
     (BinaryNode Address Add (ConversionNode Address (InputNode 65)) (LocationNode (whole 2))))
 unfolding typing_of built_in_of
-ports = refl
+ports_as_numbers = refl
 
-pub list :
+pub list_of_constants :
     main_of (doing (assigns (plain 3 (codes "W") ∷ [])
     (ListLeaf (number_on 3 1 ∷ number_on 3 300 ∷ [])) ∷ []))
     ≡ does (AssignmentStatement (StoredIn Address Address (whole 1) ∷ []) (ListNode 0))
 unfolding typing_of built_in_of
-list = refl
+list_of_constants = refl
 
 -- ; L: A = 1; GOTO L;: a label is a statement before the one that it names
-pub loop :
+pub goto_of_label :
     main_of (doing (
     unlabelled (Null (on_line 3))
     ∷ LabelledStatement (name_on 3 (codes "L") ∷ [])
@@ -90,7 +90,7 @@ pub loop :
     (MoreStatements (GotoStatement 0)
     NoStatements)))))
 unfolding typing_of built_in_of
-loop = refl
+goto_of_label = refl
 
 -- A = V: an array without a subscript has no value
 pub array_as_value :

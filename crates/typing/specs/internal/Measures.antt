@@ -94,7 +94,7 @@ unfolding typing_of built_in_of
 member = refl
 
 -- OUTPUT(0) = LAST(S)
-pub last :
+pub last_of_structures :
     main_of (module_of (structures ∷ [])
     (assigns (at_subscript 3 (codes "OUTPUT") (a_number 3 0 ∷ []) ∷ [])
     (value_of (at_subscript 3 (codes "LAST") (value_of (plain 3 (codes "S")) ∷ []))) ∷ []))
@@ -102,7 +102,7 @@ pub last :
     (AssignmentStatement (SentTo Byte 0 ∷ []) (NumberNode Byte 1 (FromMeasure Last 0 None)))
     NoStatements))
 unfolding typing_of built_in_of
-last = refl
+last_of_structures = refl
 
 -- DECLARE T(*) BYTE DATA ('ABC', 3), U(*) ADDRESS DATA ('AG', .T);: as many elements as the lists need
 abbrev pub implied_item : (line : ℕ) → List ℕ → ItemTypeTree → List RestrictedTree → ElementTree

@@ -37,11 +37,11 @@ abbrev pub reentrant_p : HeadingTree
 reentrant_p = record heading_p { reentrant = Some (on_line 3) }
 
 -- DECLARE P ADDRESS, X BASED P BYTE;
-pub based :
+pub based_on_address :
     measured homes (declares (scalar_item 2 (codes "P") Address ∷ based_item 2 (codes "X") (codes "P") ∷ []))
     ≡ Ok (InData [] ∷ BasedOn 0 ∷ [])
 unfolding typing_of built_in_of
-based = refl
+based_on_address = refl
 
 -- DECLARE P BYTE, X BASED P BYTE;: a base is an ADDRESS
 pub base_of_a_byte :

@@ -1,8 +1,8 @@
-use Rattle.commands.proofs.{Prelude.{None, ap, refl, status_of, stays, ◌∙◌}, Converted.{are_put, held_stopped, held_unheld, old_converted, parts_before, stops_including}, Tables.{kept_then_all_but}}
+use Rattle.commands.proofs.{Prelude.{None, ap, refl, status_of, files_stay, ◌∙◌}, Converted.{are_put, held_stopped, held_unheld, old_converted, parts_before, stops_including}, Tables.{kept_then_all_but}}
 use Rattle.commands.proofs.converting.convert_old.Goals as goal
 
 pub returns-in_default-clause-converted : goal.returns-in_default-clause-converted
-returns-in_default-clause-converted g c = held_unheld _ _ _ _ _ _ _ _ _ _ _ _ None _ (ap status_of c.refuse_memory.ensures.ending) refl (stays (g.F.Files.files c.args.files.now)) c.refuse_memory.ensures.line
+returns-in_default-clause-converted g c = held_unheld _ _ _ _ _ _ _ _ _ _ _ _ None _ (ap status_of c.refuse_memory.ensures.ending) refl (files_stay (g.F.Files.files c.args.files.now)) c.refuse_memory.ensures.line
 
 pub returns-in-Err-Fault-clause-converted : goal.returns-in-Err-Fault-clause-converted
 returns-in-Err-Fault-clause-converted g c = held_stopped _ _ _ _ _ _ _ _ _ _ _ _ None _ _ (ap status_of c.refuse_name.ensures.ending) (rw c.in-Err-Fault.field-0-is at c.in-Err-Fault.ensures.failed) c.in-Err-Fault.ensures.kept

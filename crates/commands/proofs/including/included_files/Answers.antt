@@ -1,9 +1,9 @@
-use Rattle.commands.proofs.{Prelude.{arith, passed, refl, sym, texts, ◌∙◌, stays, stays_on, passed_on, candidates, convert_in, StopsLooking, StopsLookingForNext}, Included.{all_looked, none_looked, one_more, stops_next_name, was_looked, was_stopped}}
+use Rattle.commands.proofs.{Prelude.{arith, passed, refl, sym, texts, ◌∙◌, files_stay, stays_on, passed_on, candidates, convert_in, StopsLooking, StopsLookingForNext}, Included.{all_looked, none_looked, one_more, stops_next_name, was_looked, was_stopped}}
 use Rattle.commands.proofs.including.included_files.Goals as goal
 
 pub names-init : goal.names-init
 names-init g c = record {
-  kept = stays _;
+  kept = files_stay _;
   count = refl;
   looked = none_looked _ _ _ _ _ _ c.new-entries.ensures.items;
 }

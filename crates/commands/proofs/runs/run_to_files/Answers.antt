@@ -1,4 +1,4 @@
-use Rattle.commands.proofs.{Prelude.{◌∙◌, Some, [], ap, inl, map, refl, stays, values_in, file_names, port_file_in, PrintsWith}, RefusedRuns.{refused_ended, refused_unended}, RunOrders.{memory_with}, Delivered.{kept_but, kept_then_but, kept_then_delivered, not_wrong_after, told_instead}}
+use Rattle.commands.proofs.{Prelude.{◌∙◌, Some, [], ap, inl, map, refl, files_stay, values_in, file_names, port_file_in, PrintsWith}, RefusedRuns.{refused_ended, refused_unended}, RunOrders.{memory_with}, Delivered.{kept_but, kept_then_but, kept_then_delivered, not_wrong_after, told_instead}}
 use Rattle.commands.proofs.runs.run_to_files.Goals as goal
 
 pub returns-in-Refused-clause-unchanged : goal.returns-in-Refused-clause-unchanged
@@ -42,4 +42,4 @@ returns-clause-refused g c = λ refused. refused_ended _ _ _ _ _ _ _ _ _ _ _ _ _
     (rw c.as_slice-in_default-run_with-2.ensures.value at (rw c.as_slice-in_default-run_with-3.ensures.value at c.deliver.ensures.undelivered))
 
 pub returns-in_default-clause-refused : goal.returns-in_default-clause-refused
-returns-in_default-clause-refused g c = λ refused. refused_unended _ _ _ _ _ _ _ _ _ _ [] (memory_with _ _ _ _ _ _ _ (Some []) refl c.refuse_memory.ensures.line) (stays (g.F.Files.files c.args.files.now))
+returns-in_default-clause-refused g c = λ refused. refused_unended _ _ _ _ _ _ _ _ _ _ [] (memory_with _ _ _ _ _ _ _ (Some []) refl c.refuse_memory.ensures.line) (files_stay (g.F.Files.files c.args.files.now))

@@ -1,6 +1,6 @@
 use Rattle.interpreter.proofs.Prelude.{◌≡◌, ◌∙◌, Some, ap, map, option_map, sym, Typed, module_view, placement_view, found_from, found_view, begins_itself, if_ok_then}
 use Rattle.declared.specs.Access.{modules_in}
-use Rattle.interpreter.proofs.Runs.{begun, either, fails, if_err_then, kept_reached, kept_stopped, meant, on_err, spent, started, tables}
+use Rattle.interpreter.proofs.Runs.{events_begun, either, fails_as_meant, if_err_then, kept_reached, kept_stopped, stops_as_meant, on_err, budget_spent, started, tables}
 use Rattle.interpreter.proofs.program.interpret.Goals as goal
 
 pub returns-in_default-clause-beginning : goal.returns-in_default-clause-beginning
@@ -29,7 +29,7 @@ returns-in-Some-clause-meaning g c =
     let found : found_from 0 (modules_in c.args.joined.now) ≡ Some (c.in-Some.found.number, module_view c.in-Some.found.typed.now) =
     ap (λ (modules : _). found_from 0 (map module_view modules)) (sym c.modules.ensures) ∙ sym c.main_module.ensures ∙ ap (option_map found_view) c.in-Some.is in
     if_ok_then _ _ c.run.result
-    (λ end stops. meant (modules_in c.args.joined.now) (placement_view c.args.placement.now) c.args.room c.args.memory c.put_contents.new.memory
+    (λ end stops. stops_as_meant (modules_in c.args.joined.now) (placement_view c.args.placement.now) c.args.room c.args.memory c.put_contents.new.memory
     (g.P.Ports.script c.args.ports.now) (g.P.Ports.events c.args.ports.now) _ c.args.budget.now c.in-Some.found.number (module_view c.in-Some.found.typed.now)
     c.in-Ok-compile.program found c.requires.jumps c.in-Ok-compile.ensures c.in-Ok.ensures _ _ stops)
     c.run.ensures.ended
@@ -39,7 +39,7 @@ returns-in-Some-clause-used g c =
     let found : found_from 0 (modules_in c.args.joined.now) ≡ Some (c.in-Some.found.number, module_view c.in-Some.found.typed.now) =
     ap (λ (modules : _). found_from 0 (map module_view modules)) (sym c.modules.ensures) ∙ sym c.main_module.ensures ∙ ap (option_map found_view) c.in-Some.is in
     if_ok_then _ _ c.run.result
-    (λ end stops. spent (modules_in c.args.joined.now) (placement_view c.args.placement.now) c.args.room c.args.memory c.put_contents.new.memory
+    (λ end stops. budget_spent (modules_in c.args.joined.now) (placement_view c.args.placement.now) c.args.room c.args.memory c.put_contents.new.memory
     (g.P.Ports.script c.args.ports.now) (g.P.Ports.events c.args.ports.now) _ c.args.budget.now c.in-Some.found.number (module_view c.in-Some.found.typed.now)
     c.in-Ok-compile.program found c.requires.jumps c.in-Ok-compile.ensures c.in-Ok.ensures _ _ stops)
     c.run.ensures.ended
@@ -49,7 +49,7 @@ returns-in-Some-clause-called g c =
     let found : found_from 0 (modules_in c.args.joined.now) ≡ Some (c.in-Some.found.number, module_view c.in-Some.found.typed.now) =
     ap (λ (modules : _). found_from 0 (map module_view modules)) (sym c.modules.ensures) ∙ sym c.main_module.ensures ∙ ap (option_map found_view) c.in-Some.is in
     if_err_then _ _ c.run.result
-    (λ fault stops. fails (modules_in c.args.joined.now) (placement_view c.args.placement.now) c.args.room c.args.memory c.put_contents.new.memory
+    (λ fault stops. fails_as_meant (modules_in c.args.joined.now) (placement_view c.args.placement.now) c.args.room c.args.memory c.put_contents.new.memory
     (g.P.Ports.script c.args.ports.now) (g.P.Ports.events c.args.ports.now) _ c.args.budget.now c.in-Some.found.number (module_view c.in-Some.found.typed.now)
     c.in-Ok-compile.program found c.requires.jumps c.in-Ok-compile.ensures c.in-Ok.ensures fault _ stops)
     c.run.ensures.called
@@ -59,7 +59,7 @@ returns-in-Some-clause-beginning g c =
     let found : found_from 0 (modules_in c.args.joined.now) ≡ Some (c.in-Some.found.number, module_view c.in-Some.found.typed.now) =
     ap (λ (modules : _). found_from 0 (map module_view modules)) (sym c.modules.ensures) ∙ sym c.main_module.ensures ∙ ap (option_map found_view) c.in-Some.is in
     on_err _ _ c.run.result
-    (λ reaches. begun (modules_in c.args.joined.now) (placement_view c.args.placement.now) c.args.room c.args.memory c.put_contents.new.memory
+    (λ reaches. events_begun (modules_in c.args.joined.now) (placement_view c.args.placement.now) c.args.room c.args.memory c.put_contents.new.memory
     (g.P.Ports.script c.args.ports.now) (g.P.Ports.events c.args.ports.now) _ c.args.budget.now c.in-Some.found.number (module_view c.in-Some.found.typed.now)
     c.in-Ok-compile.program found c.requires.jumps c.in-Ok-compile.ensures c.in-Ok.ensures reaches)
     c.run.ensures.reached

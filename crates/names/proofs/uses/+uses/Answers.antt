@@ -1,5 +1,5 @@
 use Rattle.names.proofs.Prelude.{rules, None, ◌∙◌, arith, Expression, expression_tree, argument_trees, names_in_expression, names_in_arguments, bound_at, fault_in}
-use Rattle.names.proofs.Loops.{goes_on, fails_within, ended, hands_on}
+use Rattle.names.proofs.Loops.{goes_on, fails_within, loop_ended, hands_on}
 use Rattle.names.proofs.BindingWalks.{bind_more_append, bound_none, bound_append_ok, fails_append, fails_cons}
 use Rattle.names.proofs.References.{reference_fails, reference_names, member_bound}
 use Rattle.names.proofs.uses.+uses.Goals as goal
@@ -25,7 +25,7 @@ bind_arguments-returns-in_err-bind_expression t c =
 
 pub bind_arguments-returns : goal.bind_arguments-returns
 bind_arguments-returns t c =
-    ended
+    loop_ended
     (λ (argument : Expression) bindings. bound_at c.args.scopes.now (names_in_expression (expression_tree argument)) bindings)
     (λ arguments bindings. bound_at c.args.scopes.now (names_in_arguments (argument_trees arguments)) bindings)
     (λ argument arguments bindings. bind_more_append c.args.scopes.now (names_in_expression (expression_tree argument)) (names_in_arguments (argument_trees arguments)) bindings)

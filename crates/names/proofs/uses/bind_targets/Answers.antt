@@ -1,5 +1,5 @@
 use Rattle.names.proofs.Prelude.{map, rules, flat_map, Reference, reference_tree, names_in_reference, bound_at}
-use Rattle.names.proofs.Loops.{goes_on, fails_within, ended, hands_on}
+use Rattle.names.proofs.Loops.{goes_on, fails_within, loop_ended, hands_on}
 use Rattle.names.proofs.BindingWalks.{bind_more_append, bound_none}
 use Rattle.names.proofs.uses.bind_targets.Goals as goal
 
@@ -24,7 +24,7 @@ returns-in_err-bind_reference c =
 
 pub returns : goal.returns
 returns c =
-    ended
+    loop_ended
     (λ (target : Reference) bindings. bound_at c.args.scopes.now (names_in_reference (reference_tree target)) bindings)
     (λ targets bindings. bound_at c.args.scopes.now (flat_map names_in_reference (map reference_tree targets)) bindings)
     (λ target targets bindings. bind_more_append c.args.scopes.now (names_in_reference (reference_tree target)) (flat_map names_in_reference (map reference_tree targets)) bindings)

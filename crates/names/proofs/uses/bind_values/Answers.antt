@@ -1,5 +1,5 @@
 use Rattle.names.proofs.Prelude.{map, rules, flat_map, Restricted, restricted_tree, names_in_restricted, bound_at}
-use Rattle.names.proofs.Loops.{goes_on, fails_within, ended, hands_on}
+use Rattle.names.proofs.Loops.{goes_on, fails_within, loop_ended, hands_on}
 use Rattle.names.proofs.BindingWalks.{bind_more_append, bound_none}
 use Rattle.names.proofs.uses.bind_values.Goals as goal
 
@@ -24,7 +24,7 @@ returns-in_err-bind_restricted c =
 
 pub returns : goal.returns
 returns c =
-    ended
+    loop_ended
     (λ (value : Restricted) bindings. bound_at c.args.scopes.now (names_in_restricted (restricted_tree value)) bindings)
     (λ values bindings. bound_at c.args.scopes.now (flat_map names_in_restricted (map restricted_tree values)) bindings)
     (λ value values bindings. bind_more_append c.args.scopes.now (names_in_restricted (restricted_tree value)) (flat_map names_in_restricted (map restricted_tree values)) bindings)

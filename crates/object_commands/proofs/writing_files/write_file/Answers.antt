@@ -1,4 +1,4 @@
-use Rattle.object_commands.proofs.{Prelude.{◌∙◌, arith, rules, common_steps, on_err}, FilesWritten.{begun, grown, not_begun, stopped_midway, written_whole}}
+use Rattle.object_commands.proofs.{Prelude.{◌∙◌, arith, rules, common_steps, on_err}, FilesWritten.{file_begun, file_grown, not_begun, stopped_midway, written_whole}}
 use Rattle.object_commands.proofs.writing_files.write_file.Goals as goal
 
 pub loop-sent-preserved : goal.loop-sent-preserved
@@ -9,14 +9,14 @@ loop-sent-preserved g c =
     record {
       fits = grind (arith, common_steps);
       count = c.in_ok-sent.ensures.count ∙ c.loop-sent.invariant.count;
-      written = grown _ _ _ c.args.name.now bytes _ c.loop-sent.sent n (grind (arith, common_steps)) c.loop-sent.invariant.written c.in_ok-sent.ensures.ok;
+      written = file_grown _ _ _ c.args.name.now bytes _ c.loop-sent.sent n (grind (arith, common_steps)) c.loop-sent.invariant.written c.in_ok-sent.ensures.ok;
     }
 
 pub loop-sent-init : goal.loop-sent-init
 loop-sent-init g c = record {
   fits = omega arith;
   count = c.in_ok-begin.ensures.count;
-  written = begun _ _ _ c.args.bytes.now c.in_ok-begin.ensures.ok;
+  written = file_begun _ _ _ c.args.bytes.now c.in_ok-begin.ensures.ok;
 }
 
 pub returns-in_err-begin-clause-err : goal.returns-in_err-begin-clause-err

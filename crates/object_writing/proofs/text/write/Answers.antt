@@ -1,5 +1,5 @@
 use Rattle.object_writing.proofs.Prelude.{sym, subst, Appends, AppendsBeginning, on_err, on_err_then, on_ok_then}
-use Rattle.object_writing.proofs.Sequences.{first_begun, second_begun, last_of_three_begun, three}
+use Rattle.object_writing.proofs.Sequences.{first_begun, second_begun, last_of_three_begun, three_written}
 use Rattle.object_writing.proofs.Texts.{text_is}
 use Rattle.object_writing.proofs.text.write.Goals as goal
 
@@ -19,7 +19,7 @@ pub returns-clause-ok : goal.returns-clause-ok
 returns-clause-ok g c =
     on_ok_then c.write_rest.result _ _ c.write_rest.ensures.ok
     (λ done. subst (Appends _ _) (sym (text_is c.args.object.now))
-    (three _ _ _ _ _ _ _ c.in_ok-write_front.ensures.ok c.in_ok-write_names.ensures.ok done))
+    (three_written _ _ _ _ _ _ _ c.in_ok-write_front.ensures.ok c.in_ok-write_names.ensures.ok done))
 
 pub returns-clause-err : goal.returns-clause-err
 returns-clause-err g c =

@@ -1,5 +1,5 @@
 use Rattle.codegen8080.proofs.Prelude.{◌≡◌, false, List, ℕ, [], ◌∷◌, ◌++◌, map, ap, sym, ◌∙◌, rules, is_among, owned_public_view, Linkage, names_of}
-use Rattle.codegen8080.proofs.NewNames.{external_names, grown, grown_known}
+use Rattle.codegen8080.proofs.NewNames.{external_names, linkage_with_name, grown_known}
 use Rattle.codegen8080.proofs.linkage.LinkageNames.with_external.Goals as goal
 
 pub invariant_of-result : goal.invariant_of-result
@@ -22,6 +22,6 @@ invariant_of-result c =
           grown_known c.self.inside.known c.insert.new.self before after c.valid-name.result
           c.self.invariant.known absent c.in_ok-insert.ensures more;
       is =
-          grown before after c.valid-name.result more c.self.invariant.is c.valid-name.ensures.valid
+          linkage_with_name before after c.valid-name.result more c.self.invariant.is c.valid-name.ensures.valid
           (ap (is_among c.valid-name.result) (sym c.self.invariant.known) ∙ absent) c.self.invariant.is.publics;
     }

@@ -1,5 +1,5 @@
 use Rattle.codegen8080.proofs.Prelude.{◌≡◌, true, false, List, ℕ, [], ◌∷◌, ◌++◌, map, ap, sym, ◌∙◌, rules, list_all, Public, is_among, is_valid_public, owned_public_view, Linkage, names_of}
-use Rattle.codegen8080.proofs.NewNames.{all_and_one, grown, grown_known, map_more, public_names}
+use Rattle.codegen8080.proofs.NewNames.{all_and_one, linkage_with_name, grown_known, map_more, public_names}
 use Rattle.codegen8080.proofs.linkage.LinkageNames.with_public.Goals as goal
 
 pub invariant_of-result : goal.invariant_of-result
@@ -27,7 +27,7 @@ invariant_of-result c =
           grown_known c.self.inside.known c.insert.new.self before after c.valid-name.result
           c.self.invariant.known absent c.in_ok-insert.ensures more;
       is =
-          grown before after c.valid-name.result more c.self.invariant.is c.valid-name.ensures.valid
+          linkage_with_name before after c.valid-name.result more c.self.invariant.is c.valid-name.ensures.valid
           (ap (is_among c.valid-name.result) (sym c.self.invariant.known) ∙ absent)
           (ap (list_all is_valid_public) pushed
           ∙ all_and_one is_valid_public before.publics public c.self.invariant.is.publics valid);

@@ -1,15 +1,15 @@
-use Rattle.commands.proofs.{Prelude.{refl, ◌∙◌, stays_on, stops_as, tells_file, tells_no_file, stops_before}, InputFiles.{named, refused_after, same_texts, told_after, told_before}, Names.{stops_in_files}, Printed.{prints_files}, Untold.{for_file, for_memory, refuses_files}}
+use Rattle.commands.proofs.{Prelude.{refl, ◌∙◌, stays_on, stops_as, tells_file, tells_no_file, stops_before}, InputFiles.{files_of_order, refused_after, same_texts, told_after, told_before}, Names.{stops_in_files}, Printed.{prints_files}, Untold.{for_file, for_memory, refuses_files}}
 use Rattle.commands.proofs.programs.carrying.carry_out_sources.Goals as goal
 
 pub returns-in-Ok-clause-unchanged : goal.returns-in-Ok-clause-unchanged
 returns-in-Ok-clause-unchanged g c = stays_on _ _ _ c.read_files.ensures.kept c.carry_out_texts.ensures.unchanged
 
 pub returns-in-Ok-clause-told : goal.returns-in-Ok-clause-told
-returns-in-Ok-clause-told g c = λ refused. told_after _ _ _ _ _ _ _ _ c.read_files.ensures.kept (named _ _ _ _ c.as_slice.ensures.value c.in-Ok.ensures.texts) c.in-Ok.ensures.count _ _
+returns-in-Ok-clause-told g c = λ refused. told_after _ _ _ _ _ _ _ _ c.read_files.ensures.kept (files_of_order _ _ _ _ c.as_slice.ensures.value c.in-Ok.ensures.texts) c.in-Ok.ensures.count _ _
     (c.carry_out_texts.ensures.told refused)
 
 pub returns-in-Ok-clause-refused : goal.returns-in-Ok-clause-refused
-returns-in-Ok-clause-refused g c = λ refused. refused_after _ _ _ _ _ _ _ _ c.read_files.ensures.kept (named _ _ _ _ c.as_slice.ensures.value c.in-Ok.ensures.texts) c.in-Ok.ensures.count _ _ _ _ _ _
+returns-in-Ok-clause-refused g c = λ refused. refused_after _ _ _ _ _ _ _ _ c.read_files.ensures.kept (files_of_order _ _ _ _ c.as_slice.ensures.value c.in-Ok.ensures.texts) c.in-Ok.ensures.count _ _ _ _ _ _
     (λ why. refuses_files _ _ _ _ _ _ _ _ _ _ _ c.as_slice.ensures.value refl c.in-Ok.ensures.texts (same_texts _ _ _ c.as_slice-in-Ok.ensures.value) _ c.read_files.ensures.kept why)
     (c.carry_out_texts.ensures.refused refused)
 

@@ -1,7 +1,7 @@
 use Rattle.names.proofs.Prelude.{List, arith, rules, Statement, declaration_tree, declaration_trees, kind_tree, statement_tree, statement_trees, see_cases, see_declaration, see_declarations, see_kind, see_statement, see_statements, gives}
 use Rattle.trees.specs.declared.statement.Declaration.{Declaration}
-use Rattle.names.proofs.TreesOfParts.{if_is, do_is, while_is, iterate_is, case_is, procedure_is}
-use Rattle.names.proofs.Loops.{goes_on, fails_within, ended, hands_on}
+use Rattle.names.proofs.TreesOfParts.{if_tree_is, do_tree_is, while_tree_is, iterate_tree_is, case_tree_is, procedure_is}
+use Rattle.names.proofs.Loops.{goes_on, fails_within, loop_ended, hands_on}
 use Rattle.names.proofs.BindingWalks.{gives_turn, gives_nothing, gives_then, gives_three, fails_then, fails_middle}
 use Rattle.names.proofs.binder.Binder.+walk.Goals as goal
 
@@ -26,7 +26,7 @@ statements-returns-in_err-statement t c =
 
 pub statements-returns : goal.statements-returns
 statements-returns t c =
-    ended
+    loop_ended
     (λ (statement : Statement) walk. gives (see_statement (statement_tree statement)) walk)
     (λ (statements : List Statement) walk. gives (see_statements (statement_trees statements)) walk)
     (λ statement statements walk. gives_turn (see_statement (statement_tree statement)) (see_statements (statement_trees statements)) walk)
@@ -54,7 +54,7 @@ cases-returns-in_err-kind t c =
 
 pub cases-returns : goal.cases-returns
 cases-returns t c =
-    ended
+    loop_ended
     (λ (statement : Statement) walk. gives (see_kind (kind_tree statement.kind)) walk)
     (λ (statements : List Statement) walk. gives (see_cases (statement_trees statements)) walk)
     (λ statement statements walk. gives_turn (see_kind (kind_tree statement.kind)) (see_cases (statement_trees statements)) walk)
@@ -82,7 +82,7 @@ declarations-returns-in_err-declaration t c =
 
 pub declarations-returns : goal.declarations-returns
 declarations-returns t c =
-    ended
+    loop_ended
     (λ (declaration : Declaration) walk. gives (see_declaration (declaration_tree declaration)) walk)
     (λ (declarations : List Declaration) walk. gives (see_declarations (declaration_trees declarations)) walk)
     (λ declaration declarations walk. gives_turn (see_declaration (declaration_tree declaration)) (see_declarations (declaration_trees declarations)) walk)
@@ -174,19 +174,19 @@ pub kind-returns-in-Null-2 : goal.kind-returns-in-Null-2
 kind-returns-in-Null-2 t c = grind (arith, gives_nothing)
 
 pub kind-returns-in-If : goal.kind-returns-in-If
-kind-returns-in-If t c = grind (arith, if_is)
+kind-returns-in-If t c = grind (arith, if_tree_is)
 
 pub kind-returns-in-Do : goal.kind-returns-in-Do
-kind-returns-in-Do t c = grind (arith, do_is)
+kind-returns-in-Do t c = grind (arith, do_tree_is)
 
 pub kind-returns-in-While : goal.kind-returns-in-While
-kind-returns-in-While t c = grind (arith, while_is)
+kind-returns-in-While t c = grind (arith, while_tree_is)
 
 pub kind-returns-in-Iterate : goal.kind-returns-in-Iterate
-kind-returns-in-Iterate t c = grind (arith, iterate_is)
+kind-returns-in-Iterate t c = grind (arith, iterate_tree_is)
 
 pub kind-returns-in-Case : goal.kind-returns-in-Case
-kind-returns-in-Case t c = grind (arith, case_is)
+kind-returns-in-Case t c = grind (arith, case_tree_is)
 
 pub otherwise-returns-in-None : goal.otherwise-returns-in-None
 otherwise-returns-in-None t c = grind (arith, gives_nothing)

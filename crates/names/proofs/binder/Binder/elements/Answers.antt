@@ -1,5 +1,5 @@
 use Rattle.names.proofs.Prelude.{List, map, rules, Element, element_tree, see_all, see_element, gives}
-use Rattle.names.proofs.Loops.{goes_on, fails_within, ended, hands_on}
+use Rattle.names.proofs.Loops.{goes_on, fails_within, loop_ended, hands_on}
 use Rattle.names.proofs.BindingWalks.{gives_turn, gives_nothing}
 use Rattle.names.proofs.binder.Binder.elements.Goals as goal
 
@@ -24,7 +24,7 @@ returns-in_err-element c =
 
 pub returns : goal.returns
 returns c =
-    ended
+    loop_ended
     (λ (element : Element) walk. gives (see_element (element_tree element)) walk)
     (λ (elements : List Element) walk. gives (see_all see_element (map element_tree elements)) walk)
     (λ element elements walk. gives_turn (see_element (element_tree element)) (see_all see_element (map element_tree elements)) walk)

@@ -1,5 +1,5 @@
 use Rattle.names.proofs.Prelude.{List, rules, Identifier, see_all, declares_label, gives}
-use Rattle.names.proofs.Loops.{goes_on, fails_within, ended, hands_on}
+use Rattle.names.proofs.Loops.{goes_on, fails_within, loop_ended, hands_on}
 use Rattle.names.proofs.BindingWalks.{gives_turn, gives_nothing}
 use Rattle.names.proofs.binder.Binder.labels.Goals as goal
 
@@ -24,7 +24,7 @@ returns-in_err-label c =
 
 pub returns : goal.returns
 returns c =
-    ended
+    loop_ended
     (λ (name : Identifier) walk. gives (declares_label name) walk)
     (λ (names : List Identifier) walk. gives (see_all declares_label names) walk)
     (λ name names walk. gives_turn (declares_label name) (see_all declares_label names) walk)

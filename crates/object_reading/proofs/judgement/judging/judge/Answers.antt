@@ -1,10 +1,10 @@
 use Rattle.object_reading.proofs.Prelude.{rules, ◌≡◌, Err, sym, ◌∙◌, arith, record_view, are_bytes, Spells, HasFirstFault, ObjectValue, state_view, record_taken}
-use Rattle.object_reading.proofs.WholeFile.{begun, fewer_left, in_front, record_passed, record_refused, no_record_left, too_much, judged_whole, handed_on}
+use Rattle.object_reading.proofs.WholeFile.{passed_at_beginning, fewer_left, in_front, record_passed, record_refused, no_record_left, too_much, judged_whole, handed_on}
 use Rattle.object_reading.proofs.judgement.judging.judge.Goals as goal
 
 pub loop-records-init : goal.loop-records-init
 loop-records-init c =
-    begun c.args.bytes.now c.new-records.result (state_view c.new-state.result) c.new-records.ensures c.new-state.ensures
+    passed_at_beginning c.args.bytes.now c.new-records.result (state_view c.new-state.result) c.new-records.ensures c.new-state.ensures
 
 pub loop-records-smaller : goal.loop-records-smaller
 loop-records-smaller c =

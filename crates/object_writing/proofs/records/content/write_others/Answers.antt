@@ -1,5 +1,5 @@
 use Rattle.object_writing.proofs.Prelude.{on_err, on_err_then, on_ok_then}
-use Rattle.object_writing.proofs.Sequences.{first_begun, second_begun, last_of_three_begun, three}
+use Rattle.object_writing.proofs.Sequences.{first_begun, second_begun, last_of_three_begun, three_written}
 use Rattle.object_writing.proofs.records.content.write_others.Goals as goal
 
 pub returns-in_err-write_other-clause-err : goal.returns-in_err-write_other-clause-err
@@ -14,7 +14,7 @@ returns-in_err-write_other-2-clause-err g c =
 pub returns-clause-ok : goal.returns-clause-ok
 returns-clause-ok g c =
     on_ok_then c.write_other-3.result _ _ c.write_other-3.ensures.ok
-    (three (g.W.Write.contents c.args.out.now) (g.W.Write.contents c.write_other.new.out) (g.W.Write.contents c.write_other-2.new.out) (g.W.Write.contents c.write_other-3.new.out)
+    (three_written (g.W.Write.contents c.args.out.now) (g.W.Write.contents c.write_other.new.out) (g.W.Write.contents c.write_other-2.new.out) (g.W.Write.contents c.write_other-3.new.out)
     _ _ _ c.in_ok-write_other.ensures.ok c.in_ok-write_other-2.ensures.ok)
 
 pub returns-clause-err : goal.returns-clause-err

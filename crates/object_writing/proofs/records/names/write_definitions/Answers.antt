@@ -1,5 +1,5 @@
 use Rattle.object_writing.proofs.Prelude.{arith, owned_entry, on_err, on_err_then, on_ok_then}
-use Rattle.object_writing.proofs.Sequences.{none_yet, last, last_begun}
+use Rattle.object_writing.proofs.Sequences.{none_yet, last_written, last_begun}
 use Rattle.object_writing.proofs.EntriesOfItems.{item_written, item_begun, items_ended}
 use Rattle.object_writing.proofs.records.names.write_definitions.Goals as goal
 
@@ -20,7 +20,7 @@ returns-in_err-add_public-clause-err g c =
 pub returns-clause-ok : goal.returns-clause-ok
 returns-clause-ok g c =
     on_ok_then c.finish.result _ _ c.finish.ensures.ok
-    (λ done. last _ _ _ _ _
+    (λ done. last_written _ _ _ _ _
     (items_ended (owned_entry c.args.segment) c.loop-public.group c.args.publics.now c.loop-public.public-index _ _ _ (omega arith)
     c.loop-public.invariant) done)
 

@@ -1,5 +1,5 @@
 use Rattle.object_writing.proofs.Prelude.{arith, name_entry, on_err, on_err_then, on_ok_then}
-use Rattle.object_writing.proofs.Sequences.{none_yet, last, last_begun}
+use Rattle.object_writing.proofs.Sequences.{none_yet, last_written, last_begun}
 use Rattle.object_writing.proofs.EntriesOfItems.{item_written, item_begun, items_ended}
 use Rattle.object_writing.proofs.records.names.write_names.Goals as goal
 
@@ -20,7 +20,7 @@ returns-in_err-add_name-clause-err g c =
 pub returns-clause-ok : goal.returns-clause-ok
 returns-clause-ok g c =
     on_ok_then c.finish.result _ _ c.finish.ensures.ok
-    (λ done. last _ _ _ _ _
+    (λ done. last_written _ _ _ _ _
     (items_ended name_entry c.loop-name.group c.args.names.now c.loop-name.name-index _ _ _ (omega arith)
     c.loop-name.invariant) done)
 

@@ -1,11 +1,11 @@
 use Rattle.treecode.proofs.Prelude.{List, ap, sym, ◌∙◌, arith, IfOk-weaker, arguments_view, layout_view, ExpressionNumber, nodes_of, numbers_in}
 use Rattle.treecode.proofs.ArgumentLoop.{argument_added, arguments_all_added}
-use Rattle.treecode.proofs.PutNodes.{arguments_put, beside_arguments, beside_expressions, on_ok}
+use Rattle.treecode.proofs.PutNodes.{arguments_put, beside_arguments, beside_expressions, holds_on_ok}
 use Rattle.treecode.proofs.lowering.Lowering.+expression.Goals as goal
 
 pub expression-returns-clause-kept : goal.expression-returns-clause-kept
 expression-returns-clause-kept t c =
-    on_ok c.add_expression.result
+    holds_on_ok c.add_expression.result
     (beside_expressions c.form.new.self c.add_expression.new.self c.add_expression.ensures.kept
     ∙ c.in_ok-form.ensures.kept)
 
@@ -20,7 +20,7 @@ arguments-loop-argument-preserved t c = (
 
 pub arguments-returns-clause-kept : goal.arguments-returns-clause-kept
 arguments-returns-clause-kept t c =
-    on_ok c.add_arguments.result
+    holds_on_ok c.add_arguments.result
     (beside_arguments c.loop-argument.self c.add_arguments.new.self c.add_arguments.ensures.kept
     ∙ (c.loop-argument.invariant).0)
 

@@ -1,5 +1,5 @@
 use Rattle.typed_expressions.proofs.Prelude.{constants_view, known_view, rules, fault_in}
-use Rattle.typed_expressions.proofs.ArgumentLoops.{goes_on, fails, ended}
+use Rattle.typed_expressions.proofs.ArgumentLoops.{goes_on, argument_fails, arguments_ended}
 use Rattle.typed_expressions.proofs.GivenParts.{given_is}
 use Rattle.typed_expressions.proofs.known.Known.+expression.Goals as goal
 
@@ -11,7 +11,7 @@ arguments-loop-tree-preserved t c =
 
 pub arguments-returns : goal.arguments-returns
 arguments-returns t c =
-    ended (known_view c.args.self.now) c.args.trees.now c.loop-tree.tree-index c.loop-tree.made.items (constants_view c.loop-tree.constants) _
+    arguments_ended (known_view c.args.self.now) c.args.trees.now c.loop-tree.tree-index c.loop-tree.made.items (constants_view c.loop-tree.constants) _
     c.loop-tree-test.false c.loop-tree.invariant
 
 pub expression-returns-in-Reference : goal.expression-returns-in-Reference
@@ -31,6 +31,6 @@ expression-returns-in_ok-value-in-Assignment t c = search (rules, given_is)
 
 pub arguments-returns-in_err-argument : goal.arguments-returns-in_err-argument
 arguments-returns-in_err-argument t c =
-    let failed = fails (known_view c.args.self.now) c.args.trees.now c.loop-tree.tree-index c.tree-item.result c.loop-tree.made.items (constants_view c.loop-tree.constants) _
+    let failed = argument_fails (known_view c.args.self.now) c.args.trees.now c.loop-tree.tree-index c.tree-item.result c.loop-tree.made.items (constants_view c.loop-tree.constants) _
     (fault_in c.in_err-argument.field-0.0) c.loop-tree-test.true c.tree-item.is c.loop-tree.invariant c.in_err-argument.ensures in
     search rules

@@ -1,5 +1,5 @@
 use Rattle.typed_expressions.proofs.Prelude.{rules, fault_in, constants_view}
-use Rattle.typed_expressions.proofs.DestinationLoops.{begins, first_fails, goes_on, fails, ended}
+use Rattle.typed_expressions.proofs.DestinationLoops.{begins, first_fails, goes_on, destination_fails, destinations_ended}
 use Rattle.typed_expressions.proofs.known.Known.destinations.Goals as goal
 
 pub loop-target-init : goal.loop-target-init
@@ -16,7 +16,7 @@ loop-target-preserved c =
 
 pub returns : goal.returns
 returns c =
-    ended c.args.self.now c.args.others.now c.loop-target.target-index c.loop-target.made.items (constants_view c.loop-target.constants) _
+    destinations_ended c.args.self.now c.args.others.now c.loop-target.target-index c.loop-target.made.items (constants_view c.loop-target.constants) _
     c.loop-target-test.false c.loop-target.invariant
 
 pub returns-in_err-place : goal.returns-in_err-place
@@ -26,6 +26,6 @@ returns-in_err-place c =
 
 pub returns-in_err-place-2 : goal.returns-in_err-place-2
 returns-in_err-place-2 c =
-    let failed = fails c.args.self.now c.args.others.now c.loop-target.target-index c.target-item.result c.loop-target.made.items (constants_view c.loop-target.constants) _
+    let failed = destination_fails c.args.self.now c.args.others.now c.loop-target.target-index c.target-item.result c.loop-target.made.items (constants_view c.loop-target.constants) _
     (fault_in c.in_err-place-2.field-0.0) c.loop-target-test.true c.target-item.is c.loop-target.invariant c.in_err-place-2.ensures in
     search rules
