@@ -106,7 +106,8 @@ items_stand layout memory from to [] once lie h end = let same : from ≡ to = o
 items_stand layout memory from to (Mark label ∷ others) once lie h end =
     let here : layout.place_of label ≡ from + 0
     = lie label 0
-    (ap (λ same. cond same (Some 0) (option_map (λ n. 0 + n) (offset_of label others))) (eq-eqb label label refl)) in
+    (ap (λ same. cond same (Some 0) (option_map (λ n. 0 + n) (offset_of label others)))
+    (eq-eqb label label refl)) in
     let same : from + 0 ≡ from = omega arith in (
       here ∙ same,
       items_stand layout memory from to others once.1
@@ -115,18 +116,24 @@ items_stand layout memory from to (Mark label ∷ others) once lie h end =
           h (omega (arith, end)),
     )
 items_stand layout memory from to (Plain instruction ∷ others) once lie h end =
-    let parts = item_stands memory from (size_of (Plain instruction)) (bytes_of_item layout (Plain instruction)) (cells_of_items layout others)
+    let parts =
+    item_stands memory from (size_of (Plain instruction)) (bytes_of_item layout (Plain instruction))
+    (cells_of_items layout others)
     (item_length layout (Plain instruction)) h in (
       parts.0,
       items_stand layout memory (from + size_of (Plain instruction)) to others once.1
-          (labels_later layout.place_of from (Plain instruction) others once lie) parts.1 (omega (arith, end)),
+          (labels_later layout.place_of from (Plain instruction) others once lie) parts.1
+          (omega (arith, end)),
     )
 items_stand layout memory from to (WithWord form reference ∷ others) once lie h end =
-    let parts = item_stands memory from 3 (bytes_of_item layout (WithWord form reference)) (cells_of_items layout others)
+    let parts =
+    item_stands memory from 3 (bytes_of_item layout (WithWord form reference))
+    (cells_of_items layout others)
     (item_length layout (WithWord form reference)) h in (
       parts.0,
       items_stand layout memory (from + 3) to others once.1
-          (labels_later layout.place_of from (WithWord form reference) others once lie) parts.1 (omega (arith, end)),
+          (labels_later layout.place_of from (WithWord form reference) others once lie) parts.1
+          (omega (arith, end)),
     )
 items_stand layout memory from to (Byte value ∷ others) once lie h end =
     let parts = item_stands memory from 1 (bytes_of_item layout (Byte value)) (cells_of_items layout others)
@@ -136,11 +143,13 @@ items_stand layout memory from to (Byte value ∷ others) once lie h end =
           (labels_later layout.place_of from (Byte value) others once lie) parts.1 (omega (arith, end)),
     )
 items_stand layout memory from to (Address reference ∷ others) once lie h end =
-    let parts = item_stands memory from 2 (bytes_of_item layout (Address reference)) (cells_of_items layout others)
+    let parts =
+    item_stands memory from 2 (bytes_of_item layout (Address reference)) (cells_of_items layout others)
     (item_length layout (Address reference)) h in (
       parts.0,
       items_stand layout memory (from + 2) to others once.1
-          (labels_later layout.place_of from (Address reference) others once lie) parts.1 (omega (arith, end)),
+          (labels_later layout.place_of from (Address reference) others once lie) parts.1
+          (omega (arith, end)),
     )
 items_stand layout memory from to (Gap count ∷ others) once lie h end =
     items_stand layout memory (from + count) to others once.1
@@ -186,7 +195,8 @@ ascend_with :
 ascend_with offset None others after h = h
 ascend_with offset (Some target) others after h = fixes_before (fix_at offset target) others after h
 
-fixes_after : (start offset : ℕ) (items : List Item) → start ≤ offset → AreAfter start (fixes_of_items offset items)
+fixes_after : (start offset : ℕ) (items : List Item) → start ≤ offset
+    → AreAfter start (fixes_of_items offset items)
 fixes_after start offset [] h = tt
 fixes_after start offset (Plain instruction ∷ others) h =
     fixes_after start (offset + size_of (Plain instruction)) others (omega arith)
@@ -365,10 +375,12 @@ assembles assembly places is bound fits placed =
       ascending = items_ascend 0 items;
       within = items_within 0 (length (bytes_of_items layout items)) items (omega (arith, size));
       filled =
-          ap (λ cells. list_all (is_in_a_run Code (runs_from 0 cells)) (fixes_of_items 0 items)) (cells_are layout items)
+          ap (λ cells. list_all (is_in_a_run Code (runs_from 0 cells)) (fixes_of_items 0 items))
+          (cells_are layout items)
           ∙ items_filled layout 0 items;
       whole =
-          ap (λ cells. words_are_whole (fixed_bytes (fixes_of_items 0 items) 0 cells)) (cells_are layout items)
+          ap (λ cells. words_are_whole (fixed_bytes (fixes_of_items 0 items) 0 cells))
+          (cells_are layout items)
           ∙ ap words_are_whole (fixed_items layout 0 items)
           ∙ whole_items layout items;
       targets = λ count listed. items_fit assembly.labels count 0 items is.known listed;

@@ -32,12 +32,14 @@ pub called :
     → 2 ≤ level
     → InstructionStands s.memory s.registers.pc (Call entry)
     → step_of script s
-    ≡ at entry (record s.registers { sp = level - 2 }) (pushed level (wrap (s.registers.pc + 3)) s.memory) s.events
+    ≡ at entry (record s.registers { sp = level - 2 })
+    (pushed level (wrap (s.registers.pc + 3)) s.memory) s.events
 unfolding called_at
 called script entry level s runs small stack room stands =
     let word = wrap (s.registers.pc + 3) in
     step_is script (Call entry) s runs small stands
-    ∙ (ap (λ status. called_at entry (one_less s.registers.sp) (two_less s.registers.sp) word s.registers s.memory s status) runs
+    ∙ (ap (λ status. called_at entry (one_less s.registers.sp) (two_less s.registers.sp) word s.registers
+    s.memory s status) runs
     ∙ (ap (λ n. called_at entry n (two_less s.registers.sp) word s.registers s.memory s Running)
     (one_below s.registers.sp level stack.pointer stack.limit room)
     ∙ ap (λ n. called_at entry (level - 1) n word s.registers s.memory s Running)
@@ -122,5 +124,6 @@ pub returned_is :
     → returned r memory events ≡ at word (record r { sp = wrap level }) memory events
 returned_is level word r memory events top room limit is =
     ap (λ n. at (word_at memory n) (record r { sp = wrap (n + 2) }) memory events) top
-    ∙ (ap (λ n. at n (record r { sp = wrap (level - 2 + 2) }) memory events) (word_pushed level word memory room limit is)
+    ∙ (ap (λ n. at n (record r { sp = wrap (level - 2 + 2) }) memory events)
+    (word_pushed level word memory room limit is)
     ∙ ap (λ n. at word (record r { sp = n }) memory events) (pointer_after_pop level room))

@@ -15,13 +15,15 @@ bound_in_parts label (item ∷ rest) others =
     ∙ sym (or_assoc (marks label item) (is_bound label rest) (is_bound label others))
 
 -- two parts, the second from where the first ends
-pub record StandsInParts (layout : Layout) (memory : List ℕ) (items others : List Item) (from to : ℕ) : Type 0 where
+pub record StandsInParts (layout : Layout) (memory : List ℕ) (items others : List Item)
+    (from to : ℕ) : Type 0 where
   pub first : Stands layout memory items from (from + size_of_items items)
   pub second : Stands layout memory others (from + size_of_items items) to
 
 with_first :
     (layout : Layout) (memory : List ℕ) (item : Item) (rest others : List Item) (from to : ℕ)
-    → ((end : ℕ) → Stands layout memory rest (from + size_of item) end → Stands layout memory (item ∷ rest) from end)
+    → ((end : ℕ) → Stands layout memory rest (from + size_of item) end
+    → Stands layout memory (item ∷ rest) from end)
     → StandsInParts layout memory rest others (from + size_of item) to
     → StandsInParts layout memory (item ∷ rest) others from to
 with_first layout memory item rest others from to more parts =
@@ -92,6 +94,7 @@ label_is layout memory items others label from to h =
 pub jump_goes :
     (layout : Layout) (memory : List ℕ) (items others : List Item) (form : WordForm) (label from to : ℕ)
     → Stands layout memory (items ++ WithWord form (AtLabel label) ∷ others) from to
-    → InstructionStands memory (from + size_of_items items) (instruction_with form (wrap (layout.place_of label)))
+    → InstructionStands memory (from + size_of_items items)
+    (instruction_with form (wrap (layout.place_of label)))
 jump_goes layout memory items others form label from to h =
     (stands_in_parts layout memory items (WithWord form (AtLabel label) ∷ others) from to h).second.0

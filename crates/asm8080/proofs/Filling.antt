@@ -26,7 +26,9 @@ longer :
     → is_within (content_of_run Code next) fix ≡ true
     → is_within (content_of_run Code (run_at offset (value ∷ next.items))) fix ≡ true
 longer offset value next fix here h =
-    let parts = and_parts (nat_le next.offset fix.offset) (nat_le (fix_end fix) (next.offset + length next.items)) h in
+    let parts =
+    and_parts (nat_le next.offset fix.offset)
+    (nat_le (fix_end fix) (next.offset + length next.items)) h in
     let starts : next.offset ≤ fix.offset = leb-true next.offset fix.offset parts.0 in
     let ends : fix_end fix ≤ next.offset + length next.items
     = leb-true (fix_end fix) (next.offset + length next.items) parts.1 in
@@ -130,7 +132,8 @@ word_in offset low high target rest =
     cond joins (run ∷ second.others)
     (run_at offset (low ∷ []) ∷ run_at (offset + 1) (high ∷ second.items) ∷ second.others) in
     ap (λ runs. is_in_a_run Code (before_runs offset low runs) (fix_at offset target)) second.same
-    ∙ ap (λ joins. is_in_a_run Code (joined joins) (fix_at offset target)) (eq-eqb (offset + 1) (offset + 1) refl)
+    ∙ ap (λ joins. is_in_a_run Code (joined joins) (fix_at offset target))
+    (eq-eqb (offset + 1) (offset + 1) refl)
     ∙ or_left (is_within (content_of_run Code run) (fix_at offset target))
     (is_in_a_run Code second.others (fix_at offset target))
     (inside offset (low ∷ high ∷ second.items) (fix_at offset target) (omega arith) (omega arith))
@@ -148,7 +151,8 @@ word_more offset low high target rest fixes h = by_target target
     later = bytes_more offset (offset + 2) (Some low ∷ Some high ∷ []) rest fixes two h
 
     by_target :
-        (from : Option Target) → InRuns (runs_from offset (Some low ∷ Some high ∷ rest)) (with_fix offset from fixes)
+        (from : Option Target) → InRuns (runs_from offset (Some low ∷ Some high ∷ rest))
+        (with_fix offset from fixes)
     by_target None = later
     by_target (Some from) =
         and_from (is_in_a_run Code (runs_from offset (Some low ∷ Some high ∷ rest)) (fix_at offset from))
@@ -161,7 +165,8 @@ pub items_filled :
 items_filled layout offset [] = refl
 items_filled layout offset (Plain instruction ∷ others) =
     let end : ℕ = offset + length (bytes_of instruction) in
-    bytes_more offset end (map Some (bytes_of instruction)) (cells_of_items layout others) (fixes_of_items end others)
+    bytes_more offset end (map Some (bytes_of instruction)) (cells_of_items layout others)
+    (fixes_of_items end others)
     (ap (λ n. offset + n) (some_length (bytes_of instruction)))
     (items_filled layout end others)
 items_filled layout offset (WithWord form reference ∷ others) =
@@ -173,14 +178,17 @@ items_filled layout offset (WithWord form reference ∷ others) =
     let later : InRuns (runs_from (offset + 1 + 2) rest) fixes
     = subst (λ n. InRuns (runs_from n rest) fixes) (sym next) (items_filled layout (offset + 3) others) in
     ap (λ (bytes : List ℕ).
-    list_all (is_in_a_run Code (runs_from offset (map Some bytes ++ rest))) (with_fix (offset + 1) target fixes))
+    list_all (is_in_a_run Code (runs_from offset (map Some bytes ++ rest)))
+    (with_fix (offset + 1) target fixes))
     (form_bytes form word)
-    ∙ all_more offset (opcode form) (runs_from (offset + 1) (Some (low_byte word) ∷ Some (high_byte word) ∷ rest))
+    ∙ all_more offset (opcode form)
+    (runs_from (offset + 1) (Some (low_byte word) ∷ Some (high_byte word) ∷ rest))
     (with_fix (offset + 1) target fixes)
     (word_more (offset + 1) (low_byte word) (high_byte word) target rest fixes later)
 items_filled layout offset (Byte value ∷ others) =
     let next : offset + 1 ≡ offset + 1 = refl in
-    bytes_more offset (offset + 1) (Some value ∷ []) (cells_of_items layout others) (fixes_of_items (offset + 1) others)
+    bytes_more offset (offset + 1) (Some value ∷ []) (cells_of_items layout others)
+    (fixes_of_items (offset + 1) others)
     next (items_filled layout (offset + 1) others)
 items_filled layout offset (Address reference ∷ others) =
     let word : ℕ = word_of layout reference in
@@ -193,5 +201,6 @@ items_filled layout offset (Gap count ∷ others) =
     (items_filled layout (offset + count) others)
 items_filled layout offset (Mark label ∷ others) =
     let same : offset + 0 ≡ offset = omega arith in
-    ap (λ n. list_all (is_in_a_run Code (runs_from offset (cells_of_items layout others))) (fixes_of_items n others)) same
+    ap (λ n. list_all (is_in_a_run Code (runs_from offset (cells_of_items layout others)))
+    (fixes_of_items n others)) same
     ∙ items_filled layout offset others

@@ -27,7 +27,8 @@ pub plain_item_step :
     → Stands layout memory (Plain i ∷ items) from to
     → step_of script (at (wrap from) r memory events)
     ≡ act script i (at (wrap (from + size_of_instruction i)) r memory events)
-plain_item_step script layout i items from to r memory events stands = step_at script i from r memory events stands.0
+plain_item_step script layout i items from to r memory events stands =
+    step_at script i from r memory events stands.0
 
 -- one with a word
 pub word_item_step :
@@ -39,7 +40,8 @@ pub word_item_step :
 word_item_step script layout form reference items from to r memory events stands =
     let i = instruction_with form (word_of layout reference) in
     step_at script i from r memory events stands.0
-    ∙ ap (λ size. act script i (at (wrap (from + size)) r memory events)) (size_with form (word_of layout reference))
+    ∙ ap (λ size. act script i (at (wrap (from + size)) r memory events))
+    (size_with form (word_of layout reference))
 
 -- PUSH
 pub push_item_step :
@@ -50,7 +52,8 @@ pub push_item_step :
     → top ≤ MEMORY_SIZE
     → 2 ≤ top
     → step_of script (at (wrap from) r memory events)
-    ≡ at (wrap (from + 1)) (record r { sp = wrap (top - 2) }) (pushed top (pushed_of pair (record r { pc = wrap (from + 1) })) memory) events
+    ≡ at (wrap (from + 1)) (record r { sp = wrap (top - 2) })
+    (pushed top (pushed_of pair (record r { pc = wrap (from + 1) })) memory) events
 push_item_step script layout pair items from to top r memory events stands pointer limit room =
     plain_item_step script layout (Push pair) items from to r memory events stands
     ∙ push_does script pair (from + 1) top r memory events pointer limit room

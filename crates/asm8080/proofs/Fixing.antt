@@ -33,7 +33,8 @@ some_length (value ∷ others) = ap (λ n. suc n) (some_length others)
 
 all_set :
     (bytes others : List ℕ) (more : List Bool)
-    → set_bytes (bytes ++ others) (replicate (length bytes) true ++ more) ≡ map Some bytes ++ set_bytes others more
+    → set_bytes (bytes ++ others) (replicate (length bytes) true ++ more)
+    ≡ map Some bytes ++ set_bytes others more
 all_set [] others more = refl
 all_set (value ∷ rest) others more =
     ap (λ (cells : List (Option ℕ)). Some value ∷ cells) (all_set rest others more)
@@ -61,16 +62,19 @@ pub cells_are :
     → set_bytes (bytes_of_items layout items) (flags_of_items items) ≡ cells_of_items layout items
 cells_are layout [] = refl
 cells_are layout (Plain instruction ∷ others) =
-    item_set (bytes_of instruction) (bytes_of_items layout others) (size_of (Plain instruction)) (flags_of_items others)
+    item_set (bytes_of instruction) (bytes_of_items layout others) (size_of (Plain instruction))
+    (flags_of_items others)
     (cells_of_items layout others) refl (cells_are layout others)
 cells_are layout (WithWord form reference ∷ others) =
-    item_set (bytes_of_item layout (WithWord form reference)) (bytes_of_items layout others) 3 (flags_of_items others)
+    item_set (bytes_of_item layout (WithWord form reference)) (bytes_of_items layout others) 3
+    (flags_of_items others)
     (cells_of_items layout others) (item_length layout (WithWord form reference)) (cells_are layout others)
 cells_are layout (Byte value ∷ others) =
     item_set (value ∷ []) (bytes_of_items layout others) 1 (flags_of_items others)
     (cells_of_items layout others) refl (cells_are layout others)
 cells_are layout (Address reference ∷ others) =
-    item_set (bytes_of_item layout (Address reference)) (bytes_of_items layout others) 2 (flags_of_items others)
+    item_set (bytes_of_item layout (Address reference)) (bytes_of_items layout others) 2
+    (flags_of_items others)
     (cells_of_items layout others) refl (cells_are layout others)
 cells_are layout (Gap count ∷ others) =
     none_set count (bytes_of_items layout others) (flags_of_items others)
@@ -191,7 +195,8 @@ word_front :
 word_front None offset word others rest out h =
     let ends : offset + 2 ≡ offset + 2 = refl in
     plain_front (fixes_of_items (offset + 2) others) offset (offset + 2)
-    (Some (low_byte word) ∷ Some (high_byte word) ∷ []) rest out ends (λ x k. none_early (offset + 2) x others k) h
+    (Some (low_byte word) ∷ Some (high_byte word) ∷ []) rest out ends
+    (λ x k. none_early (offset + 2) x others k) h
 word_front (Some target) offset word others rest out h =
     let low : ℕ = low_byte word in
     let high : ℕ = high_byte word in
@@ -211,7 +216,8 @@ word_front (Some target) offset word others rest out h =
 -- the bytes of items with the fixes of items
 pub fixed_items :
     (layout : Layout) (offset : ℕ) (items : List Item)
-    → fixed_bytes (fixes_of_items offset items) offset (cells_of_items layout items) ≡ set_of_items layout items
+    → fixed_bytes (fixes_of_items offset items) offset (cells_of_items layout items)
+    ≡ set_of_items layout items
 fixed_items layout offset [] = refl
 fixed_items layout offset (Plain instruction ∷ others) =
     let end : ℕ = offset + length (bytes_of instruction) in
@@ -279,10 +285,12 @@ whole_items layout [] = refl
 whole_items layout (Plain instruction ∷ others) =
     whole_plain (map Some (bytes_of instruction)) (set_of_items layout others) (whole_items layout others)
 whole_items layout (WithWord form reference ∷ others) =
-    whole_word (word_of layout reference) (target_of reference) (set_of_items layout others) (whole_items layout others)
+    whole_word (word_of layout reference) (target_of reference) (set_of_items layout others)
+    (whole_items layout others)
 whole_items layout (Byte value ∷ others) = whole_items layout others
 whole_items layout (Address reference ∷ others) =
-    whole_word (word_of layout reference) (target_of reference) (set_of_items layout others) (whole_items layout others)
+    whole_word (word_of layout reference) (target_of reference) (set_of_items layout others)
+    (whole_items layout others)
 whole_items layout (Gap count ∷ others) =
     whole_plain (replicate count None) (set_of_items layout others) (whole_items layout others)
 whole_items layout (Mark label ∷ others) = whole_items layout others

@@ -86,7 +86,8 @@ unbound_from assembly label is from = none_of assembly.items is.known
     unmarked (Address reference) known = refl
     unmarked (Gap count) known = refl
     unmarked (Mark other) known =
-        let within : other < assembly.labels = known in ne_eqb label other (λ e. absurd (omega (arith, e, within, from)))
+        let within : other < assembly.labels = known in
+        ne_eqb label other (λ e. absurd (omega (arith, e, within, from)))
 
     none_of : (items : List Item) → All (KnowsLabels assembly.labels) items → is_bound label items ≡ false
     none_of [] known = refl

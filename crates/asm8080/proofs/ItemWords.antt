@@ -44,10 +44,12 @@ target_moved offset gain = omega arith
 low_gained : (word gain : ℕ) → (word % 256 + gain) % 256 ≡ (word + gain) % 65536 % 256
 low_gained word gain = omega arith
 
-high_gained : (word gain : ℕ) → (word % 256 + 256 * (word / 256) + gain) / 256 % 256 ≡ (word + gain) % 65536 / 256
+high_gained : (word gain : ℕ) → (word % 256 + 256 * (word / 256) + gain) / 256 % 256
+    ≡ (word + gain) % 65536 / 256
 high_gained word gain = omega arith
 
-pub low_moved : (word gain after : ℕ) → wrap (word + gain) ≡ after → (low_byte word + gain) % 256 ≡ low_byte after
+pub low_moved : (word gain after : ℕ) → wrap (word + gain) ≡ after
+    → (low_byte word + gain) % 256 ≡ low_byte after
 low_moved word gain after h = low_gained word gain ∙ ap low_byte h
 
 pub high_moved :

@@ -126,7 +126,8 @@ stands_still layout memory other (Byte value ∷ others) from to limit alike h =
 stands_still layout memory other (Address reference ∷ others) from to limit alike h =
     let e : to ≡ from + 2 + size_of_items others =
     stands_size layout memory others (from + 2) to h.1 in (
-      bytes_stay memory other (bytes_of_item layout (Address reference)) from to limit (omega arith) alike h.0,
+      bytes_stay memory other (bytes_of_item layout (Address reference)) from to limit
+          (omega arith) alike h.0,
       stands_still layout memory other others (from + 2) to limit
           (λ address low high. alike address (omega arith) high) h.1,
     )

@@ -71,22 +71,35 @@ pub loop_after :
     → n < 255
     → Comes script k (at (past top body + 1 + 3) (turns_counted body n r) memory events) u
     → Comes script (steps_counted body n k) (at top r memory events) u
-loop_after script layout body label top to others memory events touch keeps stands fits bound zero r k u counter few more =
-    let after = stands_after layout memory body (Plain (Dcr (Of E)) ∷ WithWord (JumpWhere NotZero) (AtLabel label) ∷ others) top to stands in
-    straight script layout body (Plain (Dcr (Of E)) ∷ WithWord (JumpWhere NotZero) (AtLabel label) ∷ others) top to r memory events (suc (suc k)) u touch stands (omega arith)
-    (straight script layout (Dcr (Of E) ∷ []) (WithWord (JumpWhere NotZero) (AtLabel label) ∷ others) (past top body) to (effect body r) memory events (suc k) u refl after (omega arith)
-    (goes_past script k NotZero (wrap (layout.place_of label)) (past top body + 1) (once_counted body r) memory events u
+loop_after script layout body label top to others memory events touch keeps stands fits bound zero r k
+    u counter few more =
+    let after =
+    stands_after layout memory body
+    (Plain (Dcr (Of E)) ∷ WithWord (JumpWhere NotZero) (AtLabel label) ∷ others) top to stands in
+    straight script layout body (Plain (Dcr (Of E)) ∷ WithWord (JumpWhere NotZero) (AtLabel label) ∷ others)
+    top to r memory events (suc (suc k)) u touch stands (omega arith)
+    (straight script layout (Dcr (Of E) ∷ []) (WithWord (JumpWhere NotZero) (AtLabel label) ∷ others)
+    (past top body) to (effect body r) memory events (suc k) u refl after (omega arith)
+    (goes_past script k NotZero (wrap (layout.place_of label)) (past top body + 1)
+    (once_counted body r) memory events u
     after.1.0 fits (counted_out (effect body r).e (keeps r ∙ counter)) more))
-loop_after script layout body label top to others memory events touch keeps stands fits bound (suc n) r k u counter few more =
-    let after = stands_after layout memory body (Plain (Dcr (Of E)) ∷ WithWord (JumpWhere NotZero) (AtLabel label) ∷ others) top to stands in
+loop_after script layout body label top to others memory events touch keeps stands fits bound (suc n) r k
+    u counter few more =
+    let after =
+    stands_after layout memory body
+    (Plain (Dcr (Of E)) ∷ WithWord (JumpWhere NotZero) (AtLabel label) ∷ others) top to stands in
     let later = past_later body top in
     let left = steps_counted body n k in
-    straight script layout body (Plain (Dcr (Of E)) ∷ WithWord (JumpWhere NotZero) (AtLabel label) ∷ others) top to r memory events (suc (suc left)) u touch stands (omega arith)
-    (straight script layout (Dcr (Of E) ∷ []) (WithWord (JumpWhere NotZero) (AtLabel label) ∷ others) (past top body) to (effect body r) memory events (suc left) u refl after (omega arith)
-    (jumps_where script left NotZero (wrap (layout.place_of label)) (past top body + 1) top (once_counted body r) memory events u
+    straight script layout body (Plain (Dcr (Of E)) ∷ WithWord (JumpWhere NotZero) (AtLabel label) ∷ others)
+    top to r memory events (suc (suc left)) u touch stands (omega arith)
+    (straight script layout (Dcr (Of E) ∷ []) (WithWord (JumpWhere NotZero) (AtLabel label) ∷ others)
+    (past top body) to (effect body r) memory events (suc left) u refl after (omega arith)
+    (jumps_where script left NotZero (wrap (layout.place_of label)) (past top body + 1) top
+    (once_counted body r) memory events u
     after.1.0 (omega arith) (counts_on (effect body r).e n (keeps r ∙ counter) (omega arith))
     (word_is (layout.place_of label) top bound (omega arith))
-    (loop_after script layout body label top to others memory events touch keeps stands fits bound n (once_counted body r) k u
+    (loop_after script layout body label top to others memory events touch keeps stands fits bound n
+    (once_counted body r) k u
     (one_less_is (effect body r).e (suc n) (keeps r ∙ counter) (omega arith)) (omega arith) more)))
 
 -- the registers when E was counted below 0, with a turn each time before
@@ -115,20 +128,34 @@ pub loop_before :
     → (n : ℕ) (r : Registers)
     → r.e ≡ n
     → n < 128
-    → Comes script (steps_below body n) (at top r memory events) (returned (turns_below body n r) memory events)
-loop_before script layout body label top to others memory events touch keeps stands fits bound zero r counter few =
+    → Comes script (steps_below body n) (at top r memory events)
+    (returned (turns_below body n r) memory events)
+loop_before script layout body label top to others memory events touch keeps stands fits bound
+    zero r counter few =
     let later = past_later body (top + 1 + 1) in
-    straight script layout (Dcr (Of E) ∷ []) (Plain (ReturnIf Minus) ∷ plain body (WithWord Jump (AtLabel label) ∷ others)) top to r memory events 1 (returned (counted r) memory events) refl stands (omega arith)
-    (returns_where script Minus (top + 1) (counted r) memory events stands.1.0 (omega arith) (below_zero r.e counter))
-loop_before script layout body label top to others memory events touch keeps stands fits bound (suc n) r counter few =
+    straight script layout (Dcr (Of E) ∷ [])
+    (Plain (ReturnIf Minus) ∷ plain body (WithWord Jump (AtLabel label) ∷ others)) top to r memory events
+    1 (returned (counted r) memory events) refl stands (omega arith)
+    (returns_where script Minus (top + 1) (counted r) memory events stands.1.0 (omega arith)
+    (below_zero r.e counter))
+loop_before script layout body label top to others memory events touch keeps stands fits bound
+    (suc n) r counter few =
     let later = past_later body (top + 1 + 1) in
-    let after = stands_after layout memory body (WithWord Jump (AtLabel label) ∷ others) (top + 1 + 1) to stands.1.1 in
+    let after =
+    stands_after layout memory body (WithWord Jump (AtLabel label) ∷ others)
+    (top + 1 + 1) to stands.1.1 in
     let u = returned (turns_below body (suc n) r) memory events in
     let left = steps_below body n in
-    straight script layout (Dcr (Of E) ∷ []) (Plain (ReturnIf Minus) ∷ plain body (WithWord Jump (AtLabel label) ∷ others)) top to r memory events (suc (steps_of body (suc left))) u refl stands (omega arith)
-    (stays_here script (steps_of body (suc left)) Minus (top + 1) (counted r) memory events u stands.1.0 (omega arith) (not_below_zero r.e n counter (omega arith))
-    (straight script layout body (WithWord Jump (AtLabel label) ∷ others) (top + 1 + 1) to (counted r) memory events (suc left) u touch stands.1.1 fits
-    (runs_from_jump script left (wrap (layout.place_of label)) (past (top + 1 + 1) body) top (effect body (counted r)) memory events u
+    straight script layout (Dcr (Of E) ∷ [])
+    (Plain (ReturnIf Minus) ∷ plain body (WithWord Jump (AtLabel label) ∷ others)) top to r memory events
+    (suc (steps_of body (suc left))) u refl stands (omega arith)
+    (stays_here script (steps_of body (suc left)) Minus (top + 1) (counted r) memory events u stands.1.0
+    (omega arith) (not_below_zero r.e n counter (omega arith))
+    (straight script layout body (WithWord Jump (AtLabel label) ∷ others) (top + 1 + 1) to (counted r) memory
+    events (suc left) u touch stands.1.1 fits
+    (runs_from_jump script left (wrap (layout.place_of label)) (past (top + 1 + 1) body) top
+    (effect body (counted r)) memory events u
     after.0 fits (word_is (layout.place_of label) top bound (omega arith))
-    (loop_before script layout body label top to others memory events touch keeps stands fits bound n (effect body (counted r))
+    (loop_before script layout body label top to others memory events touch keeps stands fits bound n
+    (effect body (counted r))
     (keeps (counted r) ∙ one_less_is r.e n counter (omega arith)) (omega arith)))))

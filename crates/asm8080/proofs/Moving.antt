@@ -31,7 +31,8 @@ byte_moves gain_of before value rest out rests h =
     (moved_after gain_of none_kept (Some (plain value)) rest) out (rests value) h
 
 bytes_move :
-    (gain_of : Target → ℕ) (before : Option SetByte) (bytes : List (Option ℕ)) (rest out : List (Option SetByte))
+    (gain_of : Target → ℕ) (before : Option SetByte) (bytes : List (Option ℕ))
+    (rest out : List (Option SetByte))
     → Rests gain_of before
     → ((last : Option SetByte) → Rests gain_of last → moved_after gain_of none_kept last rest ≡ out)
     → moved_after gain_of none_kept before (row_of bytes ++ rest) ≡ row_of bytes ++ out
@@ -48,13 +49,15 @@ target_moves :
     (rest out : List (Option SetByte))
     → wrap (word + gain_of target) ≡ word_after
     → moved_after gain_of none_kept (Some (plain (high_byte word))) rest ≡ out
-    → moved_after gain_of none_kept before (word_before word (Some target) rest) ≡ word_before word_after None out
+    → moved_after gain_of none_kept before (word_before word (Some target) rest)
+    ≡ word_before word_after None out
 target_moves gain_of before target word word_after rest out moved h =
     let gain : ℕ = gain_of target in
     let second : ℕ = second_byte_moved (low_byte word) (high_byte word) gain in
     let others : List (Option SetByte) = moved_after gain_of none_kept (Some (plain (high_byte word))) rest in
     cell ((low_byte word + gain) % 256) (low_byte word_after)
-    (Some (plain second) ∷ others) (Some (plain (high_byte word_after)) ∷ out) (low_moved word gain word_after moved)
+    (Some (plain second) ∷ others) (Some (plain (high_byte word_after)) ∷ out)
+    (low_moved word gain word_after moved)
     (cell second (high_byte word_after) others out (high_moved word gain word_after moved) h)
 
 -- a word of items
@@ -62,7 +65,8 @@ word_moves :
     (address_of : Target → ℕ) (place_of : ℕ → ℕ) (before : Option SetByte) (reference : Reference)
     (rest out : List (Option SetByte))
     → Rests address_of before
-    → moved_after address_of none_kept (Some (plain (high_byte (word_of (layout_from place_of) reference)))) rest ≡ out
+    → moved_after address_of none_kept (Some (plain (high_byte (word_of (layout_from place_of) reference))))
+    rest ≡ out
     → moved_after address_of none_kept before
     (word_before (word_of (layout_from place_of) reference) (target_of reference) rest)
     ≡ word_before (word_of (layout_moved address_of place_of) reference) None out
@@ -92,7 +96,8 @@ pub moved_items :
 moved_items address_of place_of before [] rests = refl
 moved_items address_of place_of before (Plain instruction ∷ others) rests =
     let after : List (Option ℕ) = cells_of_items (layout_moved address_of place_of) others in
-    bytes_move address_of before (map Some (bytes_of instruction)) (set_of_items (layout_from place_of) others) (row_of after)
+    bytes_move address_of before (map Some (bytes_of instruction))
+    (set_of_items (layout_from place_of) others) (row_of after)
     rests (λ last same. moved_items address_of place_of last others same)
     ∙ row_append (map Some (bytes_of instruction)) after
 moved_items address_of place_of before (WithWord form reference ∷ others) rests =
@@ -116,7 +121,8 @@ moved_items address_of place_of before (Address reference ∷ others) rests =
     (moved_items address_of place_of (Some (plain (high_byte word))) others (λ v. refl))
 moved_items address_of place_of before (Gap count ∷ others) rests =
     let after : List (Option ℕ) = cells_of_items (layout_moved address_of place_of) others in
-    bytes_move address_of before (replicate count None) (set_of_items (layout_from place_of) others) (row_of after)
+    bytes_move address_of before (replicate count None)
+    (set_of_items (layout_from place_of) others) (row_of after)
     rests (λ last same. moved_items address_of place_of last others same)
     ∙ row_append (replicate count None) after
 moved_items address_of place_of before (Mark label ∷ others) rests =
@@ -134,9 +140,11 @@ values_back (Some value ∷ others) = ap (λ (zs : List (Option ℕ)). Some valu
 -- code of items, resolved: the bytes of the items there
 pub resolved_items :
     (address_of : Target → ℕ) (places : List (Option ℕ)) (items : List Item)
-    → resolved address_of (code_of places items) ≡ cells_of_items (layout_moved address_of (offset_in items)) items
+    → resolved address_of (code_of places items)
+    ≡ cells_of_items (layout_moved address_of (offset_in items)) items
 resolved_items address_of places items =
-    ap (λ cells. values_of (moved_after address_of none_kept None (fixed_bytes (fixes_of_items 0 items) 0 cells)))
+    ap (λ cells. values_of (moved_after address_of none_kept None
+    (fixed_bytes (fixes_of_items 0 items) 0 cells)))
     (cells_are (layout_from (offset_in items)) items)
     ∙ ap (λ set. values_of (moved_after address_of none_kept None set))
     (fixed_items (layout_from (offset_in items)) 0 items)

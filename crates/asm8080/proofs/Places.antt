@@ -10,7 +10,8 @@ place_at [] label = None
 place_at (place ∷ others) zero = place
 place_at (place ∷ others) (suc label) = place_at others label
 
-place_in_is : (places : List (Option ℕ)) (label : ℕ) → place_in places label ≡ unwrap_or (place_at places label) 0
+place_in_is : (places : List (Option ℕ)) (label : ℕ)
+    → place_in places label ≡ unwrap_or (place_at places label) 0
 place_in_is [] label = refl
 place_in_is (None ∷ others) zero = refl
 place_in_is (Some place ∷ others) zero = refl
@@ -48,7 +49,8 @@ set_length (place ∷ others) zero offset = refl
 set_length (place ∷ others) (suc label) offset = ap (λ n. suc n) (set_length others label offset)
 
 mark_length :
-    (item : Item) (offset : ℕ) (places : List (Option ℕ)) → length (with_mark item offset places) ≡ length places
+    (item : Item) (offset : ℕ) (places : List (Option ℕ))
+    → length (with_mark item offset places) ≡ length places
 mark_length (Plain instruction) offset places = refl
 mark_length (WithWord form reference) offset places = refl
 mark_length (Byte value) offset places = refl
@@ -61,13 +63,15 @@ after_length :
     → length (places_after offset items places) ≡ length places
 after_length offset [] places = refl
 after_length offset (item ∷ others) places =
-    after_length (offset + size_of item) others (with_mark item offset places) ∙ mark_length item offset places
+    after_length (offset + size_of item) others (with_mark item offset places)
+    ∙ mark_length item offset places
 
 -- a label has a place in items where they bind it
 pub bound_is : (label : ℕ) (items : List Item) → is_some (offset_of label items) ≡ is_bound label items
 bound_is label [] = refl
 bound_is label (item ∷ others) =
-    by_mark (marks label item) (offset_of label others) ∙ ap (λ later. marks label item || later) (bound_is label others)
+    by_mark (marks label item) (offset_of label others)
+    ∙ ap (λ later. marks label item || later) (bound_is label others)
   where
     by_mark :
         (here : Bool) (later : Option ℕ)
@@ -148,7 +152,8 @@ place_after labels offset label (Mark other ∷ others) places size known once =
         = λ same. or_place (option_map (λ n. offset + n)
         (cond same (Some 0) (option_map (λ n. 0 + n) (offset_of label others)))) (place_at places label) in
         ap (λ (later : Option ℕ).
-        or_place (option_map (λ n. offset + 0 + n) later) (place_at (slice_set places other (Some offset)) label))
+        or_place (option_map (λ n. offset + 0 + n) later)
+        (place_at (slice_set places other (Some offset)) label))
         (not_bound label others (once.0 label e))
         ∙ here ∙ ap some start ∙ ap shown (sym e)
     by_test false e =
@@ -158,7 +163,8 @@ place_after labels offset label (Mark other ∷ others) places size known once =
         let shown : Bool → Option ℕ
         = λ same. or_place (option_map (λ n. offset + n)
         (cond same (Some 0) (option_map (λ n. 0 + n) (offset_of label others)))) (place_at places label) in
-        ap (λ (before : Option ℕ). or_place (option_map (λ n. offset + 0 + n) (offset_of label others)) before)
+        ap (λ (before : Option ℕ). or_place
+        (option_map (λ n. offset + 0 + n) (offset_of label others)) before)
         (set_there places other label offset apart)
         ∙ later_place offset 0 (offset_of label others) (place_at places label)
         ∙ ap shown (sym e)
@@ -213,7 +219,8 @@ label_bound :
     (assembly : Assembly) (label : ℕ)
     → IsAssembly assembly
     → is_some (place_at (places_of assembly.labels assembly.items) label) ≡ is_bound label assembly.items
-label_bound assembly label is = ap (λ place. is_some place) (place_is assembly label is) ∙ bound_is label assembly.items
+label_bound assembly label is =
+    ap (λ place. is_some place) (place_is assembly label is) ∙ bound_is label assembly.items
 
 pub all_bound :
     (assembly : Assembly)
@@ -245,7 +252,8 @@ before_more offset (Some target) others = refl
 
 fixes_split :
     (offset : ℕ) (item : Item) (others : List Item)
-    → fixes_of_item offset item ++ fixes_of_items (offset + size_of item) others ≡ fixes_of_items offset (item ∷ others)
+    → fixes_of_item offset item ++ fixes_of_items (offset + size_of item) others
+    ≡ fixes_of_items offset (item ∷ others)
 fixes_split offset (Plain instruction) others = refl
 fixes_split offset (WithWord form reference) others =
     before_more (offset + 1) (target_of reference) (fixes_of_items (offset + 3) others)
@@ -256,7 +264,8 @@ fixes_split offset (Gap count) others = refl
 fixes_split offset (Mark label) others = refl
 
 same_code :
-    (code : Assembled) (bytes bytes_after : List ℕ) (flags flags_after : List Bool) (fixes fixes_after : List Fix)
+    (code : Assembled) (bytes bytes_after : List ℕ) (flags flags_after : List Bool)
+    (fixes fixes_after : List Fix)
     → bytes ≡ bytes_after
     → flags ≡ flags_after
     → fixes ≡ fixes_after
@@ -265,7 +274,8 @@ same_code :
     (record code { bytes = bytes_after; is_set = flags_after; fixes = fixes_after })
 same_code code bytes bytes_after flags flags_after fixes fixes_after e g f =
     let first : List ℕ → Assembled = λ xs. record code { bytes = xs; is_set = flags; fixes = fixes } in
-    let second : List Bool → Assembled = λ bs. record code { bytes = bytes_after; is_set = bs; fixes = fixes } in
+    let second : List Bool → Assembled =
+    λ bs. record code { bytes = bytes_after; is_set = bs; fixes = fixes } in
     let third : List Fix → Assembled
     = λ ys. record code { bytes = bytes_after; is_set = flags_after; fixes = ys } in
     ap first e ∙ ap second g ∙ ap third f
@@ -291,14 +301,17 @@ items_added layout code (item ∷ others) =
     = length-append code.bytes here ∙ ap (λ n. length code.bytes + n) (item_length layout item) in
     items_added layout (with_item layout code item) others
     ∙ same_code code
-    ((code.bytes ++ here) ++ bytes_of_items layout others) (code.bytes ++ (here ++ bytes_of_items layout others))
+    ((code.bytes ++ here) ++ bytes_of_items layout others)
+    (code.bytes ++ (here ++ bytes_of_items layout others))
     ((code.is_set ++ flags_of_item item) ++ flags_of_items others)
     (code.is_set ++ (flags_of_item item ++ flags_of_items others))
-    ((code.fixes ++ fixes_of_item (length code.bytes) item) ++ fixes_of_items (length (code.bytes ++ here)) others)
+    ((code.fixes ++ fixes_of_item (length code.bytes) item)
+    ++ fixes_of_items (length (code.bytes ++ here)) others)
     (code.fixes ++ fixes_of_items (length code.bytes) (item ∷ others))
     (append_assoc code.bytes here (bytes_of_items layout others))
     (append_assoc code.is_set (flags_of_item item) (flags_of_items others))
-    (append_assoc code.fixes (fixes_of_item (length code.bytes) item) (fixes_of_items (length (code.bytes ++ here)) others)
+    (append_assoc code.fixes (fixes_of_item (length code.bytes) item)
+    (fixes_of_items (length (code.bytes ++ here)) others)
     ∙ ap (λ (fixes : List Fix). code.fixes ++ fixes)
     (ap (λ n. fixes_of_item (length code.bytes) item ++ fixes_of_items n others) end
     ∙ fixes_split (length code.bytes) item others))
@@ -314,7 +327,8 @@ place_same assembly label is =
 places_same :
     (assembly : Assembly)
     → IsAssembly assembly
-    → ◌≡◌ {A = (label : ℕ) → ℕ} (place_in (places_of assembly.labels assembly.items)) (offset_in assembly.items)
+    → ◌≡◌ {A = (label : ℕ) → ℕ} (place_in (places_of assembly.labels assembly.items))
+    (offset_in assembly.items)
 places_same assembly is = fun_ext (λ label. place_same assembly label is)
 
 pub code_is :
@@ -360,7 +374,8 @@ with_table slice places table inside code shown made is =
     is ∙ ap (λ them. with_places them inside) (sym shown) ∙ ap (with_places places) made
 
 pub finished :
-    (view : Assembly) (slice : List Item) (places : List (Option ℕ)) (placed : Bool) (size : ℕ) (code : Assembled)
+    (view : Assembly) (slice : List Item) (places : List (Option ℕ)) (placed : Bool)
+    (size : ℕ) (code : Assembled)
     → Table view slice places
     → placed ≡ all_placed places
     → placed ≡ true
@@ -391,7 +406,8 @@ pub unbound :
     → IsFinished view (Err UnboundLabel)
 unbound view slice places placed t test fails bound =
     let bad : true ≡ false
-    = sym (all_placed_if_bound view t.is bound) ∙ ap (λ them. all_placed them) (sym t.table) ∙ sym test ∙ fails in
+    = sym (all_placed_if_bound view t.is bound) ∙ ap (λ them. all_placed them) (sym t.table)
+    ∙ sym test ∙ fails in
     cc
 
 pub too_long :

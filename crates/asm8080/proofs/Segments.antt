@@ -20,7 +20,8 @@ found_before fixes (run ∷ others) x from =
     let here : x + 1 ≤ run.offset = from.0 in
     let before : x < run.offset = omega (arith, here) in
     ap (λ b.
-    cond (b && nat_lt x (run.offset + length run.items)) (Some (byte_in_run fixes x run)) (found fixes others x))
+    cond (b && nat_lt x (run.offset + length run.items)) (Some (byte_in_run fixes x run))
+    (found fixes others x))
     (lt-leb run.offset x before)
     ∙ found_before fixes others x from.1
 
@@ -60,7 +61,8 @@ found_later fixes offset value (next ∷ others) x h = go (next.offset == offset
     go false e = found_after fixes (run_at offset (value ∷ [])) (next ∷ others) x (omega (arith, h))
 
 before_from :
-    (offset value : ℕ) (runs : List (Run ℕ)) → AllFrom (offset + 1) runs → AllFrom offset (before_runs offset value runs)
+    (offset value : ℕ) (runs : List (Run ℕ)) → AllFrom (offset + 1) runs
+    → AllFrom offset (before_runs offset value runs)
 before_from offset value [] from = (omega arith, tt)
 before_from offset value (next ∷ others) from = go (next.offset == offset + 1)
   where
@@ -71,7 +73,8 @@ before_from offset value (next ∷ others) from = go (next.offset == offset + 1)
 runs_begin : (offset : ℕ) (bytes : List (Option ℕ)) → AllFrom offset (runs_from offset bytes)
 runs_begin offset [] = tt
 runs_begin offset (None ∷ others) =
-    from_less offset (offset + 1) (runs_from (offset + 1) others) (omega arith) (runs_begin (offset + 1) others)
+    from_less offset (offset + 1) (runs_from (offset + 1) others) (omega arith)
+    (runs_begin (offset + 1) others)
 runs_begin offset (Some value ∷ others) =
     before_from offset value (runs_from (offset + 1) others) (runs_begin (offset + 1) others)
 
@@ -82,14 +85,16 @@ pub run_places :
 run_places fixes offset [] = refl
 run_places fixes offset (None ∷ others) =
     let runs : List (Run ℕ) = runs_from (offset + 1) others in
-    ap (λ (place : Option SetByte). place ∷ map (found fixes runs) (range_with_len (offset + 1) (length others)))
+    ap (λ (place : Option SetByte). place
+    ∷ map (found fixes runs) (range_with_len (offset + 1) (length others)))
     (found_before fixes runs offset (runs_begin (offset + 1) others))
     ∙ ap (λ (places : List (Option SetByte)). None ∷ places) (run_places fixes (offset + 1) others)
 run_places fixes offset (Some value ∷ others) =
     let runs : List (Run ℕ) = runs_from (offset + 1) others in
     let whole : List (Run ℕ) = before_runs offset value runs in
     let here : SetByte = record { value = value; fixup = fixup_at fixes offset } in
-    ap (λ (place : Option SetByte). place ∷ map (found fixes whole) (range_with_len (offset + 1) (length others)))
+    ap (λ (place : Option SetByte). place
+    ∷ map (found fixes whole) (range_with_len (offset + 1) (length others)))
     (found_here fixes offset value runs)
     ∙ ap (λ (places : List (Option SetByte)). Some here ∷ places)
     (same_over (found fixes whole) (found fixes runs) (offset + 1) (length others)
@@ -155,7 +160,8 @@ longest_more size offset value (next ∷ others) room from h = go (next.offset =
         → are_longest size (runs_by offset value next others joins) ≡ true
     go true e =
         apart_from_next size offset next.items value others
-        (subst (λ n. are_longest size (run_at n next.items ∷ others) ≡ true) (eqb-true next.offset (offset + 1) e) h)
+        (subst (λ n. are_longest size (run_at n next.items ∷ others) ≡ true)
+        (eqb-true next.offset (offset + 1) e) h)
     go false e =
         let from_here : offset + 1 ≤ next.offset = from.0 in
         let other : next.offset ≡ offset + 1 → ⊥ = eqb-false next.offset (offset + 1) e in
@@ -169,7 +175,8 @@ pub runs_longest :
     → are_longest size (runs_from offset bytes) ≡ true
 runs_longest size offset [] fits = refl
 runs_longest size offset (None ∷ others) fits =
-    let later : offset + 1 + length others ≤ size = omega (arith, fits) in runs_longest size (offset + 1) others later
+    let later : offset + 1 + length others ≤ size = omega (arith, fits) in
+    runs_longest size (offset + 1) others later
 runs_longest size offset (Some value ∷ others) fits =
     let later : offset + 1 + length others ≤ size = omega (arith, fits) in
     longest_more size offset value (runs_from (offset + 1) others) (omega (arith, later))
@@ -194,9 +201,11 @@ target_at :
 target_at count [] x h = refl
 target_at count (fix ∷ others) x h =
     go (fix.offset == x)
-    (and_parts (is_target count fix.target) (list_all (λ (other : Fix). is_target count other.target) others) h).0
+    (and_parts (is_target count fix.target)
+    (list_all (λ (other : Fix). is_target count other.target) others) h).0
     (target_at count others x
-    (and_parts (is_target count fix.target) (list_all (λ (other : Fix). is_target count other.target) others) h).1)
+    (and_parts (is_target count fix.target)
+    (list_all (λ (other : Fix). is_target count other.target) others) h).1)
   where
     shown : Option Fix → Option Fixup
     shown found = option_map (λ (fix : Fix). record { kind = fix.kind; target = fix.target }) found
@@ -220,9 +229,11 @@ pub valid_bytes :
     → set_well count (fixed_bytes fixes offset (set_bytes bytes flags)) ≡ true
 valid_bytes count fixes offset [] flags small targets = refl
 valid_bytes count fixes offset (value ∷ others) [] small targets =
-    valid_bytes count fixes (offset + 1) others [] (All-tail (λ (byte : ℕ). byte < 256) value others small) targets
+    valid_bytes count fixes (offset + 1) others []
+    (All-tail (λ (byte : ℕ). byte < 256) value others small) targets
 valid_bytes count fixes offset (value ∷ others) (false ∷ later) small targets =
-    valid_bytes count fixes (offset + 1) others later (All-tail (λ (byte : ℕ). byte < 256) value others small) targets
+    valid_bytes count fixes (offset + 1) others later
+    (All-tail (λ (byte : ℕ). byte < 256) value others small) targets
 valid_bytes count fixes offset (value ∷ others) (true ∷ later) small targets =
     let here : SetByte = record { value = value; fixup = fixup_at fixes offset } in
     and_from (is_valid_byte count here)
@@ -231,7 +242,8 @@ valid_bytes count fixes offset (value ∷ others) (true ∷ later) small targets
     (option_map_or (λ (fixup : Fixup). is_target count fixup.target) (fixup_at fixes offset) true)
     (lt-ltb value 256 (All-head (λ (byte : ℕ). byte < 256) value others small))
     (target_at count fixes offset targets))
-    (valid_bytes count fixes (offset + 1) others later (All-tail (λ (byte : ℕ). byte < 256) value others small) targets)
+    (valid_bytes count fixes (offset + 1) others later
+    (All-tail (λ (byte : ℕ). byte < 256) value others small) targets)
 
 pub places_length : (fixes : List Fix) (offset : ℕ) (bytes : List (Option ℕ))
     → length (fixed_bytes fixes offset bytes) ≡ length bytes

@@ -20,7 +20,8 @@ unfolding state_after
 same_after script s = refl
 
 -- a step that takes one of a budget
-pub spends_one : (script : List (List ℕ)) (n : ℕ) (s t : State) → step_of script s ≡ t → Spends script (suc n) s n t
+pub spends_one : (script : List (List ℕ)) (n : ℕ) (s t : State) → step_of script s ≡ t
+    → Spends script (suc n) s n t
 spends_one script n s t e = record {
   count = 1;
   run = step_then script 0 s t t e (same_after script t);
@@ -29,7 +30,8 @@ spends_one script n s t e = record {
 }
 
 -- steps that take nothing
-pub spends_none : (script : List (List ℕ)) (n k : ℕ) (s t : State) → Comes script k s t → Spends script n s n t
+pub spends_none : (script : List (List ℕ)) (n k : ℕ) (s t : State) → Comes script k s t
+    → Spends script n s n t
 spends_none script n k s t h = record {
   count = k;
   run = h;
@@ -48,6 +50,7 @@ pub hlt_halts :
     → place < MEMORY_SIZE
     → Comes script 1 (at place r memory events) (halted_at place r memory events)
 hlt_halts script place r memory events stands small =
-    step_then script 0 (at place r memory events) (halted_at place r memory events) (halted_at place r memory events)
+    step_then script 0 (at place r memory events) (halted_at place r memory events)
+    (halted_at place r memory events)
     (step_is script Hlt (at place r memory events) refl small stands)
     (same_after script (halted_at place r memory events))

@@ -14,7 +14,8 @@ pub push_does :
     → top ≤ MEMORY_SIZE
     → 2 ≤ top
     → act script (Push pair) (at (wrap place) r memory events)
-    ≡ at (wrap place) (record r { sp = wrap (top - 2) }) (pushed top (pushed_of pair (record r { pc = wrap place })) memory) events
+    ≡ at (wrap place) (record r { sp = wrap (top - 2) })
+    (pushed top (pushed_of pair (record r { pc = wrap place })) memory) events
 push_does script pair place top r memory events pointer limit room =
     let word = pushed_of pair (record r { pc = wrap place }) in
     ap (λ n. at (wrap place) (record r { sp = two_less r.sp })
@@ -23,13 +24,16 @@ push_does script pair place top r memory events pointer limit room =
     ∙ (ap (λ n. at (wrap place) (record r { sp = n })
     (slice_set (slice_set memory (top - 1) (high_byte word)) n (low_byte word)) events)
     (two_below r.sp top pointer limit room)
-    ∙ ap (λ n. at (wrap place) (record r { sp = n }) (pushed top word memory) events) (sym (two_lower top room limit)))
+    ∙ ap (λ n. at (wrap place) (record r { sp = n }) (pushed top word memory) events)
+    (sym (two_lower top room limit)))
 
 -- the word at the stack pointer is popped
 pop_acts :
-    (script : List (List ℕ)) (pair : StackPair) (place : ℕ) (r : Registers) (memory : List ℕ) (events : List Event)
+    (script : List (List ℕ)) (pair : StackPair) (place : ℕ) (r : Registers) (memory : List ℕ)
+    (events : List Event)
     → act script (Pop pair) (at (wrap place) r memory events)
-    ≡ at (wrap place) (record (with_popped pair (word_at memory r.sp) r) { sp = wrap (r.sp + 2) }) memory events
+    ≡ at (wrap place) (record (with_popped pair (word_at memory r.sp) r) { sp = wrap (r.sp + 2) }) memory
+    events
 pop_acts script StackBc place r memory events = refl
 pop_acts script StackDe place r memory events = refl
 pop_acts script StackHl place r memory events = refl
@@ -47,11 +51,13 @@ pub pop_does :
     ≡ at (wrap place) (record (with_popped pair word r) { sp = wrap top }) memory events
 pop_does script pair place top word r memory events pointer room limit is =
     pop_acts script pair place r memory events
-    ∙ (ap (λ n. at (wrap place) (record (with_popped pair (word_at memory n) r) { sp = wrap (n + 2) }) memory events)
+    ∙ (ap (λ n. at (wrap place) (record (with_popped pair (word_at memory n) r) { sp = wrap (n + 2) }) memory
+    events)
     (pointer ∙ two_lower top room limit)
     ∙ (ap (λ n. at (wrap place) (record (with_popped pair n r) { sp = wrap (top - 2 + 2) }) memory events)
     (word_pushed top word memory room limit is)
-    ∙ ap (λ n. at (wrap place) (record (with_popped pair word r) { sp = n }) memory events) (pointer_after_pop top room)))
+    ∙ ap (λ n. at (wrap place) (record (with_popped pair word r) { sp = n }) memory events)
+    (pointer_after_pop top room)))
 
 -- RET
 pub return_does :

@@ -51,7 +51,8 @@ pub step_is :
 unfolding step_of
 step_is script i s runs small h =
     ap (λ status. step_by script status s) runs
-    ∙ (ap (λ place. carry_out script (form_of (byte_at s.memory place)) s) (equals_wrapped s.registers.pc small)
+    ∙ (ap (λ place. carry_out script (form_of (byte_at s.memory place)) s)
+    (equals_wrapped s.registers.pc small)
     ∙ (ap (λ code. carry_out script (form_of code) s) (first_byte_is s.memory s.registers.pc i h)
     ∙ (ap (λ form. carry_out script form s) (decodes i) ∙ carried_out script i s h)))
 
@@ -90,7 +91,8 @@ runs_from_instruction script k i place r memory events u stands small more =
     step_then script k (at place r memory events)
     (act script i (at (place + size_of_instruction i) r memory events)) u
     (step_is script i (at place r memory events) refl (omega arith) stands
-    ∙ ap (λ n. act script i (at n r memory events)) (wrap_of_place (place + size_of_instruction i) small)) more
+    ∙ ap (λ n. act script i (at n r memory events))
+    (wrap_of_place (place + size_of_instruction i) small)) more
 
 -- a run that begins with a jump
 pub runs_from_jump :
@@ -149,7 +151,8 @@ pub stays_here :
 stays_here script k c place r memory events u stands small false_here more =
     step_then script k (at place r memory events) (at (place + 1) r memory events) u
     (step_is script (ReturnIf c) (at place r memory events) refl (omega arith) stands
-    ∙ (ap (λ b. if b then return (at (wrap (place + 1)) r memory events) else at (wrap (place + 1)) r memory events) false_here
+    ∙ (ap (λ b. if b then return (at (wrap (place + 1)) r memory events) else at (wrap (place + 1)) r
+    memory events) false_here
     ∙ ap (λ n. at n r memory events) (wrap_of_place (place + 1) small))) more
 
 -- the machine after a return

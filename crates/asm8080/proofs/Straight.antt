@@ -112,7 +112,8 @@ straight script layout (i ∷ others) items place to r memory events k u touch s
     runs_from_instruction script (steps_of others k) i place r memory events u stands.0
     (lt_of_le_of_lt (past_later others next) small)
     (subst (λ (s : State). Comes script (steps_of others k) s u)
-    (sym (acts script i next r memory events (and_parts (touches_registers i) (touch_registers others) touch).0))
+    (sym (acts script i next r memory events
+    (and_parts (touches_registers i) (touch_registers others) touch).0))
     (straight script layout others items next to (does_to i r) memory events k u
     (and_parts (touches_registers i) (touch_registers others) touch).1 stands.1 small more))
 

@@ -7,7 +7,8 @@ use Rattle.meaning_laws.specs.{Defaults.{TakesNoDefault}, Meant.{IsWhole}, Place
 use Rattle.meaning_laws.proofs.{Defaults.{takes_no_default}, Publics.{all_placeable}}
 use Rattle.built_laws.specs.BuiltPrograms.{program_of}
 
--- A program that is built is joined of soundly typed modules and lies lawfully, as the laws of `meaning_laws` ask.
+-- A program that is built is joined of soundly typed modules and lies lawfully, as the laws of `meaning_laws`
+-- ask.
 pub built_is_whole : (built : Construction) (script : List (List ℕ)) → IsConstruction built
     → IsWhole (program_of built script)
 built_is_whole built script is = record {
@@ -32,8 +33,8 @@ pub program_is_placeable : (texts : List (List ℕ)) (modules : List TypedModule
     → All IsPlaceable modules
 program_is_placeable texts modules is = all_placeable modules (sources_have_trees texts modules is.sources)
 
--- No run of a program that is built of texts takes a case that the meaning has for trees that no source has. Both
--- premises are clauses of `build`, which says them of each program that it gives.
+-- No run of a program that is built of texts takes a case that the meaning has for trees that no source has.
+-- Both premises are clauses of `build`, which says them of each program that it gives.
 pub built_takes_no_default : (texts : List (List ℕ)) (built : Construction) (script : List (List ℕ))
     → IsProgramOf texts (program_modules built.program) → IsConstruction built
     → TakesNoDefault (program_of built script)
@@ -51,7 +52,8 @@ all_charges_fit : (texts : List (List ℕ)) (modules : List TypedModule) → Are
     → All ChargesFit modules
 all_charges_fit [] [] are = All-nil ChargesFit
 all_charges_fit (text ∷ texts) (typed ∷ modules) are =
-    All-cons ChargesFit typed modules (source_charges_fit text typed are.0) (all_charges_fit texts modules are.1)
+    All-cons ChargesFit typed modules (source_charges_fit text typed are.0)
+    (all_charges_fit texts modules are.1)
 all_charges_fit [] (typed ∷ modules) are = absurd are
 all_charges_fit (text ∷ texts) [] are = absurd are
 

@@ -7,42 +7,56 @@ use Rattle.stack_need.specs.StackNeed.{IsEnough, TellsNeed}
 use Rattle.built_laws.specs.NeededRoom.{DoesWhatItSaysWithRoom, NeverOutsideButForStack}
 
 -- with enough room, a program that goes outside for no other reason than the stack never goes outside
-never_outside : (modules : List TypedModule) (placement : Placement) (need room : ℕ) (memory : List ℕ) (script : List (List ℕ)) (events : List Event) → IsEnough modules need → need ≤ room
-    → NeverOutsideButForStack (source_run modules placement room memory script events) → NeverOutside (source_run modules placement room memory script events)
-never_outside modules placement need room memory script events enough fits other budget Divide = other budget Divide (λ same. cc)
-never_outside modules placement need room memory script events enough fits other budget Byte = other budget Byte (λ same. cc)
-never_outside modules placement need room memory script events enough fits other budget Constant = other budget Constant (λ same. cc)
-never_outside modules placement need room memory script events enough fits other budget Stack = enough placement room memory script events budget fits
+never_outside : (modules : List TypedModule) (placement : Placement) (need room : ℕ) (memory : List ℕ)
+    (script : List (List ℕ)) (events : List Event) → IsEnough modules need → need ≤ room
+    → NeverOutsideButForStack (source_run modules placement room memory script events)
+    → NeverOutside (source_run modules placement room memory script events)
+never_outside modules placement need room memory script events enough fits other budget Divide =
+    other budget Divide (λ same. cc)
+never_outside modules placement need room memory script events enough fits other budget Byte =
+    other budget Byte (λ same. cc)
+never_outside modules placement need room memory script events enough fits other budget Constant =
+    other budget Constant (λ same. cc)
+never_outside modules placement need room memory script events enough fits other budget Stack =
+    enough placement room memory script events budget fits
 
 -- room for what is told is room for the need, where the room is less than the greatest number of 32 bits
 room_for_need : (need room : ℕ) → min need 4294967295 ≤ room → room < 4294967295 → need ≤ room
 room_for_need need room fits small = omega (arith, fits, small)
 
-with_enough : (modules : List TypedModule) (placement : Placement) (need room : ℕ) (image : Absolute) → IsEnough modules need → need ≤ room → DoesWhatItSays modules placement room image
+with_enough : (modules : List TypedModule) (placement : Placement) (need room : ℕ) (image : Absolute)
+    → IsEnough modules need → need ≤ room → DoesWhatItSays modules placement room image
     → DoesWhatItSaysWithRoom modules placement room image
-with_enough modules placement need room image enough fits does memory script events is_memory is_script other =
-    does memory script events is_memory is_script (never_outside modules placement need room memory script events enough fits other)
+with_enough modules placement need room image enough fits does memory script events
+    is_memory is_script other =
+    does memory script events is_memory is_script
+    (never_outside modules placement need room memory script events enough fits other)
 
 -- the same of what is told of the need
-pub with_room : (modules : List TypedModule) (placement : Placement) (shown room : ℕ) (image : Absolute) → TellsNeed modules (Some shown) → shown ≤ room → room < 4294967295
+pub with_room : (modules : List TypedModule) (placement : Placement) (shown room : ℕ) (image : Absolute)
+    → TellsNeed modules (Some shown) → shown ≤ room → room < 4294967295
     → DoesWhatItSays modules placement room image → DoesWhatItSaysWithRoom modules placement room image
 unfolding TellsNeed
 with_room modules placement shown room image (acyclic, (need, (is, shown_is))) fits small does =
-    with_enough modules placement need room image is.enough (room_for_need need room (subst (λ n. n ≤ room) shown_is fits) small) does
+    with_enough modules placement need room image is.enough
+    (room_for_need need room (subst (λ n. n ≤ room) shown_is fits) small) does
 
 -- the stack of a program that is built lies in memory
-stack_of : (built : Construction) → IsConstruction built → built.placement.stack ≡ record { start = built.plan.stack; len = built.plan.stack_size }
+stack_of : (built : Construction) → IsConstruction built
+    → built.placement.stack ≡ record { start = built.plan.stack; len = built.plan.stack_size }
 unfolding placement_by
 stack_of built is = ap (λ (placement : Placement). placement.stack) is.as_planned
 
 small_stack : (built : Construction) → IsConstruction built → built.plan.stack_size < 4294967295
 small_stack built is =
-    let lies : built.plan.stack + built.plan.stack_size ≤ 65536 = rw (stack_of built is) at is.lawful.stack_in_memory in
+    let lies : built.plan.stack + built.plan.stack_size ≤ 65536 =
+    rw (stack_of built is) at is.lawful.stack_in_memory in
     omega (arith, lies)
 
--- A program that needs so much stack, and is built with a stack of at least as many bytes, does what its sources say or goes
--- outside for another reason than the stack.
+-- A program that needs so much stack, and is built with a stack of at least as many bytes, does what its
+-- sources say or goes outside for another reason than the stack.
 pub built_with_room : (built : Construction) (shown : ℕ) → IsConstruction built → TellsNeed (program_modules built.program) (Some shown) → shown ≤ built.plan.stack_size
     → DoesWhatItSaysWithRoom (program_modules built.program) built.placement built.plan.stack_size built.image
 built_with_room built shown is tells fits =
-    with_room (program_modules built.program) built.placement shown built.plan.stack_size built.image tells fits (small_stack built is) is.headline
+    with_room (program_modules built.program) built.placement shown built.plan.stack_size built.image tells
+    fits (small_stack built is) is.headline

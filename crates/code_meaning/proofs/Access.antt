@@ -6,7 +6,8 @@ use Rattle.meaning.specs.Access.{Place}
 -- if the source goes outside the language, any machine does it
 pub outside_does :
     {A : Type 0} {script : List (List ℕ)} {budget more : ℕ} {from : State} {outcome : Outcome A}
-    {Good : A → SourceState → State → Type 0} (reason : Rattle.meaning.specs.declared.reason.Reason.Reason) (s : SourceState)
+    {Good : A → SourceState → State → Type 0}
+    (reason : Rattle.meaning.specs.declared.reason.Reason.Reason) (s : SourceState)
     → outcome ≡ Stopped (Outside reason) s
     → Does script budget more from outcome Good
 outside_does reason s same = rw same (record { told = tt })
@@ -14,7 +15,8 @@ outside_does reason s same = rw same (record { told = tt })
 -- the branch that a test chooses
 picked_does :
     {A : Type 0} {script : List (List ℕ)} {budget more : ℕ} {from : State} {inside : Outcome A}
-    {Good : A → SourceState → State → Type 0} (reason : Rattle.meaning.specs.declared.reason.Reason.Reason) (s : SourceState)
+    {Good : A → SourceState → State → Type 0}
+    (reason : Rattle.meaning.specs.declared.reason.Reason.Reason) (s : SourceState)
     (test : Bool)
     → (test ≡ true → Does script budget more from inside Good)
     → Does script budget more from (if test then inside else Stopped (Outside reason) s) Good
@@ -25,7 +27,8 @@ picked_does reason s false does = record { told = tt }
 pub read_does :
     {script : List (List ℕ)} {budget more : ℕ} {from : State} {Good : ℕ → SourceState → State → Type 0}
     (program : Program) (address : ℕ) (s : SourceState)
-    → (is_declared program address ≡ true → Does script budget more from (Gave (byte_at s.memory address) s) Good)
+    → (is_declared program address ≡ true
+    → Does script budget more from (Gave (byte_at s.memory address) s) Good)
     → Does script budget more from (read_byte program (InMemory address) s) Good
 read_does program address s does = picked_does UndeclaredByte s (is_declared program address) does
 
@@ -33,7 +36,8 @@ read_does program address s does = picked_does UndeclaredByte s (is_declared pro
 pub frame_read_does :
     {script : List (List ℕ)} {budget more : ℕ} {from : State} {Good : ℕ → SourceState → State → Type 0}
     (program : Program) (object offset : ℕ) (is_inside : Bool) (s : SourceState)
-    → (is_inside ≡ true → Does script budget more from (Gave (slice_index (frame_bytes s.frame object) offset) s) Good)
+    → (is_inside ≡ true → Does script budget more from
+    (Gave (slice_index (frame_bytes s.frame object) offset) s) Good)
     → Does script budget more from (read_byte program (InTheFrame object offset is_inside) s) Good
 frame_read_does program object offset is_inside s does = picked_does UndeclaredByte s is_inside does
 
@@ -68,7 +72,9 @@ pub frame_write_does :
     (program : Program) (object offset : ℕ) (is_inside : Bool) (byte : ℕ) (s : SourceState)
     → (is_inside ≡ true
     → Does script budget more from
-    (Gave tt (record s { frame = slice_set s.frame object (slice_set (frame_bytes s.frame object) offset byte) })) Good)
+    (Gave tt
+    (record s { frame = slice_set s.frame object (slice_set (frame_bytes s.frame object) offset byte) }))
+    Good)
     → Does script budget more from (write_byte program (InTheFrame object offset is_inside) byte s) Good
 frame_write_does program object offset is_inside byte s does = picked_does UndeclaredByte s is_inside does
 
@@ -80,7 +86,8 @@ pub read_word_does :
     → Does script budget more from
     (Gave (byte_at s.memory address + 256 * byte_at s.memory ((address + 1) % MEMORY_SIZE)) s) Good)
     → Does script budget more from (read_scalar program Address (InMemory address) s) Good
-read_word_does {script = script} {budget = budget} {more = more} {from = from} {Good = Good} program address s does =
+read_word_does {script = script} {budget = budget} {more = more} {from = from} {Good = Good}
+    program address s does =
     both (is_declared program address) (is_declared program ((address + 1) % MEMORY_SIZE)) does
   where
     both : (one two : Bool)
@@ -90,7 +97,8 @@ read_word_does {script = script} {budget = budget} {more = more} {from = from} {
         → Does script budget more from
         (then_do (if one then Gave (byte_at s.memory address) s else Stopped (Outside UndeclaredByte) s)
         (λ low t. then_do
-        (if two then Gave (byte_at t.memory ((address + 1) % MEMORY_SIZE)) t else Stopped (Outside UndeclaredByte) t)
+        (if two then Gave (byte_at t.memory ((address + 1) % MEMORY_SIZE)) t else Stopped
+        (Outside UndeclaredByte) t)
         (λ high u. Gave (low + 256 * high) u))) Good
     both true true given = given refl refl
     both true false given = record { told = tt }
@@ -103,10 +111,12 @@ pub write_word_does :
     → (IsVariable program address → IsVariable program ((address + 1) % MEMORY_SIZE)
     → Does script budget more from
     (Gave tt (record s {
-      memory = slice_set (slice_set s.memory address (number % 256)) ((address + 1) % MEMORY_SIZE) (number / 256);
+      memory =
+          slice_set (slice_set s.memory address (number % 256)) ((address + 1) % MEMORY_SIZE) (number / 256);
     })) Good)
     → Does script budget more from (write_scalar program Address (InMemory address) number s) Good
-write_word_does {script = script} {budget = budget} {more = more} {from = from} {Good = Good} program address number s does =
+write_word_does {script = script} {budget = budget} {more = more} {from = from} {Good = Good} program
+    address number s does =
     both (is_declared program address) (is_constant program address)
     (is_declared program ((address + 1) % MEMORY_SIZE)) (is_constant program ((address + 1) % MEMORY_SIZE))
     (λ one const two none. does (one, const) (two, none))
@@ -115,7 +125,9 @@ write_word_does {script = script} {budget = budget} {more = more} {from = from} 
         → (one ≡ true → const ≡ false → two ≡ true → none ≡ false
         → Does script budget more from
         (Gave (tt {0}) (record s {
-          memory = slice_set (slice_set s.memory address (number % 256)) ((address + 1) % MEMORY_SIZE) (number / 256);
+          memory =
+              slice_set (slice_set s.memory address (number % 256))
+              ((address + 1) % MEMORY_SIZE) (number / 256);
         })) Good)
         → Does script budget more from
         (then_do
@@ -126,7 +138,8 @@ write_word_does {script = script} {budget = budget} {more = more} {from = from} 
         (λ _ t.
         if two
         then (if none then Stopped (Outside Constant) t
-        else Gave (tt {0}) (record t { memory = slice_set t.memory ((address + 1) % MEMORY_SIZE) (number / 256) }))
+        else Gave (tt {0})
+        (record t { memory = slice_set t.memory ((address + 1) % MEMORY_SIZE) (number / 256) }))
         else Stopped (Outside UndeclaredByte) t)) Good
     both true false true false given = given refl refl refl refl
     both true false true true given = record { told = tt }

@@ -46,14 +46,16 @@ pub zero_shows :
 zero_shows x y one two =
     sym (same_test (x == y) ((x + (255 - y) + 1) % 256 == 0)
     (λ here. eq-eqb ((x + (255 - y) + 1) % 256) 0 (omega (arith, one, two, eqb-true x y here)))
-    (λ here. ne_eqb ((x + (255 - y) + 1) % 256) 0 (λ same. eqb-false x y here (omega (arith, one, two, same)))))
+    (λ here. ne_eqb ((x + (255 - y) + 1) % 256) 0
+    (λ same. eqb-false x y here (omega (arith, one, two, same)))))
 
 -- an ADDRESS is less by its high bytes and the borrow of its low ones
 pub word_borrow :
     (high low other_high other_low : ℕ)
     → low < 256
     → other_low < 256
-    → nat_lt high (other_high + bit (nat_lt low other_low)) ≡ nat_lt (256 * high + low) (256 * other_high + other_low)
+    → nat_lt high (other_high + bit (nat_lt low other_low))
+    ≡ nat_lt (256 * high + low) (256 * other_high + other_low)
 word_borrow high low other_high other_low one two = by_low (nat_lt low other_low) refl
   where
     by_low : (less : Bool) → nat_lt low other_low ≡ less

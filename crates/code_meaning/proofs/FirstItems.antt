@@ -19,13 +19,15 @@ plain_step script activation i items from to r memory events lies agrees there =
 
 -- an instruction with a word
 pub word_step :
-    (script : List (List ℕ)) (activation : Activation) (form : WordForm) (reference : Reference) (items : List Item)
+    (script : List (List ℕ)) (activation : Activation) (form : WordForm)
+    (reference : Reference) (items : List Item)
     (from to : ℕ) (r : Registers) (memory : List ℕ) (events : List Event)
     → LiesWell activation
     → AgreesIn activation.around.program.placement.code activation.image memory
     → IsThere activation (WithWord form reference ∷ items) from to
     → step_of script (at_place from r memory events)
-    ≡ act script (instruction_with form (word_of activation.layout reference)) (at_place (from + 3) r memory events)
+    ≡ act script (instruction_with form (word_of activation.layout reference))
+    (at_place (from + 3) r memory events)
 word_step script activation form reference items from to r memory events lies agrees there =
     word_item_step script activation.layout form reference items from to r memory events
     (stands_now activation memory (WithWord form reference ∷ items) from to lies agrees there)
@@ -39,9 +41,11 @@ pub plain_first :
     → LiesWell activation
     → AgreesIn activation.around.program.placement.code activation.image memory
     → IsThere activation (Plain i ∷ items) from to
-    → Does script budget more (act script i (at_place (from + size_of_instruction i) r memory events)) outcome Good
+    → Does script budget more (act script i (at_place (from + size_of_instruction i) r memory events)) outcome
+    Good
     → Does script budget more (at_place from r memory events) outcome Good
-plain_first {script = script} {activation = activation} {i = i} {items = items} {from = from} {to = to} {memory = memory} {events = events} r lies agrees there rest =
+plain_first {script = script} {activation = activation} {i = i} {items = items} {from = from} {to = to}
+    {memory = memory} {events = events} r lies agrees there rest =
     after_step (plain_step script activation i items from to r memory events lies agrees there) rest
 
 -- a machine at an instruction with a word
@@ -54,11 +58,14 @@ pub word_first :
     → AgreesIn activation.around.program.placement.code activation.image memory
     → IsThere activation (WithWord form reference ∷ items) from to
     → Does script budget more
-    (act script (instruction_with form (word_of activation.layout reference)) (at_place (from + 3) r memory events))
+    (act script (instruction_with form (word_of activation.layout reference))
+    (at_place (from + 3) r memory events))
     outcome Good
     → Does script budget more (at_place from r memory events) outcome Good
-word_first {script = script} {activation = activation} {form = form} {reference = reference} {items = items} {from = from} {to = to} {memory = memory} {events = events} r lies agrees there rest =
-    after_step (word_step script activation form reference items from to r memory events lies agrees there) rest
+word_first {script = script} {activation = activation} {form = form} {reference = reference} {items = items}
+    {from = from} {to = to} {memory = memory} {events = events} r lies agrees there rest =
+    after_step (word_step script activation form reference items from to r memory events lies agrees there)
+    rest
 
 -- a jump, which may pay for one unit of the budget
 pub jump_paid :
@@ -71,8 +78,11 @@ pub jump_paid :
     → IsThere activation (WithWord Jump (AtLabel label) ∷ items) from to
     → Does script budget more (at_place (activation.layout.place_of label) r memory events) outcome Good
     → Does script (suc budget) more (at_place from r memory events) outcome Good
-jump_paid {script = script} {activation = activation} {label = label} {items = items} {from = from} {to = to} {memory = memory} {events = events} r lies agrees there rest =
-    after_paid_step (word_step script activation Jump (AtLabel label) items from to r memory events lies agrees there) rest
+jump_paid {script = script} {activation = activation} {label = label} {items = items} {from = from} {to = to}
+    {memory = memory} {events = events} r lies agrees there rest =
+    after_paid_step
+    (word_step script activation Jump (AtLabel label) items from to r memory events lies agrees there)
+    rest
 
 -- a jump with a condition that holds
 pub jump_taken :
@@ -86,10 +96,12 @@ pub jump_taken :
     → holds c r.flags ≡ true
     → Does script budget more (at_place (activation.layout.place_of label) r memory events) outcome Good
     → Does script budget more (at_place from r memory events) outcome Good
-jump_taken {script = script} {activation = activation} {c = c} {label = label} {items = items} {from = from} {to = to} {memory = memory} {events = events} r lies agrees there true_here rest =
+jump_taken {script = script} {activation = activation} {c = c} {label = label} {items = items} {from = from}
+    {to = to} {memory = memory} {events = events} r lies agrees there true_here rest =
     after_step
     (word_step script activation (JumpWhere c) (AtLabel label) items from to r memory events lies agrees there
-    ∙ ap (λ b. if b then at_place (activation.layout.place_of label) r memory events else at_place (from + 3) r memory events) true_here)
+    ∙ ap (λ b. if b then at_place (activation.layout.place_of label) r memory events else at_place (from + 3)
+    r memory events) true_here)
     rest
 
 -- a jump with a condition that does not hold
@@ -104,8 +116,10 @@ pub jump_passed :
     → holds c r.flags ≡ false
     → Does script budget more (at_place (from + 3) r memory events) outcome Good
     → Does script budget more (at_place from r memory events) outcome Good
-jump_passed {script = script} {activation = activation} {c = c} {label = label} {items = items} {from = from} {to = to} {memory = memory} {events = events} r lies agrees there false_here rest =
+jump_passed {script = script} {activation = activation} {c = c} {label = label} {items = items} {from = from}
+    {to = to} {memory = memory} {events = events} r lies agrees there false_here rest =
     after_step
     (word_step script activation (JumpWhere c) (AtLabel label) items from to r memory events lies agrees there
-    ∙ ap (λ b. if b then at_place (activation.layout.place_of label) r memory events else at_place (from + 3) r memory events) false_here)
+    ∙ ap (λ b. if b then at_place (activation.layout.place_of label) r memory events else at_place (from + 3)
+    r memory events) false_here)
     rest

@@ -22,26 +22,30 @@ pub lands_on :
     → middle ≤ second + more
     → Lands script second other one.end left Good
     → Lands script budget other from left Good
-lands_on {script = script} {budget = budget} {more = more} {from = from} {middle = middle} {First = First} one second other left {Good = Good} less enough two = record {
-  count = two.count + one.count;
-  end = two.end;
-  run = comes_on script one.count two.count from one.end two.end one.run two.run;
-  paid = paid_on budget second more other left one.count two.count middle one.paid enough two.paid;
-  spent = spent_on budget middle second left one.spent less two.spent;
-  is_good = two.is_good;
-}
+lands_on {script = script} {budget = budget} {more = more} {from = from} {middle = middle} {First = First} one
+    second other left {Good = Good} less enough two = record {
+      count = two.count + one.count;
+      end = two.end;
+      run = comes_on script one.count two.count from one.end two.end one.run two.run;
+      paid = paid_on budget second more other left one.count two.count middle one.paid enough two.paid;
+      spent = spent_on budget middle second left one.spent less two.spent;
+      is_good = two.is_good;
+    }
 
 -- the run for an outcome after another run is a run from the start of that one
 pub told_on :
-    {A : Type 0} {script : List (List ℕ)} {budget more : ℕ} {from : State} {middle : ℕ} {First : State → Type 0}
+    {A : Type 0} {script : List (List ℕ)} {budget more : ℕ} {from : State} {middle : ℕ}
+    {First : State → Type 0}
     (one : Lands script budget more from middle First)
     (second other : ℕ) (outcome : Outcome A) (Good : A → SourceState → State → Type 0)
     → second ≤ middle
     → middle ≤ second + more
     → Told script second other one.end outcome Good
     → Told script budget other from outcome Good
-told_on one second other (Gave found t) Good less enough two = lands_on one second other t.budget less enough two
-told_on one second other (Stopped Ended t) Good less enough two = lands_on one second 0 t.budget less enough two
+told_on one second other (Gave found t) Good less enough two =
+    lands_on one second other t.budget less enough two
+told_on one second other (Stopped Ended t) Good less enough two =
+    lands_on one second 0 t.budget less enough two
 told_on one second other (Stopped More t) Good less enough two = lands_on one second 0 0 less enough two
 told_on one second other (Stopped (Outside reason) t) Good less enough two = tt
 
@@ -79,7 +83,8 @@ pub does_without_step :
     {Good : A → SourceState → State → Type 0}
     → Good found t from
     → Does script t.budget 0 from (Gave found t) Good
-does_without_step {A = A} {script = script} {found = found} {t = t} {from = from} {Good = Good} good = record { told = landed script t.budget from (Good found t) good }
+does_without_step {A = A} {script = script} {found = found} {t = t} {from = from} {Good = Good} good =
+    record { told = landed script t.budget from (Good found t) good }
 
 -- first a step
 pub after_step :
@@ -89,7 +94,8 @@ pub after_step :
     → Does script budget more to outcome Good
     → Does script budget more from outcome Good
 unfolding one_step
-after_step {A = A} {script = script} {budget = budget} {more = more} {from = from} {to = to} {outcome = outcome} {Good = Good} same rest =
+after_step {A = A} {script = script} {budget = budget} {more = more} {from = from} {to = to}
+    {outcome = outcome} {Good = Good} same rest =
     record { told = told_on (one_step script budget from to same) budget more outcome Good (omega arith) (omega arith) rest.told }
 
 -- first a step, which pays for one unit of the budget
@@ -100,7 +106,8 @@ pub after_paid_step :
     → Does script budget more to outcome Good
     → Does script (suc budget) more from outcome Good
 unfolding one_step
-after_paid_step {A = A} {script = script} {budget = budget} {more = more} {from = from} {to = to} {outcome = outcome} {Good = Good} same rest =
+after_paid_step {A = A} {script = script} {budget = budget} {more = more} {from = from} {to = to}
+    {outcome = outcome} {Good = Good} same rest =
     let first = one_step script (suc budget) from to same in
     record { told = told_on first budget more outcome Good (omega arith) (omega arith) rest.told }
 
@@ -113,13 +120,17 @@ pub then_does :
     → ((found : A) (t : SourceState) (end : State) → Middle found t end → t.budget ≤ budget
     → Does script t.budget other end (go found t) Good)
     → Does script budget other from (then_do outcome go) Good
-then_does {A = A} {B = B} {script = script} {budget = budget} {other = other} {from = from} {outcome = Gave found t} {go = go} {Middle = Middle} {Good = Good} one rest =
+then_does {A = A} {B = B} {script = script} {budget = budget} {other = other} {from = from}
+    {outcome = Gave found t} {go = go} {Middle = Middle} {Good = Good} one rest =
     let first : Lands script budget 0 from t.budget (Middle found t) = one.told in
     let second = rest found t first.end first.is_good first.spent in
     record { told = told_on first t.budget other (go found t) Good (omega arith) (omega arith) second.told }
-then_does {A = A} {B = B} {script = script} {budget = budget} {other = other} {from = from} {outcome = Stopped Ended t} {go = go} {Middle = Middle} {Good = Good} one rest =
+then_does {A = A} {B = B} {script = script} {budget = budget} {other = other} {from = from}
+    {outcome = Stopped Ended t} {go = go} {Middle = Middle} {Good = Good} one rest =
     record { told = one.told }
-then_does {A = A} {B = B} {script = script} {budget = budget} {other = other} {from = from} {outcome = Stopped More t} {go = go} {Middle = Middle} {Good = Good} one rest =
+then_does {A = A} {B = B} {script = script} {budget = budget} {other = other} {from = from}
+    {outcome = Stopped More t} {go = go} {Middle = Middle} {Good = Good} one rest =
     record { told = one.told }
-then_does {A = A} {B = B} {script = script} {budget = budget} {other = other} {from = from} {outcome = Stopped (Outside reason) t} {go = go} {Middle = Middle} {Good = Good} one rest =
+then_does {A = A} {B = B} {script = script} {budget = budget} {other = other} {from = from}
+    {outcome = Stopped (Outside reason) t} {go = go} {Middle = Middle} {Good = Good} one rest =
     record { told = tt }

@@ -47,10 +47,12 @@ next_is_other address small same = omega (arith, small, same)
 pub high_is_byte : (n : ℕ) → n < 65536 → n / 256 < 256
 high_is_byte n small = omega (arith, small)
 
-pub low_of_halves : (h l number : ℕ) → h ≡ number / 256 → l ≡ number % 256 → number % 256 ≡ low_byte (word h l)
+pub low_of_halves : (h l number : ℕ) → h ≡ number / 256 → l ≡ number % 256
+    → number % 256 ≡ low_byte (word h l)
 low_of_halves h l number one two = omega (arith, one, two)
 
-pub high_of_halves : (h l number : ℕ) → h ≡ number / 256 → l ≡ number % 256 → number / 256 ≡ high_byte (word h l)
+pub high_of_halves : (h l number : ℕ) → h ≡ number / 256 → l ≡ number % 256
+    → number / 256 ≡ high_byte (word h l)
 high_of_halves h l number one two = omega (arith, one, two)
 
 pub halves_joined : (n : ℕ) → 256 * (n / 256) + n % 256 ≡ n

@@ -1,7 +1,8 @@
 -- What two outcomes that are equal have in common.
 use Rattle.code_meaning.proofs.Prelude.{Gave, Outcome, SourceState, Stopped, refl, then_do, ◌≡◌}
 
-pub same_both : {A : Type 0} (one other : A) (t u : SourceState) → Gave one t ≡ Gave other u → (one ≡ other) × (t ≡ u)
+pub same_both : {A : Type 0} (one other : A) (t u : SourceState) → Gave one t ≡ Gave other u
+    → (one ≡ other) × (t ≡ u)
 same_both one other t u same = (cc, cc)
 
 pub same_given : {A : Type 0} {one other : A} {t u : SourceState} → Gave one t ≡ Gave other u → one ≡ other

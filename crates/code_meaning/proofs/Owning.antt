@@ -7,7 +7,8 @@ keeps_all Own memory = record { size = refl; bytes = λ address outside. refl }
 
 -- one change after another
 pub keeps_both :
-    (Own : ℕ → Type 0) (one other last : List ℕ) → Keeps Own one other → Keeps Own other last → Keeps Own one last
+    (Own : ℕ → Type 0) (one other last : List ℕ) → Keeps Own one other → Keeps Own other last
+    → Keeps Own one last
 keeps_both Own one other last first second = record {
   size = second.size ∙ first.size;
   bytes = λ address outside. second.bytes address outside ∙ first.bytes address outside;
@@ -48,7 +49,8 @@ pub pushed_is_not_owned :
 pushed_is_not_owned activation top address lies low above below (inl variable) =
     let whole = lies.above in
     let bottom = lies.bottom in
-    lies.placed.stack_free address variable.0 (omega (arith, low, above, bottom)) (omega (arith, below, whole))
+    lies.placed.stack_free address variable.0 (omega (arith, low, above, bottom))
+    (omega (arith, below, whole))
 pushed_is_not_owned activation top address lies low above below (inr (inl mine)) =
     let less : address < top = mine.1 in omega (arith, less, above)
 pushed_is_not_owned activation top address lies low above below (inr (inr mine)) =

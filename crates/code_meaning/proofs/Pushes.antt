@@ -22,13 +22,17 @@ pushed_shares activation top word source memory lies room below small shares =
       size = shares.size;
       declared = λ address there.
           pushed_keeps top word memory address
-          (λ same. free address there (omega (arith, same, room, bottom)) (omega (arith, same, room, below, above)))
-          (λ same. free address there (omega (arith, same, room, bottom)) (omega (arith, same, room, below, above)))
+          (λ same. free address there (omega (arith, same, room, bottom))
+          (omega (arith, same, room, below, above)))
+          (λ same. free address there (omega (arith, same, room, bottom))
+          (omega (arith, same, room, below, above)))
           ∙ shares.declared address there;
       code = λ address there.
           pushed_keeps top word memory address
-          (λ same. apart address there.0 there.1 (omega (arith, same, room, bottom)) (omega (arith, same, room, below, above)))
-          (λ same. apart address there.0 there.1 (omega (arith, same, room, bottom)) (omega (arith, same, room, below, above)))
+          (λ same. apart address there.0 there.1 (omega (arith, same, room, bottom))
+          (omega (arith, same, room, below, above)))
+          (λ same. apart address there.0 there.1 (omega (arith, same, room, bottom))
+          (omega (arith, same, room, below, above)))
           ∙ shares.code address there;
     }
 
@@ -74,7 +78,8 @@ pub push_keeps :
     → activation.floor + 2 ≤ top
     → Keeps (Owns activation top) memory (pushed top word memory)
 push_keeps activation top word memory room = record {
-  size = Rattle.std.proofs.lemmas.List.length-set (slice_set memory (top - 1) (high_byte word)) (top - 2) (low_byte word)
+  size = Rattle.std.proofs.lemmas.List.length-set (slice_set memory (top - 1) (high_byte word))
+      (top - 2) (low_byte word)
       ∙ Rattle.std.proofs.lemmas.List.length-set memory (top - 1) (high_byte word);
   bytes = λ address outside.
       pushed_keeps top word memory address
@@ -93,18 +98,19 @@ pub ready_after_pop :
     → last.sp ≡ wrap top
     → HoldBytes last
     → IsReady activation top base other others last ended
-ready_after_pop activation top word base source other frame others r after last memory ended lies room before ready pointer bytes = record {
-  pointer = pointer;
-  registers = bytes;
-  shares = ready.shares;
-  frame_lies = ready.frame_lies;
-  kept =
-      keeps_both (Owns activation top) base memory ended before.kept
-      (keeps_both (Owns activation top) memory (pushed top word memory) ended
-      (push_keeps activation top word memory room)
-      (keeps_wider (Owns activation (top - 2)) (Owns activation top) (pushed top word memory) ended
-      (owns_more activation (top - 2) top (omega arith)) ready.kept));
-}
+ready_after_pop activation top word base source other frame others r after last memory ended lies room before
+    ready pointer bytes = record {
+      pointer = pointer;
+      registers = bytes;
+      shares = ready.shares;
+      frame_lies = ready.frame_lies;
+      kept =
+          keeps_both (Owns activation top) base memory ended before.kept
+          (keeps_both (Owns activation top) memory (pushed top word memory) ended
+          (push_keeps activation top word memory room)
+          (keeps_wider (Owns activation (top - 2)) (Owns activation top) (pushed top word memory) ended
+          (owns_more activation (top - 2) top (omega arith)) ready.kept));
+    }
 
 -- the word is still there
 pub still_pushed :
@@ -119,14 +125,17 @@ pub still_pushed :
 still_pushed activation top word other others after memory ended lies room below size ready =
     let above = lies.above in
     let stack = lies.placed.stack_in_memory in
-    let is = pushed_is_pushed top word memory (omega (arith, room)) (omega (arith, below, above, stack)) size in
+    let is =
+    pushed_is_pushed top word memory (omega (arith, room)) (omega (arith, below, above, stack)) size in
     record {
       high =
           ready.kept.bytes (top - 1)
-          (pushed_is_not_owned activation (top - 2) (top - 1) lies (omega (arith, room)) (omega arith) (omega (arith, room, below)))
+          (pushed_is_not_owned activation (top - 2) (top - 1) lies (omega (arith, room)) (omega arith)
+          (omega (arith, room, below)))
           ∙ is.high;
       low =
           ready.kept.bytes (top - 2)
-          (pushed_is_not_owned activation (top - 2) (top - 2) lies (omega (arith, room)) (omega arith) (omega (arith, room, below)))
+          (pushed_is_not_owned activation (top - 2) (top - 2) lies (omega (arith, room)) (omega arith)
+          (omega (arith, room, below)))
           ∙ is.low;
     }

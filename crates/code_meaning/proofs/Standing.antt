@@ -26,7 +26,8 @@ pub after_word :
     {activation : Activation} {form : WordForm} {reference : Reference} {items : List Item} {from to : ℕ}
     → IsThere activation (WithWord form reference ∷ items) from to
     → IsThere activation items (from + 3) to
-after_word {activation = activation} {form = form} {reference = reference} {items = items} {from = from} {to = to} there =
+after_word {activation = activation} {form = form} {reference = reference} {items = items}
+    {from = from} {to = to} there =
     let low = there.low in
     record { stands = there.stands.1; low = omega (arith, low); high = there.high }
 

@@ -46,7 +46,8 @@ variable_shared program image source memory address value free variable inside s
       is_memory = memory_put memory address value is small;
       size = length-set source address value ∙ size;
       declared = λ other there.
-          put_both memory source address value other (omega (arith, is.size, inside)) (omega (arith, size, inside))
+          put_both memory source address value other (omega (arith, is.size, inside))
+          (omega (arith, size, inside))
           (other == address) refl (shares.declared other there);
       code = λ other there.
           byte_kept memory address other value
@@ -70,7 +71,8 @@ frame_kept activation frame memory address value elsewhere lies = record {
 }
 
 variable_elsewhere :
-    (activation : Activation) (address : ℕ) → LiesWell activation → IsVariable activation.around.program address
+    (activation : Activation) (address : ℕ) → LiesWell activation
+    → IsVariable activation.around.program address
     → (object offset : ℕ) → offset < activation.size object
     → activation.level + activation.distance object + offset ≢ address
 variable_elsewhere activation address lies variable object offset within same =
@@ -78,7 +80,8 @@ variable_elsewhere activation address lies variable object offset within same =
     let low = lies.low in
     let bottom = lies.bottom in
     let above = lies.above in
-    lies.placed.stack_free address variable.0 (omega (arith, same, low, bottom)) (omega (arith, same, inside, above))
+    lies.placed.stack_free address variable.0 (omega (arith, same, low, bottom))
+    (omega (arith, same, inside, above))
 
 -- a variable of the program
 pub ready_with_variable :
@@ -90,14 +93,16 @@ pub ready_with_variable :
     → value < 256
     → IsReady activation top base source frame r memory
     → IsReady activation top base (slice_set source address value) frame r (slice_set memory address value)
-ready_with_variable activation top base source frame r memory address value lies variable inside small ready = record {
-  pointer = ready.pointer;
-  registers = ready.registers;
-  shares =
-      variable_shared activation.around.program activation.image source memory address value lies.placed.code_free variable
-      inside small ready.shares;
-  frame_lies =
-      frame_kept activation frame memory address value (variable_elsewhere activation address lies variable)
-      ready.frame_lies;
-  kept = keeps_put (Owns activation top) base memory address value (inl variable) ready.kept;
-}
+ready_with_variable activation top base source frame r memory address value lies variable inside small ready =
+    record {
+      pointer = ready.pointer;
+      registers = ready.registers;
+      shares =
+          variable_shared activation.around.program activation.image source memory address value
+          lies.placed.code_free variable
+          inside small ready.shares;
+      frame_lies =
+          frame_kept activation frame memory address value (variable_elsewhere activation address lies variable)
+          ready.frame_lies;
+      kept = keeps_put (Owns activation top) base memory address value (inl variable) ready.kept;
+    }

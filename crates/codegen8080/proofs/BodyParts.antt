@@ -39,17 +39,23 @@ planned_added body list start free before ready after emission labels goes_on pl
     adds.written in
     record {
       list = adds.list;
-      writes = subst (λ (from : Emission). Writes from.writer after.emission.writer adds.list) emission adds.writes;
+      writes =
+          subst (λ (from : Emission). Writes from.writer after.emission.writer adds.list)
+          emission adds.writes;
       written =
-          subst (λ first. LabelledSteps body called (here_of before) None list adds.list (here_of after) first next)
+          subst (λ first. LabelledSteps body called (here_of before) None list adds.list
+          (here_of after) first next)
           labels
           (subst (λ (at : Emission). LabelledSteps body called
-          (record { facts = at.facts; goes_on = before.goes_on }) None list adds.list (here_of after) from next)
+          (record { facts = at.facts; goes_on = before.goes_on }) None list adds.list
+          (here_of after) from next)
           emission
-          (subst (λ goes. LabelledSteps body called (record { facts = ready.emission.facts; goes_on = goes }) None
+          (subst (λ goes. LabelledSteps body called
+          (record { facts = ready.emission.facts; goes_on = goes }) None
           list adds.list (here_of after) from next) goes_on written));
       called = subst (λ (from : Emission). HasAll from.is_called.items called) emission adds.called;
-      notes = subst (λ (from : Emission). NotesCalled body.tree.now from.is_called.items called adds.list) emission
+      notes = subst (λ (from : Emission). NotesCalled body.tree.now from.is_called.items called adds.list)
+          emission
           adds.notes;
     }
 
@@ -66,7 +72,8 @@ pub entry_added :
 entry_added body start before ready after (Ok done) emission labels goes_on plan begins adds =
     let added =
     planned_added body (entry_steps body before.emission.steps.labels) start
-    (λ label. label_after label (entry_labels body)) before ready after emission labels goes_on plan begins adds in
+    (λ label. label_after label (entry_labels body)) before ready after emission labels
+    goes_on plan begins adds in
     record {
       list = added.list;
       writes = added.writes;
@@ -92,13 +99,15 @@ end_added body start before ready after (Ok done) reached emission goes_on plan 
     let labels : ready.emission.steps.labels ≡ before.emission.steps.labels =
     ap (λ (from : Emission). from.steps.labels) emission in
     let added =
-    planned_added body (end_steps body) start (λ label. label) before ready after same labels goes_on plan begins adds in
+    planned_added body (end_steps body) start (λ label. label) before ready after same labels
+    goes_on plan begins adds in
     record {
       list = added.list;
       writes = added.writes;
       written =
           subst
-          (λ is_reached. LabelledEnd body after.emission.is_called.items (here_of before) is_reached added.list
+          (λ is_reached. LabelledEnd body after.emission.is_called.items (here_of before)
+          is_reached added.list
           before.emission.steps.labels after.emission.steps.labels)
           (sym reached) ((here_of after, added.written.0), added.written.1);
       called = added.called;
@@ -107,7 +116,8 @@ end_added body start before ready after (Ok done) reached emission goes_on plan 
 end_added body start before ready after (Err fault) reached emission goes_on plan begins adds = adds
 
 pub no_end_added :
-    (body : Body) (before : Generator) → body.procedure.now.reaches_its_end ≡ false → AddsEnd body before before
+    (body : Body) (before : Generator) → body.procedure.now.reaches_its_end ≡ false
+    → AddsEnd body before before
 no_end_added body before reached = record {
   list = [];
   writes = writes_nothing before.emission.writer;
@@ -131,7 +141,8 @@ alone_noted tree other before after list item calls_none same notes = λ routine
     elim (notes routine given) [
       | inl old ↦ inl old
       | inr bad ↦ absurd (
-          let no : false ≡ true = sym (calls_none routine) ∙ ap (call_routine tree routine) (sym same) ∙ bad in cc
+          let no : false ≡ true =
+          sym (calls_none routine) ∙ ap (call_routine tree routine) (sym same) ∙ bad in cc
           )
     ]
 
@@ -141,7 +152,8 @@ record IsMarked (label : ℕ) (before after : Emission) : Type 0 where
   facts : after.facts ≡ no_facts
   labels : after.steps.labels ≡ before.steps.labels
   called : HasAll before.is_called.items after.is_called.items
-  notes : (tree : TreeModule) → NotesCalled tree before.is_called.items after.is_called.items (items.Mark label ∷ [])
+  notes : (tree : TreeModule) → NotesCalled tree before.is_called.items after.is_called.items
+      (items.Mark label ∷ [])
 
 mark_is :
     {site : Site} {called : List Bool} {facts last : Facts} {label : LabelNumber} {list : List Item}
@@ -187,7 +199,8 @@ plain_labels (PlainWritten NoneWritten) from next labels = labels
 
 -- the code of the end of a procedure, with more routines called
 pub end_kept :
-    (body : Body) (called wider : List Bool) (here : Here) (is_reached : Bool) (list : List Item) (label next : ℕ)
+    (body : Body) (called wider : List Bool) (here : Here) (is_reached : Bool)
+    (list : List Item) (label next : ℕ)
     → HasAll called wider
     → LabelledEnd body called here is_reached list label next
     → LabelledEnd body wider here is_reached list label next
@@ -211,7 +224,8 @@ pub own_added :
     → AddsList body procedure.body entered listed
     → AddsEnd body listed after
     → AddsOwn tree label.index procedure before after
-own_added tree procedure label body site before begun labelled entered listed after tree_is procedure_is frame named
+own_added tree procedure label body site before begun labelled entered listed after tree_is
+    procedure_is frame named
     same labels emits goes_on entry list end =
     let called : List Bool = after.emission.is_called.items in
     let mark = marked site label begun.emission labelled.emission emits in
@@ -224,7 +238,8 @@ own_added tree procedure label body site before begun labelled entered listed af
     let begun_label : ℕ = entered.emission.steps.labels in
     let ended_label : ℕ = listed.emission.steps.labels in
     let next : ℕ = after.emission.steps.labels in
-    let begins : LabelledSteps body called (record { facts = no_facts; goes_on = true }) None (entry_steps body first)
+    let begins : LabelledSteps body called (record { facts = no_facts; goes_on = true }) None
+    (entry_steps body first)
     entry.list (here_of entered) (label_after first (entry_labels body)) begun_label =
     subst (λ at. LabelledSteps body called at None (entry_steps body first) entry.list (here_of entered)
     (label_after first (entry_labels body)) begun_label) here (labelled_steps_kept called from_entry
@@ -233,7 +248,8 @@ own_added tree procedure label body site before begun labelled entered listed af
     begun_label ended_label =
     labelled_list_kept called end.called begun_label ended_label list.written in
     let ends : LabelledEnd body called (here_of listed) procedure.reaches_its_end end.list ended_label next =
-    subst (λ (own : TreeProcedure). LabelledEnd body called (here_of listed) own.reaches_its_end end.list ended_label
+    subst (λ (own : TreeProcedure). LabelledEnd body called (here_of listed) own.reaches_its_end
+    end.list ended_label
     next) procedure_is end.written in
     let code : IsProcedureCode tree called label.index procedure
     (items.Mark label.index ∷ (entry.list ++ (list.list ++ end.list))) =
@@ -294,7 +310,8 @@ own_added tree procedure label body site before begun labelled entered listed af
           (items.Mark label.index ∷ []) (entry.list ++ (list.list ++ end.list)) (mark.notes body.tree.now)
           (notes_then body.tree.now labelled.emission.is_called.items entered.emission.is_called.items called
           entry.list (list.list ++ end.list) entry.notes
-          (notes_then body.tree.now entered.emission.is_called.items listed.emission.is_called.items called list.list
+          (notes_then body.tree.now entered.emission.is_called.items
+          listed.emission.is_called.items called list.list
           end.list list.notes end.notes))));
     }
 
@@ -314,7 +331,8 @@ pub main_added :
     → AddsList body tree.main.body ready listed
     → EmitsSteps last (steps.Plain Hlt ∷ []) listed.emission after.emission
     → AddsMain tree label.index before after
-main_added tree label body site last before begun labelled ready listed after tree_is procedure_is frame named same
+main_added tree label body site last before begun labelled ready listed after tree_is
+    procedure_is frame named same
     labels emits stack kept list halts =
     let called : List Bool = after.emission.is_called.items in
     let mark = marked site label begun.emission labelled.emission emits in
@@ -328,12 +346,15 @@ main_added tree label body site last before begun labelled ready listed after tr
     let ends : next ≡ listed.emission.steps.labels =
     plain_labels halts.written listed.emission.steps.labels next halts.labels in
     let written : LabelledList body called no_facts tree.main.body list.list (here_of listed) from next =
-    subst (λ at. LabelledList body called no_facts tree.main.body list.list (here_of listed) from at) (sym ends)
+    subst (λ at. LabelledList body called no_facts tree.main.body list.list (here_of listed) from at)
+    (sym ends)
     (subst (λ at. LabelledList body called no_facts tree.main.body list.list (here_of listed) at
     listed.emission.steps.labels) begins
-    (subst (λ at. LabelledList body called at tree.main.body list.list (here_of listed) ready.emission.steps.labels
+    (subst (λ at. LabelledList body called at tree.main.body list.list (here_of listed)
+    ready.emission.steps.labels
     listed.emission.steps.labels) facts
-    (labelled_list_kept called halts.called ready.emission.steps.labels listed.emission.steps.labels list.written))) in
+    (labelled_list_kept called halts.called ready.emission.steps.labels
+    listed.emission.steps.labels list.written))) in
     let code : IsMainCode tree called label.index
     (items.Mark label.index ∷ stack_end_item (LoadPair Sp) ∷ (list.list ++ (items.Plain Hlt ∷ []))) =
     record {
@@ -384,9 +405,11 @@ main_added tree label body site last before begun labelled ready listed after tr
           (stack_end_item (LoadPair Sp) ∷ []) (list.list ++ (items.Plain Hlt ∷ []))
           (none_noted body.tree.now labelled.emission ready.emission (stack_end_item (LoadPair Sp) ∷ [])
           (ap (λ (at : Emission). at.is_called) kept))
-          (notes_then body.tree.now ready.emission.is_called.items listed.emission.is_called.items called list.list
+          (notes_then body.tree.now ready.emission.is_called.items
+          listed.emission.is_called.items called list.list
           (items.Plain Hlt ∷ []) list.notes
-          (alone_noted last.tree.now body.tree.now listed.emission.is_called.items called halts.list (items.Plain Hlt)
+          (alone_noted last.tree.now body.tree.now listed.emission.is_called.items called
+          halts.list (items.Plain Hlt)
           (λ routine. refl) (plain_is halts.written) halts.notes)))));
     }
 
@@ -400,7 +423,8 @@ external_added tree number name procedure before kind = record {
   writes = writes_nothing before.emission.writer;
   written =
       subst
-      (λ at. LabelledCode tree before.emission.is_called.items number procedure at [] before.emission.steps.labels
+      (λ at. LabelledCode tree before.emission.is_called.items number procedure at []
+      before.emission.steps.labels
       before.emission.steps.labels)
       (sym kind) (refl, refl);
   called = has_itself before.emission.is_called.items;
@@ -423,9 +447,11 @@ procedure_added tree number procedure before after (Ok done) kind adds =
       writes = adds.writes;
       written = elim kind [
         | inl static ↦
-            subst (λ at. LabelledCode tree called number procedure at adds.list label next) (sym static) adds.written
+            subst (λ at. LabelledCode tree called number procedure at adds.list label next)
+            (sym static) adds.written
         | inr reentrant ↦
-            subst (λ at. LabelledCode tree called number procedure at adds.list label next) (sym reentrant) adds.written
+            subst (λ at. LabelledCode tree called number procedure at adds.list label next)
+            (sym reentrant) adds.written
       ];
       called = adds.called;
       notes = adds.notes;

@@ -7,7 +7,8 @@ use Rattle.codegen8080.specs.internal.Code.{IsCodeOfMainProgram, IsCodeOfPlanned
 
 -- the code of a step that is neither a statement nor a list is that of its steps, before that of others
 alone_is :
-    (body : Body) (depth : ℕ) (here : Here) (waiting : Option Facts) (step : Planned) (others : List Planned) (label : ℕ)
+    (body : Body) (depth : ℕ) (here : Here) (waiting : Option Facts) (step : Planned)
+    (others : List Planned) (label : ℕ)
     → HoldsNoStatement step
     → code_of_planned body depth (code_of_statement body depth) here waiting (step ∷ others) label
     ≡ option_and_then
@@ -42,7 +43,8 @@ mutual
   planned_are_code {here = here} label next NoneCarriedOut labels =
       (0, λ extra. ap (λ at. Some (record { items = []; here = here; label = at })) (sym labels))
   planned_are_code {body = body} {here = here} {last = last} {waiting = waiting} label next
-      (StepCarriedOut {known = known} {step = step} {others = list} {first = items} {more = more} alone written others)
+      (StepCarriedOut {known = known} {step = step} {others = list} {first = items} {more = more}
+      alone written others)
       labels =
       let first : Code = record { items = items; facts = known; label = labels.0 } in
       let rest : StatementCode = record { items = more; here = last; label = next } in
@@ -66,7 +68,8 @@ mutual
         λ extra. alone_is body (found.0 + extra) here waiting step list label alone ∙ found.1 extra,
       )
   planned_are_code {body = body} {here = here} {last = last} {waiting = waiting} label next
-      (StatementCarriedOut {middle = middle} {number = number} {others = list} {first = items} {more = more} first others)
+      (StatementCarriedOut {middle = middle} {number = number} {others = list} {first = items}
+      {more = more} first others)
       labels =
       let one : StatementCode = record { items = items; here = middle; label = labels.0 } in
       let rest : StatementCode = record { items = more; here = last; label = next } in
@@ -80,13 +83,15 @@ mutual
       (λ depth. code_of_planned body depth (code_of_statement body depth) middle waiting list labels.0)
       rest (planned_are_code labels.0 next others labels.2))
   planned_are_code {body = body} {here = here} {last = last} {waiting = waiting} label next
-      (ListCarriedOut {middle = middle} {list = range} {others = list} {first = items} {more = more} first others)
+      (ListCarriedOut {middle = middle} {list = range} {others = list} {first = items}
+      {more = more} first others)
       labels =
       let one : StatementCode = record { items = items; here = middle; label = labels.0 } in
       let rest : StatementCode = record { items = more; here = last; label = next } in
       found_then
       (λ depth.
-      code_of_statements body.tree.now (code_of_statement body depth) (arriving (Some here.facts)) range.first range.count label)
+      code_of_statements body.tree.now (code_of_statement body depth) (arriving (Some here.facts))
+      range.first range.count label)
       (λ depth found.
       option_map (before_code found.items)
       (code_of_planned body depth (code_of_statement body depth) found.here waiting list found.label))
@@ -97,7 +102,8 @@ mutual
       rest (planned_are_code labels.0 next others labels.2))
 
   pub statement_is_code :
-      {body : Body} {called : List Bool} {facts : Facts} {number : StatementNumber} {items : List Item} {last : Here}
+      {body : Body} {called : List Bool} {facts : Facts} {number : StatementNumber}
+      {items : List Item} {last : Here}
       (label next : ℕ)
       → (written : IsCarriedOut body called facts number items last)
       → IsStatementLabelled written label next
@@ -135,14 +141,16 @@ mutual
   list_is_code label next (ListPlanned all) labels = all_are_code label next all labels
 
   pub all_are_code :
-      {body : Body} {called : List Bool} {here last : Here} {first count : ℕ} {items : List Item} (label next : ℕ)
+      {body : Body} {called : List Bool} {here last : Here} {first count : ℕ}
+      {items : List Item} (label next : ℕ)
       → (written : AreAllCarriedOut body called here first count items last)
       → AreAllLabelled written label next
       → IsCodeOfStatements body here first count label (record { items = items; here = last; label = next })
   all_are_code {here = here} label next NoStatements labels =
       (0, λ extra. ap (λ at. Some (record { items = []; here = here; label = at })) (sym labels))
   all_are_code {body = body} {here = here} {last = last} {first = first} label next
-      (MoreStatements {middle = middle} {count = count} {number = number} {list = items} {more = more} found is others)
+      (MoreStatements {middle = middle} {count = count} {number = number} {list = items}
+      {more = more} found is others)
       labels =
       let one : StatementCode = record { items = items; here = middle; label = labels.0 } in
       let rest : StatementCode = record { items = more; here = last; label = next } in
@@ -155,7 +163,8 @@ mutual
       option_and_then
       (λ (made : StatementCode).
       option_map (before_code made.items)
-      (code_of_statements body.tree.now (code_of_statement body depth) made.here (suc first) count made.label))
+      (code_of_statements body.tree.now (code_of_statement body depth) made.here
+      (suc first) count made.label))
       (code_of_statement body depth here.facts at label))
       read)
       (before_code items rest))
@@ -163,11 +172,13 @@ mutual
       (found_then (λ depth. code_of_statement body depth here.facts number label)
       (λ depth made.
       option_map (before_code made.items)
-      (code_of_statements body.tree.now (code_of_statement body depth) made.here (suc first) count made.label))
+      (code_of_statements body.tree.now (code_of_statement body depth) made.here
+      (suc first) count made.label))
       one (before_code items rest)
       (statement_is_code label labels.0 is labels.1)
       (found_map (before_code items)
-      (λ depth. code_of_statements body.tree.now (code_of_statement body depth) middle (suc first) count labels.0)
+      (λ depth. code_of_statements body.tree.now (code_of_statement body depth) middle
+      (suc first) count labels.0)
       rest (all_are_code labels.0 next others labels.2)))
 
 -- The items that are written for the end of a procedure are its code.
@@ -178,7 +189,8 @@ end_is_code :
     → (last : Here)
     × IsFoundDeep (λ depth. code_of_end body depth is_reached here label)
     (record { items = items; here = last; label = next })
-end_is_code body called here true items label next code labels = (code.0, planned_are_code label next code.1 labels)
+end_is_code body called here true items label next code labels =
+    (code.0, planned_are_code label next code.1 labels)
 end_is_code body called here false items label next code labels = (
   here,
   (
@@ -198,15 +210,18 @@ pub procedure_is_code :
     → (last : Here)
     × IsCodeOfProcedure code.body number label (record { items = items; here = last; label = next })
 unfolding code_of_procedure
-procedure_is_code {tree = tree} {called = called} {number = number} {procedure = procedure} {items = items} label next code
+procedure_is_code {tree = tree} {called = called} {number = number} {procedure = procedure}
+    {items = items} label next code
     labels =
     let body : Body = code.body in
     let start : ℕ = label_after label body.procedure.now.label_count in
     let first : code.first ≡ start =
     labels.first ∙ ap (λ (own : TreeProcedure). label_after label own.label_count) (sym code.procedure_is) in
     let ending =
-    end_is_code body called code.last procedure.reaches_its_end code.ending labels.ended next code.ends labels.ends in
-    let begun : StatementCode = record { items = code.beginning; here = code.entered; label = labels.begun } in
+    end_is_code body called code.last procedure.reaches_its_end code.ending labels.ended next
+    code.ends labels.ends in
+    let begun : StatementCode =
+    record { items = code.beginning; here = code.entered; label = labels.begun } in
     let listed : StatementCode = record { items = code.statements; here = code.last; label = labels.ended } in
     let ended : StatementCode = record { items = code.ending; here = ending.0; label = next } in
     let begins :
@@ -219,7 +234,8 @@ procedure_is_code {tree = tree} {called = called} {number = number} {procedure =
     (λ at.
     IsFoundDeep
     (λ depth.
-    code_of_steps_of body depth (arriving (Some no_facts)) (entry_steps body at) (label_after at (entry_labels body)))
+    code_of_steps_of body depth (arriving (Some no_facts)) (entry_steps body at)
+    (label_after at (entry_labels body)))
     begun)
     first
     (planned_are_code (label_after code.first (entry_labels body)) labels.begun code.begins labels.begins) in
@@ -281,7 +297,8 @@ procedure_is_code {tree = tree} {called = called} {number = number} {procedure =
           (code_of_end body depth body.procedure.now.reaches_its_end statements.here statements.label))
           listed (before_code code.statements ended) lists
           (found_map (before_code code.statements)
-          (λ depth. code_of_end body depth body.procedure.now.reaches_its_end code.last labels.ended) ended ends))))),
+          (λ depth. code_of_end body depth body.procedure.now.reaches_its_end code.last labels.ended) ended
+          ends))))),
     )
 
 -- The items that are written for a main program are its code.
@@ -301,7 +318,8 @@ main_is_code {tree = tree} {start = start} {items = items} label next code label
     (λ (own : TreeProcedure).
     IsFoundDeep
     (λ depth.
-    code_of_list body.tree.now (code_of_statement body depth) no_facts own.body (label_after label own.label_count))
+    code_of_list body.tree.now (code_of_statement body depth) no_facts own.body
+    (label_after label own.label_count))
     listed)
     (sym code.procedure_is)
     (list_is_code (label_after label tree.main.label_count) next code.written labels.written) in

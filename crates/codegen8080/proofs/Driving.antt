@@ -60,7 +60,8 @@ module _ {body : Body} {called : List Bool} (wider : List Bool) (more : HasAll c
         let kept = statements_kept others labels.0 next labels.2 in
         (MoreStatements at one.0 kept.0, (labels.0, one.1, kept.1))
 
-  pub labelled_steps_kept : {here last : Here} {waiting : Option Facts} {steps : List Planned} {items : List Item}
+  pub labelled_steps_kept : {here last : Here} {waiting : Option Facts}
+      {steps : List Planned} {items : List Item}
       (label next : ℕ)
       → LabelledSteps body called here waiting steps items last label next
       → LabelledSteps body wider here waiting steps items last label next
@@ -114,17 +115,21 @@ module _ (body : Body) (waiting : Option Facts) (before after : Generator) where
             subst (λ (to : Emission). HasAll to.is_called.items called) (sym same) wider in
             let left : LabelledSteps body called (here_after (here_of before) waiting written.facts step)
             (waiting_after (here_of before) waiting step) others more last written.steps.labels next =
-            subst (λ here. LabelledSteps body called here (waiting_after (here_of before) waiting step) others more last
+            subst (λ here. LabelledSteps body called here
+            (waiting_after (here_of before) waiting step) others more last
             written.steps.labels next)
             adds.here
-            (subst (λ at. LabelledSteps body called (here_of after) at others more last written.steps.labels next)
+            (subst (λ at. LabelledSteps body called (here_of after) at others more last
+            written.steps.labels next)
             adds.waiting_is
-            (subst (λ (to : Emission). LabelledSteps body called (here_of after) waits others more last to.steps.labels
+            (subst (λ (to : Emission). LabelledSteps body called (here_of after) waits others more
+            last to.steps.labels
             next) (sym same) rest)) in (
               StepCarriedOut alone (are_kept kept adds.emits.written) left.0,
               (
                 written.steps.labels,
-                are_labels_kept called kept before.emission.steps.labels written.steps.labels adds.emits.written
+                are_labels_kept called kept before.emission.steps.labels
+                    written.steps.labels adds.emits.written
                     adds.emits.labels,
                 left.1,
               ),
@@ -156,7 +161,8 @@ module _ (body : Body) (waiting : Option Facts) (before after : Generator) where
     writes = adds.writes;
     followed = λ called others more last next wider rest.
         let first =
-        labelled_statement_kept called wider before.emission.steps.labels after.emission.steps.labels adds.written in
+        labelled_statement_kept called wider before.emission.steps.labels
+        after.emission.steps.labels adds.written in
         (StatementCarriedOut first.0 rest.0, (after.emission.steps.labels, first.1, rest.1));
     called = adds.called;
     notes = adds.notes;
@@ -173,7 +179,8 @@ module _ (body : Body) (waiting : Option Facts) (before after : Generator) where
     writes = adds.writes;
     followed = λ called others more last next wider rest.
         let first =
-        labelled_list_kept called wider before.emission.steps.labels after.emission.steps.labels adds.written in
+        labelled_list_kept called wider before.emission.steps.labels
+        after.emission.steps.labels adds.written in
         (ListCarriedOut first.0 rest.0, (after.emission.steps.labels, first.1, rest.1));
     called = adds.called;
     notes = adds.notes;
@@ -192,7 +199,8 @@ step_added body step waiting waits before after written here emits arrives same 
   written = written;
   emits = emits;
   emission = ap (λ (to : Generator). to.emission) same
-      ∙ ap (λ (facts : Facts). record written { facts = facts }) (sym (ap (λ (to : Generator). to.emission.facts) same));
+      ∙ ap (λ (facts : Facts). record written { facts = facts })
+      (sym (ap (λ (to : Generator). to.emission.facts) same));
   here = ap here_of same ∙ arrives;
   waiting_is = wait;
   plan = ap (λ (to : Generator). to.plan) same;
@@ -207,7 +215,8 @@ pub record IsCarrying
       → HasAll now.emission.is_called.items called
       → LabelledSteps body called (here_of now) waiting (drop index now.plan.list.items) more last
       now.emission.steps.labels next
-      → LabelledSteps body called (here_of before) None (drop start before.plan.list.items) (list ++ more) last
+      → LabelledSteps body called (here_of before) None
+      (drop start before.plan.list.items) (list ++ more) last
       before.emission.steps.labels next
   pub called : HasAll before.emission.is_called.items now.emission.is_called.items
   pub notes : NotesCalled body.tree.now before.emission.is_called.items now.emission.is_called.items list
@@ -237,7 +246,8 @@ module _ (body : Body) (before now : Generator) (waiting : Option Facts) (start 
         writes = writes_then before.emission.writer now.emission.writer next.emission.writer so_far.list
             carries.list so_far.writes carries.writes;
         left = λ called more last end wider rest.
-            subst (λ all. LabelledSteps body called (here_of before) None (drop start before.plan.list.items) all last
+            subst (λ all. LabelledSteps body called (here_of before) None
+            (drop start before.plan.list.items) all last
             before.emission.steps.labels end)
             (sym (append_assoc so_far.list carries.list more))
             (so_far.left called (carries.list ++ more) last end
@@ -265,7 +275,8 @@ module _ (body : Body) (before now : Generator) (waiting : Option Facts) (start 
     writes = so_far.writes;
     left = λ called more last next wider rest.
         so_far.left called more last next wider
-        (subst (λ left. LabelledSteps body called (here_of now) waiting left more last now.emission.steps.labels next)
+        (subst (λ left. LabelledSteps body called (here_of now) waiting left more last
+        now.emission.steps.labels next)
         (sym (none_is now.plan.list.items index none)) rest);
     called = so_far.called;
     notes = so_far.notes;
@@ -285,22 +296,30 @@ module _ (body : Body) (before now : Generator) (waiting : Option Facts) (start 
       drop_all index now.plan.list.items (omega (arith, ap length so_far.plan, done)) in
       let label : ℕ = before.emission.steps.labels in
       let next : ℕ = now.emission.steps.labels in
-      let written : LabelledSteps body called (here_of before) None steps so_far.list (here_of now) label next =
+      let written : LabelledSteps body called (here_of before) None steps so_far.list
+      (here_of now) label next =
       subst (λ all. LabelledSteps body called (here_of before) None steps all (here_of now) label next)
       (append-nil so_far.list)
       (so_far.left called [] (here_of now) next (has_itself called)
-      (subst (λ left. LabelledSteps body called (here_of now) waiting left [] (here_of now) next next) (sym none)
+      (subst (λ left. LabelledSteps body called (here_of now) waiting left [] (here_of now) next next)
+      (sym none)
       (NoneCarriedOut, refl))) in
       record {
         list = so_far.list;
         writes = subst (λ (to : Emission). Writes before.emission.writer to.writer so_far.list) (sym emission)
             so_far.writes;
         written =
-            subst (λ goes. LabelledSteps body after.emission.is_called.items (here_of before) None steps so_far.list
-            (record { facts = after.emission.facts; goes_on = goes }) label after.emission.steps.labels) (sym goes_on)
-            (subst (λ (to : Emission). LabelledSteps body to.is_called.items (here_of before) None steps so_far.list
-            (record { facts = to.facts; goes_on = now.goes_on }) label to.steps.labels) (sym emission) written);
-        called = subst (λ (to : Emission). HasAll before.emission.is_called.items to.is_called.items) (sym emission)
+            subst (λ goes. LabelledSteps body after.emission.is_called.items (here_of before)
+            None steps so_far.list
+            (record { facts = after.emission.facts; goes_on = goes }) label
+            after.emission.steps.labels) (sym goes_on)
+            (subst (λ (to : Emission). LabelledSteps body to.is_called.items (here_of before)
+            None steps so_far.list
+            (record { facts = to.facts; goes_on = now.goes_on }) label to.steps.labels)
+            (sym emission) written);
+        called =
+            subst (λ (to : Emission). HasAll before.emission.is_called.items to.is_called.items)
+            (sym emission)
             so_far.called;
         notes =
             subst
@@ -318,13 +337,15 @@ pub statement_added : (body : Body) (number : StatementNumber) (statement : Tree
     (statement_labels body (knowing (site_of body) before.emission.facts) statement)
     → ready.goes_on ≡ true
     → ready.plan.list.items ≡ before.plan.list.items
-    ++ statement_steps body (knowing (site_of body) before.emission.facts) statement before.emission.steps.labels
+    ++ statement_steps body (knowing (site_of body) before.emission.facts) statement
+    before.emission.steps.labels
     → AddsPlanned body (drop (length before.plan.list.items) ready.plan.list.items) ready after
     → AddsStatement body number before after
 statement_added body number statement before ready after at emission labels goes_on plan adds =
     let label : ℕ = before.emission.steps.labels in
     let next : ℕ = after.emission.steps.labels in
-    let steps : List Planned = statement_steps body (knowing (site_of body) before.emission.facts) statement label in
+    let steps : List Planned =
+    statement_steps body (knowing (site_of body) before.emission.facts) statement label in
     let called : List Bool = after.emission.is_called.items in
     let left : drop (length before.plan.list.items) ready.plan.list.items ≡ steps =
     ap (drop (length before.plan.list.items)) plan
@@ -334,7 +355,8 @@ statement_added body number statement before ready after at emission labels goes
     label_after label (statement_labels body (knowing (site_of body) before.emission.facts) statement) in
     let written : LabelledSteps body called here None steps adds.list (here_of after) from next =
     subst (λ first. LabelledSteps body called here None steps adds.list (here_of after) first next) labels
-    (subst (λ (from : Emission). LabelledSteps body called (record { facts = from.facts; goes_on = true }) None
+    (subst (λ (from : Emission). LabelledSteps body called
+    (record { facts = from.facts; goes_on = true }) None
     steps adds.list (here_of after) ready.emission.steps.labels next) emission
     (subst (λ goes. LabelledSteps body called (record { facts = ready.emission.facts; goes_on = goes }) None
     steps adds.list (here_of after) ready.emission.steps.labels next) goes_on
@@ -342,10 +364,13 @@ statement_added body number statement before ready after at emission labels goes
     ready.emission.steps.labels next) left adds.written))) in
     record {
       list = adds.list;
-      writes = subst (λ (from : Emission). Writes from.writer after.emission.writer adds.list) emission adds.writes;
+      writes =
+          subst (λ (from : Emission). Writes from.writer after.emission.writer adds.list)
+          emission adds.writes;
       written = (StatementPlanned label at written.0, (refl, written.1));
       called = subst (λ (from : Emission). HasAll from.is_called.items called) emission adds.called;
-      notes = subst (λ (from : Emission). NotesCalled body.tree.now from.is_called.items called adds.list) emission
+      notes = subst (λ (from : Emission). NotesCalled body.tree.now from.is_called.items called adds.list)
+          emission
           adds.notes;
     }
 
@@ -357,14 +382,17 @@ pub statement_added_if : (body : Body) (number : StatementNumber) (statement : T
     (statement_labels body (knowing (site_of body) before.emission.facts) statement)
     → ready.goes_on ≡ true
     → ready.plan.list.items ≡ before.plan.list.items
-    ++ statement_steps body (knowing (site_of body) before.emission.facts) statement before.emission.steps.labels
+    ++ statement_steps body (knowing (site_of body) before.emission.facts) statement
+    before.emission.steps.labels
     → start ≡ length before.plan.list.items
     → OnOk result (AddsPlanned body (drop start ready.plan.list.items) ready after)
     → OnOk result (AddsStatement body number before after)
-statement_added_if body number statement start before ready after (Ok done) at emission labels goes_on plan begins adds =
+statement_added_if body number statement start before ready after (Ok done) at emission labels
+    goes_on plan begins adds =
     statement_added body number statement before ready after at emission labels goes_on plan
     (subst (λ from. AddsPlanned body (drop from ready.plan.list.items) ready after) begins adds)
-statement_added_if body number statement start before ready after (Err fault) at emission labels goes_on plan begins
+statement_added_if body number statement start before ready after (Err fault) at emission
+    labels goes_on plan begins
     adds =
     adds
 
@@ -376,7 +404,8 @@ pub record IsListing (body : Body) (range : Range) (before now : Generator) (ind
       → HasAll now.emission.is_called.items called
       → LabelledStatements body called (here_of now) (range.first + index) (range.count - index) more last
       now.emission.steps.labels next
-      → LabelledList body called before.emission.facts range (list ++ more) last before.emission.steps.labels next
+      → LabelledList body called before.emission.facts range (list ++ more) last
+      before.emission.steps.labels next
   pub called : HasAll before.emission.is_called.items now.emission.is_called.items
   pub notes : NotesCalled body.tree.now before.emission.is_called.items now.emission.is_called.items list
   pub plan : now.plan.list.items ≡ before.plan.list.items
@@ -391,11 +420,14 @@ module _ (body : Body) (range : Range) (before now : Generator) where
         writes = writes_nothing before.emission.writer;
         left = λ called more last next wider rest.
             let label : ℕ = before.emission.steps.labels in
-            let all : LabelledStatements body called (record { facts = before.emission.facts; goes_on = true })
+            let all : LabelledStatements body called
+            (record { facts = before.emission.facts; goes_on = true })
             range.first range.count more last label next =
-            subst (λ at. LabelledStatements body called (record { facts = before.emission.facts; goes_on = true }) at
+            subst (λ at. LabelledStatements body called
+            (record { facts = before.emission.facts; goes_on = true }) at
             range.count more last label next) first
-            (subst (λ at. LabelledStatements body called (record { facts = before.emission.facts; goes_on = true })
+            (subst (λ at. LabelledStatements body called
+            (record { facts = before.emission.facts; goes_on = true })
             (range.first + 0) at more last label next) count rest) in
             (ListPlanned all.0, all.1);
         called = has_itself before.emission.is_called.items;
@@ -419,13 +451,16 @@ module _ (body : Body) (range : Range) (before now : Generator) where
               adds.list so_far.writes adds.writes;
           left = λ called more last end wider rest.
               let first =
-              labelled_statement_kept called wider now.emission.steps.labels next.emission.steps.labels adds.written in
+              labelled_statement_kept called wider now.emission.steps.labels
+              next.emission.steps.labels adds.written in
               let others : LabelledStatements body called (here_of next) (suc (range.first + index))
               (range.count - (index + 1)) more last next.emission.steps.labels end =
-              subst (λ first. LabelledStatements body called (here_of next) first (range.count - (index + 1)) more last
+              subst (λ first. LabelledStatements body called (here_of next) first
+              (range.count - (index + 1)) more last
               next.emission.steps.labels end)
               following rest in
-              subst (λ all. LabelledList body called before.emission.facts range all last before.emission.steps.labels
+              subst (λ all. LabelledList body called before.emission.facts range all last
+              before.emission.steps.labels
               end)
               (sym (append_assoc so_far.list adds.list more))
               (so_far.left called (adds.list ++ more) last end
@@ -453,7 +488,8 @@ module _ (body : Body) (range : Range) (before now : Generator) where
               before.emission.steps.labels next)
               (append-nil so_far.list)
               (so_far.left called [] (here_of now) next (has_itself called)
-              (subst (λ count. LabelledStatements body called (here_of now) (range.first + index) count [] (here_of now)
+              (subst (λ count. LabelledStatements body called (here_of now) (range.first + index)
+              count [] (here_of now)
               next next)
               (sym none) (NoStatements, refl)));
           called = so_far.called;

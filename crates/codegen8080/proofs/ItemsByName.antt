@@ -120,7 +120,8 @@ module _ (layout : Layout) (written : Written) (memory : List ℕ) where
           → numbered_item written item ≡ first
           → numbered written others ≡ rest
           → in_front first rest ≡ Some made
-          → ((left : List Item) (at : ℕ) → numbered written others ≡ Some left → Stands layout memory left at to
+          → ((left : List Item) (at : ℕ) → numbered written others ≡ Some left
+          → Stands layout memory left at to
           → Stands (layout_by layout written) memory others at to)
           → Stands (layout_by layout written) memory (item ∷ others) from to
       by None None first_is rest_is none later = absurd (none-some made none)

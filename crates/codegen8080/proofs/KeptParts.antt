@@ -30,7 +30,9 @@ parts_kept parts linkage count externals publics is counted code variables name 
       object = record {
         name = name;
         code = subst (λ n. IsTrue (is_valid_segment n (places_stored Code parts.code))) same code.valid_code;
-        data_places = subst (λ n. IsTrue (is_valid_segment n (places_stored Data parts.data_bytes))) same variables.valid_data;
+        data_places =
+            subst (λ n. IsTrue (is_valid_segment n (places_stored Data parts.data_bytes))) same
+            variables.valid_data;
         stack = omega (arith, stack);
         publics = linked.publics;
         names = linked.names;

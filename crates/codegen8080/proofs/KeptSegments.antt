@@ -17,11 +17,13 @@ module _ (to : Target → Target) where
   ascend_still : (fixes : List Fix) → fixes_ascend (map (retargeted to) fixes) ≡ fixes_ascend fixes
   ascend_still [] = refl
   ascend_still (fix ∷ []) = refl
-  ascend_still (fix ∷ next ∷ others) = ap (λ b. nat_le (fix_end fix) next.offset && b) (ascend_still (next ∷ others))
+  ascend_still (fix ∷ next ∷ others) =
+      ap (λ b. nat_le (fix_end fix) next.offset && b) (ascend_still (next ∷ others))
 
   filled_still :
       (segment : Segment) (runs : List (Run ℕ)) (fixes : List Fix)
-      → list_all (is_in_a_run segment runs) (map (retargeted to) fixes) ≡ list_all (is_in_a_run segment runs) fixes
+      → list_all (is_in_a_run segment runs) (map (retargeted to) fixes)
+      ≡ list_all (is_in_a_run segment runs) fixes
   filled_still segment runs [] = refl
   filled_still segment runs (fix ∷ others) =
       ap (λ b. is_in_a_run segment runs fix && b) (filled_still segment runs others)
@@ -43,7 +45,8 @@ module _ (to : Target → Target) where
           (here : Bool)
           → shown (find (λ (other : Fix). other.offset == x) (map (retargeted to) others))
           ≡ shown (find (λ (other : Fix). other.offset == x) others)
-          → shown (cond here (Some (retargeted to fix)) (find (λ (other : Fix). other.offset == x) (map (retargeted to) others)))
+          → shown (cond here (Some (retargeted to fix))
+          (find (λ (other : Fix). other.offset == x) (map (retargeted to) others)))
           ≡ shown (cond here (Some fix) (find (λ (other : Fix). other.offset == x) others))
       go true later = refl
       go false later = later
@@ -63,7 +66,8 @@ module _ (to : Target → Target) where
   whole_still fixes offset [] = refl
   whole_still fixes offset (None ∷ others) = whole_still fixes (offset + 1) others
   whole_still fixes offset (Some value ∷ others) =
-      ap (λ b. (not b || is_plain (option_flatten (slice_get (fixed_bytes (map (retargeted to) fixes) (offset + 1) others) 0)))
+      ap (λ b. (not b || is_plain (option_flatten
+      (slice_get (fixed_bytes (map (retargeted to) fixes) (offset + 1) others) 0)))
       && words_are_whole (fixed_bytes (map (retargeted to) fixes) (offset + 1) others))
       (kind_still is_both false fixes offset)
       ∙ ap (λ b. (not (begins_word (Some (record { value = value; fixup = fixup_at fixes offset }))) || b)
@@ -94,7 +98,8 @@ target_valid numbers count (InSegment Stack) = refl
 
 targets_valid :
     (numbers : List ℕ) (count : ℕ) (fixes : List Fix)
-    → list_all (λ (fix : Fix). is_target count fix.target) (map (retargeted (retarget numbers count)) fixes) ≡ true
+    → list_all (λ (fix : Fix). is_target count fix.target) (map (retargeted (retarget numbers count)) fixes)
+    ≡ true
 targets_valid numbers count [] = refl
 targets_valid numbers count (fix ∷ others) =
     and_from (is_target count (retarget numbers count fix.target))
@@ -102,7 +107,8 @@ targets_valid numbers count (fix ∷ others) =
     (target_valid numbers count fix.target) (targets_valid numbers count others)
 
 -- The segment of code with other targets is stored, and a module may have it.
-module _ (numbers : List ℕ) (count : ℕ) (code : Assembled) (fits : FitsSegment code) (keeps : KeepsFixes code) where
+module _ (numbers : List ℕ) (count : ℕ) (code : Assembled) (fits : FitsSegment code)
+    (keeps : KeepsFixes code) where
   abbrev moved : Assembled
   moved = with_targets (retarget numbers count) code
 
@@ -130,12 +136,16 @@ module _ (numbers : List ℕ) (count : ℕ) (code : Assembled) (fits : FitsSegme
   }
 
   module _ (small : All (λ byte. byte < 256) code.bytes) where
-    valid_places : (places : List (Option SetByte)) → places ≡ places_of (with_targets (retarget numbers count) code)
-        → (((nat_le (length places) SEGMENT_LIMIT && set_well count places) && words_are_whole places) && true) ≡ true
+    valid_places : (places : List (Option SetByte))
+        → places ≡ places_of (with_targets (retarget numbers count) code)
+        → (((nat_le (length places) SEGMENT_LIMIT && set_well count places) && words_are_whole places)
+        && true) ≡ true
     valid_places places is =
         let size : length (places_of moved) ≡ length code.bytes
-        = places_length moved.fixes 0 (set_bytes code.bytes code.is_set) ∙ set_length code.bytes code.is_set in
-        ap (λ places. ((nat_le (length places) SEGMENT_LIMIT && set_well count places) && words_are_whole places) && true) is
+        = places_length moved.fixes 0 (set_bytes code.bytes code.is_set)
+        ∙ set_length code.bytes code.is_set in
+        ap (λ places. ((nat_le (length places) SEGMENT_LIMIT && set_well count places)
+        && words_are_whole places) && true) is
         ∙ and_from
         ((nat_le (length (places_of moved)) SEGMENT_LIMIT && set_well count (places_of moved))
         && words_are_whole (places_of moved))
@@ -144,16 +154,19 @@ module _ (numbers : List ℕ) (count : ℕ) (code : Assembled) (fits : FitsSegme
         (words_are_whole (places_of moved))
         (and_from (nat_le (length (places_of moved)) SEGMENT_LIMIT) (set_well count (places_of moved))
         (le-leb (length (places_of moved)) SEGMENT_LIMIT (omega (arith, fits.few, size)))
-        (valid_bytes count moved.fixes 0 code.bytes code.is_set small (targets_valid numbers count code.fixes)))
+        (valid_bytes count moved.fixes 0 code.bytes code.is_set small
+        (targets_valid numbers count code.fixes)))
         (whole_still (retarget numbers count) code.fixes 0 (set_bytes code.bytes code.is_set) ∙ keeps.whole))
         refl
 
     pub valid_code :
-        is_valid_segment count (places_stored Code (segment_of (with_targets (retarget numbers count) code))) ≡ true
+        is_valid_segment count (places_stored Code (segment_of (with_targets (retarget numbers count) code)))
+        ≡ true
     valid_code = valid_places _ (segment_places_in Code moved refl)
 
     pub valid_data :
-        is_valid_segment count (places_stored Data (segment_of (with_targets (retarget numbers count) code))) ≡ true
+        is_valid_segment count (places_stored Data (segment_of (with_targets (retarget numbers count) code)))
+        ≡ true
     valid_data = valid_places _ (segment_places_in Data moved refl)
 
     pub segment_with_targets_is_kept : IsKept count (segment_of (with_targets (retarget numbers count) code))
@@ -186,7 +199,8 @@ runs_begun (byte ∷ others) [] = refl
 runs_begun (byte ∷ others) (here ∷ later) = refl
 
 runs_next :
-    (places : List (Option ℕ)) (i : ℕ) (place : Option ℕ) → i < length places → slice_get places i ≡ Some place
+    (places : List (Option ℕ)) (i : ℕ) (place : Option ℕ) → i < length places
+    → slice_get places i ≡ Some place
     → runs_from 0 (take (i + 1) places) ≡ with_runs (runs_from 0 (take i places)) (runs_from i (place ∷ []))
 runs_next places i place h is =
     let more : i + 1 ≡ suc i = omega arith in
@@ -211,7 +225,8 @@ one_run : (start first : ℕ) (others : List ℕ)
 one_run start first [] = refl
 one_run start first (next ∷ others) =
     ap (before_runs start first) (one_run (start + 1) next others)
-    ∙ ap (λ (b : Bool). if b then run_at start (first ∷ next ∷ others) ∷ [] else run_at start (first ∷ []) ∷ run_at (start + 1) (next ∷ others) ∷ [])
+    ∙ ap (λ (b : Bool). if b then run_at start (first ∷ next ∷ others) ∷ [] else run_at start (first ∷ [])
+    ∷ run_at (start + 1) (next ∷ others) ∷ [])
     (eq-eqb (start + 1) (start + 1) refl)
 
 pub some_added : (runs : List (Run ℕ)) (start : ℕ) (items : List ℕ) → 0 < length items
@@ -250,7 +265,8 @@ range_more (byte ∷ others) (suc start) (suc i) le lt =
 -- A stretch of bytes between two indices that are all set.
 abbrev pub IsStretch : (bytes : List ℕ) → (flags : List Bool) → (start end : ℕ) → Type 0
 IsStretch bytes flags start end =
-    take end (set_bytes bytes flags) ≡ take start (set_bytes bytes flags) ++ map Some (slice_range bytes start end)
+    take end (set_bytes bytes flags) ≡ take start (set_bytes bytes flags)
+    ++ map Some (slice_range bytes start end)
 
 pub stretch_begun : (bytes : List ℕ) (flags : List Bool) (start : ℕ) → IsStretch bytes flags start start
 stretch_begun bytes flags start =
@@ -259,7 +275,8 @@ stretch_begun bytes flags start =
 
 pub stretch_more :
     (bytes : List ℕ) (flags : List Bool) (start i : ℕ) → start ≤ i → i < length bytes
-    → slice_index_or flags i false ≡ true → IsStretch bytes flags start i → IsStretch bytes flags start (i + 1)
+    → slice_index_or flags i false ≡ true → IsStretch bytes flags start i
+    → IsStretch bytes flags start (i + 1)
 stretch_more bytes flags start i le lt set is =
     let places : List (Option ℕ) = set_bytes bytes flags in
     let more : i + 1 ≡ suc i = omega arith in
@@ -277,15 +294,18 @@ stretch_more bytes flags start i le lt set is =
 pub stretch_ended :
     (bytes : List ℕ) (flags : List Bool) (start end : ℕ) → start ≤ end → end ≤ length bytes
     → IsStretch bytes flags start end
-    → with_runs (runs_from 0 (take start (set_bytes bytes flags))) (runs_from start (map Some (slice_range bytes start end)))
+    → with_runs (runs_from 0 (take start (set_bytes bytes flags)))
+    (runs_from start (map Some (slice_range bytes start end)))
     ≡ runs_from 0 (take end (set_bytes bytes flags))
 stretch_ended bytes flags start end le few is =
     let places : List (Option ℕ) = set_bytes bytes flags in
     let size : 0 + length (take start places) ≡ start
-    = ap (λ n. 0 + n) (take_length places start (omega (arith, le, few, set_length bytes flags))) ∙ omega arith in
+    = ap (λ n. 0 + n) (take_length places start (omega (arith, le, few, set_length bytes flags)))
+    ∙ omega arith in
     sym (ap (λ items. runs_from 0 items) is
     ∙ runs_append 0 (take start places) (map Some (slice_range bytes start end))
-    ∙ ap (λ n. with_runs (runs_from 0 (take start places)) (runs_from n (map Some (slice_range bytes start end)))) size)
+    ∙ ap (λ n. with_runs (runs_from 0 (take start places))
+    (runs_from n (map Some (slice_range bytes start end)))) size)
 
 pub runs_ended :
     (bytes : List ℕ) (flags : List Bool) (i : ℕ) → length bytes ≤ i

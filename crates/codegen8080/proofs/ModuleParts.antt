@@ -9,7 +9,8 @@ use Rattle.codegen8080.proofs.Driving.{labelled_list_kept, labelled_steps_kept}
 pub take_all : {A : Type 0} (list : List A) (count : ℕ) → count ≡ length list → take count list ≡ list
 take_all [] count same = ap (λ number. take number []) same
 take_all (first ∷ others) count same =
-    ap (λ number. take number (first ∷ others)) same ∙ ap (λ rest. first ∷ rest) (take_all others (length others) refl)
+    ap (λ number. take number (first ∷ others)) same
+    ∙ ap (λ rest. first ∷ rest) (take_all others (length others) refl)
 
 -- The contents of a segment are being added; some of them remain.
 pub record IsPutting (before now : Written) (whole left : List Content) : Type 0 where
@@ -59,10 +60,12 @@ module _ (tree : TreeModule) (called wider : List Bool) (more : HasAll called wi
       let is : IsProcedureCode tree called number procedure list = both.0 in
       let labels : IsProcedureLabelled is label next = both.1 in
       let begins : LabelledSteps is.body wider (record { facts = no_facts; goes_on = true }) None
-      (entry_steps is.body is.first) is.beginning is.entered (label_after is.first (entry_labels is.body)) labels.begun =
+      (entry_steps is.body is.first) is.beginning is.entered
+      (label_after is.first (entry_labels is.body)) labels.begun =
       labelled_steps_kept wider more (label_after is.first (entry_labels is.body)) labels.begun
       (is.begins, labels.begins) in
-      let written : LabelledList is.body wider is.entered.facts procedure.body is.statements is.last labels.begun
+      let written : LabelledList is.body wider is.entered.facts procedure.body is.statements
+      is.last labels.begun
       labels.ended =
       labelled_list_kept wider more labels.begun labels.ended (is.written, labels.written) in
       let ends : LabelledEnd is.body wider is.last procedure.reaches_its_end is.ending labels.ended next =
@@ -96,7 +99,8 @@ module _ (tree : TreeModule) (called wider : List Bool) (more : HasAll called wi
         },
       )
 
-  kind_kept : (number : ℕ) (procedure : TreeProcedure) (kind : ProcedureKind) (list : List Item) (label next : ℕ)
+  kind_kept : (number : ℕ) (procedure : TreeProcedure) (kind : ProcedureKind)
+      (list : List Item) (label next : ℕ)
       → LabelledCode tree called number procedure kind list label next
       → LabelledCode tree wider number procedure kind list label next
   kind_kept number procedure (kinds.External name) list label next is = is
@@ -112,7 +116,8 @@ module _ (tree : TreeModule) (called wider : List Bool) (more : HasAll called wi
       let labels : IsMainLabelled is label next = both.1 in
       let written : LabelledList is.body wider no_facts tree.main.body is.statements is.last
       (label_after label tree.main.label_count) next =
-      labelled_list_kept wider more (label_after label tree.main.label_count) next (is.written, labels.written) in
+      labelled_list_kept wider more (label_after label tree.main.label_count) next
+      (is.written, labels.written) in
       let code : IsMainCode tree wider start list = record {
         body = is.body;
         tree_is = is.tree_is;
@@ -164,10 +169,12 @@ procedures_go_on tree before now next number following whole procedure others fo
       let label : ℕ = now.emission.steps.labels in
       let middle : ℕ = next.emission.steps.labels in
       let first : LabelledCode tree called number procedure procedure.kind adds.list label middle =
-      kind_kept tree next.emission.is_called.items called wider number procedure procedure.kind adds.list label middle
+      kind_kept tree next.emission.is_called.items called wider number procedure procedure.kind
+      adds.list label middle
       adds.written in
       let left : LabelledProcedures tree called (suc number) others more middle end =
-      subst (λ at. LabelledProcedures tree called at others more middle end) (follows ∙ add-one number) rest in
+      subst (λ at. LabelledProcedures tree called at others more middle end)
+      (follows ∙ add-one number) rest in
       subst (λ all. LabelledProcedures tree called 0 whole all before.emission.steps.labels end)
       (sym (append_assoc putting.list adds.list more))
       (putting.left_is called (adds.list ++ more) end
@@ -175,7 +182,8 @@ procedures_go_on tree before now next number following whole procedure others fo
       ((adds.list, more, first.0, left.0, refl), (middle, first.1, left.1)));
   called = λ routine given. adds.called routine (putting.called routine given);
   notes =
-      notes_then tree before.emission.is_called.items now.emission.is_called.items next.emission.is_called.items
+      notes_then tree before.emission.is_called.items now.emission.is_called.items
+      next.emission.is_called.items
       putting.list adds.list putting.notes adds.notes;
 }
 
@@ -189,8 +197,10 @@ pub procedures_step :
     → AreBeingPut tree before next following whole (take (length left - 1) (drop 1 left))
 procedures_step tree before now next number following whole [] procedure follows at putting adds =
     absurd (none-some procedure at)
-procedures_step tree before now next number following whole (first ∷ others) procedure follows at putting adds =
-    subst (AreBeingPut tree before next following whole) (sym (take_all others (length (first ∷ others) - 1) (omega arith)))
+procedures_step tree before now next number following whole (first ∷ others) procedure
+    follows at putting adds =
+    subst (AreBeingPut tree before next following whole)
+    (sym (take_all others (length (first ∷ others) - 1) (omega arith)))
     (procedures_go_on tree before now next number following whole first others follows putting
     (subst (λ one. AddsProcedure tree number one now next) (same_Some procedure first (sym at)) adds))
 
@@ -289,7 +299,8 @@ own_code_added tree start before ready between after constants same start_is tak
       writes =
           writes_then before.emission.writer ready.emission.writer after.emission.writer
           (contents_items tree.constants.items) (main.list ++ procedures.list) constants
-          (writes_then ready.emission.writer between.emission.writer after.emission.writer main.list procedures.list
+          (writes_then ready.emission.writer between.emission.writer after.emission.writer
+          main.list procedures.list
           main.writes procedures.writes);
       written = (
         code,
@@ -305,7 +316,8 @@ own_code_added tree start before ready between after constants same start_is tak
           (ap (λ (flags : _). flags.items) same)
           (λ routine given. procedures.called routine (main.called routine given));
       notes =
-          notes_then tree before.emission.is_called.items ready.emission.is_called.items after.emission.is_called.items
+          notes_then tree before.emission.is_called.items ready.emission.is_called.items
+          after.emission.is_called.items
           (contents_items tree.constants.items) (main.list ++ procedures.list)
           (none_noted tree before.emission ready.emission (contents_items tree.constants.items) same)
           (notes_then tree ready.emission.is_called.items between.emission.is_called.items
@@ -337,7 +349,8 @@ one_front made (Some found) given =
     (found, refl, ap (λ (list : Option (List Item)). elim list [ Some all ↦ all | None ↦ [] ]) (sym given))
 
 -- the items added for a routine, if it is called
-record AddsOne (tree : TreeModule) (is_called : Bool) (routine : Routine) (before after : Written) : Type 0 where
+record AddsOne (tree : TreeModule) (is_called : Bool) (routine : Routine)
+    (before after : Written) : Type 0 where
   list : List Item
   added : after.code.items ≡ before.code.items ++ list
   is : IsCodeOfRoutine tree after routine is_called list
@@ -356,7 +369,8 @@ one_added tree routine false before after same = record {
   is = refl;
   labels = λ number found given. ap (λ (written : Written). entry written.labels number) same ∙ given;
   externals = λ number found given. ap (λ (written : Written). entry written.externals number) same ∙ given;
-  no_names = λ number found given. ap (λ (written : Written). entry written.externals number) (sym same) ∙ given;
+  no_names =
+      λ number found given. ap (λ (written : Written). entry written.externals number) (sym same) ∙ given;
   count = ap (λ (written : Written). length written.externals) same;
 }
 one_added tree routine true before after writes =
@@ -383,7 +397,8 @@ one_added tree routine true before after writes =
       externals = λ number found given.
           ap (λ table. entry table number) writes.externals ∙ writes.marked.externals number found given;
       no_names = λ number found given.
-          elim (writes.marked.names number found (ap (λ table. entry table number) (sym writes.externals) ∙ given)) [
+          elim (writes.marked.names number found
+          (ap (λ table. entry table number) (sym writes.externals) ∙ given)) [
             | inl old ↦ old
             | inr bad ↦ absurd (let no : false ≡ true = bad in cc)
           ];
@@ -391,7 +406,8 @@ one_added tree routine true before after writes =
     }
 
 -- no routine is added
-pub no_routines : (tree : TreeModule) (called : List Bool) (written : Written) → AddsRoutines tree called [] written written
+pub no_routines : (tree : TreeModule) (called : List Bool) (written : Written)
+    → AddsRoutines tree called [] written written
 no_routines tree called written = record {
   list = [];
   added = sym (append-nil written.code.items);
@@ -431,7 +447,8 @@ routine_then tree called routine others before between after first rest =
 
 -- the code of routines, if code has more labels
 are_kept :
-    (tree : TreeModule) (called : List Bool) (before after : Written) (routines : List Routine) (list : List Item)
+    (tree : TreeModule) (called : List Bool) (before after : Written)
+    (routines : List Routine) (list : List Item)
     → Extends before.labels after.labels
     → AreRoutines tree called before routines list
     → AreRoutines tree called after routines list
@@ -495,7 +512,8 @@ no_flag (suc count) (suc index) given = no_flag count index given
 
 -- the code of a module, from its own code and the routines
 pub code_written :
-    (tree : TreeModule) (start : ℕ) (before between : Generator) (called : List Bool) (written after : Written)
+    (tree : TreeModule) (start : ℕ) (before between : Generator) (called : List Bool)
+    (written after : Written)
     → IsEmpty tree before.emission
     → AddsOwnCode tree start before between
     → called ≡ between.emission.is_called.items
@@ -503,8 +521,10 @@ pub code_written :
     → AddsRoutines tree called all_routines written after
     → IsCodeWritten tree start after
 code_written tree start before between called written after none own called_is written_is added =
-    let routines : AddsRoutines tree between.emission.is_called.items all_routines between.emission.writer after =
-    subst (λ (from : Written). AddsRoutines tree between.emission.is_called.items all_routines from after) written_is
+    let routines : AddsRoutines tree between.emission.is_called.items all_routines
+    between.emission.writer after =
+    subst (λ (from : Written). AddsRoutines tree between.emission.is_called.items all_routines from after)
+    written_is
     (subst (λ table. AddsRoutines tree table all_routines written after) called_is added) in
     let nothing : before.emission.writer.code.items ≡ [] =
     ap (λ (written : Written). written.code.items) none.items in

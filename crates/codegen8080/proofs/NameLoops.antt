@@ -11,7 +11,8 @@ KeepPlaces left places final =
 
 -- Places are being set by numbers; some numbers remain.
 pub record IsPlacing
-    (count : ℕ) (numbers : List (Option ℕ)) (places : List ℕ) (place : ℕ) (left : List (Option ℕ)) : Type 0 where
+    (count : ℕ) (numbers : List (Option ℕ)) (places : List ℕ) (place : ℕ)
+    (left : List (Option ℕ)) : Type 0 where
   pub few : count < 65536
   pub below : (name number : ℕ) → entry left name ≡ Some number → number < count
   pub different : AreDifferent left
@@ -58,7 +59,8 @@ placing_more count numbers places place left None at placing = tt
 placing_more count numbers places place [] (Some number) at placing = absurd (none-some (Some number) at)
 placing_more count numbers places place (first ∷ others) (Some number) at placing =
     let counted : place + entries (Some number ∷ others) ≡ count =
-    subst (λ one. place + entries (one ∷ others) ≡ count) (same_Some first (Some number) at) placing.counted in
+    subst (λ one. place + entries (one ∷ others) ≡ count)
+    (same_Some first (Some number) at) placing.counted in
     let few : count < 65536 = placing.few in
     omega (arith, counted, few)
 
@@ -134,7 +136,8 @@ one_placed count numbers places place number others placing = record {
     absent name given =
         let same : 0 ≡ suc name = placing.different 0 (suc name) number refl given in omega (arith, same)
 
-one_step : (count : ℕ) (numbers : List (Option ℕ)) (places after : List ℕ) (place next : ℕ) (number : Option ℕ)
+one_step : (count : ℕ) (numbers : List (Option ℕ)) (places after : List ℕ)
+    (place next : ℕ) (number : Option ℕ)
     (others : List (Option ℕ))
     → IsPlacing count numbers places place (number ∷ others)
     → IfNone number (after ≡ places)
@@ -178,7 +181,8 @@ placing_ends count numbers places place [] none placing = placing.places_are pla
 placing_ends count numbers places place (first ∷ others) none placing = absurd (omega (arith, none))
 
 -- the places of as many names
-pub places_of_names : (places : List ℕ) (place : ℕ) (numbers : List (Option ℕ)) (externals : List ExternalName)
+pub places_of_names : (places : List ℕ) (place : ℕ) (numbers : List (Option ℕ))
+    (externals : List ExternalName)
     → length numbers ≡ length externals
     → FollowPlaces places place numbers
     → HavePlaces places place numbers externals
@@ -189,7 +193,8 @@ places_of_names places place (number ∷ numbers) (external ∷ externals) same 
 
 used_first :
     (number : Option ℕ) (numbers : List (Option ℕ)) (external : ExternalName) (externals : List ExternalName)
-    → used_names (number ∷ numbers) (external ∷ externals) ≡ used_name number external ++ used_names numbers externals
+    → used_names (number ∷ numbers) (external ∷ externals)
+    ≡ used_name number external ++ used_names numbers externals
 used_first None numbers external externals = refl
 used_first (Some number) numbers external externals = refl
 
@@ -219,11 +224,14 @@ pub listing_names_step :
     → IsListingNames externals numbers rest left names
     → after.publics ≡ []
     → after.externals ≡ names.externals ++ used_name number external
-    → IsListingNames externals numbers (take (length rest - 1) (drop 1 rest)) (take (length left - 1) (drop 1 left))
+    → IsListingNames externals numbers (take (length rest - 1) (drop 1 rest))
+    (take (length left - 1) (drop 1 left))
     after
-listing_names_step externals numbers rest [] names after number external left_is rest_is listing publics more =
+listing_names_step externals numbers rest [] names after number external left_is rest_is
+    listing publics more =
     absurd (none-some number left_is)
-listing_names_step externals numbers [] (known ∷ left) names after number external left_is rest_is listing publics
+listing_names_step externals numbers [] (known ∷ left) names after number external left_is
+    rest_is listing publics
     more = absurd (none-some external rest_is)
 listing_names_step externals numbers (first ∷ rest) (known ∷ left) names after number external left_is rest_is
     listing publics more =
@@ -267,7 +275,8 @@ pub names_listed :
     → AreListed externals table places names
 names_listed externals table numbers places names same as_many follow listed publics = record {
   names_are = listed ∙ ap (λ one. used_names one externals) same;
-  places_are = places_of_names places 0 table externals as_many (subst (λ one. FollowPlaces places 0 one) same follow);
+  places_are =
+      places_of_names places 0 table externals as_many (subst (λ one. FollowPlaces places 0 one) same follow);
   publics = publics;
 }
 
@@ -286,7 +295,9 @@ pub publics_begin :
     → IsAddingPublics labels bytes publics before before publics
 publics_begin labels bytes publics before none = record {
   externals = refl;
-  left_is = λ more are. subst (λ (list : List Public). ArePublicsIn labels bytes publics (list ++ more)) (sym none) are;
+  left_is =
+      λ more are. subst (λ (list : List Public). ArePublicsIn labels bytes publics (list ++ more)) (sym none)
+      are;
 }
 
 pub publics_step :

@@ -32,13 +32,17 @@ all_and_one test (first ∷ others) item all one =
     (and_parts (test first) (list_all test others) all).0
     (all_and_one test others item (and_parts (test first) (list_all test others) all).1 one)
 
-append_again : {A : Type 0} (items more : List A) (item : A) → items ++ (more ++ item ∷ []) ≡ (items ++ more) ++ item ∷ []
+append_again : {A : Type 0} (items more : List A) (item : A)
+    → items ++ (more ++ item ∷ []) ≡ (items ++ more) ++ item ∷ []
 append_again [] more item = refl
-append_again {A = A} (first ∷ others) more item = ap (λ (rest : List A). first ∷ rest) (append_again others more item)
+append_again {A = A} (first ∷ others) more item =
+    ap (λ (rest : List A). first ∷ rest) (append_again others more item)
 
-pub map_more : {A B : Type 0} (f : A → B) (items : List A) (item : A) → map f (items ++ item ∷ []) ≡ map f items ++ f item ∷ []
+pub map_more : {A B : Type 0} (f : A → B) (items : List A) (item : A)
+    → map f (items ++ item ∷ []) ≡ map f items ++ f item ∷ []
 map_more f [] item = refl
-map_more {A = A} {B = B} f (first ∷ others) item = ap (λ (rest : List B). f first ∷ rest) (map_more f others item)
+map_more {A = A} {B = B} f (first ∷ others) item =
+    ap (λ (rest : List B). f first ∷ rest) (map_more f others item)
 
 -- one more external name, before any public one
 pub external_names :
@@ -50,7 +54,8 @@ external_names externals publics name none =
     ap (λ (p : List Public). names_of (record { externals = externals ++ name ∷ []; publics = p })) none
     ∙ append-nil (externals ++ name ∷ [])
     ∙ ap (λ (e : List (List ℕ)). e ++ name ∷ []) (sym (append-nil externals))
-    ∙ ap (λ (p : List Public). names_of (record { externals = externals; publics = p }) ++ name ∷ []) (sym none)
+    ∙ ap (λ (p : List Public). names_of (record { externals = externals; publics = p }) ++ name ∷ [])
+    (sym none)
 
 -- one more public name
 pub public_names :

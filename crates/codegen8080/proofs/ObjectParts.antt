@@ -45,7 +45,8 @@ publics_of written bytes labels (name ∷ names) (public ∷ publics) known are 
 
 -- a name for which code has a number, in the list of names and in the table of places
 record IsFound
-    (externals : List ExternalName) (listed : List (List ℕ)) (places : List ℕ) (index number : ℕ) : Type 0 where
+    (externals : List ExternalName) (listed : List (List ℕ)) (places : List ℕ)
+    (index number : ℕ) : Type 0 where
   external : ExternalName
   place : ℕ
   name : slice_get externals index ≡ Some external
@@ -80,7 +81,8 @@ find_name places listed front place [] externals index number is size have at = 
 find_name places listed front place (known ∷ numbers) [] index number is size have at = absurd have
 find_name places listed front place (None ∷ numbers) (external ∷ externals) zero number is size have at =
     absurd (none-some number at)
-find_name places listed front place (Some known ∷ numbers) (external ∷ externals) zero number is size have at =
+find_name places listed front place (Some known ∷ numbers) (external ∷ externals) zero
+    number is size have at =
     record {
       external = external;
       place = place;
@@ -91,8 +93,11 @@ find_name places listed front place (Some known ∷ numbers) (external ∷ exter
           ap (λ names. slice_get names place) is
           ∙ item_after front external.name (used_names numbers externals) place size;
     }
-find_name places listed front place (None ∷ numbers) (external ∷ externals) (suc index) number is size have at =
-    let there = find_name places listed front have.0 numbers externals index number is (size ∙ sym have.1.follows) have.2 at in
+find_name places listed front place (None ∷ numbers) (external ∷ externals) (suc index)
+    number is size have at =
+    let there =
+    find_name places listed front have.0 numbers externals index number is
+    (size ∙ sym have.1.follows) have.2 at in
     record {
       external = there.external;
       place = there.place;
@@ -101,7 +106,8 @@ find_name places listed front place (None ∷ numbers) (external ∷ externals) 
       low = there.low;
       found = there.found;
     }
-find_name places listed front place (Some known ∷ numbers) (external ∷ externals) (suc index) number is size have at =
+find_name places listed front place (Some known ∷ numbers) (external ∷ externals) (suc index)
+    number is size have at =
     let there =
     find_name places listed (front ++ external.name ∷ []) have.0 numbers externals index number
     (is ∙ sym (append_assoc front (external.name ∷ []) (used_names numbers externals)))
@@ -156,7 +162,8 @@ targets_are externals numbers places listed is have = record {
 -- the object module consists of its parts
 pub generated :
     (tree : TreeModule) (start_label : ℕ) (code variables : Written) (code_bytes variable_bytes : Assembled)
-    (code_labels variable_labels : List (Option ℕ)) (listed names : Linkage) (places : List ℕ) (start : Option ℕ)
+    (code_labels variable_labels : List (Option ℕ)) (listed names : Linkage)
+    (places : List ℕ) (start : Option ℕ)
     (object : ObjectModule)
     → IsCodeWritten tree start_label code
     → Finishes code code_bytes code_labels
@@ -167,21 +174,26 @@ pub generated :
     → AreListed tree.externals.items variables.externals places listed
     → names.externals ≡ listed.externals
     → ArePublicsIn code_labels code_bytes tree.publics.items names.publics
-    → start ≡ (if has_main tree then Some (place_of_known code_bytes (entry code_labels start_label)) else None)
+    → start ≡ (if has_main tree then Some
+    (place_of_known code_bytes (entry code_labels start_label)) else None)
     → IsMadeOf tree.name code_bytes variable_bytes names places start object
     → IsGenerated tree object
-generated tree start_label code variables code_bytes variable_bytes code_labels variable_labels listed names places
-    start object code_is code_ends variables_are grown names_are variables_end are same publics start_is made =
+generated tree start_label code variables code_bytes variable_bytes code_labels
+    variable_labels listed names places
+    start object code_is code_ends variables_are grown names_are variables_end are same
+    publics start_is made =
     let externals : object.externals ≡ used_names variables.externals tree.externals.items =
     made.externals ∙ same ∙ are.names_are in
     let to : Target → Target = retarget places (length object.externals) in
     let count : length names.externals ≡ length object.externals = sym (ap length made.externals) in
     let code_to : object.code ≡ places_stored Code (segment_of (with_targets to code_bytes)) =
     made.code
-    ∙ ap (λ number. places_stored Code (segment_of (with_targets (retarget places number) code_bytes))) count in
+    ∙ ap (λ number. places_stored Code (segment_of (with_targets (retarget places number) code_bytes)))
+    count in
     let data_to : object.data_places ≡ places_stored Data (segment_of (with_targets to variable_bytes)) =
     made.data_places
-    ∙ ap (λ number. places_stored Data (segment_of (with_targets (retarget places number) variable_bytes))) count in
+    ∙ ap (λ number. places_stored Data (segment_of (with_targets (retarget places number) variable_bytes)))
+    count in
     record {
       name = made.name;
       start_label = start_label;
@@ -200,18 +212,22 @@ generated tree start_label code variables code_bytes variable_bytes code_labels 
             | inr referred ↦ inr referred
           ]);
       to = to;
-      targets = targets_are tree.externals.items variables.externals places object.externals externals are.places_are;
+      targets =
+          targets_are tree.externals.items variables.externals places object.externals
+          externals are.places_are;
       code_segment = record {
         assembles = code_ends.assembles;
         is_assembly = code_ends.is_assembly;
-        same = ap (λ (segment : Places). segment.places) code_to ∙ segment_places_in Code (with_targets to code_bytes) refl;
+        same = ap (λ (segment : Places). segment.places) code_to
+            ∙ segment_places_in Code (with_targets to code_bytes) refl;
         alignment = ap (λ (segment : Places). segment.alignment) code_to;
       };
       data_segment = record {
         assembles = variables_end.assembles;
         is_assembly = variables_end.is_assembly;
         same =
-            ap (λ (segment : Places). segment.places) data_to ∙ segment_places_in Data (with_targets to variable_bytes) refl;
+            ap (λ (segment : Places). segment.places) data_to
+            ∙ segment_places_in Data (with_targets to variable_bytes) refl;
         alignment = ap (λ (segment : Places). segment.alignment) data_to;
       };
       stack = made.stack;
@@ -234,7 +250,8 @@ pub made_of_same :
     → places ≡ same_places
     → IsMadeOf name code variables names places start object
     → IsMadeOf name same_code same_variables same_names same_places start object
-made_of_same name code same_code variables same_variables names same_names places same_places start object one two
+made_of_same name code same_code variables same_variables names same_names places same_places
+    start object one two
     three four made =
     subst (λ (by : List ℕ). IsMadeOf name same_code same_variables same_names by start object) four
     (subst (λ (by : Linkage). IsMadeOf name same_code same_variables by places start object) three

@@ -10,7 +10,8 @@ pub none_taken : (before after : Plan) (list : List Planned)
 none_taken before after list adds = record {
   added = adds.added;
   first = adds.first;
-  taken = ap (λ taken. min taken 4294967295) adds.taken ∙ sym (ap (λ taken. min taken 4294967295) (add_none before.taken));
+  taken = ap (λ taken. min taken 4294967295) adds.taken
+      ∙ sym (ap (λ taken. min taken 4294967295) (add_none before.taken));
 }
   where
     add_none : (n : ℕ) → n + 0 ≡ n
@@ -49,7 +50,8 @@ module _ (parameters : List Parameter) where
   unfolding popped_at
   none_popped plan index found item none =
       subst
-      (λ entry. PlanAdds plan plan (elim entry [ Some parameter ↦ popped_argument_steps parameter | None ↦ [] ]))
+      (λ entry. PlanAdds plan plan
+      (elim entry [ Some parameter ↦ popped_argument_steps parameter | None ↦ [] ]))
       (sym (nothing_there parameters index found item none))
       (adding_ends plan plan [] (adding_begins plan []))
 
@@ -59,7 +61,8 @@ module _ (parameters : List Parameter) where
       → PlanAdds now next (popped_at parameters (left - 1))
       → IsAdding before next whole (popped_from parameters (left - 1))
   popped_next before now next whole left some adding adds =
-      adding_goes_on before now next whole (popped_at parameters (left - 1)) (popped_from parameters (left - 1))
+      adding_goes_on before now next whole (popped_at parameters (left - 1))
+      (popped_from parameters (left - 1))
       (subst (IsAdding before now whole) (popped_more left some) adding) adds
 
   -- no argument remains

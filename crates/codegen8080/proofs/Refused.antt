@@ -15,12 +15,14 @@ pub too_long :
     → IsNoSegment faults.TooLong written
 too_long written A result same given =
     (subst
-    (λ (to : Result A (Failure CodeFault)). IfFault to (λ (fault : CodeFault). IsFinished written.code (Err fault)))
+    (λ (to : Result A (Failure CodeFault)). IfFault to
+    (λ (fault : CodeFault). IsFinished written.code (Err fault)))
     same given).1
 
 -- a property of the fault of a result holds for the fault that is passed on
 handed_on :
-    (A B : Type 0) (before : Result A (Failure Fault)) (result : Result B (Failure Fault)) (failure : Failure Fault)
+    (A B : Type 0) (before : Result A (Failure Fault)) (result : Result B (Failure Fault))
+    (failure : Failure Fault)
     (Before After : Fault → Type 0)
     → before ≡ Err failure
     → result ≡ Err failure
@@ -31,7 +33,8 @@ handed_on A B before result failure Before After was same says given =
     subst (λ (to : Result B (Failure Fault)). IfFault to After) (sym same)
     (go failure (subst (λ (from : Result A (Failure Fault)). IfFault from Before) was given))
   where
-    go : (failure : Failure Fault) → IfFault {A = A} (Err failure) Before → IfFault {A = B} (Err failure) After
+    go : (failure : Failure Fault) → IfFault {A = A} (Err failure) Before
+        → IfFault {A = B} (Err failure) After
     go (failures.Fault fault) given = says fault given
     go failures.Memory given = tt
 
@@ -45,12 +48,14 @@ pub code_refused :
     → IfFault before (λ fault. IsNoSegment fault code)
     → IfFault result (λ fault. MayRefuse tree fault)
 code_refused tree start code A B before result failure was same is none =
-    handed_on A B before result failure (λ fault. IsNoSegment fault code) (λ fault. MayRefuse tree fault) was same
+    handed_on A B before result failure (λ fault. IsNoSegment fault code)
+    (λ fault. MayRefuse tree fault) was same
     (λ fault no. CodeIsNone start code is no) none
 
 -- the data of a module are refused
 pub data_refused :
-    (tree : TreeModule) (start : ℕ) (code variables : Written) (A B : Type 0) (before : Result A (Failure Fault))
+    (tree : TreeModule) (start : ℕ) (code variables : Written) (A B : Type 0)
+    (before : Result A (Failure Fault))
     (result : Result B (Failure Fault)) (failure : Failure Fault)
     → before ≡ Err failure
     → result ≡ Err failure
@@ -60,5 +65,6 @@ pub data_refused :
     → IfFault before (λ fault. IsNoSegment fault variables)
     → IfFault result (λ fault. MayRefuse tree fault)
 data_refused tree start code variables A B before result failure was same is are grown none =
-    handed_on A B before result failure (λ fault. IsNoSegment fault variables) (λ fault. MayRefuse tree fault) was
+    handed_on A B before result failure (λ fault. IsNoSegment fault variables)
+    (λ fault. MayRefuse tree fault) was
     same (λ fault no. DataAreNone start code variables is are grown no) none

@@ -4,7 +4,8 @@ use Rattle.codegen8080.proofs.ItemsByName.{layout_by}
 
 -- a routine is at its label, within code from one address to another
 pub record RoutineStands
-    (tree : TreeModule) (written : Written) (layout : Layout) (memory : List ℕ) (routine : Routine) (from to : ℕ) :
+    (tree : TreeModule) (written : Written) (layout : Layout) (memory : List ℕ)
+    (routine : Routine) (from to : ℕ) :
     Type 0 where
   pub listing : List Item
   pub begin : ℕ
@@ -28,7 +29,8 @@ end_is layout memory list from to stands =
     (stands_in_parts layout memory list [] from to
     (subst (λ all. Stands layout memory all from to) (sym (append-nil list)) stands)).second
 
-module _ (tree : TreeModule) (called : List Bool) (written : Written) (layout : Layout) (memory : List ℕ) where
+module _ (tree : TreeModule) (called : List Bool) (written : Written) (layout : Layout)
+    (memory : List ℕ) where
   first_stands : (routine : Routine) (is_called : Bool) (list : List Item) (from to : ℕ)
       → is_called ≡ true
       → IsCodeOfRoutine tree written routine is_called list
@@ -79,7 +81,8 @@ module _ (tree : TreeModule) (called : List Bool) (written : Written) (layout : 
   routine_stands (first ∷ others) list from to routine are stands (inr later) set =
       let parts = stands_in_parts layout memory are.0 are.1 from to
       (subst (λ all. Stands layout memory all from to) are.4 stands) in
-      let there = routine_stands others are.1 (from + size_of_items are.0) to routine are.3 parts.second later set in
+      let there =
+      routine_stands others are.1 (from + size_of_items are.0) to routine are.3 parts.second later set in
       record {
         listing = there.listing;
         begin = there.begin;

@@ -5,19 +5,23 @@ then_walk : (form : Form) (w v : Walk) (word : Text) (rest : List Text) → walk
     → fold (walked (rules form) []) w (word ∷ rest) ≡ fold (walked (rules form) []) v rest
 then_walk form w v word rest e = ap (λ (x : Walk). fold (walked (rules form) []) x rest) e
 
-then_fault : (form : Form) (name : Text) (w v : Walk) (word : Text) (rest : List Text) → turn_fault (leaf form name) [] w word ≡ [] → walked (rules form) [] w word ≡ v
+then_fault : (form : Form) (name : Text) (w v : Walk) (word : Text) (rest : List Text)
+    → turn_fault (leaf form name) [] w word ≡ [] → walked (rules form) [] w word ≡ v
     → walk_fault (leaf form name) [] w (word ∷ rest) ≡ walk_fault (leaf form name) [] v rest
 unfolding walk_fault
 then_fault form name w v word rest fine e =
-    ap (λ (k : Kinds). or_else k (walk_fault (leaf form name) [] (walked (rules form) [] w word) rest)) fine ∙ ap (λ (x : Walk). walk_fault (leaf form name) [] x rest) e
+    ap (λ (k : Kinds). or_else k (walk_fault (leaf form name) [] (walked (rules form) [] w word) rest)) fine
+    ∙ ap (λ (x : Walk). walk_fault (leaf form name) [] x rest) e
 
 -- the words before the files: whatever file comes next, the walk stands after it, and nothing has a fault
 pub record Begins (form : Form) (name : Text) (first : List Text) (before : List Row) : Type 0 where
   pub no_file : has_row (codes "FILES") before ≡ false
   pub goes_to : (file : Text) → IsBare file → (rest : List Text)
-      → fold (walked (rules form) []) (walk_from nothing_held) (first ++ file ∷ rest) ≡ fold (walked (rules form) []) (state before [] file) rest
+      → fold (walked (rules form) []) (walk_from nothing_held) (first ++ file ∷ rest)
+      ≡ fold (walked (rules form) []) (state before [] file) rest
   pub goes_well : (file : Text) → IsBare file → (rest : List Text)
-      → walk_fault (leaf form name) [] (walk_from nothing_held) (first ++ file ∷ rest) ≡ walk_fault (leaf form name) [] (state before [] file) rest
+      → walk_fault (leaf form name) [] (walk_from nothing_held) (first ++ file ∷ rest)
+      ≡ walk_fault (leaf form name) [] (state before [] file) rest
 
 -- a walk with nothing pending, and what it has found
 abbrev pub found_walk : List Row → Walk
@@ -33,16 +37,24 @@ nothing_after : (rows : List Row) → rows ++ files_rows [] ≡ rows
 nothing_after [] = refl
 nothing_after (r ∷ rs) = ap (λ (x : List Row). r ∷ x) (nothing_after rs)
 
-found_step : (form : Form) (rows : List Row) (file : Text) → IsBare file → walked (rules form) [] (found_walk rows) file ≡ state rows [] file
+found_step : (form : Form) (rows : List Row) (file : Text) → IsBare file
+    → walked (rules form) [] (found_walk rows) file ≡ state rows [] file
 unfolding walked
-found_step Sources rows file bare = rw (bare_word (rules Sources) idle 1 file (found_walk rows).held bare) (rw (nothing_after rows) refl)
-found_step Objects rows file bare = rw (bare_word (rules Objects) idle 1 file (found_walk rows).held bare) (rw (nothing_after rows) refl)
-found_step Placed rows file bare = rw (bare_word (rules Placed) idle 1 file (found_walk rows).held bare) (rw (nothing_after rows) refl)
-found_step Listed rows file bare = rw (bare_word (rules Listed) idle 1 file (found_walk rows).held bare) (rw (nothing_after rows) refl)
-found_step Located rows file bare = rw (bare_word (rules Located) idle 1 file (found_walk rows).held bare) (rw (nothing_after rows) refl)
-found_step Executed rows file bare = rw (bare_word (rules Executed) idle 1 file (found_walk rows).held bare) (rw (nothing_after rows) refl)
+found_step Sources rows file bare =
+    rw (bare_word (rules Sources) idle 1 file (found_walk rows).held bare) (rw (nothing_after rows) refl)
+found_step Objects rows file bare =
+    rw (bare_word (rules Objects) idle 1 file (found_walk rows).held bare) (rw (nothing_after rows) refl)
+found_step Placed rows file bare =
+    rw (bare_word (rules Placed) idle 1 file (found_walk rows).held bare) (rw (nothing_after rows) refl)
+found_step Listed rows file bare =
+    rw (bare_word (rules Listed) idle 1 file (found_walk rows).held bare) (rw (nothing_after rows) refl)
+found_step Located rows file bare =
+    rw (bare_word (rules Located) idle 1 file (found_walk rows).held bare) (rw (nothing_after rows) refl)
+found_step Executed rows file bare =
+    rw (bare_word (rules Executed) idle 1 file (found_walk rows).held bare) (rw (nothing_after rows) refl)
 
-found_turn : (form : Form) (name : Text) (rows : List Row) (file : Text) → IsBare file → turn_fault (leaf form name) [] (found_walk rows) file ≡ []
+found_turn : (form : Form) (name : Text) (rows : List Row) (file : Text) → IsBare file
+    → turn_fault (leaf form name) [] (found_walk rows) file ≡ []
 found_turn Sources name rows file bare =
     rw (bare_word (rules Sources) idle 1 file (found_walk rows).held bare, bare_fault (leaf Sources name) idle file (found_walk rows).held bare) refl
 found_turn Objects name rows file bare =
@@ -59,8 +71,12 @@ found_turn Executed name rows file bare =
 pub plain_begins : (form : Form) (name : Text) → Begins form name [] []
 plain_begins form name = record {
   no_file = refl;
-  goes_to = λ file bare rest. then_walk form (found_walk []) (state [] [] file) file rest (found_step form [] file bare);
-  goes_well = λ file bare rest. then_fault form name (found_walk []) (state [] [] file) file rest (found_turn form name [] file bare) (found_step form [] file bare);
+  goes_to =
+      λ file bare rest. then_walk form (found_walk []) (state [] [] file) file rest
+      (found_step form [] file bare);
+  goes_well =
+      λ file bare rest. then_fault form name (found_walk []) (state [] [] file) file rest
+      (found_turn form name [] file bare) (found_step form [] file bare);
 }
 
 abbrev pub flag_row : Text → Row
@@ -92,7 +108,8 @@ flag_word f = 45 ∷ 45 ∷ flag_name f
 abbrev pub rows_of_flag : Flag → List Row
 rows_of_flag f = flag_row (flag_name f) ∷ []
 
-flag_step : (f : Flag) → walked (rules (flag_form f)) [] (found_walk []) (flag_word f) ≡ found_walk (rows_of_flag f)
+flag_step : (f : Flag) → walked (rules (flag_form f)) [] (found_walk []) (flag_word f)
+    ≡ found_walk (rows_of_flag f)
 unfolding clap_on_literals
 flag_step map_flag = refl
 flag_step need_flag = refl
@@ -103,7 +120,8 @@ flag_step (execute_watch_flag Count) = refl
 flag_step (execute_watch_flag UntilDry) = refl
 flag_step (execute_watch_flag Where) = refl
 
-flag_turn : (name : Text) (f : Flag) → turn_fault (leaf (flag_form f) name) [] (found_walk []) (flag_word f) ≡ []
+flag_turn : (name : Text) (f : Flag)
+    → turn_fault (leaf (flag_form f) name) [] (found_walk []) (flag_word f) ≡ []
 unfolding clap_on_literals
 flag_turn name map_flag = refl
 flag_turn name need_flag = refl
@@ -127,10 +145,16 @@ no_file_of (execute_watch_flag Where) = refl
 pub flag_begins : (name : Text) (f : Flag) → Begins (flag_form f) name (flag_word f ∷ []) (rows_of_flag f)
 flag_begins name f = record {
   no_file = no_file_of f;
-  goes_to = λ file bare rest. then_walk (flag_form f) (found_walk []) (found_walk (rows_of_flag f)) (flag_word f) (file ∷ rest) (flag_step f)
-      ∙ then_walk (flag_form f) (found_walk (rows_of_flag f)) (state (rows_of_flag f) [] file) file rest (found_step (flag_form f) (rows_of_flag f) file bare);
-  goes_well = λ file bare rest. then_fault (flag_form f) name (found_walk []) (found_walk (rows_of_flag f)) (flag_word f) (file ∷ rest) (flag_turn name f) (flag_step f)
-      ∙ then_fault (flag_form f) name (found_walk (rows_of_flag f)) (state (rows_of_flag f) [] file) file rest (found_turn (flag_form f) name (rows_of_flag f) file bare)
+  goes_to =
+      λ file bare rest. then_walk (flag_form f) (found_walk []) (found_walk (rows_of_flag f)) (flag_word f)
+      (file ∷ rest) (flag_step f)
+      ∙ then_walk (flag_form f) (found_walk (rows_of_flag f)) (state (rows_of_flag f) [] file) file rest
+      (found_step (flag_form f) (rows_of_flag f) file bare);
+  goes_well =
+      λ file bare rest. then_fault (flag_form f) name (found_walk []) (found_walk (rows_of_flag f))
+      (flag_word f) (file ∷ rest) (flag_turn name f) (flag_step f)
+      ∙ then_fault (flag_form f) name (found_walk (rows_of_flag f)) (state (rows_of_flag f) [] file) file rest
+      (found_turn (flag_form f) name (rows_of_flag f) file bare)
       (found_step (flag_form f) (rows_of_flag f) file bare);
 }
 
@@ -157,7 +181,8 @@ name_at jump = codes "jump"
 name_at (of_execute o) = option_name o
 
 abbrev pub option_row : Choice → Text → Row
-option_row o text = record { id = name_at o; values = text ∷ []; count = None; source = Some CommandLine; reading = reading_by files_filled }
+option_row o text =
+    record { id = name_at o; values = text ∷ []; count = None; source = Some CommandLine; reading = reading_by files_filled }
 
 abbrev waiting_walk : Choice → Walk
 waiting_walk o = record {
@@ -177,7 +202,8 @@ pending_walk o text = record {
   stopped = None;
 }
 
-option_step : (o : Choice) → walked (rules (form_at o)) [] (found_walk []) (45 ∷ 45 ∷ name_at o) ≡ waiting_walk o
+option_step : (o : Choice) → walked (rules (form_at o)) [] (found_walk []) (45 ∷ 45 ∷ name_at o)
+    ≡ waiting_walk o
 unfolding clap_on_literals
 option_step (of_program (OfPlan Code)) = refl
 option_step (of_program (OfPlan DataBase)) = refl
@@ -218,7 +244,8 @@ option_step (of_execute OutputFile) = refl
 option_step (of_execute Fill) = refl
 option_step (of_execute StartMemory) = refl
 
-option_turn : (name : Text) (o : Choice) → turn_fault (leaf (form_at o) name) [] (found_walk []) (45 ∷ 45 ∷ name_at o) ≡ []
+option_turn : (name : Text) (o : Choice)
+    → turn_fault (leaf (form_at o) name) [] (found_walk []) (45 ∷ 45 ∷ name_at o) ≡ []
 unfolding clap_on_literals
 option_turn name (of_program (OfPlan Code)) = refl
 option_turn name (of_program (OfPlan DataBase)) = refl
@@ -259,48 +286,124 @@ option_turn name (of_execute OutputFile) = refl
 option_turn name (of_execute Fill) = refl
 option_turn name (of_execute StartMemory) = refl
 
-text_step : (o : Choice) (text : Text) → IsBare text → walked (rules (form_at o)) [] (waiting_walk o) text ≡ pending_walk o text
+text_step : (o : Choice) (text : Text) → IsBare text
+    → walked (rules (form_at o)) [] (waiting_walk o) text ≡ pending_walk o text
 unfolding walked
-text_step (of_program (OfPlan Code)) text bare = rw (bare_word (rules Sources) (waiting_walk (of_program (OfPlan Code))).waiting 1 text (waiting_walk (of_program (OfPlan Code))).held bare) refl
-text_step (of_program (OfPlan DataBase)) text bare = rw (bare_word (rules Sources) (waiting_walk (of_program (OfPlan DataBase))).waiting 1 text (waiting_walk (of_program (OfPlan DataBase))).held bare) refl
-text_step (of_program (OfPlan Stack)) text bare = rw (bare_word (rules Sources) (waiting_walk (of_program (OfPlan Stack))).waiting 1 text (waiting_walk (of_program (OfPlan Stack))).held bare) refl
-text_step (of_program (OfPlan StackSize)) text bare = rw (bare_word (rules Sources) (waiting_walk (of_program (OfPlan StackSize))).waiting 1 text (waiting_walk (of_program (OfPlan StackSize))).held bare) refl
-text_step (of_program Limit) text bare = rw (bare_word (rules Sources) (waiting_walk (of_program Limit)).waiting 1 text (waiting_walk (of_program Limit)).held bare) refl
-text_step (of_program Input) text bare = rw (bare_word (rules Sources) (waiting_walk (of_program Input)).waiting 1 text (waiting_walk (of_program Input)).held bare) refl
-text_step (of_program InputFile) text bare = rw (bare_word (rules Sources) (waiting_walk (of_program InputFile)).waiting 1 text (waiting_walk (of_program InputFile)).held bare) refl
-text_step (of_program OutputFile) text bare = rw (bare_word (rules Sources) (waiting_walk (of_program OutputFile)).waiting 1 text (waiting_walk (of_program OutputFile)).held bare) refl
-text_step (of_program Fill) text bare = rw (bare_word (rules Sources) (waiting_walk (of_program Fill)).waiting 1 text (waiting_walk (of_program Fill)).held bare) refl
-text_step (of_program StartMemory) text bare = rw (bare_word (rules Sources) (waiting_walk (of_program StartMemory)).waiting 1 text (waiting_walk (of_program StartMemory)).held bare) refl
-text_step (of_place Locate Code) text bare = rw (bare_word (rules Located) (waiting_walk (of_place Locate Code)).waiting 1 text (waiting_walk (of_place Locate Code)).held bare) refl
-text_step (of_place Hex Code) text bare = rw (bare_word (rules Placed) (waiting_walk (of_place Hex Code)).waiting 1 text (waiting_walk (of_place Hex Code)).held bare) refl
-text_step (of_place Listing Code) text bare = rw (bare_word (rules Listed) (waiting_walk (of_place Listing Code)).waiting 1 text (waiting_walk (of_place Listing Code)).held bare) refl
-text_step (of_place Symbols Code) text bare = rw (bare_word (rules Listed) (waiting_walk (of_place Symbols Code)).waiting 1 text (waiting_walk (of_place Symbols Code)).held bare) refl
-text_step (of_place Locate DataBase) text bare = rw (bare_word (rules Located) (waiting_walk (of_place Locate DataBase)).waiting 1 text (waiting_walk (of_place Locate DataBase)).held bare) refl
-text_step (of_place Hex DataBase) text bare = rw (bare_word (rules Placed) (waiting_walk (of_place Hex DataBase)).waiting 1 text (waiting_walk (of_place Hex DataBase)).held bare) refl
-text_step (of_place Listing DataBase) text bare = rw (bare_word (rules Listed) (waiting_walk (of_place Listing DataBase)).waiting 1 text (waiting_walk (of_place Listing DataBase)).held bare) refl
-text_step (of_place Symbols DataBase) text bare = rw (bare_word (rules Listed) (waiting_walk (of_place Symbols DataBase)).waiting 1 text (waiting_walk (of_place Symbols DataBase)).held bare) refl
-text_step (of_place Locate Stack) text bare = rw (bare_word (rules Located) (waiting_walk (of_place Locate Stack)).waiting 1 text (waiting_walk (of_place Locate Stack)).held bare) refl
-text_step (of_place Hex Stack) text bare = rw (bare_word (rules Placed) (waiting_walk (of_place Hex Stack)).waiting 1 text (waiting_walk (of_place Hex Stack)).held bare) refl
-text_step (of_place Listing Stack) text bare = rw (bare_word (rules Listed) (waiting_walk (of_place Listing Stack)).waiting 1 text (waiting_walk (of_place Listing Stack)).held bare) refl
-text_step (of_place Symbols Stack) text bare = rw (bare_word (rules Listed) (waiting_walk (of_place Symbols Stack)).waiting 1 text (waiting_walk (of_place Symbols Stack)).held bare) refl
-text_step (of_place Locate StackSize) text bare = rw (bare_word (rules Located) (waiting_walk (of_place Locate StackSize)).waiting 1 text (waiting_walk (of_place Locate StackSize)).held bare) refl
-text_step (of_place Hex StackSize) text bare = rw (bare_word (rules Placed) (waiting_walk (of_place Hex StackSize)).waiting 1 text (waiting_walk (of_place Hex StackSize)).held bare) refl
-text_step (of_place Listing StackSize) text bare = rw (bare_word (rules Listed) (waiting_walk (of_place Listing StackSize)).waiting 1 text (waiting_walk (of_place Listing StackSize)).held bare) refl
-text_step (of_place Symbols StackSize) text bare = rw (bare_word (rules Listed) (waiting_walk (of_place Symbols StackSize)).waiting 1 text (waiting_walk (of_place Symbols StackSize)).held bare) refl
-text_step out text bare = rw (bare_word (rules Objects) (waiting_walk out).waiting 1 text (waiting_walk out).held bare) refl
-text_step jump text bare = rw (bare_word (rules Placed) (waiting_walk jump).waiting 1 text (waiting_walk jump).held bare) refl
-text_step (of_execute (OfPlan Code)) text bare = rw (bare_word (rules Executed) (waiting_walk (of_execute (OfPlan Code))).waiting 1 text (waiting_walk (of_execute (OfPlan Code))).held bare) refl
-text_step (of_execute (OfPlan DataBase)) text bare = rw (bare_word (rules Executed) (waiting_walk (of_execute (OfPlan DataBase))).waiting 1 text (waiting_walk (of_execute (OfPlan DataBase))).held bare) refl
-text_step (of_execute (OfPlan Stack)) text bare = rw (bare_word (rules Executed) (waiting_walk (of_execute (OfPlan Stack))).waiting 1 text (waiting_walk (of_execute (OfPlan Stack))).held bare) refl
-text_step (of_execute (OfPlan StackSize)) text bare = rw (bare_word (rules Executed) (waiting_walk (of_execute (OfPlan StackSize))).waiting 1 text (waiting_walk (of_execute (OfPlan StackSize))).held bare) refl
-text_step (of_execute Limit) text bare = rw (bare_word (rules Executed) (waiting_walk (of_execute Limit)).waiting 1 text (waiting_walk (of_execute Limit)).held bare) refl
-text_step (of_execute Input) text bare = rw (bare_word (rules Executed) (waiting_walk (of_execute Input)).waiting 1 text (waiting_walk (of_execute Input)).held bare) refl
-text_step (of_execute InputFile) text bare = rw (bare_word (rules Executed) (waiting_walk (of_execute InputFile)).waiting 1 text (waiting_walk (of_execute InputFile)).held bare) refl
-text_step (of_execute OutputFile) text bare = rw (bare_word (rules Executed) (waiting_walk (of_execute OutputFile)).waiting 1 text (waiting_walk (of_execute OutputFile)).held bare) refl
-text_step (of_execute Fill) text bare = rw (bare_word (rules Executed) (waiting_walk (of_execute Fill)).waiting 1 text (waiting_walk (of_execute Fill)).held bare) refl
-text_step (of_execute StartMemory) text bare = rw (bare_word (rules Executed) (waiting_walk (of_execute StartMemory)).waiting 1 text (waiting_walk (of_execute StartMemory)).held bare) refl
+text_step (of_program (OfPlan Code)) text bare =
+    rw (bare_word (rules Sources) (waiting_walk (of_program (OfPlan Code))).waiting 1 text
+    (waiting_walk (of_program (OfPlan Code))).held bare) refl
+text_step (of_program (OfPlan DataBase)) text bare =
+    rw (bare_word (rules Sources) (waiting_walk (of_program (OfPlan DataBase))).waiting 1 text
+    (waiting_walk (of_program (OfPlan DataBase))).held bare) refl
+text_step (of_program (OfPlan Stack)) text bare =
+    rw (bare_word (rules Sources) (waiting_walk (of_program (OfPlan Stack))).waiting 1 text
+    (waiting_walk (of_program (OfPlan Stack))).held bare) refl
+text_step (of_program (OfPlan StackSize)) text bare =
+    rw (bare_word (rules Sources) (waiting_walk (of_program (OfPlan StackSize))).waiting 1 text
+    (waiting_walk (of_program (OfPlan StackSize))).held bare) refl
+text_step (of_program Limit) text bare =
+    rw (bare_word (rules Sources) (waiting_walk (of_program Limit)).waiting 1 text
+    (waiting_walk (of_program Limit)).held bare) refl
+text_step (of_program Input) text bare =
+    rw (bare_word (rules Sources) (waiting_walk (of_program Input)).waiting 1 text
+    (waiting_walk (of_program Input)).held bare) refl
+text_step (of_program InputFile) text bare =
+    rw (bare_word (rules Sources) (waiting_walk (of_program InputFile)).waiting 1 text
+    (waiting_walk (of_program InputFile)).held bare) refl
+text_step (of_program OutputFile) text bare =
+    rw (bare_word (rules Sources) (waiting_walk (of_program OutputFile)).waiting 1 text
+    (waiting_walk (of_program OutputFile)).held bare) refl
+text_step (of_program Fill) text bare =
+    rw (bare_word (rules Sources) (waiting_walk (of_program Fill)).waiting 1 text
+    (waiting_walk (of_program Fill)).held bare) refl
+text_step (of_program StartMemory) text bare =
+    rw (bare_word (rules Sources) (waiting_walk (of_program StartMemory)).waiting 1 text
+    (waiting_walk (of_program StartMemory)).held bare) refl
+text_step (of_place Locate Code) text bare =
+    rw (bare_word (rules Located) (waiting_walk (of_place Locate Code)).waiting 1 text
+    (waiting_walk (of_place Locate Code)).held bare) refl
+text_step (of_place Hex Code) text bare =
+    rw (bare_word (rules Placed) (waiting_walk (of_place Hex Code)).waiting 1 text
+    (waiting_walk (of_place Hex Code)).held bare) refl
+text_step (of_place Listing Code) text bare =
+    rw (bare_word (rules Listed) (waiting_walk (of_place Listing Code)).waiting 1 text
+    (waiting_walk (of_place Listing Code)).held bare) refl
+text_step (of_place Symbols Code) text bare =
+    rw (bare_word (rules Listed) (waiting_walk (of_place Symbols Code)).waiting 1 text
+    (waiting_walk (of_place Symbols Code)).held bare) refl
+text_step (of_place Locate DataBase) text bare =
+    rw (bare_word (rules Located) (waiting_walk (of_place Locate DataBase)).waiting 1 text
+    (waiting_walk (of_place Locate DataBase)).held bare) refl
+text_step (of_place Hex DataBase) text bare =
+    rw (bare_word (rules Placed) (waiting_walk (of_place Hex DataBase)).waiting 1 text
+    (waiting_walk (of_place Hex DataBase)).held bare) refl
+text_step (of_place Listing DataBase) text bare =
+    rw (bare_word (rules Listed) (waiting_walk (of_place Listing DataBase)).waiting 1 text
+    (waiting_walk (of_place Listing DataBase)).held bare) refl
+text_step (of_place Symbols DataBase) text bare =
+    rw (bare_word (rules Listed) (waiting_walk (of_place Symbols DataBase)).waiting 1 text
+    (waiting_walk (of_place Symbols DataBase)).held bare) refl
+text_step (of_place Locate Stack) text bare =
+    rw (bare_word (rules Located) (waiting_walk (of_place Locate Stack)).waiting 1 text
+    (waiting_walk (of_place Locate Stack)).held bare) refl
+text_step (of_place Hex Stack) text bare =
+    rw (bare_word (rules Placed) (waiting_walk (of_place Hex Stack)).waiting 1 text
+    (waiting_walk (of_place Hex Stack)).held bare) refl
+text_step (of_place Listing Stack) text bare =
+    rw (bare_word (rules Listed) (waiting_walk (of_place Listing Stack)).waiting 1 text
+    (waiting_walk (of_place Listing Stack)).held bare) refl
+text_step (of_place Symbols Stack) text bare =
+    rw (bare_word (rules Listed) (waiting_walk (of_place Symbols Stack)).waiting 1 text
+    (waiting_walk (of_place Symbols Stack)).held bare) refl
+text_step (of_place Locate StackSize) text bare =
+    rw (bare_word (rules Located) (waiting_walk (of_place Locate StackSize)).waiting 1 text
+    (waiting_walk (of_place Locate StackSize)).held bare) refl
+text_step (of_place Hex StackSize) text bare =
+    rw (bare_word (rules Placed) (waiting_walk (of_place Hex StackSize)).waiting 1 text
+    (waiting_walk (of_place Hex StackSize)).held bare) refl
+text_step (of_place Listing StackSize) text bare =
+    rw (bare_word (rules Listed) (waiting_walk (of_place Listing StackSize)).waiting 1 text
+    (waiting_walk (of_place Listing StackSize)).held bare) refl
+text_step (of_place Symbols StackSize) text bare =
+    rw (bare_word (rules Listed) (waiting_walk (of_place Symbols StackSize)).waiting 1 text
+    (waiting_walk (of_place Symbols StackSize)).held bare) refl
+text_step out text bare =
+    rw (bare_word (rules Objects) (waiting_walk out).waiting 1 text (waiting_walk out).held bare) refl
+text_step jump text bare =
+    rw (bare_word (rules Placed) (waiting_walk jump).waiting 1 text (waiting_walk jump).held bare) refl
+text_step (of_execute (OfPlan Code)) text bare =
+    rw (bare_word (rules Executed) (waiting_walk (of_execute (OfPlan Code))).waiting 1 text
+    (waiting_walk (of_execute (OfPlan Code))).held bare) refl
+text_step (of_execute (OfPlan DataBase)) text bare =
+    rw (bare_word (rules Executed) (waiting_walk (of_execute (OfPlan DataBase))).waiting 1 text
+    (waiting_walk (of_execute (OfPlan DataBase))).held bare) refl
+text_step (of_execute (OfPlan Stack)) text bare =
+    rw (bare_word (rules Executed) (waiting_walk (of_execute (OfPlan Stack))).waiting 1 text
+    (waiting_walk (of_execute (OfPlan Stack))).held bare) refl
+text_step (of_execute (OfPlan StackSize)) text bare =
+    rw (bare_word (rules Executed) (waiting_walk (of_execute (OfPlan StackSize))).waiting 1 text
+    (waiting_walk (of_execute (OfPlan StackSize))).held bare) refl
+text_step (of_execute Limit) text bare =
+    rw (bare_word (rules Executed) (waiting_walk (of_execute Limit)).waiting 1 text
+    (waiting_walk (of_execute Limit)).held bare) refl
+text_step (of_execute Input) text bare =
+    rw (bare_word (rules Executed) (waiting_walk (of_execute Input)).waiting 1 text
+    (waiting_walk (of_execute Input)).held bare) refl
+text_step (of_execute InputFile) text bare =
+    rw (bare_word (rules Executed) (waiting_walk (of_execute InputFile)).waiting 1 text
+    (waiting_walk (of_execute InputFile)).held bare) refl
+text_step (of_execute OutputFile) text bare =
+    rw (bare_word (rules Executed) (waiting_walk (of_execute OutputFile)).waiting 1 text
+    (waiting_walk (of_execute OutputFile)).held bare) refl
+text_step (of_execute Fill) text bare =
+    rw (bare_word (rules Executed) (waiting_walk (of_execute Fill)).waiting 1 text
+    (waiting_walk (of_execute Fill)).held bare) refl
+text_step (of_execute StartMemory) text bare =
+    rw (bare_word (rules Executed) (waiting_walk (of_execute StartMemory)).waiting 1 text
+    (waiting_walk (of_execute StartMemory)).held bare) refl
 
-text_turn : (name : Text) (o : Choice) (text : Text) → IsBare text → turn_fault (leaf (form_at o) name) [] (waiting_walk o) text ≡ []
+text_turn : (name : Text) (o : Choice) (text : Text) → IsBare text
+    → turn_fault (leaf (form_at o) name) [] (waiting_walk o) text ≡ []
 text_turn name (of_program (OfPlan Code)) text bare =
     rw (bare_word (rules Sources) (waiting_walk (of_program (OfPlan Code))).waiting 1 text (waiting_walk (of_program (OfPlan Code))).held bare, bare_fault (leaf Sources name) (waiting_walk (of_program (OfPlan Code))).waiting text (waiting_walk (of_program (OfPlan Code))).held bare) refl
 text_turn name (of_program (OfPlan DataBase)) text bare =
@@ -378,48 +481,92 @@ text_turn name (of_execute Fill) text bare =
 text_turn name (of_execute StartMemory) text bare =
     rw (bare_word (rules Executed) (waiting_walk (of_execute StartMemory)).waiting 1 text (waiting_walk (of_execute StartMemory)).held bare, bare_fault (leaf Executed name) (waiting_walk (of_execute StartMemory)).waiting text (waiting_walk (of_execute StartMemory)).held bare) refl
 
-value_step : (o : Choice) (text file : Text) → IsBare file → walked (rules (form_at o)) [] (pending_walk o text) file ≡ state (option_row o text ∷ []) [] file
+value_step : (o : Choice) (text file : Text) → IsBare file
+    → walked (rules (form_at o)) [] (pending_walk o text) file ≡ state (option_row o text ∷ []) [] file
 unfolding walked
-value_step (of_program (OfPlan Code)) text file bare = rw (bare_word (rules Sources) idle 1 file (pending_walk (of_program (OfPlan Code)) text).held bare) refl
-value_step (of_program (OfPlan DataBase)) text file bare = rw (bare_word (rules Sources) idle 1 file (pending_walk (of_program (OfPlan DataBase)) text).held bare) refl
-value_step (of_program (OfPlan Stack)) text file bare = rw (bare_word (rules Sources) idle 1 file (pending_walk (of_program (OfPlan Stack)) text).held bare) refl
-value_step (of_program (OfPlan StackSize)) text file bare = rw (bare_word (rules Sources) idle 1 file (pending_walk (of_program (OfPlan StackSize)) text).held bare) refl
-value_step (of_program Limit) text file bare = rw (bare_word (rules Sources) idle 1 file (pending_walk (of_program Limit) text).held bare) refl
-value_step (of_program Input) text file bare = rw (bare_word (rules Sources) idle 1 file (pending_walk (of_program Input) text).held bare) refl
-value_step (of_program InputFile) text file bare = rw (bare_word (rules Sources) idle 1 file (pending_walk (of_program InputFile) text).held bare) refl
-value_step (of_program OutputFile) text file bare = rw (bare_word (rules Sources) idle 1 file (pending_walk (of_program OutputFile) text).held bare) refl
-value_step (of_program Fill) text file bare = rw (bare_word (rules Sources) idle 1 file (pending_walk (of_program Fill) text).held bare) refl
-value_step (of_program StartMemory) text file bare = rw (bare_word (rules Sources) idle 1 file (pending_walk (of_program StartMemory) text).held bare) refl
-value_step (of_place Locate Code) text file bare = rw (bare_word (rules Located) idle 1 file (pending_walk (of_place Locate Code) text).held bare) refl
-value_step (of_place Hex Code) text file bare = rw (bare_word (rules Placed) idle 1 file (pending_walk (of_place Hex Code) text).held bare) refl
-value_step (of_place Listing Code) text file bare = rw (bare_word (rules Listed) idle 1 file (pending_walk (of_place Listing Code) text).held bare) refl
-value_step (of_place Symbols Code) text file bare = rw (bare_word (rules Listed) idle 1 file (pending_walk (of_place Symbols Code) text).held bare) refl
-value_step (of_place Locate DataBase) text file bare = rw (bare_word (rules Located) idle 1 file (pending_walk (of_place Locate DataBase) text).held bare) refl
-value_step (of_place Hex DataBase) text file bare = rw (bare_word (rules Placed) idle 1 file (pending_walk (of_place Hex DataBase) text).held bare) refl
-value_step (of_place Listing DataBase) text file bare = rw (bare_word (rules Listed) idle 1 file (pending_walk (of_place Listing DataBase) text).held bare) refl
-value_step (of_place Symbols DataBase) text file bare = rw (bare_word (rules Listed) idle 1 file (pending_walk (of_place Symbols DataBase) text).held bare) refl
-value_step (of_place Locate Stack) text file bare = rw (bare_word (rules Located) idle 1 file (pending_walk (of_place Locate Stack) text).held bare) refl
-value_step (of_place Hex Stack) text file bare = rw (bare_word (rules Placed) idle 1 file (pending_walk (of_place Hex Stack) text).held bare) refl
-value_step (of_place Listing Stack) text file bare = rw (bare_word (rules Listed) idle 1 file (pending_walk (of_place Listing Stack) text).held bare) refl
-value_step (of_place Symbols Stack) text file bare = rw (bare_word (rules Listed) idle 1 file (pending_walk (of_place Symbols Stack) text).held bare) refl
-value_step (of_place Locate StackSize) text file bare = rw (bare_word (rules Located) idle 1 file (pending_walk (of_place Locate StackSize) text).held bare) refl
-value_step (of_place Hex StackSize) text file bare = rw (bare_word (rules Placed) idle 1 file (pending_walk (of_place Hex StackSize) text).held bare) refl
-value_step (of_place Listing StackSize) text file bare = rw (bare_word (rules Listed) idle 1 file (pending_walk (of_place Listing StackSize) text).held bare) refl
-value_step (of_place Symbols StackSize) text file bare = rw (bare_word (rules Listed) idle 1 file (pending_walk (of_place Symbols StackSize) text).held bare) refl
-value_step out text file bare = rw (bare_word (rules Objects) idle 1 file (pending_walk out text).held bare) refl
-value_step jump text file bare = rw (bare_word (rules Placed) idle 1 file (pending_walk jump text).held bare) refl
-value_step (of_execute (OfPlan Code)) text file bare = rw (bare_word (rules Executed) idle 1 file (pending_walk (of_execute (OfPlan Code)) text).held bare) refl
-value_step (of_execute (OfPlan DataBase)) text file bare = rw (bare_word (rules Executed) idle 1 file (pending_walk (of_execute (OfPlan DataBase)) text).held bare) refl
-value_step (of_execute (OfPlan Stack)) text file bare = rw (bare_word (rules Executed) idle 1 file (pending_walk (of_execute (OfPlan Stack)) text).held bare) refl
-value_step (of_execute (OfPlan StackSize)) text file bare = rw (bare_word (rules Executed) idle 1 file (pending_walk (of_execute (OfPlan StackSize)) text).held bare) refl
-value_step (of_execute Limit) text file bare = rw (bare_word (rules Executed) idle 1 file (pending_walk (of_execute Limit) text).held bare) refl
-value_step (of_execute Input) text file bare = rw (bare_word (rules Executed) idle 1 file (pending_walk (of_execute Input) text).held bare) refl
-value_step (of_execute InputFile) text file bare = rw (bare_word (rules Executed) idle 1 file (pending_walk (of_execute InputFile) text).held bare) refl
-value_step (of_execute OutputFile) text file bare = rw (bare_word (rules Executed) idle 1 file (pending_walk (of_execute OutputFile) text).held bare) refl
-value_step (of_execute Fill) text file bare = rw (bare_word (rules Executed) idle 1 file (pending_walk (of_execute Fill) text).held bare) refl
-value_step (of_execute StartMemory) text file bare = rw (bare_word (rules Executed) idle 1 file (pending_walk (of_execute StartMemory) text).held bare) refl
+value_step (of_program (OfPlan Code)) text file bare =
+    rw (bare_word (rules Sources) idle 1 file (pending_walk (of_program (OfPlan Code)) text).held bare) refl
+value_step (of_program (OfPlan DataBase)) text file bare =
+    rw (bare_word (rules Sources) idle 1 file (pending_walk (of_program (OfPlan DataBase)) text).held bare)
+    refl
+value_step (of_program (OfPlan Stack)) text file bare =
+    rw (bare_word (rules Sources) idle 1 file (pending_walk (of_program (OfPlan Stack)) text).held bare) refl
+value_step (of_program (OfPlan StackSize)) text file bare =
+    rw (bare_word (rules Sources) idle 1 file (pending_walk (of_program (OfPlan StackSize)) text).held bare)
+    refl
+value_step (of_program Limit) text file bare =
+    rw (bare_word (rules Sources) idle 1 file (pending_walk (of_program Limit) text).held bare) refl
+value_step (of_program Input) text file bare =
+    rw (bare_word (rules Sources) idle 1 file (pending_walk (of_program Input) text).held bare) refl
+value_step (of_program InputFile) text file bare =
+    rw (bare_word (rules Sources) idle 1 file (pending_walk (of_program InputFile) text).held bare) refl
+value_step (of_program OutputFile) text file bare =
+    rw (bare_word (rules Sources) idle 1 file (pending_walk (of_program OutputFile) text).held bare) refl
+value_step (of_program Fill) text file bare =
+    rw (bare_word (rules Sources) idle 1 file (pending_walk (of_program Fill) text).held bare) refl
+value_step (of_program StartMemory) text file bare =
+    rw (bare_word (rules Sources) idle 1 file (pending_walk (of_program StartMemory) text).held bare) refl
+value_step (of_place Locate Code) text file bare =
+    rw (bare_word (rules Located) idle 1 file (pending_walk (of_place Locate Code) text).held bare) refl
+value_step (of_place Hex Code) text file bare =
+    rw (bare_word (rules Placed) idle 1 file (pending_walk (of_place Hex Code) text).held bare) refl
+value_step (of_place Listing Code) text file bare =
+    rw (bare_word (rules Listed) idle 1 file (pending_walk (of_place Listing Code) text).held bare) refl
+value_step (of_place Symbols Code) text file bare =
+    rw (bare_word (rules Listed) idle 1 file (pending_walk (of_place Symbols Code) text).held bare) refl
+value_step (of_place Locate DataBase) text file bare =
+    rw (bare_word (rules Located) idle 1 file (pending_walk (of_place Locate DataBase) text).held bare) refl
+value_step (of_place Hex DataBase) text file bare =
+    rw (bare_word (rules Placed) idle 1 file (pending_walk (of_place Hex DataBase) text).held bare) refl
+value_step (of_place Listing DataBase) text file bare =
+    rw (bare_word (rules Listed) idle 1 file (pending_walk (of_place Listing DataBase) text).held bare) refl
+value_step (of_place Symbols DataBase) text file bare =
+    rw (bare_word (rules Listed) idle 1 file (pending_walk (of_place Symbols DataBase) text).held bare) refl
+value_step (of_place Locate Stack) text file bare =
+    rw (bare_word (rules Located) idle 1 file (pending_walk (of_place Locate Stack) text).held bare) refl
+value_step (of_place Hex Stack) text file bare =
+    rw (bare_word (rules Placed) idle 1 file (pending_walk (of_place Hex Stack) text).held bare) refl
+value_step (of_place Listing Stack) text file bare =
+    rw (bare_word (rules Listed) idle 1 file (pending_walk (of_place Listing Stack) text).held bare) refl
+value_step (of_place Symbols Stack) text file bare =
+    rw (bare_word (rules Listed) idle 1 file (pending_walk (of_place Symbols Stack) text).held bare) refl
+value_step (of_place Locate StackSize) text file bare =
+    rw (bare_word (rules Located) idle 1 file (pending_walk (of_place Locate StackSize) text).held bare) refl
+value_step (of_place Hex StackSize) text file bare =
+    rw (bare_word (rules Placed) idle 1 file (pending_walk (of_place Hex StackSize) text).held bare) refl
+value_step (of_place Listing StackSize) text file bare =
+    rw (bare_word (rules Listed) idle 1 file (pending_walk (of_place Listing StackSize) text).held bare) refl
+value_step (of_place Symbols StackSize) text file bare =
+    rw (bare_word (rules Listed) idle 1 file (pending_walk (of_place Symbols StackSize) text).held bare) refl
+value_step out text file bare =
+    rw (bare_word (rules Objects) idle 1 file (pending_walk out text).held bare) refl
+value_step jump text file bare =
+    rw (bare_word (rules Placed) idle 1 file (pending_walk jump text).held bare) refl
+value_step (of_execute (OfPlan Code)) text file bare =
+    rw (bare_word (rules Executed) idle 1 file (pending_walk (of_execute (OfPlan Code)) text).held bare) refl
+value_step (of_execute (OfPlan DataBase)) text file bare =
+    rw (bare_word (rules Executed) idle 1 file (pending_walk (of_execute (OfPlan DataBase)) text).held bare)
+    refl
+value_step (of_execute (OfPlan Stack)) text file bare =
+    rw (bare_word (rules Executed) idle 1 file (pending_walk (of_execute (OfPlan Stack)) text).held bare) refl
+value_step (of_execute (OfPlan StackSize)) text file bare =
+    rw (bare_word (rules Executed) idle 1 file (pending_walk (of_execute (OfPlan StackSize)) text).held bare)
+    refl
+value_step (of_execute Limit) text file bare =
+    rw (bare_word (rules Executed) idle 1 file (pending_walk (of_execute Limit) text).held bare) refl
+value_step (of_execute Input) text file bare =
+    rw (bare_word (rules Executed) idle 1 file (pending_walk (of_execute Input) text).held bare) refl
+value_step (of_execute InputFile) text file bare =
+    rw (bare_word (rules Executed) idle 1 file (pending_walk (of_execute InputFile) text).held bare) refl
+value_step (of_execute OutputFile) text file bare =
+    rw (bare_word (rules Executed) idle 1 file (pending_walk (of_execute OutputFile) text).held bare) refl
+value_step (of_execute Fill) text file bare =
+    rw (bare_word (rules Executed) idle 1 file (pending_walk (of_execute Fill) text).held bare) refl
+value_step (of_execute StartMemory) text file bare =
+    rw (bare_word (rules Executed) idle 1 file (pending_walk (of_execute StartMemory) text).held bare) refl
 
-value_turn : (name : Text) (o : Choice) (text file : Text) → IsBare file → turn_fault (leaf (form_at o) name) [] (pending_walk o text) file ≡ []
+value_turn : (name : Text) (o : Choice) (text file : Text) → IsBare file
+    → turn_fault (leaf (form_at o) name) [] (pending_walk o text) file ≡ []
 value_turn name (of_program (OfPlan Code)) text file bare =
     rw (bare_word (rules Sources) idle 1 file (pending_walk (of_program (OfPlan Code)) text).held bare, bare_fault (leaf Sources name) idle file (pending_walk (of_program (OfPlan Code)) text).held bare) refl
 value_turn name (of_program (OfPlan DataBase)) text file bare =
@@ -537,15 +684,24 @@ no_file_in (of_execute OutputFile) text = refl
 no_file_in (of_execute Fill) text = refl
 no_file_in (of_execute StartMemory) text = refl
 
-pub option_begins : (name : Text) (o : Choice) (text : Text) → IsBare text → Begins (form_at o) name (option_words (name_at o) text) (option_row o text ∷ [])
+pub option_begins : (name : Text) (o : Choice) (text : Text) → IsBare text
+    → Begins (form_at o) name (option_words (name_at o) text) (option_row o text ∷ [])
 option_begins name o text fits = record {
   no_file = no_file_in o text;
-  goes_to = λ file bare rest. then_walk (form_at o) (found_walk []) (waiting_walk o) (45 ∷ 45 ∷ name_at o) (text ∷ file ∷ rest) (option_step o)
-      ∙ then_walk (form_at o) (waiting_walk o) (pending_walk o text) text (file ∷ rest) (text_step o text fits)
-      ∙ then_walk (form_at o) (pending_walk o text) (state (option_row o text ∷ []) [] file) file rest (value_step o text file bare);
-  goes_well = λ file bare rest. then_fault (form_at o) name (found_walk []) (waiting_walk o) (45 ∷ 45 ∷ name_at o) (text ∷ file ∷ rest) (option_turn name o) (option_step o)
-      ∙ then_fault (form_at o) name (waiting_walk o) (pending_walk o text) text (file ∷ rest) (text_turn name o text fits) (text_step o text fits)
-      ∙ then_fault (form_at o) name (pending_walk o text) (state (option_row o text ∷ []) [] file) file rest (value_turn name o text file bare) (value_step o text file bare);
+  goes_to =
+      λ file bare rest. then_walk (form_at o) (found_walk []) (waiting_walk o) (45 ∷ 45 ∷ name_at o)
+      (text ∷ file ∷ rest) (option_step o)
+      ∙ then_walk (form_at o) (waiting_walk o) (pending_walk o text) text (file ∷ rest)
+      (text_step o text fits)
+      ∙ then_walk (form_at o) (pending_walk o text) (state (option_row o text ∷ []) [] file) file rest
+      (value_step o text file bare);
+  goes_well =
+      λ file bare rest. then_fault (form_at o) name (found_walk []) (waiting_walk o) (45 ∷ 45 ∷ name_at o)
+      (text ∷ file ∷ rest) (option_turn name o) (option_step o)
+      ∙ then_fault (form_at o) name (waiting_walk o) (pending_walk o text) text (file ∷ rest)
+      (text_turn name o text fits) (text_step o text fits)
+      ∙ then_fault (form_at o) name (pending_walk o text) (state (option_row o text ∷ []) [] file) file rest
+      (value_turn name o text file bare) (value_step o text file bare);
 }
 
 -- where the walk over such words ends
@@ -556,7 +712,8 @@ pub record Ends (s : Shape) (words : List Text) (rows : List Row) : Type 0 where
   pub settle : settle_fault s.rules false held ≡ []
   pub settles : (settled s.rules held).rows ≡ rows
 
-settle_by : (form : Form) (before : List Row) (done : List Text) (last : Text) → settle_fault (rules form) false (state before done last).held ≡ []
+settle_by : (form : Form) (before : List Row) (done : List Text) (last : Text)
+    → settle_fault (rules form) false (state before done last).held ≡ []
 settle_by Sources before done last = refl
 settle_by Objects before done last = refl
 settle_by Placed before done last = refl
@@ -573,12 +730,15 @@ settles_by Listed before done last none = rows_more before done last none
 settles_by Located before done last none = rows_more before done last none
 settles_by Executed before done last none = rows_more before done last none
 
-pub ends_by : (form : Form) (name : Text) (first : List Text) (before : List Row) → Begins form name first before → (file : Text) (files : List Text) → IsBare file
-    → AllByRecursion IsBare files → Ends (leaf form name) (first ++ file ∷ files) (before ++ files_row (file ∷ files) ∷ [])
+pub ends_by : (form : Form) (name : Text) (first : List Text) (before : List Row)
+    → Begins form name first before → (file : Text) (files : List Text) → IsBare file
+    → AllByRecursion IsBare files → Ends (leaf form name) (first ++ file ∷ files)
+    (before ++ files_row (file ∷ files) ∷ [])
 ends_by form name first before b file files bare others = record {
   held = (state before (done_of [] file files) (last_of file files)).held;
   fine = b.goes_well file bare files ∙ files_fault form name before b.no_file [] file files others;
-  is = ap (λ (w : Walk). w.held) (b.goes_to file bare files ∙ files_walk form before b.no_file [] file files others);
+  is = ap (λ (w : Walk). w.held)
+      (b.goes_to file bare files ∙ files_walk form before b.no_file [] file files others);
   settle = settle_by form before (done_of [] file files) (last_of file files);
   settles = settles_by form before (done_of [] file files) (last_of file files) b.no_file ∙ ap (λ (fs : List Text). before ++ files_rows fs) (all_done [] file files);
 }

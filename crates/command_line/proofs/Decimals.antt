@@ -28,7 +28,8 @@ number_by most t a b e f = rw (e, f) refl
 
 -- a numeral that is not too great is read
 pub number_read : (k most : ℕ) (t : List ℕ) (n : ℕ) → (slice_index t 0 == 43) ≡ false
-    → ((IsNumeral 10 (without_leading_plus t) × (digits_value 10 (without_leading_plus t) < 2 ^ k)) × (n ≡ digits_value 10 (without_leading_plus t)))
+    → ((IsNumeral 10 (without_leading_plus t) × (digits_value 10 (without_leading_plus t) < 2 ^ k))
+    × (n ≡ digits_value 10 (without_leading_plus t)))
     → n ≤ most → number_to most t ≡ Ok n
 number_read k most t n plus ((numeral, fits), is) small =
     let same = no_plus t plus in
@@ -36,13 +37,15 @@ number_read k most t n plus ((numeral, fits), is) small =
     let low : nat_le (digits_value 10 t) most ≡ true = le-leb (digits_value 10 t) most (rw value small) in
     number_by most t true true (decimal_of t (rw same at numeral)) low ∙ ap (λ (m : ℕ). Ok m) value
 
-never_both : (a : Bool) (t : List ℕ) → (let answer : Read ℕ = if a && false then Ok (digits_value 10 t) else Err t in answer) ≡ Err t
+never_both : (a : Bool) (t : List ℕ)
+    → (let answer : Read ℕ = if a && false then Ok (digits_value 10 t) else Err t in answer) ≡ Err t
 never_both true t = refl
 never_both false t = refl
 
 -- one that is too great is refused
 pub number_too_great : (k most : ℕ) (t : List ℕ) (n : ℕ) → (slice_index t 0 == 43) ≡ false
-    → ((IsNumeral 10 (without_leading_plus t) × (digits_value 10 (without_leading_plus t) < 2 ^ k)) × (n ≡ digits_value 10 (without_leading_plus t)))
+    → ((IsNumeral 10 (without_leading_plus t) × (digits_value 10 (without_leading_plus t) < 2 ^ k))
+    × (n ≡ digits_value 10 (without_leading_plus t)))
     → most < n → number_to most t ≡ Err t
 number_too_great k most t n plus ((numeral, fits), is) great =
     let value : digits_value 10 t ≡ n = sym (is ∙ ap (digits_value 10) (no_plus t plus)) in
@@ -54,7 +57,8 @@ number_too_great k most t n plus ((numeral, fits), is) great =
 
 -- what is no numeral, or does not fit, is refused
 pub number_refused : (k most : ℕ) (t : List ℕ) → (slice_index t 0 == 43) ≡ false
-    → (IsNumeral 10 (without_leading_plus t) × (digits_value 10 (without_leading_plus t) < 2 ^ k) → ⊥) → most < 2 ^ k → number_to most t ≡ Err t
+    → (IsNumeral 10 (without_leading_plus t) × (digits_value 10 (without_leading_plus t) < 2 ^ k) → ⊥)
+    → most < 2 ^ k → number_to most t ≡ Err t
 number_refused k most t plus none fits = go (is_decimal t) (nat_le (digits_value 10 t) most) refl refl
   where
     go : (a b : Bool) → is_decimal t ≡ a → nat_le (digits_value 10 t) most ≡ b → number_to most t ≡ Err t

@@ -14,7 +14,8 @@ after_number number = record {
   stopped = None;
 }
 
-number_step : (number : Text) → IsBare number → walked explain_rules [] (found_walk []) number ≡ after_number number
+number_step : (number : Text) → IsBare number
+    → walked explain_rules [] (found_walk []) number ≡ after_number number
 unfolding walked
 number_step number bare = rw (bare_word explain_rules idle 1 number (found_walk []).held bare) refl
 
@@ -22,9 +23,12 @@ number_turn : (number : Text) → IsBare number → turn_fault (leaf_of explain)
 number_turn number bare =
     rw (bare_word explain_rules idle 1 number (found_walk []).held bare, bare_fault (leaf_of explain) idle number (found_walk []).held bare) refl
 
-one_fault : (number : Text) → turn_fault (leaf_of explain) [] (found_walk []) number ≡ [] → walk_fault (leaf_of explain) [] (found_walk []) (number ∷ []) ≡ []
+one_fault : (number : Text) → turn_fault (leaf_of explain) [] (found_walk []) number ≡ []
+    → walk_fault (leaf_of explain) [] (found_walk []) (number ∷ []) ≡ []
 unfolding walk_fault
-one_fault number fine = ap (λ (k : Kinds). or_else k (walk_fault (leaf_of explain) [] (walked explain_rules [] (found_walk []) number) [])) fine
+one_fault number fine =
+    ap (λ (k : Kinds). or_else k (walk_fault (leaf_of explain) []
+    (walked explain_rules [] (found_walk []) number) [])) fine
 
 explain_ends : (number : Text) → IsBare number → Ends (leaf_of explain) (number ∷ []) (number_row number ∷ [])
 explain_ends number bare = record {
@@ -35,7 +39,8 @@ explain_ends number bare = record {
   settles = refl;
 }
 
-pub explain_line : (number : Text) → IsBare number → Line explain (number ∷ []) (wants_explain (record { number = number }))
+pub explain_line : (number : Text) → IsBare number
+    → Line explain (number ∷ []) (wants_explain (record { number = number }))
 unfolding defaults_fault
 explain_line number bare =
     line_of explain (number ∷ []) (number_row number ∷ []) (wants_explain (record { number = number })) (explain_ends number bare) refl refl refl

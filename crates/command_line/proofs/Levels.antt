@@ -16,13 +16,15 @@ find_one p x = go (p x) refl
     go false e = inl (rw e refl)
 
 -- a whole level passes
-pub record LevelPasses (s : Shape) (names : Names) (h : Held) (words : List Text) (has_subcommand : Bool) (below : Kinds) : Type 0 where
+pub record LevelPasses (s : Shape) (names : Names) (h : Held) (words : List Text) (has_subcommand : Bool)
+    (below : Kinds) : Type 0 where
   pub words_pass : walk_fault s names (walk_from h) words ≡ []
   pub below_passes : below ≡ []
   pub settle_passes : settle_fault s.rules s.args_override_self (walk s.rules names h words).held ≡ []
   pub check_passes : check_fault s (finished s.rules (walk s.rules names h words).held) has_subcommand ≡ []
 
-pub level_passes_by : (s : Shape) (names : Names) (h : Held) (words : List Text) (has_subcommand : Bool) (below : Kinds)
+pub level_passes_by : (s : Shape) (names : Names) (h : Held) (words : List Text)
+    (has_subcommand : Bool) (below : Kinds)
     → level_fault s names h words has_subcommand below ≡ [] → LevelPasses s names h words has_subcommand below
 level_passes_by s names h words has_subcommand below fine =
     let end = (walk s.rules names h words).held in

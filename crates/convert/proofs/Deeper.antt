@@ -6,15 +6,19 @@ use Rattle.convert.specs.declared.includes.Entry.{Entry}
 use Rattle.convert.specs.Assembly.{Parts, file_put, lines_put, with_told}
 
 -- a file that may include others
-pub deeper : (advice : Advice) (entries : List Entry) (depth : ℕ) (place : Place) (line : List ℕ) (file : ℕ) (lines : List (List ℕ)) (parts : Parts) → 0 < depth
-    → file_put advice entries depth place line file lines parts ≡ lines_put advice entries (file_put advice entries (depth - 1)) file 1 lines [] parts
+pub deeper : (advice : Advice) (entries : List Entry) (depth : ℕ) (place : Place) (line : List ℕ) (file : ℕ)
+    (lines : List (List ℕ)) (parts : Parts) → 0 < depth
+    → file_put advice entries depth place line file lines parts
+    ≡ lines_put advice entries (file_put advice entries (depth - 1)) file 1 lines [] parts
 deeper advice entries zero place line file lines parts some = absurd (omega (arith, some))
 deeper advice entries (suc depth) place line file lines parts some =
     let same : depth ≡ suc depth - 1 = omega arith in
     ap (λ (d : ℕ). lines_put advice entries (file_put advice entries d) file 1 lines [] parts) same
 
 -- one that is too deep
-pub deepest : (advice : Advice) (entries : List Entry) (depth : ℕ) (place : Place) (line : List ℕ) (file : ℕ) (lines : List (List ℕ)) (parts : Parts) → depth ≡ 0
-    → file_put advice entries depth place line file lines parts ≡ with_told line (record { place = place; text = advice.too_deep }) parts
+pub deepest : (advice : Advice) (entries : List Entry) (depth : ℕ) (place : Place) (line : List ℕ) (file : ℕ)
+    (lines : List (List ℕ)) (parts : Parts) → depth ≡ 0
+    → file_put advice entries depth place line file lines parts
+    ≡ with_told line (record { place = place; text = advice.too_deep }) parts
 deepest advice entries zero place line file lines parts none = refl
 deepest advice entries (suc depth) place line file lines parts none = absurd (omega (arith, none))

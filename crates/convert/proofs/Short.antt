@@ -33,7 +33,9 @@ pub expands_few : {output words whole : List Lexeme} {processed : ℕ}
     → processed ≤ MOST_WORDS
     → AreFew words whole processed
 expands_few at_end short room = record { output_few = omega arith; words_few = omega arith }
-expands_few (after_word {output = output} {now = now} {processed = processed} {count = count} once sound becomes fits rest) short room =
+expands_few
+    (after_word {output = output} {now = now} {processed = processed} {count = count} once sound becomes
+    fits rest) short room =
     let joined : length (output ++ now) ≤ processed + count =
     omega (arith, length-append output now, becomes_short becomes) in
     let few = expands_few rest joined fits in

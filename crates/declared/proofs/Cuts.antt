@@ -2,7 +2,8 @@
 use Rattle.declared.proofs.Prelude.{◌≡◌, ℕ, zero, suc, ◌+◌, ◌-◌, ◌<◌, ◌≤◌, min, List, [], ◌∷◌, length, take, drop, get_or, set, replicate, refl, ap, sym, ◌∙◌, arith, length-take, drop-drop, set_past, take-set-le, drop-set-lt, drop-set-add, take-replicate, drop-replicate, take-set-lt, zeroed, cut, total}
 
 taken_short : (size offset : ℕ) (bytes : List ℕ) → size ≤ offset → length (take size bytes) ≤ offset
-taken_short size offset bytes past = let is : length (take size bytes) ≡ min size (length bytes) = length-take size bytes in omega arith
+taken_short size offset bytes past =
+    let is : length (take size bytes) ≡ min size (length bytes) = length-take size bytes in omega arith
 
 -- a piece lies within the whole
 pub piece_within :
@@ -12,13 +13,15 @@ piece_within [] zero = omega arith
 piece_within [] (suc object) = omega arith
 piece_within (size ∷ sizes) zero = omega arith
 piece_within (size ∷ sizes) (suc object) =
-    let others : total (take object sizes) + get_or sizes object 0 ≤ total sizes = piece_within sizes object in
+    let others : total (take object sizes) + get_or sizes object 0 ≤ total sizes =
+    piece_within sizes object in
     omega arith
 
 -- a piece as a part of the whole
 pub piece_is :
     (sizes bytes : List ℕ) (object : ℕ)
-    → get_or (cut sizes bytes) object [] ≡ take (get_or sizes object 0) (drop (total (take object sizes)) bytes)
+    → get_or (cut sizes bytes) object []
+    ≡ take (get_or sizes object 0) (drop (total (take object sizes)) bytes)
 piece_is [] bytes object = refl
 piece_is (size ∷ sizes) bytes zero = refl
 piece_is (size ∷ sizes) bytes (suc object) =
@@ -35,8 +38,10 @@ write_inside [] bytes object offset place byte within is = absurd (omega arith)
 write_inside (size ∷ sizes) bytes zero offset place byte within is =
     let same : place ≡ offset = omega arith in
     ap (λ k. take size (set bytes k byte) ∷ cut sizes (drop size (set bytes k byte))) same
-    ∙ ap (λ piece. piece ∷ cut sizes (drop size (set bytes offset byte))) (take-set-lt size bytes offset byte within)
-    ∙ ap (λ rest. set (take size bytes) offset byte ∷ cut sizes rest) (drop-set-lt size bytes offset byte within)
+    ∙ ap (λ piece. piece ∷ cut sizes (drop size (set bytes offset byte)))
+    (take-set-lt size bytes offset byte within)
+    ∙ ap (λ rest. set (take size bytes) offset byte ∷ cut sizes rest)
+    (drop-set-lt size bytes offset byte within)
 write_inside (size ∷ sizes) bytes (suc object) offset place byte within is =
     let before : ℕ = total (take object sizes) + offset in
     let same : place ≡ size + before = omega arith in

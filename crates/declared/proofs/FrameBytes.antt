@@ -15,7 +15,8 @@ last_nested current callers bytes frame are is =
 
 -- the bytes of an object in the last frame
 pub part_is :
-    (current : Option OpenFrame) (callers : List OpenFrame) (bytes found : List ℕ) (frames : List (List (List ℕ)))
+    (current : Option OpenFrame) (callers : List OpenFrame) (bytes found : List ℕ)
+    (frames : List (List (List ℕ)))
     (frame : OpenFrame) (object start size : ℕ)
     → frames_in (open_frames current callers) bytes ≡ frames
     → current ≡ Some frame
@@ -44,7 +45,8 @@ part_is current callers bytes found frames frame object start size is_view is is
     by_size (suc less) is_size begins =
         ap (λ place. take (suc less) (drop place bytes)) (begins (omega arith))
         ∙ ap (take (suc less)) (sym (drop-drop (total (take object (sizes_of frame))) frame.base bytes))
-        ∙ ap (λ count. take count (drop (total (take object (sizes_of frame))) (drop frame.base bytes))) is_size
+        ∙ ap (λ count. take count (drop (total (take object (sizes_of frame))) (drop frame.base bytes)))
+        is_size
 
 -- a byte of it that is written
 piece_written :
@@ -72,10 +74,12 @@ bytes_by :
 bytes_by offset size changed before P within past =
     elim (dec_le (suc offset) size) [
       | yes below ↦
-          subst (λ (is : Bool). P (if is then changed else before)) (sym (lt-ltb offset size below)) (within below)
+          subst (λ (is : Bool). P (if is then changed else before))
+          (sym (lt-ltb offset size below)) (within below)
       | no not_below ↦
           let above : size ≤ offset = omega (arith, not_below) in
-          subst (λ (is : Bool). P (if is then changed else before)) (sym (le-ltb offset size above)) (past above)
+          subst (λ (is : Bool). P (if is then changed else before))
+          (sym (le-ltb offset size above)) (past above)
     ]
 
 pub part_written :
@@ -87,7 +91,8 @@ pub part_written :
     → (0 < size → start ≡ frame.base + total (take object (sizes_of frame)))
     → after ≡ (if nat_lt offset size then set bytes (start + offset) byte else bytes)
     → frames_in (open_frames current callers) after ≡ with_current (frame_with_byte object offset byte) frames
-part_written current callers bytes after frames frame object offset start size byte is_view is is_size begins is_after =
+part_written current callers bytes after frames frame object offset start size byte is_view is
+    is_size begins is_after =
     let place : ℕ = total (take object (sizes_of frame)) + offset in
     ap (λ now. frames_in (open_frames now callers) after) is
     ∙ ap (λ now. frames_in (frame ∷ reverse callers) now) is_after
@@ -102,7 +107,8 @@ part_written current callers bytes after frames frame object offset start size b
     (λ above.
     ap (λ pieces. pieces ∷ frames_in (reverse callers) (take frame.base bytes))
     (write_outside (sizes_of frame) (drop frame.base bytes) object offset byte (omega arith)))
-    ∙ ap (λ now. with_current (frame_with_byte object offset byte) (frames_in (open_frames now callers) bytes))
+    ∙ ap (λ now. with_current (frame_with_byte object offset byte)
+    (frames_in (open_frames now callers) bytes))
     (sym is)
     ∙ ap (with_current (frame_with_byte object offset byte)) is_view
 
@@ -163,7 +169,8 @@ opened frame below before bytes size is_base is_size is =
     ap (λ now. cut (sizes_of frame) (drop frame.base now) ∷ frames_in below (take frame.base now)) is
     ∙ ap (λ rest. cut (sizes_of frame) rest ∷ frames_in below (take frame.base (before ++ zeros)))
     (drop_at before zeros frame.base is_base)
-    ∙ ap (λ under. cut (sizes_of frame) zeros ∷ frames_in below under) (take_at before zeros frame.base is_base)
+    ∙ ap (λ under. cut (sizes_of frame) zeros ∷ frames_in below under)
+    (take_at before zeros frame.base is_base)
     ∙ ap (λ count. cut (sizes_of frame) (replicate count 0) ∷ frames_in below before) is_size
     ∙ ap (λ pieces. pieces ∷ frames_in below before) (cut_zeros (sizes_of frame))
 
@@ -178,7 +185,8 @@ pub opened_last :
     → size ≡ total (sizes_of frame)
     → bytes ≡ before ++ replicate size 0
     → frames_in (open_frames (Some frame) more) bytes ≡ zeroed (sizes_of frame) ∷ frames
-opened_last frame caller current callers more frames before bytes size is_view is is_more is_base is_size is_bytes =
+opened_last frame caller current callers more frames before bytes size is_view is is_more
+    is_base is_size is_bytes =
     ap (λ now. frames_in (frame ∷ reverse now) bytes) is_more
     ∙ ap (λ below. frames_in (frame ∷ below) bytes) (reverse-append callers (caller ∷ []))
     ∙ opened frame (caller ∷ reverse callers) before bytes size is_base is_size is_bytes

@@ -73,11 +73,13 @@ both_read :
     → then_do first (λ byte t. then_do (second t) (λ next u. Gave (byte + 256 * next) u))
     ≡ answered (number_of_bytes low high) s
 both_read first second (Ok byte) high s is_first is_second =
-    ap (λ outcome. then_do outcome (λ byte t. then_do (second t) (λ next u. Gave (byte + 256 * next) u))) is_first
+    ap (λ outcome. then_do outcome (λ byte t. then_do (second t) (λ next u. Gave (byte + 256 * next) u)))
+    is_first
     ∙ ap (λ outcome. then_do outcome (λ next u. Gave (byte + 256 * next) u)) is_second
     ∙ high_read byte high s
 both_read first second (Err reason) high s is_first is_second =
-    ap (λ outcome. then_do outcome (λ byte t. then_do (second t) (λ next u. Gave (byte + 256 * next) u))) is_first
+    ap (λ outcome. then_do outcome (λ byte t. then_do (second t) (λ next u. Gave (byte + 256 * next) u)))
+    is_first
 
 pub scalar_read_means :
     (program : Program) (scalar : ScalarType) (address : ℕ) (s : State)
@@ -91,7 +93,8 @@ scalar_read_means program Address address s =
     (byte_read_means program address s) (byte_read_means program (next_address address) s)
 
 pub written_then :
-    (answer : Result (Unit {0}) Reason) (memory : List ℕ) (next : List ℕ → Written) (second : State → Outcome (Unit {0}))
+    (answer : Result (Unit {0}) Reason) (memory : List ℕ) (next : List ℕ → Written)
+    (second : State → Outcome (Unit {0}))
     (s : State)
     → ((t : State) → second t ≡ after_write (next t.memory) t)
     → then_do (answered answer (record s { memory = memory })) (λ _ t. second t)
@@ -100,7 +103,8 @@ written_then (Ok _) memory next second s is_second = is_second (record s { memor
 written_then (Err reason) memory next second s is_second = refl
 
 both_written :
-    (first : Outcome (Unit {0})) (second : State → Outcome (Unit {0})) (done : Written) (next : List ℕ → Written)
+    (first : Outcome (Unit {0})) (second : State → Outcome (Unit {0})) (done : Written)
+    (next : List ℕ → Written)
     (s : State)
     → first ≡ after_write done s
     → ((t : State) → second t ≡ after_write (next t.memory) t)
@@ -174,9 +178,11 @@ zeros_of_objects :
     objects
 zeros_of_objects procedure [] = refl
 zeros_of_objects procedure (object ∷ objects) =
-    ap (λ zeros. zeros ∷ map (λ size. replicate {A = ℕ} size 0) (map (size_in procedure) (map frame_object objects)))
+    ap (λ zeros. zeros ∷ map (λ size. replicate {A = ℕ} size 0)
+    (map (size_in procedure) (map frame_object objects)))
     (zeros_by_home procedure object.home (size_of_object object))
-    ∙ ap (λ others. cond (is_frame_of procedure object.home) (replicate {A = ℕ} (size_of_object object) 0) [] ∷ others)
+    ∙ ap (λ others. cond (is_frame_of procedure object.home) (replicate {A = ℕ} (size_of_object object) 0) []
+    ∷ others)
     (zeros_of_objects procedure objects)
 
 pub zeroed_frame_means :

@@ -11,7 +11,8 @@ total_pushed :
 total_pushed procedure [] slot = omega arith
 total_pushed procedure (first ∷ slots) slot =
     let others : total (slot_sizes procedure (slots ++ slot ∷ []))
-    ≡ total (slot_sizes procedure slots) + size_in procedure (slot_view slot) = total_pushed procedure slots slot in
+    ≡ total (slot_sizes procedure slots) + size_in procedure (slot_view slot) =
+    total_pushed procedure slots slot in
     omega arith
 
 taken_pushed :
@@ -21,7 +22,8 @@ taken_pushed :
 taken_pushed procedure slots slot zero within = refl
 taken_pushed procedure [] slot (suc k) within = absurd (omega arith)
 taken_pushed procedure (first ∷ slots) slot (suc k) within =
-    ap (λ others. size_in procedure (slot_view first) ∷ others) (taken_pushed procedure slots slot k (omega arith))
+    ap (λ others. size_in procedure (slot_view first) ∷ others)
+    (taken_pushed procedure slots slot k (omega arith))
 
 taken_whole :
     (procedure : ℕ) (slots : List ObjectSlot) (k : ℕ)
@@ -183,7 +185,8 @@ part_there slots found sizes frames k p slot are is_view is_found within is test
     let of_procedure : slot.procedure ≡ Some p = same_option p slot.procedure tested in
     let here : k < length slots = subst (λ now. k < length now) is_found within in
     let at : slot ≡ get_or slots k slot = is ∙ ap (λ now. get_or now k slot) is_found in
-    let known : p < length sizes = subst (λ (now : ModuleFrames). p < now.procedures) (sym is_view) p_within in
+    let known : p < length sizes =
+    subst (λ (now : ModuleFrames). p < now.procedures) (sym is_view) p_within in
     subst
     (λ (now : ModuleFrames).
     (slot.size ≡ get_or (sizes_in p now.objects) k 0)

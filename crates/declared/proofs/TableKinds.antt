@@ -53,7 +53,8 @@ constant_told pieces address Constant is = (Decides-one_of (filter is_constant_p
 
 -- what a table says of a byte
 pub table_declares :
-    (modules : List TypedModule) (placement : Placement) (kinds : List ByteKind) (address : ℕ) (kind : ByteKind)
+    (modules : List TypedModule) (placement : Placement) (kinds : List ByteKind)
+    (address : ℕ) (kind : ByteKind)
     → IsTableOf (pieces_of modules placement) kinds
     → address < MEMORY_SIZE
     → kind ≡ get_or kinds address Undeclared
@@ -64,7 +65,8 @@ table_declares modules placement kinds address kind told within is =
     (subst (IsKind (pieces_of modules placement) address) (sym is) (told address within))
 
 pub table_tells_constants :
-    (modules : List TypedModule) (placement : Placement) (kinds : List ByteKind) (address : ℕ) (kind : ByteKind)
+    (modules : List TypedModule) (placement : Placement) (kinds : List ByteKind)
+    (address : ℕ) (kind : ByteKind)
     → IsTableOf (pieces_of modules placement) kinds
     → address < MEMORY_SIZE
     → kind ≡ get_or kinds address Undeclared

@@ -4,9 +4,11 @@ use Rattle.example_libraries.proofs.Prelude.{◌≡◌, ◌≢◌, ℕ, ◌+◌,
 -- the numbers from 0 on, and 255 past their end
 at_most_255 : (n : ℕ) → (n < 255) ⊎ (255 ≤ n) → min n 255 ≡ get_or (range_with_len 0 255) n 255
 at_most_255 n (inl below) =
-    let e : get_or (range_with_len 0 255) n 255 ≡ 0 + n = get_or-range_with_len 0 255 n 255 below in omega (arith, e)
+    let e : get_or (range_with_len 0 255) n 255 ≡ 0 + n = get_or-range_with_len 0 255 n 255 below in
+    omega (arith, e)
 at_most_255 n (inr past) =
-    let e : get_or (range_with_len 0 255) n 255 ≡ 255 = get_or_past (range_with_len 0 255) n 255 (rw length-range_with_len past) in
+    let e : get_or (range_with_len 0 255) n 255 ≡ 255 =
+    get_or_past (range_with_len 0 255) n 255 (rw length-range_with_len past) in
     omega (arith, e)
 
 -- the counter gives the number of its reads, up to 255

@@ -40,8 +40,10 @@ one_is_found found_at one other is also =
     (sym (is.1 also.0) ∙ subst (λ depth. found_at depth ≡ Some other) (deep also.0 is.0) (also.1 is.0))
 
 -- the code of a step before that of others
-grown : (site : Site) (step : Step) (facts last : Facts) (others : List Step) (more : List Item) (label next : ℕ)
-    → IsCodeOfSteps site (after_step facts step) others label (record { items = more; facts = last; label = next })
+grown : (site : Site) (step : Step) (facts last : Facts) (others : List Step)
+    (more : List Item) (label next : ℕ)
+    → IsCodeOfSteps site (after_step facts step) others label
+    (record { items = more; facts = last; label = next })
     → IsFoundDeep
     (λ depth. option_map (in_front (step_items site.tree.now facts step))
     (code_of_steps site.tree.now (code_of_part site depth) (after_step facts step) others label))
@@ -55,7 +57,8 @@ mutual
   unfolding code_of_steps code_of_part
 
   pub steps_are_code :
-      {site : Site} {called : List Bool} {facts last : Facts} {list : List Step} {items : List Item} (label next : ℕ)
+      {site : Site} {called : List Bool} {facts last : Facts} {list : List Step}
+      {items : List Item} (label next : ℕ)
       → (written : AreWritten site called facts list items last)
       → AreLabelled written label next
       → IsCodeOfSteps site facts list label (record { items = items; facts = last; label = next })
@@ -66,19 +69,23 @@ mutual
       grown site (steps.Plain i) facts last list more label next (steps_are_code label next others labels)
   steps_are_code {site = site} {facts = facts} {last = last} label next
       (WordWritten {form = form} {place = place} {others = list} {more = more} others) labels =
-      grown site (steps.Word form place) facts last list more label next (steps_are_code label next others labels)
+      grown site (steps.Word form place) facts last list more label next
+      (steps_are_code label next others labels)
   steps_are_code {site = site} {facts = facts} {last = last} label next
       (JumpWritten {form = form} {label = to} {others = list} {more = more} others) labels =
-      grown site (steps.Jump form to) facts last list more label next (steps_are_code label next others labels)
+      grown site (steps.Jump form to) facts last list more label next
+      (steps_are_code label next others labels)
   steps_are_code {site = site} {facts = facts} {last = last} label next
       (MarkWritten {label = at} {others = list} {more = more} others) labels =
       grown site (steps.Mark at) facts last list more label next (steps_are_code label next others labels)
   steps_are_code {site = site} {facts = facts} {last = last} label next
       (RoutineWritten {routine = routine} {others = list} {more = more} is_called others) labels =
-      grown site (steps.CallRoutine routine) facts last list more label next (steps_are_code label next others labels)
+      grown site (steps.CallRoutine routine) facts last list more label next
+      (steps_are_code label next others labels)
   steps_are_code {site = site} {facts = facts} {last = last} label next
       (CallWritten {procedure = procedure} {others = list} {more = more} others) labels =
-      grown site (steps.CallProcedure procedure) facts last list more label next (steps_are_code label next others labels)
+      grown site (steps.CallProcedure procedure) facts last list more label next
+      (steps_are_code label next others labels)
   steps_are_code {site = site} {facts = facts} {last = last} label next
       (TestWritten {others = list} {more = more} others) labels =
       grown site steps.TestA facts last list more label next (steps_are_code label next others labels)
@@ -89,7 +96,8 @@ mutual
       (ChangeWritten {others = list} {more = more} others) labels =
       grown site steps.MemoryChanged facts last list more label next (steps_are_code label next others labels)
   steps_are_code {site = site} {facts = facts} label next
-      (PartWritten {middle = middle} {last = last} {part = part} {others = list} {first = items} {more = more} first others)
+      (PartWritten {middle = middle} {last = last} {part = part} {others = list} {first = items}
+      {more = more} first others)
       labels =
       let here : Code = record { items = items; facts = middle; label = labels.0 } in
       let there : Code = record { items = more; facts = last; label = next } in
@@ -103,7 +111,8 @@ mutual
       there (steps_are_code labels.0 next others labels.2))
 
   pub part_is_code :
-      {site : Site} {called : List Bool} {facts last : Facts} {part : Part} {items : List Item} (label next : ℕ)
+      {site : Site} {called : List Bool} {facts last : Facts} {part : Part}
+      {items : List Item} (label next : ℕ)
       → (written : IsWritten site called facts part items last)
       → IsLabelled written label next
       → IsCodeOfPart site facts part label (record { items = items; facts = last; label = next })
@@ -116,6 +125,7 @@ mutual
       (λ first.
       IsFoundDeep
       (λ depth.
-      code_of_steps site.tree.now (code_of_part site depth) facts (task_steps (knowing site facts) part first) after)
+      code_of_steps site.tree.now (code_of_part site depth) facts
+      (task_steps (knowing site facts) part first) after)
       code)
       labels.0 (steps_are_code after next steps labels.1))

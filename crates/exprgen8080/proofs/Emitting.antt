@@ -33,7 +33,8 @@ none_noted tree before after list same = λ routine given.
     inl (ap (λ flags. has_routine flags.items routine) (sym same) ∙ given)
 
 -- one routine is marked
-pub note_only : (before after : List Bool) (index : ℕ) → after ≡ set before index true → NotesOnly index before after
+pub note_only : (before after : List Bool) (index : ℕ) → after ≡ set before index true
+    → NotesOnly index before after
 note_only before after index same = subst (NotesOnly index before) (sym same) (only before index)
   where
     only : (flags : List Bool) (index : ℕ) → NotesOnly index flags (set flags index true)
@@ -53,7 +54,8 @@ call_noted tree routine before after only = λ other given.
       | inl kept ↦ inl kept
       | inr same ↦ inr (
           ap
-          (λ index. ((module_routine_label tree index).index == (module_label_of_routine tree routine).index) || false)
+          (λ index. ((module_routine_label tree index).index == (module_label_of_routine tree routine).index)
+          || false)
           same
           ∙ is_itself (module_label_of_routine tree routine).index
           )
@@ -115,7 +117,8 @@ module _ {site : Site} {called : List Bool} (wider : List Bool) (more : HasAll c
     are_labels_kept label next (WordWritten others) labels = are_labels_kept label next others labels
     are_labels_kept label next (JumpWritten others) labels = are_labels_kept label next others labels
     are_labels_kept label next (MarkWritten others) labels = are_labels_kept label next others labels
-    are_labels_kept label next (RoutineWritten is_called others) labels = are_labels_kept label next others labels
+    are_labels_kept label next (RoutineWritten is_called others) labels =
+        are_labels_kept label next others labels
     are_labels_kept label next (CallWritten others) labels = are_labels_kept label next others labels
     are_labels_kept label next (TestWritten others) labels = are_labels_kept label next others labels
     are_labels_kept label next (HoldsWritten others) labels = are_labels_kept label next others labels
@@ -135,7 +138,8 @@ module _ {site : Site} {called : List Bool} (wider : List Bool) (more : HasAll c
     )
 
 -- steps that are written, with labels from `label` on, up to the next one
-abbrev pub LabelledSteps : (site : Site) (called : List Bool) (facts : Facts) (list : List Step) (items : List Item)
+abbrev pub LabelledSteps : (site : Site) (called : List Bool) (facts : Facts)
+    (list : List Step) (items : List Item)
     (last : Facts) (label next : ℕ) → Type 0
 LabelledSteps site called facts list items last label next =
     (written : AreWritten site called facts list items last) × AreLabelled written label next
@@ -151,7 +155,8 @@ pub step_written : (site : Site) (called : List Bool) (facts last : Facts) (step
     (others : List Step) (more : List Item) (label next : ℕ)
     → IsAlone called step
     → LabelledSteps site called (after_step facts step) others more last label next
-    → LabelledSteps site called facts (step ∷ others) (step_items site.tree.now facts step ++ more) last label next
+    → LabelledSteps site called facts (step ∷ others)
+    (step_items site.tree.now facts step ++ more) last label next
 step_written site called facts last (steps.Plain i) others more label next alone written =
     (PlainWritten written.0, written.1)
 step_written site called facts last (steps.Word form place) others more label next alone written =
@@ -192,31 +197,43 @@ pub appended : {site : Site} {called : List Bool} {facts middle last : Facts}
     → (written : AreWritten site called facts list items middle) → AreLabelled written label between
     → LabelledSteps site called middle others more last between next
     → LabelledSteps site called facts (list ++ others) (items ++ more) last label next
-appended {site = site} {called = called} {middle = middle} {last = last} {others = others} {more = more} {next = next}
+appended {site = site} {called = called} {middle = middle} {last = last} {others = others}
+    {more = more} {next = next}
     NoneWritten labels then =
     subst (λ at. LabelledSteps site called middle others more last at next) labels then
-appended (PlainWritten first) labels then = let rest = appended first labels then in (PlainWritten rest.0, rest.1)
-appended (WordWritten first) labels then = let rest = appended first labels then in (WordWritten rest.0, rest.1)
-appended (JumpWritten first) labels then = let rest = appended first labels then in (JumpWritten rest.0, rest.1)
-appended (MarkWritten first) labels then = let rest = appended first labels then in (MarkWritten rest.0, rest.1)
+appended (PlainWritten first) labels then =
+    let rest = appended first labels then in (PlainWritten rest.0, rest.1)
+appended (WordWritten first) labels then =
+    let rest = appended first labels then in (WordWritten rest.0, rest.1)
+appended (JumpWritten first) labels then =
+    let rest = appended first labels then in (JumpWritten rest.0, rest.1)
+appended (MarkWritten first) labels then =
+    let rest = appended first labels then in (MarkWritten rest.0, rest.1)
 appended (RoutineWritten is_called first) labels then =
     let rest = appended first labels then in (RoutineWritten is_called rest.0, rest.1)
-appended {site = site} {called = called} {facts = facts} {last = last} {others = others} {more = more} {label = label}
+appended {site = site} {called = called} {facts = facts} {last = last} {others = others}
+    {more = more} {label = label}
     {next = next} (CallWritten {procedure = procedure} {others = list} {more = items} first) labels then =
     let rest = appended first labels then in
-    subst (λ all. LabelledSteps site called facts (steps.CallProcedure procedure ∷ (list ++ others)) all last label next)
+    subst (λ all. LabelledSteps site called facts (steps.CallProcedure procedure ∷ (list ++ others))
+    all last label next)
     (sym (append_assoc (call_items site procedure) items more))
     (CallWritten rest.0, rest.1)
-appended {site = site} {called = called} {facts = facts} {last = last} {others = others} {more = more} {label = label}
+appended {site = site} {called = called} {facts = facts} {last = last} {others = others}
+    {more = more} {label = label}
     {next = next} (TestWritten {others = list} {more = items} first) labels then =
     let rest = appended first labels then in
     subst (λ all. LabelledSteps site called facts (steps.TestA ∷ (list ++ others)) all last label next)
     (sym (append_assoc (test_items facts) items more))
     (TestWritten rest.0, rest.1)
-appended (HoldsWritten first) labels then = let rest = appended first labels then in (HoldsWritten rest.0, rest.1)
-appended (ChangeWritten first) labels then = let rest = appended first labels then in (ChangeWritten rest.0, rest.1)
-appended {site = site} {called = called} {facts = facts} {last = last} {others = others} {more = more} {label = label}
-    {next = next} (PartWritten {part = part} {others = list} {first = here} {more = items} is first) labels then =
+appended (HoldsWritten first) labels then =
+    let rest = appended first labels then in (HoldsWritten rest.0, rest.1)
+appended (ChangeWritten first) labels then =
+    let rest = appended first labels then in (ChangeWritten rest.0, rest.1)
+appended {site = site} {called = called} {facts = facts} {last = last} {others = others}
+    {more = more} {label = label}
+    {next = next} (PartWritten {part = part} {others = list} {first = here} {more = items} is first)
+    labels then =
     let rest = appended first labels.2 then in
     subst (λ all. LabelledSteps site called facts (steps.Part part ∷ (list ++ others)) all last label next)
     (sym (append_assoc here items more))
@@ -241,15 +258,18 @@ pub emits_then : (site : Site) (first second : List Step) (before between after 
 emits_then site first second before between after here next =
     let all =
     appended (are_kept next.called here.written)
-    (are_labels_kept after.is_called.items next.called before.steps.labels between.steps.labels here.written here.labels)
+    (are_labels_kept after.is_called.items next.called before.steps.labels between.steps.labels
+    here.written here.labels)
     (next.written, next.labels) in
     record {
       list = here.list ++ next.list;
-      writes = writes_then before.writer between.writer after.writer here.list next.list here.writes next.writes;
+      writes =
+          writes_then before.writer between.writer after.writer here.list next.list here.writes next.writes;
       written = all.0;
       called = λ routine given. next.called routine (here.called routine given);
       notes =
-          notes_then site.tree.now before.is_called.items between.is_called.items after.is_called.items here.list
+          notes_then site.tree.now before.is_called.items between.is_called.items
+          after.is_called.items here.list
           next.list here.notes next.notes;
       steps = next.steps ∙ here.steps;
       labels = all.1;
@@ -266,11 +286,14 @@ emits_step site step before after adds alone notes =
     let called : List Bool = after.is_called.items in
     let list : List Item = step_items site.tree.now before.facts step in
     let label : ℕ = before.steps.labels in
-    let written : LabelledSteps site called before.facts (step ∷ []) list after.facts label after.steps.labels =
+    let written : LabelledSteps site called before.facts (step ∷ []) list after.facts label
+    after.steps.labels =
     subst (λ next. LabelledSteps site called before.facts (step ∷ []) list after.facts label next)
     (sym (ap (λ at. at.labels) adds.steps))
-    (subst (λ known. LabelledSteps site called before.facts (step ∷ []) list known label label) (sym adds.facts)
-    (subst (λ all. LabelledSteps site called before.facts (step ∷ []) all (after_step before.facts step) label label)
+    (subst (λ known. LabelledSteps site called before.facts (step ∷ []) list known label label)
+    (sym adds.facts)
+    (subst (λ all. LabelledSteps site called before.facts (step ∷ []) all
+    (after_step before.facts step) label label)
     (append-nil list)
     (step_written site called before.facts (after_step before.facts step) step [] [] label label alone
     (NoneWritten, refl)))) in
@@ -291,9 +314,11 @@ pub emits_part : (site : Site) (part : Part) (before after : Emission)
 emits_part site part before after emits =
     let label : ℕ = before.steps.labels in
     let next : ℕ = after.steps.labels in
-    let written : LabelledSteps site after.is_called.items before.facts (steps.Part part ∷ []) emits.list after.facts label next =
+    let written : LabelledSteps site after.is_called.items before.facts (steps.Part part ∷ []) emits.list
+    after.facts label next =
     subst
-    (λ all. LabelledSteps site after.is_called.items before.facts (steps.Part part ∷ []) all after.facts label next)
+    (λ all. LabelledSteps site after.is_called.items before.facts (steps.Part part ∷ []) all
+    after.facts label next)
     (append-nil emits.list) (PartWritten emits.written NoneWritten, (next, emits.labels, refl)) in
     record {
       list = emits.list;
@@ -309,7 +334,8 @@ emits_part site part before after emits =
 pub record IsWriting (site : Site) (part : Part) (before now : Emission) (index end : ℕ) : Type 0 where
   pub list : List Item
   pub writes : Writes before.writer now.writer list
-  pub left : (called : List Bool) (more : List Item) (last : Facts) (next : ℕ) → HasAll now.is_called.items called
+  pub left : (called : List Bool) (more : List Item) (last : Facts) (next : ℕ)
+      → HasAll now.is_called.items called
       → LabelledSteps site called now.facts (drop index now.steps.list.items) more last now.steps.labels next
       → LabelledPart site called before.facts part (list ++ more) last before.steps.labels next
   pub called : HasAll before.is_called.items now.is_called.items
@@ -345,12 +371,14 @@ module _ (site : Site) (part : Part) (before now : Emission) where
             let steps : LabelledSteps site called before.facts list more last next_label next =
             subst (λ known. LabelledSteps site called known list more last next_label next) facts
             (subst (λ at. LabelledSteps site called planned.facts list more last at next) labels
-            (subst (λ left. LabelledSteps site called planned.facts left more last planned.steps.labels next) is_left
+            (subst (λ left. LabelledSteps site called planned.facts left more last planned.steps.labels next)
+            is_left
             written)) in
             (Planned label steps.0, (refl, steps.1));
         called = subst (λ (to : Emission). HasAll before.is_called.items to.is_called.items) (sym same)
             (has_itself before.is_called.items);
-        notes = subst (λ (to : Emission). NotesCalled site.tree.now before.is_called.items to.is_called.items [])
+        notes = subst
+            (λ (to : Emission). NotesCalled site.tree.now before.is_called.items to.is_called.items [])
             (sym same) (λ routine given. inl given);
         begins = ap (take (length first)) adds.added ∙ take_at first list (length first) refl;
         count = count;
@@ -369,26 +397,34 @@ module _ (site : Site) (part : Part) (before now : Emission) where
         let list : List Item = emits.list in
         record {
           list = so_far.list ++ list;
-          writes = writes_then before.writer now.writer next.writer so_far.list list so_far.writes emits.writes;
+          writes =
+              writes_then before.writer now.writer next.writer so_far.list list so_far.writes emits.writes;
           left = λ called more last after wider written.
-              let others : LabelledSteps site called next.facts (drop (index + 1) steps_now) more last next.steps.labels after =
-              subst (λ at. LabelledSteps site called next.facts (drop (index + 1) at) more last next.steps.labels after)
+              let others : LabelledSteps site called next.facts (drop (index + 1) steps_now) more last
+              next.steps.labels after =
+              subst (λ at. LabelledSteps site called next.facts (drop (index + 1) at) more last
+              next.steps.labels after)
               emits.steps written in
               subst (λ all. LabelledPart site called before.facts part all last before.steps.labels after)
               (sym (append_assoc so_far.list list more))
               (so_far.left called (list ++ more) last after
               (λ routine given. wider routine (emits.called routine given))
-              (subst (λ left. LabelledSteps site called now.facts left (list ++ more) last now.steps.labels after)
+              (subst (λ left. LabelledSteps site called now.facts left (list ++ more) last
+              now.steps.labels after)
               (sym (drop_found steps_now index step is))
               (appended (are_kept wider emits.written)
-              (are_labels_kept called wider now.steps.labels next.steps.labels emits.written emits.labels) others)));
+              (are_labels_kept called wider now.steps.labels next.steps.labels emits.written emits.labels)
+              others)));
           called = λ routine given. emits.called routine (so_far.called routine given);
           notes =
-              notes_then site.tree.now before.is_called.items now.is_called.items next.is_called.items so_far.list list
+              notes_then site.tree.now before.is_called.items now.is_called.items
+              next.is_called.items so_far.list list
               so_far.notes emits.notes;
           begins = ap (take (length before.steps.list.items)) emits.steps ∙ so_far.begins;
           count = ap length emits.steps ∙ so_far.count;
-          below = subst (λ (at : List Step). AreBelow site.tree.now (rank site.tree.now part.task) (drop (index + 1) at))
+          below = subst
+              (λ (at : List Step). AreBelow site.tree.now (rank site.tree.now part.task)
+              (drop (index + 1) at))
               (sym emits.steps)
               (next_below site.tree.now (rank site.tree.now part.task) steps_now index step so_far.below is);
         }
@@ -406,26 +442,32 @@ module _ (site : Site) (part : Part) (before now : Emission) where
       drop_all index now.steps.list.items (omega (arith, so_far.count, done)) in
       let label : ℕ = before.steps.labels in
       let written :
-      LabelledPart site after.is_called.items before.facts part so_far.list after.facts label after.steps.labels =
+      LabelledPart site after.is_called.items before.facts part so_far.list after.facts label
+      after.steps.labels =
       subst
       (λ (to : Emission).
       LabelledPart site to.is_called.items before.facts part so_far.list to.facts label after.steps.labels)
       (sym same)
-      (subst (λ next. LabelledPart site now.is_called.items before.facts part so_far.list now.facts label next) (sym labels)
-      (subst (λ all. LabelledPart site now.is_called.items before.facts part all now.facts label now.steps.labels)
+      (subst (λ next. LabelledPart site now.is_called.items before.facts part so_far.list now.facts
+      label next) (sym labels)
+      (subst (λ all. LabelledPart site now.is_called.items before.facts part all now.facts
+      label now.steps.labels)
       (append-nil so_far.list)
       (so_far.left now.is_called.items [] now.facts now.steps.labels (has_itself now.is_called.items)
-      (subst (λ left. LabelledSteps site now.is_called.items now.facts left [] now.facts now.steps.labels now.steps.labels)
+      (subst (λ left. LabelledSteps site now.is_called.items now.facts left [] now.facts
+      now.steps.labels now.steps.labels)
       (sym none) (NoneWritten, refl))))) in
       record {
         list = so_far.list;
-        writes = subst (λ (to : Emission). Writes before.writer to.writer so_far.list) (sym same) so_far.writes;
+        writes =
+            subst (λ (to : Emission). Writes before.writer to.writer so_far.list) (sym same) so_far.writes;
         written = written.0;
         called = subst (λ (to : Emission). HasAll before.is_called.items to.is_called.items) (sym same)
             so_far.called;
         notes =
             subst
-            (λ (to : Emission). NotesCalled site.tree.now before.is_called.items to.is_called.items so_far.list)
+            (λ (to : Emission). NotesCalled site.tree.now before.is_called.items
+            to.is_called.items so_far.list)
             (sym same) so_far.notes;
         steps = list ∙ so_far.begins;
         labels = written.1;

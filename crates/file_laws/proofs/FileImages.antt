@@ -56,7 +56,8 @@ merge_read :
     (objects : List ObjectModule) (linked : ObjectModule) → All IsObjectModule objects
     → Merges (files_of objects) linked → merge_of (map with_publics_in_order objects) ≡ Ok linked
 merge_read objects linked valid merges =
-    ap merge_of (sym (no_others objects merges.objects (by_recursion IsObjectModule objects valid) merges.spelled))
+    ap merge_of
+    (sym (no_others objects merges.objects (by_recursion IsObjectModule objects valid) merges.spelled))
     ∙ merges.merged
 
 refusal_read :
@@ -67,13 +68,15 @@ refusal_read objects refusal valid is =
     ∙ is.refused
 
 not_both :
-    {A R : Type 0} (result : Result A R) (value : A) (refusal : R) → result ≡ Ok value → result ≡ Err refusal → ⊥
+    {A R : Type 0} (result : Result A R) (value : A) (refusal : R) → result ≡ Ok value
+    → result ≡ Err refusal → ⊥
 not_both {A} {R} result value refusal ok err =
     let bad : ◌≡◌ {A = Result A R} (Ok value) (Err refusal) = sym ok ∙ err in
     cc
 
 one_value :
-    {A R : Type 0} (result : Result A R) (left right : A) → result ≡ Ok left → result ≡ Ok right → left ≡ right
+    {A R : Type 0} (result : Result A R) (left right : A) → result ≡ Ok left
+    → result ≡ Ok right → left ≡ right
 one_value {A} {R} result left right one other = ap given (sym one ∙ other)
   where
     given : Result A R → A
@@ -82,7 +85,8 @@ one_value {A} {R} result left right one other = ap given (sym one ∙ other)
 
 -- The file that is written for the merge.
 text_again :
-    (objects : List ObjectModule) (merged : ObjectModule) → All IsObjectModule objects → merge_of objects ≡ Ok merged
+    (objects : List ObjectModule) (merged : ObjectModule) → All IsObjectModule objects
+    → merge_of objects ≡ Ok merged
     → (linked : ObjectModule) → merge_of (map with_publics_in_order objects) ≡ Ok linked
     → text_of linked ≡ text_of merged
 text_again objects merged valid made linked linking =
@@ -92,7 +96,8 @@ text_again objects merged valid made linked linking =
     ∙ sym (text_in_order merge.again) ∙ ap text_of merge.same ∙ text_in_order merged
 
 link_to :
-    (objects : List ObjectModule) (merged : ObjectModule) → All IsObjectModule objects → merge_of objects ≡ Ok merged
+    (objects : List ObjectModule) (merged : ObjectModule) → All IsObjectModule objects
+    → merge_of objects ≡ Ok merged
     → LinkTo (files_of objects) (text_of merged)
 link_to objects merged valid made =
     let merge = merged_again objects merged valid made in
@@ -128,7 +133,8 @@ unfolding placement_refusal
 same_refusal plan object = refl
 
 same_bytes :
-    (plan : Plan) (object : ObjectModule) → image_at plan (with_publics_in_order object) ≡ image_at plan object
+    (plan : Plan) (object : ObjectModule)
+    → image_at plan (with_publics_in_order object) ≡ image_at plan object
 unfolding image_at
 same_bytes plan object = refl
 
@@ -164,12 +170,15 @@ same_image :
 same_image plan merged object image other valid is here there =
     let left = placed_so plan object other there in
     let right = placed_so plan merged image here in
-    let bytes : image_at plan object ≡ image_at plan merged = ap (image_at plan) is ∙ same_bytes plan merged in
+    let bytes : image_at plan object ≡ image_at plan merged =
+    ap (image_at plan) is ∙ same_bytes plan merged in
     let symbols : other.symbols ≡ map (symbol_at plan) (in_order merged.publics) =
     left.symbols ∙ ap (λ (one : ObjectModule). map (symbol_at plan) one.publics) is in
-    let moved : IsPermutation (map (symbol_at plan) (in_order merged.publics)) (map (symbol_at plan) merged.publics) =
+    let moved : IsPermutation (map (symbol_at plan) (in_order merged.publics))
+    (map (symbol_at plan) merged.publics) =
     IsPermutation-map (symbol_at plan) (in_order merged.publics) merged.publics
-    (IsPermutation-sym merged.publics (in_order merged.publics) (ordered_permutes merged.publics valid.publics)) in
+    (IsPermutation-sym merged.publics (in_order merged.publics)
+    (ordered_permutes merged.publics valid.publics)) in
     record {
       pieces =
           one_image other.pieces image.pieces (image_at plan merged)
@@ -182,7 +191,8 @@ same_image plan merged object image other valid is here there =
     }
 
 places_as :
-    (merged : ObjectModule) (plan : Plan) (image : Absolute) → IsObjectModule merged → IsPlaced plan merged image
+    (merged : ObjectModule) (plan : Plan) (image : Absolute) → IsObjectModule merged
+    → IsPlaced plan merged image
     → PlacesAs plan (text_of merged) image
 places_as merged plan image valid is =
     let read : ObjectModule = with_publics_in_order merged in

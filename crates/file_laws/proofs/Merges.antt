@@ -1,5 +1,5 @@
--- Modules with their publics in the order in which they are written have the merge of the modules, but for the
--- order of its publics, or are refused by the same number.
+-- Modules with their publics in the order in which they are written have the merge of the modules, but for
+-- the order of its publics, or are refused by the same number.
 use Rattle.file_laws.proofs.Prelude.{◌≡◌, ℕ, ◌+◌, ◌%◌, ◌==◌, Bool, not, ◌||◌, List, [], ◌∷◌, ◌++◌, length, map, flat_map, filter_map, sum_by, slice_get, All, Option, Some, None, option_map, option_and_then, Result, Ok, Err, refl, ap, sym, ◌∙◌, find, list_any, cons_option, AllByRecursion, option_map_or, option_or, sum_by-cons, first_that_holds, Target, InSegment, External, SetByte, Places, Public, ObjectModule, IsObjectModule, is_among, moved, high_targets, Linked, code_end, data_end, linked_after, linked_from, linked_modules, publics_moved, all_publics, public_named, target_of_public, gain_in, target_kept, LinkRefusal, DuplicatePublic, UnresolvedExternal, SegmentTooLong, NotOneMain, HighByteMoves, link_number, joined_after, code_piece, data_piece, joined_alignment, main_modules, joined, repeated_after, public_names, unresolved, last_end, is_too_long, some_segment_is_too_long, some_high_byte_moves, refusal_of, unless_refused, link_refusal, merge_of, with_publics_in_order, public_name, merge_is, unless_ok, names_from, linked_valid, ValidLinked, main_of, mains_are, by_recursion}
 use mathlib.Core.Path.{fun_ext}
 use Rattle.file_laws.proofs.PublicsInOrder.{SameBySegment, in_order, ordered_same, moved_same, joined_same, order_same}
@@ -15,7 +15,8 @@ all_reordered objects = map with_publics_in_order objects
 -- each begins where it began
 linked_again :
     (code data_before : ℕ) (objects : List ObjectModule)
-    → linked_from code data_before (all_reordered objects) ≡ map reordered (linked_from code data_before objects)
+    → linked_from code data_before (all_reordered objects)
+    ≡ map reordered (linked_from code data_before objects)
 linked_again code data_before [] = refl
 linked_again code data_before (object ∷ others) =
     let one : Linked = linked_after code data_before object in
@@ -86,7 +87,8 @@ data_end_again (one ∷ next ∷ others) = data_end_again (next ∷ others)
 
 too_long_again :
     (objects : List ObjectModule) (linked : List Linked)
-    → some_segment_is_too_long (all_reordered objects) (map reordered linked) ≡ some_segment_is_too_long objects linked
+    → some_segment_is_too_long (all_reordered objects) (map reordered linked)
+    ≡ some_segment_is_too_long objects linked
 too_long_again objects linked =
     let size : List ObjectModule → ℕ = λ all. sum_by (λ (object : ObjectModule). object.stack_length) all in
     ap (λ end. is_too_long end || is_too_long (last_end data_end (map reordered linked))
@@ -121,7 +123,8 @@ kept_again left right one same = fun_ext each
     each (InSegment segment) = refl
     each (External number) =
         ap (λ (named : List ℕ → Option Public).
-        option_and_then target_of_public (option_and_then named (slice_get (one.object).externals number))) same
+        option_and_then target_of_public (option_and_then named (slice_get (one.object).externals number)))
+        same
 
 places_again :
     (left right : List Public) (one : Linked) (places : List (Option SetByte)) → SameFound left right
@@ -130,7 +133,8 @@ places_again :
 places_again left right one places same =
     ap (λ (gains : Target → ℕ). moved gains (target_kept left (reordered one)) places)
     (gains_again left right one same)
-    ∙ ap (λ (kept : Target → Option Target). moved (gain_in right one) kept places) (kept_again left right one same)
+    ∙ ap (λ (kept : Target → Option Target). moved (gain_in right one) kept places)
+    (kept_again left right one same)
 
 code_pieces_again :
     (left right : List Public) (linked : List Linked) → SameFound left right
@@ -154,7 +158,8 @@ data_pieces_again left right (one ∷ others) same =
 
 highs_again :
     (left right : List Public) (linked : List Linked) → SameFound left right
-    → list_any (some_high_byte_moves left) (map reordered linked) ≡ list_any (some_high_byte_moves right) linked
+    → list_any (some_high_byte_moves left) (map reordered linked)
+    ≡ list_any (some_high_byte_moves right) linked
 highs_again left right [] same = refl
 highs_again left right (one ∷ others) same =
     ap (λ (gains : Target → ℕ).
@@ -189,10 +194,12 @@ first_start mains = option_map (λ (main : List ℕ × ℕ). main.1) (slice_get 
 same_parts :
     (mains more : List (List ℕ × ℕ)) (code other_code data_places other_data : Places) (stack other_stack : ℕ)
     (publics other_publics : List Public)
-    → mains ≡ more → code ≡ other_code → data_places ≡ other_data → stack ≡ other_stack → publics ≡ other_publics
+    → mains ≡ more → code ≡ other_code → data_places ≡ other_data → stack ≡ other_stack
+    → publics ≡ other_publics
     → module_with (first_name mains) code data_places stack publics (first_start mains)
     ≡ module_with (first_name more) other_code other_data other_stack other_publics (first_start more)
-same_parts mains more code other_code data_places other_data stack other_stack publics other_publics a b c d e =
+same_parts mains more code other_code data_places other_data stack other_stack publics
+    other_publics a b c d e =
     ap (λ x. module_with (first_name x) code data_places stack publics (first_start x)) a
     ∙ ap (λ x. module_with (first_name more) x data_places stack publics (first_start more)) b
     ∙ ap (λ x. module_with (first_name more) other_code x stack publics (first_start more)) c
@@ -213,7 +220,8 @@ joined_again objects linked found same =
     let data_left : List (ℕ × List (Option SetByte)) = map (data_piece left) (map reordered linked) in
     let data_right : List (ℕ × List (Option SetByte)) = map (data_piece right) linked in
     let codes : List ObjectModule → List Places = λ all. map (λ (object : ObjectModule). object.code) all in
-    let datas : List ObjectModule → List Places = λ all. map (λ (object : ObjectModule). object.data_places) all in
+    let datas : List ObjectModule → List Places =
+    λ all. map (λ (object : ObjectModule). object.data_places) all in
     let size : List ObjectModule → ℕ = λ all. sum_by (λ (object : ObjectModule). object.stack_length) all in
     same_parts (main_modules (map reordered linked)) (main_modules linked)
     (segment_with (codes (all_reordered objects)) code_left) (segment_with (codes objects) code_right)
@@ -244,7 +252,8 @@ unresolved_again :
     → unresolved (all_reordered objects) ≡ unresolved objects
 unresolved_again objects same =
     ap (λ (among : List ℕ → Bool).
-    find (λ name. not (among name)) (flat_map (λ (object : ObjectModule). object.externals) (all_reordered objects)))
+    find (λ name. not (among name))
+    (flat_map (λ (object : ObjectModule). object.externals) (all_reordered objects)))
     (fun_ext (λ name. among_same (public_names (all_reordered objects)) (public_names objects) same name))
     ∙ ap (find (λ name. not (is_among name (public_names objects)))) (externals_again objects)
 
@@ -256,7 +265,8 @@ found_again :
 found_again objects all none =
     let linked : List Linked = linked_modules objects in
     let same = publics_same linked (linked_valid 0 0 objects all) in
-    sym (fun_ext (finds_same (all_publics linked) (all_publics (map reordered linked)) (λ segment. sym (same segment))
+    sym (fun_ext (finds_same (all_publics linked) (all_publics (map reordered linked))
+    (λ segment. sym (same segment))
     (ap (repeated_after []) (names_from 0 0 objects) ∙ none)))
 
 -- the refusals after that of a repeated name
@@ -289,7 +299,8 @@ later_again objects all none =
     let high : Bool = list_any (some_high_byte_moves (all_publics after)) after in
     ap (λ unknown. refusal_by unknown (some_segment_is_too_long those after) (main_modules after) high)
     (unresolved_again objects (names_again objects all))
-    ∙ ap (λ long. refusal_by (unresolved objects) long (main_modules after) high) (too_long_again objects linked)
+    ∙ ap (λ long. refusal_by (unresolved objects) long (main_modules after) high)
+    (too_long_again objects linked)
     ∙ ap (λ mains. refusal_by (unresolved objects) (some_segment_is_too_long objects linked) mains high)
     (main_modules_again linked)
     ∙ ap (refusal_by (unresolved objects) (some_segment_is_too_long objects linked) (main_modules linked))
@@ -331,7 +342,8 @@ refused_again objects valid =
         absurd (let bad : Some name ≡ None = sym h ∙ none in cc)
     go (Some name) None t h =
         let none : repeated_after [] (public_names (all_reordered objects)) ≡ None =
-        none_repeated_there (public_names objects) (public_names (all_reordered objects)) (λ n. sym (same n)) h in
+        none_repeated_there (public_names objects) (public_names (all_reordered objects))
+        (λ n. sym (same n)) h in
         absurd (let bad : Some name ≡ None = sym t ∙ none in cc)
 
 -- The merge.
@@ -345,7 +357,8 @@ no_number None h = refl
 no_number (Some refusal) h = absurd (let bad : Some (link_number refusal) ≡ None = h in cc)
 
 pub merged_again :
-    (objects : List ObjectModule) (merged : ObjectModule) → All IsObjectModule objects → merge_of objects ≡ Ok merged
+    (objects : List ObjectModule) (merged : ObjectModule) → All IsObjectModule objects
+    → merge_of objects ≡ Ok merged
     → MergesAgain objects merged
 unfolding merge_of
 merged_again objects merged valid h =
@@ -381,4 +394,5 @@ pub refusal_is :
     (objects : List ObjectModule) (refusal : LinkRefusal) → merge_of objects ≡ Err refusal
     → link_refusal objects ≡ Some refusal
 unfolding merge_of
-refusal_is objects refusal h = unless_err (joined objects (linked_modules objects)) (link_refusal objects) refusal h
+refusal_is objects refusal h =
+    unless_err (joined objects (linked_modules objects)) (link_refusal objects) refusal h

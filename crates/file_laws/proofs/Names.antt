@@ -64,7 +64,8 @@ none_repeated known [] h = refl
 none_repeated known (first ∷ others) h =
     go (is_among first known)
     (bytes_eq first first) ((bytes_eq-Decides first first).1 refl) (h first)
-    (none_repeated (first ∷ known) others (λ name. later name (bytes_eq name first) (is_among name known) (h name)))
+    (none_repeated (first ∷ known) others
+    (λ name. later name (bytes_eq name first) (is_among name known) (h name)))
   where
     later : (name : List ℕ) (b d : Bool) → cond d 1 0 + (cond b 1 0 + times name others) ≤ 1
         → cond (b || d) 1 0 + times name others ≤ 1
@@ -139,7 +140,8 @@ names_same left right same name =
     omega (arith, absolutes, codes, datas, stacks, one, other)
 
 -- a name that doesn't stand there finds nothing
-not_found : (name : List ℕ) (publics : List Public) → times_in name publics ≡ 0 → public_named publics name ≡ None
+not_found : (name : List ℕ) (publics : List Public) → times_in name publics ≡ 0
+    → public_named publics name ≡ None
 not_found name [] h = refl
 not_found name (public ∷ others) h = go (bytes_eq name public.name) h (not_found name others)
   where
@@ -154,8 +156,10 @@ abbrev chosen : Public → (own named : Bool) → Option Public → Option Publi
 chosen public own named found = cond own (cond named (Some public) found) found
 
 first_chosen :
-    (name : List ℕ) (public : Public) (own named : Bool) (publics : List Public) → bytes_eq name public.name ≡ named
-    → public_named (cond own (public ∷ publics) publics) name ≡ chosen public own named (public_named publics name)
+    (name : List ℕ) (public : Public) (own named : Bool) (publics : List Public)
+    → bytes_eq name public.name ≡ named
+    → public_named (cond own (public ∷ publics) publics) name
+    ≡ chosen public own named (public_named publics name)
 first_chosen name public true named publics e = ap (λ b. cond b (Some public) (public_named publics name)) e
 first_chosen name public false named publics e = refl
 
@@ -174,7 +178,8 @@ chosen_first :
     → found ≡ first_of_four absolutes codes datas stacks
     → cond named (Some public) found
     ≡ first_of_four (chosen public (same_segment segment Absolute) named absolutes)
-    (chosen public (same_segment segment Code) named codes) (chosen public (same_segment segment Data) named datas)
+    (chosen public (same_segment segment Code) named codes)
+    (chosen public (same_segment segment Data) named datas)
     (chosen public (same_segment segment Stack) named stacks)
 chosen_first public Absolute false absolutes codes datas stacks found none h = h
 chosen_first public Code false absolutes codes datas stacks found none h = h
@@ -229,10 +234,12 @@ found_there name (public ∷ others) h =
     (chosen public (same_segment public.segment Code) named (found_in name others Code))
     (chosen public (same_segment public.segment Data) named (found_in name others Data))
     (chosen public (same_segment public.segment Stack) named (found_in name others Stack))
-    (first_chosen name public (same_segment public.segment Absolute) named (publics_in_segment Absolute others) refl)
+    (first_chosen name public (same_segment public.segment Absolute) named
+    (publics_in_segment Absolute others) refl)
     (first_chosen name public (same_segment public.segment Code) named (publics_in_segment Code others) refl)
     (first_chosen name public (same_segment public.segment Data) named (publics_in_segment Data others) refl)
-    (first_chosen name public (same_segment public.segment Stack) named (publics_in_segment Stack others) refl))
+    (first_chosen name public (same_segment public.segment Stack) named
+    (publics_in_segment Stack others) refl))
   where
     fewer : (b : Bool) → cond b 1 0 + times_in name others ≤ 1 → times_in name others ≤ 1
     fewer true low = omega (arith, low)
@@ -259,7 +266,8 @@ finds_same left right same h name =
     let find : List Public → Option Public = λ publics. public_named publics name in
     found_there name left low
     ∙ same_four (found_in name left Absolute) (found_in name left Code) (found_in name left Data)
-    (found_in name left Stack) (found_in name right Absolute) (found_in name right Code) (found_in name right Data)
+    (found_in name left Stack) (found_in name right Absolute) (found_in name right Code)
+    (found_in name right Data)
     (found_in name right Stack) (ap find (same Absolute)) (ap find (same Code)) (ap find (same Data))
     (ap find (same Stack))
     ∙ sym (found_there name right (omega (arith, low, equal)))

@@ -15,7 +15,8 @@ in_order publics =
 -- what there is of a segment, where a public of a segment comes before the others
 abbrev pub with_first : Public → (own : Segment) → (others : List Public) → Segment → List Public
 with_first public own others segment =
-    cond (same_segment own segment) (public ∷ publics_in_segment segment others) (publics_in_segment segment others)
+    cond (same_segment own segment) (public ∷ publics_in_segment segment others)
+    (publics_in_segment segment others)
 
 -- What is kept of what is kept of a segment.
 abbrev IsIn : Segment → Public → Bool
@@ -27,9 +28,11 @@ kept_twice test [] = refl
 kept_twice {A} test (x ∷ xs) = go (test x) refl (kept_twice test xs)
   where
     go : (b : Bool) → test x ≡ b → filter test (filter test xs) ≡ filter test xs
-        → filter test (cond b (x ∷ filter test xs) (filter test xs)) ≡ cond b (x ∷ filter test xs) (filter test xs)
+        → filter test (cond b (x ∷ filter test xs) (filter test xs))
+        ≡ cond b (x ∷ filter test xs) (filter test xs)
     go true e same =
-        ap (λ t. cond t (x ∷ filter test (filter test xs)) (filter test (filter test xs))) e ∙ ap (λ ys. x ∷ ys) same
+        ap (λ t. cond t (x ∷ filter test (filter test xs)) (filter test (filter test xs))) e
+        ∙ ap (λ ys. x ∷ ys) same
     go false e same = same
 
 none_kept :
@@ -41,7 +44,8 @@ none_kept {A} test other apart (x ∷ xs) = go (other x) refl (none_kept test ot
     go : (b : Bool) → other x ≡ b → filter test (filter other xs) ≡ []
         → filter test (cond b (x ∷ filter other xs) (filter other xs)) ≡ []
     go true e none =
-        ap (λ t. cond t (x ∷ filter test (filter other xs)) (filter test (filter other xs))) (apart x e) ∙ none
+        ap (λ t. cond t (x ∷ filter test (filter other xs)) (filter test (filter other xs))) (apart x e)
+        ∙ none
     go false e none = none
 
 -- two segments are one, or have nothing in common
@@ -101,18 +105,21 @@ three_parts segment publics =
     ∙ ap (λ ys. publics_in_segment segment C ++ ys) (filter-append (IsIn segment) D []))
 
 joined_three :
-    {A : Type 0} (a b c x y z : List A) → a ≡ x → b ≡ y → c ≡ z → a ++ (b ++ (c ++ [])) ≡ x ++ (y ++ (z ++ []))
+    {A : Type 0} (a b c x y z : List A) → a ≡ x → b ≡ y → c ≡ z
+    → a ++ (b ++ (c ++ [])) ≡ x ++ (y ++ (z ++ []))
 joined_three a b c x y z one two three =
     ap (λ these. these ++ (b ++ (c ++ []))) one ∙ ap (λ these. x ++ (these ++ (c ++ []))) two
     ∙ ap (λ these. x ++ (y ++ (these ++ []))) three
 
 -- each segment that may have publics
 absolute_again :
-    (publics : List Public) → publics_in_segment Absolute (in_order publics) ≡ publics_in_segment Absolute publics
+    (publics : List Public) → publics_in_segment Absolute (in_order publics)
+    ≡ publics_in_segment Absolute publics
 absolute_again publics =
     let own : List Public = publics_in_segment Absolute publics in
     three_parts Absolute publics
-    ∙ joined_three (publics_in_segment Absolute own) (publics_in_segment Absolute (publics_in_segment Code publics))
+    ∙ joined_three (publics_in_segment Absolute own)
+    (publics_in_segment Absolute (publics_in_segment Code publics))
     (publics_in_segment Absolute (publics_in_segment Data publics)) own [] []
     (kept_twice (IsIn Absolute) publics)
     (none_kept (IsIn Absolute) (IsIn Code) (apart Absolute Code refl) publics)
@@ -124,7 +131,8 @@ code_again :
 code_again publics =
     let own : List Public = publics_in_segment Code publics in
     three_parts Code publics
-    ∙ joined_three (publics_in_segment Code (publics_in_segment Absolute publics)) (publics_in_segment Code own)
+    ∙ joined_three (publics_in_segment Code (publics_in_segment Absolute publics))
+    (publics_in_segment Code own)
     (publics_in_segment Code (publics_in_segment Data publics)) [] own []
     (none_kept (IsIn Code) (IsIn Absolute) (apart Code Absolute refl) publics)
     (kept_twice (IsIn Code) publics)
@@ -171,7 +179,8 @@ no_stack (public ∷ others) h =
 
 -- valid publics in the order in which they are written
 pub ordered_same :
-    (publics : List Public) → list_all is_valid_public publics ≡ true → SameBySegment (in_order publics) publics
+    (publics : List Public) → list_all is_valid_public publics ≡ true
+    → SameBySegment (in_order publics) publics
 ordered_same publics h Absolute = absolute_again publics
 ordered_same publics h Code = code_again publics
 ordered_same publics h Data = data_again publics
@@ -200,7 +209,8 @@ to_data public publics absolutes codes others moved =
     (IsPermutation-middle codes public others)))
 
 pub ordered_permutes :
-    (publics : List Public) → list_all is_valid_public publics ≡ true → IsPermutation publics (in_order publics)
+    (publics : List Public) → list_all is_valid_public publics ≡ true
+    → IsPermutation publics (in_order publics)
 ordered_permutes [] h = IsPermutation-refl []
 ordered_permutes (public ∷ others) h =
     let cut = and_parts (is_valid_public public) (list_all is_valid_public others) h in
@@ -259,7 +269,8 @@ joined_same left right others more same later segment =
 -- the order is that of the segments
 pub order_same : (left right : List Public) → SameBySegment left right → in_order left ≡ in_order right
 order_same left right same =
-    joined_three (publics_in_segment Absolute left) (publics_in_segment Code left) (publics_in_segment Data left)
+    joined_three (publics_in_segment Absolute left) (publics_in_segment Code left)
+    (publics_in_segment Data left)
     (publics_in_segment Absolute right) (publics_in_segment Code right) (publics_in_segment Data right)
     (same Absolute) (same Code) (same Data)
 

@@ -18,7 +18,8 @@ before_it piece address low =
 
 after_it : (piece : Piece) (address : ℕ) → end_of piece ≤ address → has_address address piece ≡ false
 after_it piece address high =
-    and_right (nat_le piece.start address) (nat_lt address (end_of piece)) (le-ltb address (end_of piece) high)
+    and_right (nat_le piece.start address) (nat_lt address (end_of piece))
+    (le-ltb address (end_of piece) high)
 
 -- what pieces have where the first of them has a byte, or none
 first_has :
@@ -43,7 +44,8 @@ record IsRun (piece : Piece) (others : List Piece) : Type 0 where
 
 -- nothing lies before the first run
 none_before :
-    (piece : Piece) (others : List Piece) (address : ℕ) → are_runs (piece ∷ others) ≡ true → address < piece.start
+    (piece : Piece) (others : List Piece) (address : ℕ) → are_runs (piece ∷ others) ≡ true
+    → address < piece.start
     → byte_in (piece ∷ others) address ≡ None
 none_before piece [] address h low = others_have piece [] address (before_it piece address low)
 none_before piece (next ∷ others) address h low =
@@ -100,9 +102,11 @@ ends_before left right others more l r same begin = go (nat_lt (end_of left) (en
     go true e =
         let run = is_run left others l in
         let low = ltb-true (end_of left) (end_of right) e in
-        some_is_none (slice_index right.bytes (end_of left - right.start)) (byte_in (right ∷ more) (end_of left))
+        some_is_none (slice_index right.bytes (end_of left - right.start))
+        (byte_in (right ∷ more) (end_of left))
         (first_has right more (end_of left) (has_it right (end_of left) (omega (arith, begin)) low))
-        (sym (same (end_of left)) ∙ others_have left others (end_of left) (after_it left (end_of left) (omega arith))
+        (sym (same (end_of left)) ∙ others_have left others (end_of left)
+        (after_it left (end_of left) (omega arith))
         ∙ run.none_between (end_of left) (omega arith))
 
 abbrev given : (byte : ℕ) → Option ℕ → ℕ
@@ -129,7 +133,8 @@ same_piece left right others more l r same =
     ap (given (slice_index left.bytes (here - left.start)))
     (sym (first_has left others here (has_it left here (omega arith) (omega (arith, low))))
     ∙ same here
-    ∙ first_has right more here (has_it right here (omega (arith, begin)) (omega (arith, low, begin, size)))) in
+    ∙ first_has right more here
+    (has_it right here (omega (arith, begin)) (omega (arith, low, begin, size)))) in
     sym (ap (slice_index left.bytes) from_left) ∙ at ∙ ap (slice_index right.bytes) from_right) in
     ap (λ start. piece_of start left.bytes) begin ∙ ap (piece_of right.start) bytes
   where
@@ -138,7 +143,8 @@ same_piece left right others more l r same =
 
 -- the rest has the same bytes
 rest_same :
-    (piece : Piece) (others more : List Piece) → are_runs (piece ∷ others) ≡ true → are_runs (piece ∷ more) ≡ true
+    (piece : Piece) (others more : List Piece) → are_runs (piece ∷ others) ≡ true
+    → are_runs (piece ∷ more) ≡ true
     → SameBytes (piece ∷ others) (piece ∷ more) → SameBytes others more
 rest_same piece others more l r same address = go (nat_lt address (end_of piece)) refl
   where
@@ -153,7 +159,8 @@ rest_same piece others more l r same address = go (nat_lt address (end_of piece)
         sym (others_have piece others address out) ∙ same address ∙ others_have piece more address out
 
 one_row :
-    (left right : List Piece) → are_runs left ≡ true → are_runs right ≡ true → SameBytes left right → left ≡ right
+    (left right : List Piece) → are_runs left ≡ true → are_runs right ≡ true
+    → SameBytes left right → left ≡ right
 one_row [] [] l r same = refl
 one_row [] (piece ∷ others) l r same =
     let some = (is_run piece others r).some in

@@ -14,7 +14,8 @@ home_is procedure Elsewhere lives = absurd (false≢true lives)
 home_is procedure Nowhere lives = absurd (false≢true lives)
 home_is procedure (InFrame other) lives = ap InFrame (sym (eqb-true procedure other lives))
 
-pub lives_there : (procedure : ℕ) (home : Home) → home ≡ InFrame procedure → lives_in_frame procedure home ≡ true
+pub lives_there : (procedure : ℕ) (home : Home) → home ≡ InFrame procedure
+    → lives_in_frame procedure home ≡ true
 lives_there procedure home is =
     ap (λ (home : Home). lives_in_frame procedure home) is ∙ eq-eqb procedure procedure refl
 

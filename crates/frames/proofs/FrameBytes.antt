@@ -208,7 +208,8 @@ counted typed procedure heading number object fit frames_fit stands found home =
         (option_map (λ (index : ℕ). index % 65536) search)
         ≡ (if not named then size_of_object object else 0)
     by_case true (Some index) named search = refl
-    by_case true None named search = nothing (listed typed procedure heading number object has found home named)
+    by_case true None named search =
+        nothing (listed typed procedure heading number object has found home named)
       where
         nothing : IsListed heading number → min (size_of_object object) 65535 ≡ 0
         nothing parameter =

@@ -31,7 +31,8 @@ frame_home typed storage before (first ∷ others) zero procedure object default
     ap (λ (number : ℕ).
     get_or (homes_from typed storage (before ++ next_home typed storage before first ∷ []) others) number
     default) nothing_more
-    ∙ earlier_kept typed storage (before ++ next_home typed storage before first ∷ []) others (length before) default
+    ∙ earlier_kept typed storage (before ++ next_home typed storage before first ∷ []) others
+    (length before) default
     (omega (arith, length_push before (next_home typed storage before first)))
     ∙ get_or_push before (next_home typed storage before first) default (length before) refl
     ∙ ap (λ (home : TypedHome). home_of_object typed storage before (length before) home)
@@ -80,12 +81,14 @@ data_home typed storage before (first ∷ others) zero object default found home
     ap (λ (number : ℕ).
     get_or (homes_from typed storage (before ++ next_home typed storage before first ∷ []) others) number
     default) nothing_more
-    ∙ earlier_kept typed storage (before ++ next_home typed storage before first ∷ []) others (length before) default
+    ∙ earlier_kept typed storage (before ++ next_home typed storage before first ∷ []) others
+    (length before) default
     (omega (arith, length_push before (next_home typed storage before first)))
     ∙ get_or_push before (next_home typed storage before first) default (length before) refl
     ∙ ap (λ (home : TypedHome). home_of_object typed storage before (length before) home)
     (ap (λ (object : TypedObject). object.home) (same_Some first object found) ∙ home)
-    ∙ ap (λ (number : ℕ). Static (place_of_slot (slice_index_or storage.objects number None))) (sym nothing_more)
+    ∙ ap (λ (number : ℕ). Static (place_of_slot (slice_index_or storage.objects number None)))
+    (sym nothing_more)
   where
     nothing_more : length before + 0 ≡ length before
     nothing_more = omega arith
@@ -93,7 +96,8 @@ data_home typed storage before (first ∷ others) (suc index) object default fou
     ap (λ (number : ℕ).
     get_or (homes_from typed storage (before ++ next_home typed storage before first ∷ []) others) number
     default) one_more
-    ∙ data_home typed storage (before ++ next_home typed storage before first ∷ []) others index object default found
+    ∙ data_home typed storage (before ++ next_home typed storage before first ∷ []) others index
+    object default found
     home
     ∙ ap (λ (number : ℕ). Static (place_of_slot (slice_index_or storage.objects number None))) (sym one_more)
   where

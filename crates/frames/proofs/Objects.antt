@@ -112,23 +112,25 @@ objects_lie :
     → IsProcedure typed nodes storage number procedure heading
     → IsPlanOf procedure plan
     → ObjectsLie typed number heading plan
-objects_lie typed nodes storage number procedure heading plan sized fit frames_fit stands is planned = record {
-  within = λ object offset byte.
-      subst (λ (bytes : ℕ). place_of_byte typed plan number object offset < bytes) call_is
-      (lies.within (frame_number typed number object) offset
-      (in_entry object offset (byte_of typed number object offset byte)));
-  return_within =
-      subst (λ (bytes : ℕ). (return_of plan).start + 2 ≤ bytes) call_is lies.return_within;
-  off_return = λ object offset byte.
-      lies.off_return (frame_number typed number object) offset
-      (in_entry object offset (byte_of typed number object offset byte));
-  apart = λ object offset other other_offset byte other_byte same.
-      same_byte object offset other other_offset (byte_of typed number object offset byte)
-      (byte_of typed number other other_offset other_byte) same;
-}
+objects_lie typed nodes storage number procedure heading plan sized fit frames_fit stands is planned =
+    record {
+      within = λ object offset byte.
+          subst (λ (bytes : ℕ). place_of_byte typed plan number object offset < bytes) call_is
+          (lies.within (frame_number typed number object) offset
+          (in_entry object offset (byte_of typed number object offset byte)));
+      return_within =
+          subst (λ (bytes : ℕ). (return_of plan).start + 2 ≤ bytes) call_is lies.return_within;
+      off_return = λ object offset byte.
+          lies.off_return (frame_number typed number object) offset
+          (in_entry object offset (byte_of typed number object offset byte));
+      apart = λ object offset other other_offset byte other_byte same.
+          same_byte object offset other other_offset (byte_of typed number object offset byte)
+          (byte_of typed number other other_offset other_byte) same;
+    }
   where
     lies : LiesApart procedure plan
-    lies = frame_lies_apart procedure plan (has_frame typed nodes storage number procedure heading fit frames_fit stands is) planned
+    lies = frame_lies_apart procedure plan
+        (has_frame typed nodes storage number procedure heading fit frames_fit stands is) planned
 
     call_is : bytes_of_call procedure ≡ call_bytes heading
     call_is =

@@ -305,7 +305,10 @@ framed typed procedure heading number object index fit found stands home is =
         (of_typed its scalar stands paired (holds.0, holds.2))
 
     of_search : IsParameterOf typed.procedures number index → IsFramed typed heading object number index
-    of_search search = by_type (typed_at typed (home_of_parameters search.number search.heading.is_reentrant search.heading.visibility) search.heading.parameter_types search.heading.parameters index number (has_parameters typed search.number search.heading fit search.found).objects search.stands)
+    of_search search =
+        by_type (typed_at typed (home_of_parameters search.number search.heading.is_reentrant
+        search.heading.visibility) search.heading.parameter_types search.heading.parameters index number
+        (has_parameters typed search.number search.heading fit search.found).objects search.stands)
       where
         by_type :
             IsTyped typed

@@ -165,7 +165,8 @@ accounted typed procedure heading number object sized has found home = by_name o
         bytes_there procedure object true (lives_there procedure object.home home)
         ∙ ap (λ (named : Bool). if not named then size_of_object object else 0) named
 
-    by_name : (named : Bool) → object.is_parameter ≡ named → IsAccounted procedure heading.parameters number object
+    by_name : (named : Bool) → object.is_parameter ≡ named
+        → IsAccounted procedure heading.parameters number object
     by_name true named = of_listed (listed typed procedure heading number object has found home named)
     by_name false named = omega (arith, takes, bytes_is named)
 

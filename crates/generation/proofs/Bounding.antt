@@ -14,7 +14,8 @@ sound_for_bounds typed sound = record {
   storable = sound.storable;
 }
 
-pub within_bound : (tree : TreeModule) (object : ObjectModule) → IsGenerated tree object → IsWithinBound tree object
+pub within_bound : (tree : TreeModule) (object : ObjectModule) → IsGenerated tree object
+    → IsWithinBound tree object
 within_bound tree object is typed code =
     segment_is_within_its_bound typed code.storage tree object code.sound code.lowered is
 

@@ -1,4 +1,5 @@
--- What is counted of the object module of a module: the bytes of its code segment, and those that its code pushes.
+-- What is counted of the object module of a module: the bytes of its code segment, and those that its code
+-- pushes.
 use Rattle.generation.proofs.Prelude.{◌≡◌, ℕ, suc, ◌+◌, ◌≤◌, Bool, true, false, List, [], ◌∷◌, length, Some, slice_get, refl, ap, sym, subst, ◌∙◌, arith, Code, ObjectModule, length_of, TypedModule, TypedProcedure, code_bound, constant_bytes, IsStored, stored, TreeModule, ProcedureKind, TreeProcedure, IsLowered, AreCodeOf, IsCodeOf, IsCodeOfMain, IsGenerated, has_main, bound_of_tree, size_of_contents, constants_take, weight_is, segment_is_within_its_bound, PushesWithinCharges, pushes_within_charges, IsCounted, OfItsModule}
 use Rattle.layout.specs.{Storage.{Storage}, Sound.{IsSoundlyTyped}}
 use Rattle.treecode.specs.declared.module.Content.{Content}
@@ -85,7 +86,8 @@ bodies_push tree typed object same pushes items =
     let own = items.written.own_is in
     record {
       procedures =
-          procedures_push tree typed items.written.called pushes 0 tree.procedures.items typed.procedures own.procedures
+          procedures_push tree typed items.written.called pushes 0 tree.procedures.items
+          typed.procedures own.procedures
           same
           (λ index procedure heading there stands.
           let none : 0 + index ≡ index = omega arith in (
@@ -138,4 +140,5 @@ pub counted :
     → OfItsModule tree (IsCounted tree) object
 unfolding OfItsModule
 counted tree object is typed code =
-    is_counted typed code.storage tree object code.sound (stored typed code.storage code.laid_out) code.lowered is
+    is_counted typed code.storage tree object code.sound
+    (stored typed code.storage code.laid_out) code.lowered is

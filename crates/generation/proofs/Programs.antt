@@ -4,12 +4,15 @@ use Rattle.image_laws.proofs.Memory.Starting.{starts_as_its_source}
 use Rattle.generation.specs.internal.Programs.{MakeTheProgram}
 use Rattle.generation.proofs.Bounding.{sound_for_bounds}
 
--- the code segment of an object module that is soundly made of a module is within the code bound of the module
-keeps_bound : (typed : TypedModule) (object : ObjectModule) → IsSoundlyMade typed object → KeepsBound typed object
+-- the code segment of an object module that is soundly made of a module is within the code bound of the
+-- module
+keeps_bound : (typed : TypedModule) (object : ObjectModule) → IsSoundlyMade typed object
+    → KeepsBound typed object
 keeps_bound typed object made =
     let is = made.made in (
       (hold_constants (typed ∷ []) (object ∷ []) (is, tt)).0,
-      segment_is_within_its_bound typed is.storage is.tree object (sound_for_bounds typed made.facts) is.lowered
+      segment_is_within_its_bound typed is.storage is.tree object
+          (sound_for_bounds typed made.facts) is.lowered
           is.generated,
     )
 
@@ -56,9 +59,11 @@ make_the_program modules objects made =
       linked = λ plan joined may_lie. have_image plan modules objects joined are may_lie;
       starts = λ plan merged image before after loaded.
           starts_as_its_source plan modules objects merged image before after
-          (is_in_memory plan modules objects merged image before after loaded.joined are loaded.lawful loaded.merge
+          (is_in_memory plan modules objects merged image before after loaded.joined are
+          loaded.lawful loaded.merge
           loaded.placed loaded.loaded loaded.size);
       does = λ plan merged image before after script events registers loaded is_memory is_script bytes never.
-          made_program_does plan modules objects merged image before after loaded.joined made loaded.lawful loaded.merge
+          made_program_does plan modules objects merged image before after loaded.joined made
+          loaded.lawful loaded.merge
           loaded.placed loaded.loaded loaded.size is_memory script events registers is_script bytes never;
     }

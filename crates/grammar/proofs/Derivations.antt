@@ -176,7 +176,8 @@ mutual
       → DerivesArguments (arguments_symbols tree rest) tree rest
   arguments-derived NoArguments rest h = no_arguments
   arguments-derived (MoreArguments first others) rest h =
-      some_arguments (expression-derived expression_level first _ h.0) (more_arguments-derived others rest h.1)
+      some_arguments (expression-derived expression_level first _ h.0)
+      (more_arguments-derived others rest h.1)
 
   pub more_arguments-derived : (tree : ArgumentTrees) (rest : List Symbol)
       → AreArguments tree

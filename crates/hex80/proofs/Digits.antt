@@ -6,12 +6,14 @@ pub use Rattle.mem80.proofs.ByteLists.{IsBytes}
 abbrev pub IsDigit : (character value : ℕ) → Type 0
 IsDigit character value = (character ≡ digit_of value) × (value < 16)
 
-low_digit : (character value : ℕ) → 48 ≤ character → character ≤ 57 → character - 48 ≡ value → IsDigit character value
+low_digit : (character value : ℕ) → 48 ≤ character → character ≤ 57 → character - 48 ≡ value
+    → IsDigit character value
 low_digit character value a b e =
     let sum : 48 + value ≡ character = omega arith in
     (sym (ap (λ t. cond t (48 + value) (55 + value)) (lt-ltb value 10 (omega arith)) ∙ sum), omega arith)
 
-high_digit : (character value : ℕ) → 65 ≤ character → character ≤ 70 → character - 55 ≡ value → IsDigit character value
+high_digit : (character value : ℕ) → 65 ≤ character → character ≤ 70 → character - 55 ≡ value
+    → IsDigit character value
 high_digit character value a b e =
     let sum : 55 + value ≡ character = omega arith in
     (sym (ap (λ t. cond t (48 + value) (55 + value)) (le-ltb value 10 (omega arith)) ∙ sum), omega arith)
@@ -64,7 +66,8 @@ digit_again value h = go (nat_lt value 10) refl
     go true e =
         ap (λ t. digit_value (cond t (48 + value) (55 + value))) e ∙ low (omega (arith, ltb-true value 10 e))
     go false e =
-        ap (λ t. digit_value (cond t (48 + value) (55 + value))) e ∙ high (omega (arith, ltb-false value 10 e))
+        ap (λ t. digit_value (cond t (48 + value) (55 + value))) e
+        ∙ high (omega (arith, ltb-false value 10 e))
 
 -- bytes that are read of characters are spelled by them
 pub bytes_back :

@@ -16,7 +16,8 @@ small_all (byte ∷ others) h =
     (ltb-true byte 256 t.0, small_all others t.1)
 
 -- the tests of a piece of a line
-pub line_piece : (before : List Piece) (piece : Piece) → IsLine piece → list_any (pieces_meet piece) before ≡ false → is_line_piece before piece ≡ true
+pub line_piece : (before : List Piece) (piece : Piece) → IsLine piece
+    → list_any (pieces_meet piece) before ≡ false → is_line_piece before piece ≡ true
 line_piece before piece is apart =
     ap (λ t. t && list_all (λ byte. nat_lt byte 256) piece.bytes && nat_lt piece.start 65536
     && nat_le (piece.start + length piece.bytes) 65536 && not (list_any (pieces_meet piece) before))
@@ -29,7 +30,8 @@ line_piece before piece is apart =
     (le-leb (piece.start + length piece.bytes) 65536 is.in_memory)
     ∙ ap not apart
 
-pub piece_line : (before : List Piece) (piece : Piece) → is_line_piece before piece ≡ true → IsLine piece × (list_any (pieces_meet piece) before ≡ false)
+pub piece_line : (before : List Piece) (piece : Piece) → is_line_piece before piece ≡ true
+    → IsLine piece × (list_any (pieces_meet piece) before ≡ false)
 piece_line before piece h =
     let d = and_parts (nat_lt (length piece.bytes) 256 && list_all (λ byte. nat_lt byte 256) piece.bytes
     && nat_lt piece.start 65536 && nat_le (piece.start + length piece.bytes) 65536)
@@ -38,7 +40,8 @@ piece_line before piece h =
     && nat_lt piece.start 65536) (nat_le (piece.start + length piece.bytes) 65536) d.0 in
     let b = and_parts (nat_lt (length piece.bytes) 256 && list_all (λ byte. nat_lt byte 256) piece.bytes)
     (nat_lt piece.start 65536) c.0 in
-    let a = and_parts (nat_lt (length piece.bytes) 256) (list_all (λ byte. nat_lt byte 256) piece.bytes) b.0 in (
+    let a = and_parts (nat_lt (length piece.bytes) 256)
+    (list_all (λ byte. nat_lt byte 256) piece.bytes) b.0 in (
       record {
         short = ltb-true (length piece.bytes) 256 a.0;
         bytes = small_all piece.bytes a.1;
@@ -65,7 +68,8 @@ next before line h = go (read_line line) refl h
     tests read found true e shared f is = absurd (let bad : Some WrongSum ≡ None = is in cc)
     tests read found false e true f is = absurd (let bad : Some Overlap ≡ None = is in cc)
     tests read found false e false f is =
-        let adds : sum read.1 % 256 ≡ 0 = eqb-true (sum read.1 % 256) 0 (not-false (sum read.1 % 256 == 0) e) in
+        let adds : sum read.1 % 256 ≡ 0 =
+        eqb-true (sum read.1 % 256) 0 (not-false (sum read.1 % 256 == 0) e) in
         let l = line_back line read.0 read.1 found adds in
         record { read = read; found = found; line_is = l.0; accepted = line_piece before read.0 l.1 f }
 
@@ -94,7 +98,8 @@ Judges before rows (Ok all) = TextAfter before rows all
 Judges before rows (Err fault) = FaultAfter before rows fault
 
 after_piece :
-    (before : List Piece) (line : List ℕ) (rest : List (List ℕ)) (piece : Piece) (judged : Result (List Piece) Fault)
+    (before : List Piece) (line : List ℕ) (rest : List (List ℕ)) (piece : Piece)
+    (judged : Result (List Piece) Fault)
     → line ≡ data_line piece → is_line_piece before piece ≡ true
     → Judges (before ++ piece ∷ []) rest judged → Judges before (line ∷ rest) judged
 after_piece before line rest piece (Ok all) line_is accepted j = record {
@@ -116,7 +121,8 @@ nothing_left [] h = refl
 nothing_left (line ∷ others) h = absurd (let bad : Some BadLine ≡ None = h in cc)
 
 judged_as :
-    (judged_next : List Piece → Result (List Piece) Fault) (before : List Piece) (line : List ℕ) (rest : List (List ℕ))
+    (judged_next : List Piece → Result (List Piece) Fault) (before : List Piece) (line : List ℕ)
+    (rest : List (List ℕ))
     → ((piece : Piece) → Judges (before ++ piece ∷ []) rest (judged_next (before ++ piece ∷ [])))
     → (fault : Option Fault) → fault_at before (line ∷ rest) ≡ fault
     → Judges before (line ∷ rest) (judged_by judged_next before fault (read_line line))
@@ -148,7 +154,8 @@ pub judged_law : (before : List Piece) (rows : List (List ℕ)) → Judges befor
 unfolding fault_at
 judged_law before [] = record { later = []; rest = []; rows_are = refl; accepted = refl; at_rest = refl }
 judged_law before (line ∷ rest) =
-    judged_as (λ pieces. judged_after pieces rest) before line rest (λ piece. judged_law (before ++ piece ∷ []) rest)
+    judged_as (λ pieces. judged_after pieces rest) before line rest
+    (λ piece. judged_law (before ++ piece ∷ []) rest)
     (fault_at before (line ∷ rest)) refl
 
 -- a text spells what it is judged to, or has the first fault that it is judged to have
@@ -156,7 +163,8 @@ abbrev pub JudgesText : List ℕ → Result (List Piece) Fault → Type 0
 JudgesText text (Ok pieces) = Spells text pieces
 JudgesText text (Err fault) = HasFirstFault text fault
 
-text_judged : (text : List ℕ) (judged : Result (List Piece) Fault) → Judges [] (lines text) judged → JudgesText text judged
+text_judged : (text : List ℕ) (judged : Result (List Piece) Fault) → Judges [] (lines text) judged
+    → JudgesText text judged
 text_judged text (Ok all) j =
     subst (Spells text) (sym j.all_is) (record { lines_of_text = j.rows_are; accepted = j.accepted })
 text_judged text (Err fault) j =

@@ -31,7 +31,8 @@ last_of (x ∷ xs) (suc n) h =
 
 -- a piece is that of the bytes of a line
 abbrev pub IsPieceOf : List ℕ → Piece → Type 0
-IsPieceOf bytes piece = (bytes ≡ data_line_bytes piece ++ checksum_of (data_line_bytes piece) ∷ []) × IsLine piece
+IsPieceOf bytes piece =
+    (bytes ≡ data_line_bytes piece ++ checksum_of (data_line_bytes piece) ∷ []) × IsLine piece
 
 piece_back :
     (bytes : List ℕ) (piece : Piece) → IsBytes bytes → piece_in bytes ≡ Some piece → sum bytes % 256 ≡ 0
@@ -89,7 +90,8 @@ line_back (first ∷ rest) piece bytes h adds =
     (λ p two is.
     go (first == 58) refl read one p two (some_pair_parts p piece read bytes (ap Some is))))
   where
-    go : (colon : Bool) → (first == 58) ≡ colon → (read : List ℕ) → cond colon (bytes_in rest) None ≡ Some read
+    go : (colon : Bool) → (first == 58) ≡ colon → (read : List ℕ)
+        → cond colon (bytes_in rest) None ≡ Some read
         → (p : Piece) → piece_in read ≡ Some p → (p ≡ piece) × (read ≡ bytes)
         → (first ∷ rest ≡ data_line piece) × IsLine piece
     go false e read one p two is = absurd (none-some read one)
@@ -127,9 +129,11 @@ piece_again piece is =
     let fits : piece.start + count ≤ 65536 = is.in_memory in
     let size : length (piece.bytes ++ last ∷ []) ≡ count + 1 = length-append piece.bytes (last ∷ []) in
     let rest : List ℕ = piece.bytes ++ last ∷ [] in
-    ap (λ s. cond (has_form count s 0 rest) (Some (record { start = s; bytes = take count rest })) None) start_is
+    ap (λ s. cond (has_form count s 0 rest) (Some (record { start = s; bytes = take count rest })) None)
+    start_is
     ∙ ap (λ b. cond (b && nat_le (piece.start + count) 65536)
-    (Some (record { start = piece.start; bytes = take count rest })) None) (eq-eqb (length rest) (count + 1) size)
+    (Some (record { start = piece.start; bytes = take count rest })) None)
+    (eq-eqb (length rest) (count + 1) size)
     ∙ ap (λ b. cond b (Some (record { start = piece.start; bytes = take count rest })) None)
     (le-leb (piece.start + count) 65536 fits)
     ∙ ap (λ b. Some (record { start = piece.start; bytes = b })) (take_at piece.bytes (last ∷ []) count refl)

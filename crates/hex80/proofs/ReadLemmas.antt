@@ -21,7 +21,8 @@ pair_read :
 pair_read high low rest byte h = go (digit_value high) (digit_value low) h (bytes_in rest)
   where
     go : (a b : Option ℕ)
-        → option_and_then (λ (h : ℕ). option_map (λ (l : ℕ). 16 * h + l) b) a ≡ Some byte → (r : Option (List ℕ))
+        → option_and_then (λ (h : ℕ). option_map (λ (l : ℕ). 16 * h + l) b) a ≡ Some byte
+        → (r : Option (List ℕ))
         → option_and_then
         (λ (h : ℕ).
         option_and_then (λ (l : ℕ). option_map (λ (others : List ℕ). (16 * h + l) ∷ others) r) b) a
@@ -30,7 +31,8 @@ pair_read high low rest byte h = go (digit_value high) (digit_value low) h (byte
     go (Some x) None h r = absurd (none-some byte h)
     go (Some x) (Some y) h None = refl
     go (Some x) (Some y) h (Some others) =
-        let e : Some (16 * x + y) ≡ Some byte = h in ap (λ o. in_front [] (option_map (λ (b : ℕ). b ∷ others) o)) e
+        let e : Some (16 * x + y) ≡ Some byte = h in
+        ap (λ o. in_front [] (option_map (λ (b : ℕ). b ∷ others) o)) e
 
 no_pair : (high low : ℕ) (rest : List ℕ) → byte_of high low ≡ None → bytes_in (high ∷ low ∷ rest) ≡ None
 no_pair high low rest h = go (digit_value high) (digit_value low) h (bytes_in rest)
@@ -54,7 +56,8 @@ two_dropped digits i h =
     ∙ ap (λ r. get_or digits (2 * i) 0 ∷ r) (drop_more digits (2 * i + 1) 0 h)
     ∙ ap (λ n. get_or digits (2 * i) 0 ∷ get_or digits (2 * i + 1) 0 ∷ drop n digits) next
 
-in_front_twice : (front : List ℕ) (byte : ℕ) (rest : Option (List ℕ)) → in_front front (in_front (byte ∷ []) rest) ≡ in_front (front ++ byte ∷ []) rest
+in_front_twice : (front : List ℕ) (byte : ℕ) (rest : Option (List ℕ))
+    → in_front front (in_front (byte ∷ []) rest) ≡ in_front (front ++ byte ∷ []) rest
 in_front_twice front byte None = refl
 in_front_twice front byte (Some others) = ap Some (sym (append_assoc front (byte ∷ []) others))
 
@@ -97,7 +100,8 @@ odd_digits (high ∷ low ∷ rest) h =
     go : (a b : Option ℕ) → bytes_in rest ≡ None
         → option_and_then
         (λ (h : ℕ).
-        option_and_then (λ (l : ℕ). option_map (λ (others : List ℕ). (16 * h + l) ∷ others) (bytes_in rest)) b) a
+        option_and_then (λ (l : ℕ). option_map (λ (others : List ℕ). (16 * h + l) ∷ others) (bytes_in rest))
+        b) a
         ≡ None
     go None b e = refl
     go (Some x) None e = refl
@@ -113,7 +117,8 @@ pub no_colon : (line : List ℕ) → (get_or line 0 0 == 58) ≡ false → bytes
 no_colon [] h = refl
 no_colon (first ∷ rest) h = ap (λ b. cond b (bytes_in rest) None) h
 
-pub after_colon : (line : List ℕ) → 0 < length line → (get_or line 0 0 == 58) ≡ true → bytes_of_line line ≡ bytes_in (drop 1 line)
+pub after_colon : (line : List ℕ) → 0 < length line → (get_or line 0 0 == 58) ≡ true
+    → bytes_of_line line ≡ bytes_in (drop 1 line)
 after_colon [] some h = absurd (omega arith)
 after_colon (first ∷ rest) some h = ap (λ b. cond b (bytes_in rest) None) h
 
@@ -142,7 +147,8 @@ abbrev paired : List ℕ → Option Piece → Option (Piece × List ℕ)
 paired bytes found = option_map (λ (piece : Piece). (piece, bytes)) found
 
 abbrev read_by : Option (List ℕ) → Option (Piece × List ℕ)
-read_by read = option_and_then (λ (bytes : List ℕ). option_map (λ (piece : Piece). (piece, bytes)) (piece_in bytes)) read
+read_by read =
+    option_and_then (λ (bytes : List ℕ). option_map (λ (piece : Piece). (piece, bytes)) (piece_in bytes)) read
 
 pub long_line : (line : List ℕ) → 521 < length line → read_line line ≡ None
 long_line [] long = absurd (omega arith)
@@ -206,8 +212,10 @@ get_marked :
 get_marked start count used address fits low high =
     let front : length (take start used) ≡ start = omega (arith, length-take start used) in
     let size : length (replicate count true) ≡ count = length-replicate count true in
-    get_or-append_right (take start used) (replicate count true ++ drop (start + count) used) start address false front low
-    ∙ get_or_append_left (replicate count true) (drop (start + count) used) false (address - start) (omega arith)
+    get_or-append_right (take start used) (replicate count true ++ drop (start + count) used) start
+    address false front low
+    ∙ get_or_append_left (replicate count true) (drop (start + count) used) false
+    (address - start) (omega arith)
     ∙ get_or-replicate count (address - start) true false (omega arith)
 
 get_below :
@@ -215,7 +223,8 @@ get_below :
     → get_or (marked_from start count used) address false ≡ get_or used address false
 get_below start count used address fits low =
     let front : length (take start used) ≡ start = omega (arith, length-take start used) in
-    get_or_append_left (take start used) (replicate count true ++ drop (start + count) used) false address (omega arith)
+    get_or_append_left (take start used) (replicate count true ++ drop (start + count) used) false
+    address (omega arith)
     ∙ get_or-take start used address false low
 
 get_above :
@@ -225,13 +234,16 @@ get_above start count used address fits high =
     let front : length (take start used) ≡ start = omega (arith, length-take start used) in
     let size : length (replicate count true) ≡ count = length-replicate count true in
     let place : start + count + (address - start - count) ≡ address = omega arith in
-    get_or-append_right (take start used) (replicate count true ++ drop (start + count) used) start address false front
+    get_or-append_right (take start used) (replicate count true ++ drop (start + count) used)
+    start address false front
     (omega arith)
-    ∙ get_or-append_right (replicate count true) (drop (start + count) used) count (address - start) false size (omega arith)
+    ∙ get_or-append_right (replicate count true) (drop (start + count) used) count (address - start)
+    false size (omega arith)
     ∙ get_or-drop (start + count) used (address - start - count) false
     ∙ ap (λ i. get_or used i false) place
 
-any_append : (test : Piece → Bool) (left right : List Piece) → list_any test (left ++ right) ≡ (list_any test left || list_any test right)
+any_append : (test : Piece → Bool) (left right : List Piece)
+    → list_any test (left ++ right) ≡ (list_any test left || list_any test right)
 any_append test [] right = refl
 any_append test (piece ∷ left) right = go (test piece) (any_append test left right)
   where
@@ -258,13 +270,16 @@ marks_more used pieces piece marks fits =
     let whole : length used ≡ 65536 = marks.size in
     let front : length (take start used) ≡ min start (length used) = length-take start used in
     let middle : length (replicate count true) ≡ count = length-replicate count true in
-    let last : length (drop (start + count) used) ≡ length used - (start + count) = length-drop (start + count) used in
-    let all : length (take start used) + (length (replicate count true) + length (drop (start + count) used)) ≡ 65536 =
+    let last : length (drop (start + count) used) ≡ length used - (start + count) =
+    length-drop (start + count) used in
+    let all : length (take start used) + (length (replicate count true) + length (drop (start + count) used))
+    ≡ 65536 =
     omega arith in
     record {
       size =
           length-append (take start used) (replicate count true ++ drop (start + count) used)
-          ∙ ap (λ n. length (take start used) + n) (length-append (replicate count true) (drop (start + count) used))
+          ∙ ap (λ n. length (take start used) + n)
+          (length-append (replicate count true) (drop (start + count) used))
           ∙ all;
       marked = λ address h.
           there address h (nat_le start address) refl (nat_lt address (start + count)) refl
@@ -274,16 +289,19 @@ marks_more used pieces piece marks fits =
     there : (address : ℕ) → address < 65536 → (low : Bool) → nat_le piece.start address ≡ low
         → (high : Bool) → nat_lt address (piece.start + length piece.bytes) ≡ high
         → list_any (has_address address) (pieces ++ piece ∷ [])
-        ≡ (list_any (has_address address) pieces || ((nat_le piece.start address && nat_lt address (piece.start + length piece.bytes)) || false))
+        ≡ (list_any (has_address address) pieces
+        || ((nat_le piece.start address && nat_lt address (piece.start + length piece.bytes)) || false))
         → get_or used address false ≡ list_any (has_address address) pieces
         → get_or (marked_from piece.start (length piece.bytes) used) address false
         ≡ list_any (has_address address) (pieces ++ piece ∷ [])
     there address h true e true f whole old =
         let size : length used ≡ 65536 = marks.size in
-        get_marked piece.start (length piece.bytes) used address (omega arith) (leb-true piece.start address e)
+        get_marked piece.start (length piece.bytes) used address (omega arith)
+        (leb-true piece.start address e)
         (ltb-true address (piece.start + length piece.bytes) f)
         ∙ sym (whole
-        ∙ ap (λ x. list_any (has_address address) pieces || ((x && nat_lt address (piece.start + length piece.bytes)) || false)) e
+        ∙ ap (λ x. list_any (has_address address) pieces
+        || ((x && nat_lt address (piece.start + length piece.bytes)) || false)) e
         ∙ ap (λ x. list_any (has_address address) pieces || (x || false)) f
         ∙ or_true (list_any (has_address address) pieces))
     there address h true e false f whole old =
@@ -292,15 +310,18 @@ marks_more used pieces piece marks fits =
         (ltb-false address (piece.start + length piece.bytes) f)
         ∙ old
         ∙ sym (whole
-        ∙ ap (λ x. list_any (has_address address) pieces || ((x && nat_lt address (piece.start + length piece.bytes)) || false)) e
+        ∙ ap (λ x. list_any (has_address address) pieces
+        || ((x && nat_lt address (piece.start + length piece.bytes)) || false)) e
         ∙ ap (λ x. list_any (has_address address) pieces || (x || false)) f
         ∙ or_false (list_any (has_address address) pieces))
     there address h false e high f whole old =
         let size : length used ≡ 65536 = marks.size in
-        get_below piece.start (length piece.bytes) used address (omega arith) (leb-false piece.start address e)
+        get_below piece.start (length piece.bytes) used address (omega arith)
+        (leb-false piece.start address e)
         ∙ old
         ∙ sym (whole
-        ∙ ap (λ x. list_any (has_address address) pieces || ((x && nat_lt address (piece.start + length piece.bytes)) || false)) e
+        ∙ ap (λ x. list_any (has_address address) pieces
+        || ((x && nat_lt address (piece.start + length piece.bytes)) || false)) e
         ∙ or_false (list_any (has_address address) pieces))
 
 -- no mark where no piece is
@@ -341,12 +362,14 @@ mark_one start count used within =
     ∙ set_at (front ++ middle) (get_or used (start + count) false) rest true (start + count) size
     ∙ append_assoc front middle (true ∷ rest)
     ∙ ap (λ r. front ++ r)
-    (sym (append_assoc middle (true ∷ []) rest) ∙ ap (λ m. m ++ rest) (replicate-append-replicate count 1 true))
+    (sym (append_assoc middle (true ∷ []) rest)
+    ∙ ap (λ m. m ++ rest) (replicate-append-replicate count 1 true))
     ∙ ap (λ n. front ++ (replicate (count + 1) true ++ drop n used)) next
 
 pub mark_step :
     (start address : ℕ) (used : List Bool) → start ≤ address → address < length used
-    → set (marked_from start (address - start) used) address true ≡ marked_from start (address + 1 - start) used
+    → set (marked_from start (address - start) used) address true
+    ≡ marked_from start (address + 1 - start) used
 mark_step start address used low within =
     let place : start + (address - start) ≡ address = omega arith in
     let next : address - start + 1 ≡ address + 1 - start = omega arith in
@@ -379,7 +402,8 @@ any_end marks i past = ap (list_any (λ mark. mark)) (drop_all i marks past)
 
 -- some address of a range is marked
 marked_at :
-    (marks : List Bool) (k : ℕ) → k < length marks → get_or marks k false ≡ true → list_any (λ mark. mark) marks ≡ true
+    (marks : List Bool) (k : ℕ) → k < length marks → get_or marks k false ≡ true
+    → list_any (λ mark. mark) marks ≡ true
 marked_at [] k h e = absurd (omega arith)
 marked_at (mark ∷ marks) zero h e = ap (λ b. b || list_any (λ m. m) marks) e
 marked_at (mark ∷ marks) (suc k) h e = go mark (marked_at marks k (omega arith) e)
@@ -395,7 +419,8 @@ mark_at : (marks : List Bool) → list_any (λ mark. mark) marks ≡ true → Ma
 mark_at [] h = absurd (let bad : false ≡ true = h in cc)
 mark_at (mark ∷ marks) h = go mark refl h (mark_at marks)
   where
-    go : (b : Bool) → mark ≡ b → (b || list_any (λ m. m) marks) ≡ true → (list_any (λ m. m) marks ≡ true → MarkAt marks)
+    go : (b : Bool) → mark ≡ b → (b || list_any (λ m. m) marks) ≡ true
+        → (list_any (λ m. m) marks ≡ true → MarkAt marks)
         → MarkAt (mark ∷ marks)
     go true e h rest = (0, omega arith, e)
     go false e h rest =
@@ -403,7 +428,8 @@ mark_at (mark ∷ marks) h = go mark refl h (mark_at marks)
 
 -- some piece
 abbrev PieceAt : (test : Piece → Bool) → List Piece → Type 0
-PieceAt test pieces = (k : ℕ) × (piece : Piece) × (k < length pieces) × (get_or pieces k piece ≡ piece) × (test piece ≡ true)
+PieceAt test pieces =
+    (k : ℕ) × (piece : Piece) × (k < length pieces) × (get_or pieces k piece ≡ piece) × (test piece ≡ true)
 
 piece_there : (test : Piece → Bool) (pieces : List Piece) → list_any test pieces ≡ true → PieceAt test pieces
 piece_there test [] h = absurd (let bad : false ≡ true = h in cc)
@@ -415,11 +441,13 @@ piece_there test (piece ∷ others) h = go (test piece) refl h (piece_there test
     go false e h rest =
         let r = rest h in (suc r.0, r.1, let l : r.0 < length others = r.2 in omega arith, r.3, r.4)
 
-any_there : (test : Piece → Bool) (pieces : List Piece) (k : ℕ) (piece : Piece) → k < length pieces → get_or pieces k piece ≡ piece → test piece ≡ true → list_any test pieces ≡ true
+any_there : (test : Piece → Bool) (pieces : List Piece) (k : ℕ) (piece : Piece) → k < length pieces
+    → get_or pieces k piece ≡ piece → test piece ≡ true → list_any test pieces ≡ true
 any_there test [] k piece h e t = absurd (omega arith)
 any_there test (other ∷ others) zero piece h e t =
     ap (λ b. b || list_any test others) (ap test e ∙ t)
-any_there test (other ∷ others) (suc k) piece h e t = go (test other) (any_there test others k piece (omega arith) e t)
+any_there test (other ∷ others) (suc k) piece h e t =
+    go (test other) (any_there test others k piece (omega arith) e t)
   where
     go : (b : Bool) → list_any test others ≡ true → (b || list_any test others) ≡ true
     go true e = refl
@@ -434,7 +462,8 @@ same_tests false false f g = refl
 pub meets_marked :
     (used : List Bool) (pieces : List Piece) (piece : Piece) → Marks used pieces
     → piece.start + length piece.bytes ≤ 65536
-    → list_any (pieces_meet piece) pieces ≡ list_any (λ mark. mark) (take (length piece.bytes) (drop piece.start used))
+    → list_any (pieces_meet piece) pieces
+    ≡ list_any (λ mark. mark) (take (length piece.bytes) (drop piece.start used))
 meets_marked used pieces piece marks fits =
     same_tests (list_any (pieces_meet piece) pieces)
     (list_any (λ mark. mark) (take (length piece.bytes) (drop piece.start used))) met marked
@@ -445,16 +474,19 @@ meets_marked used pieces piece marks fits =
         omega (arith, length-take (length piece.bytes) (drop piece.start used), length-drop piece.start used)
 
     place_of : (k : ℕ) → k < length piece.bytes
-        → get_or (take (length piece.bytes) (drop piece.start used)) k false ≡ get_or used (piece.start + k) false
+        → get_or (take (length piece.bytes) (drop piece.start used)) k false
+        ≡ get_or used (piece.start + k) false
     place_of k h =
-        get_or-take (length piece.bytes) (drop piece.start used) k false h ∙ get_or-drop piece.start used k false
+        get_or-take (length piece.bytes) (drop piece.start used) k false h
+        ∙ get_or-drop piece.start used k false
 
     met_at : (address : ℕ) → piece.start ≤ address → address < piece.start + length piece.bytes
         → list_any (has_address address) pieces ≡ true
         → list_any (λ mark. mark) (take (length piece.bytes) (drop piece.start used)) ≡ true
     met_at address low high there =
         let place : piece.start + (address - piece.start) ≡ address = omega arith in
-        let size : length (take (length piece.bytes) (drop piece.start used)) ≡ length piece.bytes = size_of in
+        let size : length (take (length piece.bytes) (drop piece.start used)) ≡ length piece.bytes =
+        size_of in
         let top : address < 65536 = omega arith in
         marked_at (take (length piece.bytes) (drop piece.start used)) (address - piece.start) (omega arith)
         (place_of (address - piece.start) (omega arith) ∙ ap (λ a. get_or used a false) place
@@ -534,13 +566,15 @@ last_line text end some past before =
 
 -- the judgement, line by line
 end_judged :
-    (before : List Piece) (rest : List ℕ) → length rest ≤ 0 → judged_after before (end_line ∷ lines rest) ≡ Ok before
+    (before : List Piece) (rest : List ℕ) → length rest ≤ 0
+    → judged_after before (end_line ∷ lines rest) ≡ Ok before
 unfolding fault_at
 end_judged before [] h = refl
 end_judged before (c ∷ rest) h = absurd (omega arith)
 
 pub judged_end :
-    (before : List Piece) (text line rest : List ℕ) → lines text ≡ line ∷ lines rest → bytes_eq line end_line ≡ true
+    (before : List Piece) (text line rest : List ℕ) → lines text ≡ line ∷ lines rest
+    → bytes_eq line end_line ≡ true
     → length rest ≤ 0 → judged_after before (lines text) ≡ Ok before
 judged_end before text line rest is last none =
     ap (judged_after before) (is ∙ ap (λ l. l ∷ lines rest) ((bytes_eq-Decides line end_line).0 last))
@@ -569,17 +603,20 @@ more_judged :
     → judged_after before (end_line ∷ rest) ≡ Err BadLine
 unfolding fault_at
 more_judged before rest h =
-    ap (λ e. judged_by (λ pieces. judged_after pieces rest) before (cond e None (Some BadLine)) (read_line end_line)) h
+    ap (λ e. judged_by (λ pieces. judged_after pieces rest) before (cond e None (Some BadLine))
+    (read_line end_line)) h
 
 pub judged_more :
-    (before : List Piece) (text line rest : List ℕ) → lines text ≡ line ∷ lines rest → bytes_eq line end_line ≡ true
+    (before : List Piece) (text line rest : List ℕ) → lines text ≡ line ∷ lines rest
+    → bytes_eq line end_line ≡ true
     → 0 < length rest → judged_after before (lines text) ≡ Err BadLine
 judged_more before text line rest is last some =
     ap (judged_after before) (is ∙ ap (λ l. l ∷ lines rest) ((bytes_eq-Decides line end_line).0 last))
     ∙ more_judged before (lines rest) (some_line rest some)
 
 other_judged :
-    (before : List Piece) (line : List ℕ) (rest : List (List ℕ)) (fault : Option Fault) → bytes_eq line end_line ≡ false
+    (before : List Piece) (line : List ℕ) (rest : List (List ℕ)) (fault : Option Fault)
+    → bytes_eq line end_line ≡ false
     → fault_of_line before line ≡ fault
     → judged_after before (line ∷ rest)
     ≡ judged_by (λ pieces. judged_after pieces rest) before fault (read_line line)
@@ -605,7 +642,8 @@ judged_on before after text line rest is other taken =
     ∙ ap (judged_by (λ pieces. judged_after pieces (lines rest)) before None) taken.found
     ∙ ap (λ pieces. judged_after pieces (lines rest)) (sym taken.after_is)
 
-pub judged_none : (before : List Piece) (text : List ℕ) → length text ≤ 0 → judged_after before (lines text) ≡ Err NoEnd
+pub judged_none : (before : List Piece) (text : List ℕ) → length text ≤ 0
+    → judged_after before (lines text) ≡ Err NoEnd
 judged_none before [] h = refl
 judged_none before (c ∷ text) h = absurd (omega arith)
 
@@ -615,14 +653,16 @@ unfolding judgement_of
 judged_first text = refl
 
 -- the fault of a line
-pub bad_line : (before : List Piece) (line : List ℕ) → read_line line ≡ None → fault_of_line before line ≡ Some BadLine
+pub bad_line : (before : List Piece) (line : List ℕ) → read_line line ≡ None
+    → fault_of_line before line ≡ Some BadLine
 bad_line before line h = ap (λ read. option_map_or (fault_of_data before) read (Some BadLine)) h
 
 abbrev pub fault_by : (adds meets : Bool) → Option Fault
 fault_by adds meets = cond (not adds) (Some WrongSum) (cond meets (Some Overlap) None)
 
 pub data_fault :
-    (before : List Piece) (line : List ℕ) (read : Piece × List ℕ) (adds meets : Bool) → read_line line ≡ Some read
+    (before : List Piece) (line : List ℕ) (read : Piece × List ℕ) (adds meets : Bool)
+    → read_line line ≡ Some read
     → adds ≡ (sum read.1 % 256 == 0) → list_any (pieces_meet read.0) before ≡ meets
     → fault_of_line before line ≡ fault_by adds meets
 data_fault before line read adds meets is a b =
@@ -633,7 +673,8 @@ abbrev rest_of : (text : List ℕ) → ℕ → List ℕ
 rest_of text start = take (length text - start) (drop start text)
 
 in_front_of :
-    (text row : List ℕ) (start size : ℕ) → lines (rest_of text start) ≡ row ∷ lines (drop size (rest_of text start))
+    (text row : List ℕ) (start size : ℕ)
+    → lines (rest_of text start) ≡ row ∷ lines (drop size (rest_of text start))
     → lines (drop start text) ≡ row ∷ lines (drop (start + size) text)
 in_front_of text row start size h =
     let whole : rest_of text start ≡ drop start text = take_rest text start in
@@ -644,21 +685,26 @@ in_front_of text row start size h =
 pub judge_on :
     (text row : List ℕ) (start size : ℕ) (before after : List Piece) (all : Result (List Piece) Fault)
     → judged_after before (lines (drop start text)) ≡ all
-    → lines (rest_of text start) ≡ row ∷ lines (drop size (rest_of text start)) → bytes_eq row end_line ≡ false
+    → lines (rest_of text start) ≡ row ∷ lines (drop size (rest_of text start))
+    → bytes_eq row end_line ≡ false
     → TakesLine before after row → judged_after after (lines (drop (start + size) text)) ≡ all
 judge_on text row start size before after all old is other taken =
-    sym (judged_on before after (drop start text) row (drop (start + size) text) (in_front_of text row start size is)
+    sym (judged_on before after (drop start text) row (drop (start + size) text)
+    (in_front_of text row start size is)
     other taken)
     ∙ old
 
 pub judge_fault :
-    (text row : List ℕ) (start size : ℕ) (before : List Piece) (all : Result (List Piece) Fault) (fault : Fault)
+    (text row : List ℕ) (start size : ℕ) (before : List Piece)
+    (all : Result (List Piece) Fault) (fault : Fault)
     → judged_after before (lines (drop start text)) ≡ all
-    → lines (rest_of text start) ≡ row ∷ lines (drop size (rest_of text start)) → bytes_eq row end_line ≡ false
+    → lines (rest_of text start) ≡ row ∷ lines (drop size (rest_of text start))
+    → bytes_eq row end_line ≡ false
     → fault_of_line before row ≡ Some fault → all ≡ Err fault
 judge_fault text row start size before all fault old is other h =
     sym old
-    ∙ judged_fault before (drop start text) row (drop (start + size) text) fault (in_front_of text row start size is)
+    ∙ judged_fault before (drop start text) row (drop (start + size) text) fault
+    (in_front_of text row start size is)
     other h
 
 pub judge_end :
@@ -668,7 +714,8 @@ pub judge_end :
     → length text ≤ start + size → all ≡ Ok before
 judge_end text row start size before all old is last past =
     sym old
-    ∙ judged_end before (drop start text) row (drop (start + size) text) (in_front_of text row start size is) last
+    ∙ judged_end before (drop start text) row (drop (start + size) text)
+    (in_front_of text row start size is) last
     (omega (arith, length-drop (start + size) text))
 
 pub judge_more :
@@ -678,7 +725,8 @@ pub judge_more :
     → start + size < length text → all ≡ Err BadLine
 judge_more text row start size before all old is last more =
     sym old
-    ∙ judged_more before (drop start text) row (drop (start + size) text) (in_front_of text row start size is) last
+    ∙ judged_more before (drop start text) row (drop (start + size) text)
+    (in_front_of text row start size is) last
     (omega (arith, length-drop (start + size) text))
 
 pub judge_none :
@@ -690,10 +738,12 @@ judge_none text start before all old past =
 -- the fault of a line of data, and its piece
 pub wrong_sum :
     (before : List Piece) (line buffer : List ℕ) (place : Place) (sum_of : ℕ)
-    → read_line line ≡ Some (line_at buffer place) → sum_of ≡ sum (take (place.count + 5) buffer) % 256 → sum_of ≢ 0
+    → read_line line ≡ Some (line_at buffer place)
+    → sum_of ≡ sum (take (place.count + 5) buffer) % 256 → sum_of ≢ 0
     → fault_of_line before line ≡ Some WrongSum
 wrong_sum before line buffer place sum_of is total wrong =
-    data_fault before line (line_at buffer place) false (list_any (pieces_meet (piece_at buffer place)) before) is
+    data_fault before line (line_at buffer place) false
+    (list_any (pieces_meet (piece_at buffer place)) before) is
     (sym (no_sum (sum (take (place.count + 5) buffer) % 256) (λ e. wrong (total ∙ e)))) refl
   where
     no_sum : (n : ℕ) → n ≢ 0 → (n == 0) ≡ false
@@ -718,9 +768,11 @@ meets_by used before buffer place marks fits room =
     ∙ ap (λ n. list_any (λ mark. mark) (take n (drop place.start used))) size
 
 pub overlaps :
-    (used : List Bool) (before : List Piece) (line buffer : List ℕ) (place : Place) (sum_of : ℕ) → Marks used before
+    (used : List Bool) (before : List Piece) (line buffer : List ℕ) (place : Place) (sum_of : ℕ)
+    → Marks used before
     → place.start + place.count ≤ 65536 → place.count + 4 ≤ length buffer
-    → read_line line ≡ Some (line_at buffer place) → sum_of ≡ sum (take (place.count + 5) buffer) % 256 → sum_of ≡ 0
+    → read_line line ≡ Some (line_at buffer place)
+    → sum_of ≡ sum (take (place.count + 5) buffer) % 256 → sum_of ≡ 0
     → list_any (λ mark. mark) (take place.count (drop place.start used)) ≡ true
     → fault_of_line before line ≡ Some Overlap
 overlaps used before line buffer place sum_of marks fits room is total none meets =
@@ -731,7 +783,8 @@ overlaps used before line buffer place sum_of marks fits room is total none meet
 pub takes_line :
     (used : List Bool) (before after : List Piece) (line buffer : List ℕ) (place : Place) (sum_of : ℕ)
     → Marks used before → place.start + place.count ≤ 65536 → place.count + 4 ≤ length buffer
-    → read_line line ≡ Some (line_at buffer place) → sum_of ≡ sum (take (place.count + 5) buffer) % 256 → sum_of ≡ 0
+    → read_line line ≡ Some (line_at buffer place)
+    → sum_of ≡ sum (take (place.count + 5) buffer) % 256 → sum_of ≡ 0
     → list_any (λ mark. mark) (take place.count (drop place.start used)) ≡ false
     → after ≡ before ++ piece_at buffer place ∷ [] → TakesLine before after line
 takes_line used before after line buffer place sum_of marks fits room is total none meets after_is = record {
@@ -763,5 +816,6 @@ spelled_by text pieces h = subst (JudgesText text) h (judged text)
 pub faulty_by : (text : List ℕ) (fault : Fault) → judgement_of text ≡ Err fault → HasFirstFault text fault
 faulty_by text fault h = subst (JudgesText text) h (judged text)
 
-pub none_by : (text : List ℕ) (fault : Fault) (pieces : List Piece) → judgement_of text ≡ Err fault → Spells text pieces → ⊥
+pub none_by : (text : List ℕ) (fault : Fault) (pieces : List Piece) → judgement_of text ≡ Err fault
+    → Spells text pieces → ⊥
 none_by text fault pieces h s = no_fault text pieces fault s (faulty_by text fault h)

@@ -14,7 +14,8 @@ not_equal a b h = go (a == b) refl
 
 -- the parts of a text are some
 pub data Parts (xs : List ℕ) : Type 0 where
-  Some_parts : (first : List ℕ) (others : List (List ℕ)) → slice_split (λ b. b == 10) xs ≡ first ∷ others → Parts xs
+  Some_parts : (first : List ℕ) (others : List (List ℕ))
+      → slice_split (λ b. b == 10) xs ≡ first ∷ others → Parts xs
 
 pub parts_of_text : (xs : List ℕ) → Parts xs
 parts_of_text [] = Some_parts [] [] refl
@@ -22,9 +23,11 @@ parts_of_text (x ∷ xs) = go (x == 10) refl (parts_of_text xs)
   where
     go : (b : Bool) → (x == 10) ≡ b → Parts xs → Parts (x ∷ xs)
     go true e p = Some_parts [] (slice_split (λ c. c == 10) xs)
-        (ap (λ t. cond t ([] ∷ slice_split (λ c. c == 10) xs) (onto_first x (slice_split (λ c. c == 10) xs))) e)
+        (ap (λ t. cond t ([] ∷ slice_split (λ c. c == 10) xs) (onto_first x (slice_split (λ c. c == 10) xs)))
+        e)
     go false e (Some_parts first others is) = Some_parts (x ∷ first) others
-        (ap (λ t. cond t ([] ∷ slice_split (λ c. c == 10) xs) (onto_first x (slice_split (λ c. c == 10) xs))) e
+        (ap (λ t. cond t ([] ∷ slice_split (λ c. c == 10) xs) (onto_first x (slice_split (λ c. c == 10) xs)))
+        e
         ∙ ap (onto_first x) is)
 
 -- a line before a line feed, and the lines after it
@@ -34,19 +37,24 @@ pub line_before :
 line_before line rest plain =
     ap lines_of_parts (slice_split_at (λ b. b == 10) line 10 rest plain refl) ∙ go (parts_of_text rest)
   where
-    go : Parts rest → lines_of_parts (line ∷ slice_split (λ b. b == 10) rest) ≡ strip_carriage_return line ∷ lines rest
+    go : Parts rest → lines_of_parts (line ∷ slice_split (λ b. b == 10) rest)
+        ≡ strip_carriage_return line ∷ lines rest
     go (Some_parts first others is) =
-        ap (λ p. lines_of_parts (line ∷ p)) is ∙ ap (λ p. strip_carriage_return line ∷ lines_of_parts p) (sym is)
+        ap (λ p. lines_of_parts (line ∷ p)) is
+        ∙ ap (λ p. strip_carriage_return line ∷ lines_of_parts p) (sym is)
 
 no_feeds : (line : List ℕ) → AllByRecursion IsPlain line → AllByRecursion (λ c. (c == 10) ≡ false) line
 no_feeds [] plain = tt
-no_feeds (c ∷ line) plain = let low : 48 ≤ c = plain.0 in (not_equal c 10 (omega arith), no_feeds line plain.1)
+no_feeds (c ∷ line) plain =
+    let low : 48 ≤ c = plain.0 in (not_equal c 10 (omega arith), no_feeds line plain.1)
 
-no_return : (line : List ℕ) → 0 < length line → AllByRecursion IsPlain line → strip_carriage_return line ≡ line
+no_return : (line : List ℕ) → 0 < length line → AllByRecursion IsPlain line
+    → strip_carriage_return line ≡ line
 no_return line some plain =
     let last : 48 ≤ get_or line (length line - 1) 0 =
     All-get_or IsPlain line (length line - 1) 0 (omega arith) (All-from_recursion IsPlain line plain) in
-    ap (λ t. cond t (take (length line - 1) line) line) (not_equal (get_or line (length line - 1) 0) 13 (omega arith))
+    ap (λ t. cond t (take (length line - 1) line) line)
+    (not_equal (get_or line (length line - 1) 0) 13 (omega arith))
 
 plain_line :
     (line rest : List ℕ) → 0 < length line → AllByRecursion IsPlain line

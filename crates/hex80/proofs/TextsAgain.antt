@@ -33,7 +33,8 @@ onward :
 onward before piece rest h =
     ap (λ fault. judged_by (λ pieces. judged_after pieces rest) before fault (read_line (data_line piece)))
     (line_without_fault before piece rest h)
-    ∙ ap (judged_by (λ pieces. judged_after pieces rest) before None) (line_again piece (piece_line before piece h).0)
+    ∙ ap (judged_by (λ pieces. judged_after pieces rest) before None)
+    (line_again piece (piece_line before piece h).0)
 
 onward_past :
     (later before : List Piece) (rest : List (List ℕ)) → are_line_pieces before later ≡ true
@@ -49,7 +50,8 @@ at_end : (before : List Piece) → judged_after before (end_line ∷ []) ≡ Ok 
 unfolding fault_at
 at_end before = refl
 
-at_fault : (before : List Piece) (rest : List (List ℕ)) (fault : Fault) → fault_at before rest ≡ Some fault → judged_after before rest ≡ Err fault
+at_fault : (before : List Piece) (rest : List (List ℕ)) (fault : Fault) → fault_at before rest ≡ Some fault
+    → judged_after before rest ≡ Err fault
 unfolding fault_at
 at_fault before [] fault h = ap Err (same_Some NoEnd fault h)
 at_fault before (line ∷ rest) fault h =
@@ -69,22 +71,28 @@ fault_is text fault h =
     ∙ at_fault h.before h.rest fault h.at_rest
 
 -- so a text that spells pieces has no fault
-pub no_fault : (text : List ℕ) (pieces : List Piece) (fault : Fault) → Spells text pieces → HasFirstFault text fault → ⊥
+pub no_fault : (text : List ℕ) (pieces : List Piece) (fault : Fault) → Spells text pieces
+    → HasFirstFault text fault → ⊥
 no_fault text pieces fault s h =
     let bad : ◌≡◌ {A = Result (List Piece) Fault} (Ok pieces) (Err fault) =
     sym (pieces_are text pieces s) ∙ fault_is text fault h in
     cc
 
 -- it spells one row of pieces at most
-pub one_spelled : (text : List ℕ) (left right : List Piece) → Spells text left → Spells text right → left ≡ right
-one_spelled text left right a b = same_Ok {E = Fault} left right (sym (pieces_are text left a) ∙ pieces_are text right b)
+pub one_spelled : (text : List ℕ) (left right : List Piece) → Spells text left
+    → Spells text right → left ≡ right
+one_spelled text left right a b =
+    same_Ok {E = Fault} left right (sym (pieces_are text left a) ∙ pieces_are text right b)
 
 -- and has one first fault at most
-pub one_fault : (text : List ℕ) (left right : Fault) → HasFirstFault text left → HasFirstFault text right → left ≡ right
-one_fault text left right a b = same_Err {A = List Piece} left right (sym (fault_is text left a) ∙ fault_is text right b)
+pub one_fault : (text : List ℕ) (left right : Fault) → HasFirstFault text left
+    → HasFirstFault text right → left ≡ right
+one_fault text left right a b =
+    same_Err {A = List Piece} left right (sym (fault_is text left a) ∙ fault_is text right b)
 
 -- the line of a piece is that of no other
-pub one_piece : (left right : Piece) → IsLine left → IsLine right → data_line left ≡ data_line right → left ≡ right
+pub one_piece : (left right : Piece) → IsLine left → IsLine right
+    → data_line left ≡ data_line right → left ≡ right
 one_piece left right a b same =
     (some_pair_parts left right (all_bytes left) (all_bytes right)
     (sym (line_again left a) ∙ ap read_line same ∙ line_again right b)).0

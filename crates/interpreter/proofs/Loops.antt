@@ -4,7 +4,8 @@ use Rattle.mem80.specs.{declared.memory.TheConstants.{MEMORY_SIZE}, Memory.{IsMe
 use Rattle.interpreter.proofs.WrittenContents.{written_past, written_after}
 
 -- one part of what is written, and then the others
-module _ (memory total first others new : List ℕ) (address : ℕ) (rest : written memory address (first ++ others) ≡ total)
+module _ (memory total first others new : List ℕ) (address : ℕ)
+    (rest : written memory address (first ++ others) ≡ total)
     (given : new ≡ written memory address first) where
   goes_on : (next : ℕ) → next ≡ address + length first → written new next others ≡ total
   goes_on next is =
@@ -14,13 +15,16 @@ module _ (memory total first others new : List ℕ) (address : ℕ) (rest : writ
 
   ends : IsMemory new → MEMORY_SIZE ≤ address + length first → new ≡ total
   ends memory past =
-      sym (written_past new others (address + length first) (let e : length new ≤ address + length first = omega (arith, memory.size) in e))
+      sym (written_past new others (address + length first)
+      (let e : length new ≤ address + length first = omega (arith, memory.size) in e))
       ∙ goes_on (address + length first) refl
 
 module _ (memory total : List ℕ) (address : ℕ) (bytes : List ℕ) (i : ℕ)
     (rest : written memory address (drop i bytes) ≡ total) where
-  left : (byte : ℕ) → i < length bytes → byte ≡ get_or bytes i byte → written memory address ((byte ∷ []) ++ drop (i + 1) bytes) ≡ total
-  left byte within is = sym (drop_item (λ others. written memory address others) bytes i byte within is) ∙ rest
+  left : (byte : ℕ) → i < length bytes → byte ≡ get_or bytes i byte
+      → written memory address ((byte ∷ []) ++ drop (i + 1) bytes) ≡ total
+  left byte within is =
+      sym (drop_item (λ others. written memory address others) bytes i byte within is) ∙ rest
 
   pub byte_put :
       (byte next : ℕ) (new : List ℕ)
@@ -49,9 +53,12 @@ module _ (memory total : List ℕ) (address : ℕ) (bytes : List ℕ) (i : ℕ)
 module _ (memory total : List ℕ) (address : ℕ) (address_of : ℕ → ℕ) (values : List InitialValue) (i : ℕ)
     (rest : written memory address (flat_map (bytes_of_value address_of) (drop i values)) ≡ total) where
   left_values : (value : InitialValue) → i < length values → value ≡ get_or values i value
-      → written memory address (bytes_of_value address_of value ++ flat_map (bytes_of_value address_of) (drop (i + 1) values)) ≡ total
+      → written memory address
+      (bytes_of_value address_of value ++ flat_map (bytes_of_value address_of) (drop (i + 1) values))
+      ≡ total
   left_values value within is =
-      sym (drop_item (λ others. written memory address (flat_map (bytes_of_value address_of) others)) values i value within is)
+      sym (drop_item (λ others. written memory address (flat_map (bytes_of_value address_of) others))
+      values i value within is)
       ∙ rest
 
   pub value_put :
@@ -62,7 +69,8 @@ module _ (memory total : List ℕ) (address : ℕ) (address_of : ℕ → ℕ) (v
       → next ≡ address + length (bytes_of_value address_of value)
       → written new next (flat_map (bytes_of_value address_of) (drop (i + 1) values)) ≡ total
   value_put value next new within is given after =
-      goes_on memory total (bytes_of_value address_of value) (flat_map (bytes_of_value address_of) (drop (i + 1) values)) new address
+      goes_on memory total (bytes_of_value address_of value)
+      (flat_map (bytes_of_value address_of) (drop (i + 1) values)) new address
       (left_values value within is) given next after
 
   pub value_put_last :
@@ -73,10 +81,13 @@ module _ (memory total : List ℕ) (address : ℕ) (address_of : ℕ → ℕ) (v
       → MEMORY_SIZE ≤ address + length (bytes_of_value address_of (get_or values i default))
       → new ≡ total
   value_put_last default new within given is_memory past =
-      ends memory total (bytes_of_value address_of (get_or values i default)) (flat_map (bytes_of_value address_of) (drop (i + 1) values)) new address
-      (sym (at_drop_more (λ others. written memory address (flat_map (bytes_of_value address_of) others)) values i default within) ∙ rest)
+      ends memory total (bytes_of_value address_of (get_or values i default))
+      (flat_map (bytes_of_value address_of) (drop (i + 1) values)) new address
+      (sym (at_drop_more (λ others. written memory address (flat_map (bytes_of_value address_of) others))
+      values i default within) ∙ rest)
       given is_memory past
 
   pub values_put : length values ≤ i → memory ≡ total
   values_put past =
-      sym (at_drop_all (λ others. written memory address (flat_map (bytes_of_value address_of) others)) values i past) ∙ rest
+      sym (at_drop_all (λ others. written memory address (flat_map (bytes_of_value address_of) others))
+      values i past) ∙ rest

@@ -23,7 +23,9 @@ pairs_ended items addresses i view ended =
 
 pub objects_ended :
     (address_of : ℕ → ℕ) (objects : List Object) (addresses : List ℕ) (i : ℕ) (memory total : List ℕ)
-    → with_all memory (map (contents_of_object address_of) (zip (map object_view (drop i objects)) (drop i addresses))) ≡ total
+    → with_all memory
+    (map (contents_of_object address_of) (zip (map object_view (drop i objects)) (drop i addresses)))
+    ≡ total
     → i ≡ min (length objects) (length addresses)
     → memory ≡ total
 objects_ended address_of objects addresses i memory total rest ended =

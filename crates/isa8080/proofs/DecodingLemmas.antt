@@ -71,7 +71,8 @@ Reads-instruction i size code low high e h =
 pub Reads-none : (code low high : ℕ) → code < 256 → is_documented code ≡ false → Reads code low high None
 unfolding Reads
 Reads-none code low high small h =
-    ap (λ form. instruction_of form low high) (sym ((Unknown-form_of code small).1 ((Contains-undocumented code).0 h)))
+    ap (λ form. instruction_of form low high)
+    (sym ((Unknown-form_of code small).1 ((Contains-undocumented code).0 h)))
 
 -- what three bytes are read as
 pub first-read :

@@ -76,7 +76,8 @@ first_byte i after = refl
 -- the operands that stand after the first byte are those of the instruction
 pub operands_read :
     (i : Instr) (after : List ℕ)
-    → instruction_of (form_for i) (slice_index (bytes_of i ++ after) 1) (slice_index (bytes_of i ++ after) 2) ≡ Some (i, length (bytes_of i))
+    → instruction_of (form_for i) (slice_index (bytes_of i ++ after) 1) (slice_index (bytes_of i ++ after) 2)
+    ≡ Some (i, length (bytes_of i))
 operands_read (Lxi p w) after = ap (λ v. Some (Lxi p v, 3)) (word_of_bytes w)
 operands_read (Shld w) after = ap (λ v. Some (Shld v, 3)) (word_of_bytes w)
 operands_read (Lhld w) after = ap (λ v. Some (Lhld v, 3)) (word_of_bytes w)
@@ -94,5 +95,6 @@ pub read_back :
     → first_instruction (bytes_of i ++ after) ≡ Some (i, length (bytes_of i))
 read_back i after =
     let bytes = bytes_of i ++ after in
-    ap (λ code. instruction_of (form_of code) (slice_index bytes 1) (slice_index bytes 2)) (first_byte i after)
+    ap (λ code. instruction_of (form_of code) (slice_index bytes 1) (slice_index bytes 2))
+    (first_byte i after)
     ∙ (ap (λ form. instruction_of form (slice_index bytes 1) (slice_index bytes 2)) (decodes i) ∙ operands_read i after)

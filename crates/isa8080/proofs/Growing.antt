@@ -34,13 +34,15 @@ act_adds script (Mvi (Of register) byte) s = begins_itself s.events
 act_adds script (Mvi M byte) s = begins_itself s.events
 act_adds script i s = begins_itself s.events
 
-form_adds : (script : List (List ℕ)) (form : Form) (s : State) → IsBeginning s.events (carry_out script form s).events
+form_adds : (script : List (List ℕ)) (form : Form) (s : State)
+    → IsBeginning s.events (carry_out script form s).events
 form_adds script (One i) s = act_adds script i (advance 1 s)
 form_adds script (Two i) s = act_adds script (i (next_byte s)) (advance 2 s)
 form_adds script (Three i) s = act_adds script (i (next_word s)) (advance 3 s)
 form_adds script Unknown s = begins_itself s.events
 
-status_adds : (script : List (List ℕ)) (status : Status) (s : State) → IsBeginning s.events (step_by script status s).events
+status_adds : (script : List (List ℕ)) (status : Status) (s : State)
+    → IsBeginning s.events (step_by script status s).events
 status_adds script Running s = form_adds script (form_of (byte_at s.memory s.registers.pc)) s
 status_adds script Halted s = begins_itself s.events
 status_adds script Illegal s = begins_itself s.events
@@ -51,7 +53,8 @@ unfolding step_of
 step_adds script s = status_adds script s.status s
 
 -- a run
-pub run_adds : (script : List (List ℕ)) (k : ℕ) (s : State) → IsBeginning s.events (state_after script k s).events
+pub run_adds : (script : List (List ℕ)) (k : ℕ) (s : State)
+    → IsBeginning s.events (state_after script k s).events
 unfolding state_after
 run_adds script zero s = begins_itself s.events
 run_adds script (suc k) s =

@@ -4,7 +4,8 @@ use Rattle.layout.proofs.Prelude.{◌≡◌, ℕ, zero, suc, ◌+◌, ◌<◌, �
 Decides-le : (a b : ℕ) → Decides (nat_le a b) (a ≤ b)
 Decides-le a b = (λ is. grind (arith, nat_tests), λ is. grind (arith, nat_tests))
 
-pub Decides-holds : (address : ℕ) (piece : PlacedPiece) → Decides (holds_byte address piece) (IsIn address piece.range)
+pub Decides-holds : (address : ℕ) (piece : PlacedPiece)
+    → Decides (holds_byte address piece) (IsIn address piece.range)
 Decides-holds address piece =
     Decides-and (nat_le piece.range.start address) (nat_lt address (piece.range.start + piece.range.len))
     (Decides-le piece.range.start address) (Decides-ltb address (piece.range.start + piece.range.len))
@@ -45,7 +46,8 @@ in_outer outer address (piece ∷ others) all is =
   where
     first_or_other :
         (list_any (holds_byte address) others ≡ true → IsIn address outer)
-        → (here : Bool) → holds_byte address piece ≡ here → (here || list_any (holds_byte address) others) ≡ true
+        → (here : Bool) → holds_byte address piece ≡ here
+        → (here || list_any (holds_byte address) others) ≡ true
         → IsIn address outer
     first_or_other other true here found =
         all 0 piece (omega arith) address ((Decides-holds address piece).0 here)
@@ -68,7 +70,8 @@ pub writable_told :
 writable_told modules placement address declared variable = record {
   declared = (Decides-declared modules placement address).0 declared;
   variable = λ constant.
-      let bad : false ≡ true = sym variable ∙ (Decides-constant modules placement address).1 constant in absurd cc;
+      let bad : false ≡ true = sym variable ∙ (Decides-constant modules placement address).1 constant in
+      absurd cc;
 }
 
 -- no declared byte lies in the stack

@@ -16,7 +16,9 @@ pub main_counted : (modules : List TypedModule) → IsJoined modules → count_b
 unfolding join_refusal
 main_counted modules joined =
     let first = both_are_none (without_public modules)
-    (option_or (public_twice modules) (option_or (declared_otherwise modules) (not_one_main modules))) joined in
-    let second = both_are_none (public_twice modules) (option_or (declared_otherwise modules) (not_one_main modules))
+    (option_or (public_twice modules) (option_or (declared_otherwise modules) (not_one_main modules)))
+    joined in
+    let second =
+    both_are_none (public_twice modules) (option_or (declared_otherwise modules) (not_one_main modules))
     first.1 in
     one_is_main modules (both_are_none (declared_otherwise modules) (not_one_main modules) second.1).1

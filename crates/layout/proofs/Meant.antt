@@ -199,7 +199,8 @@ first_position {X} {A} p from (first ∷ all) number e then_is =
         then_is 0 first (omega (arith, same)) refl is
     by false is e rest = rest e
 
-has_position : {X : Type 0} {A : Type 0} (p : X → Bool) (from : ℕ) (all : List X) (x : X) → In x all → p x ≡ true
+has_position : {X : Type 0} {A : Type 0} (p : X → Bool) (from : ℕ) (all : List X) (x : X)
+    → In x all → p x ≡ true
     → ((number : ℕ) → position_from p from all ≡ Some number → A) → A
 has_position p from [] x is holds then_is = absurd is
 has_position {X} {A} p from (first ∷ all) x is holds then_is =
@@ -226,7 +227,8 @@ first_module {A} from in_one (first ∷ others) typed number is e then_is =
     (λ there then_later. first_module (from + 1) in_one others typed number there e
     (λ at found its place here of_it.
     then_later at found its
-    (place ∙ ap (λ (module_at : ℕ). Some (record { number_of_module = module_at; number = found })) (omega arith))
+    (place ∙ ap (λ (module_at : ℕ). Some (record { number_of_module = module_at; number = found }))
+    (omega arith))
     here of_it))
   where
     by : (here : Option ℕ) → in_one first ≡ here → (first ≡ typed) ⊎ In typed others
@@ -242,7 +244,8 @@ first_module {A} from in_one (first ∷ others) typed number is e then_is =
         → A
     by (Some found) at is then_is rest =
         then_is 0 found first
-        (ap (λ (module_at : ℕ). Some (record { number_of_module = module_at; number = found })) (omega arith)) refl at
+        (ap (λ (module_at : ℕ). Some (record { number_of_module = module_at; number = found })) (omega arith))
+        refl at
     by None at (inl same) then_is rest =
         let both : None ≡ Some number = sym at ∙ ap in_one same ∙ e in absurd cc
     by None at (inr is) then_is rest =
@@ -292,8 +295,10 @@ module _ (modules : List TypedModule) (joined : IsJoined modules)
       of_filter_map shared_object typed.globals number
       (subst (λ (numbers : List ℕ). In number numbers) (sym lists.objects) numbered)
       (λ item there of_it.
-      in_flat_map (λ (one : TypedModule). filter_map (global_of one) one.globals) modules typed (global_object object) is
-      (in_filter_map (global_of typed) typed.globals item (global_object object) there (global_is item of_it)))
+      in_flat_map (λ (one : TypedModule). filter_map (global_of one) one.globals) modules typed
+      (global_object object) is
+      (in_filter_map (global_of typed) typed.globals item (global_object object) there
+      (global_is item of_it)))
     where
       global_is : (item : GlobalItem) → shared_object item ≡ Some number
           → global_of typed item ≡ Some (global_object object)
@@ -319,7 +324,8 @@ module _ (modules : List TypedModule) (joined : IsJoined modules)
       (λ item there of_it.
       in_flat_map (λ (one : TypedModule). filter_map (global_of one) one.globals) modules typed
       (global_procedure procedure) is
-      (in_filter_map (global_of typed) typed.globals item (global_procedure procedure) there (global_is item of_it)))
+      (in_filter_map (global_of typed) typed.globals item (global_procedure procedure) there
+      (global_is item of_it)))
     where
       global_is : (item : GlobalItem) → shared_procedure item ≡ Some number
           → global_of typed item ≡ Some (global_procedure procedure)
@@ -330,12 +336,15 @@ module _ (modules : List TypedModule) (joined : IsJoined modules)
       global_is (GlobalObject its) of_it = absurd cc
 
   -- each EXTERNAL has its PUBLIC, and they agree
-  refusals : (without_public modules ≡ None) × (public_twice modules ≡ None) × (declared_otherwise modules ≡ None)
+  refusals : (without_public modules ≡ None) × (public_twice modules ≡ None)
+      × (declared_otherwise modules ≡ None)
   unfolding join_refusal
   refusals =
       let first = both_are_none (without_public modules)
-      (option_or (public_twice modules) (option_or (declared_otherwise modules) (not_one_main modules))) joined in
-      let second = both_are_none (public_twice modules) (option_or (declared_otherwise modules) (not_one_main modules))
+      (option_or (public_twice modules) (option_or (declared_otherwise modules) (not_one_main modules)))
+      joined in
+      let second =
+      both_are_none (public_twice modules) (option_or (declared_otherwise modules) (not_one_main modules))
       first.1 in
       let third = both_are_none (declared_otherwise modules) (not_one_main modules) second.1 in
       (first.0, second.0, third.0)
@@ -348,16 +357,20 @@ module _ (modules : List TypedModule) (joined : IsJoined modules)
       (not_found (lacks_public (publics_of modules)) (externals_of modules) external
       (none_before_map _ (find (lacks_public (publics_of modules)) (externals_of modules)) refusals.0) is)
       (not_found (differs_from_public (publics_of modules)) (externals_of modules) external
-      (none_before_map _ (find (differs_from_public (publics_of modules)) (externals_of modules)) refusals.2) is)
+      (none_before_map _ (find (differs_from_public (publics_of modules)) (externals_of modules)) refusals.2)
+      is)
     where
       by : (named : Option Global) → public_named (publics_of modules) external.name ≡ named
           → option_map_or (λ (public : Global). false) named true ≡ false
-          → option_map_or (λ (public : Global). not (agree external.declared public.declared)) named false ≡ false
+          → option_map_or (λ (public : Global). not (agree external.declared public.declared)) named false
+          ≡ false
           → A
       by None e lacks differs = absurd cc
       by (Some global) e lacks differs =
-          let there = found_in (λ (each : Global). bytes_eq each.name external.name) (publics_of modules) global e in
-          then_is global there.0 ((bytes_eq-Decides global.name external.name).0 there.1) (not-false _ differs)
+          let there =
+          found_in (λ (each : Global). bytes_eq each.name external.name) (publics_of modules) global e in
+          then_is global there.0 ((bytes_eq-Decides global.name external.name).0 there.1)
+          (not-false _ differs)
 
   public_from : {A : Type 0} (global : Global) → In global (publics_of modules)
       → ((typed : TypedModule) (item : GlobalItem) → In typed modules → global_of typed item ≡ Some global
@@ -405,7 +418,8 @@ module _ (modules : List TypedModule) (joined : IsJoined modules)
           → public_object_in object.name its ≡ Some found
           → MeansObject modules object (record { number_of_module = 0 + at; number = found })
       at_place at found its here of_it =
-          first_position (is_public_object object.name) 0 its.objects found (sym (position_from-zero (is_public_object object.name) its.objects) ∙ of_it)
+          first_position (is_public_object object.name) 0 its.objects found
+          (sym (position_from-zero (is_public_object object.name) its.objects) ∙ of_it)
           (λ k public same there holds.
           let tests = and_parts _ _ holds in
           let its_place : slice_get its.objects found ≡ Some public =
@@ -426,7 +440,8 @@ module _ (modules : List TypedModule) (joined : IsJoined modules)
           is_shared_if Elsewhere is_public e = refl
           is_shared_if home is_public e = cc
 
-      from_item : (typed : TypedModule) (item : GlobalItem) → In typed modules → global_of typed item ≡ Some global
+      from_item : (typed : TypedModule) (item : GlobalItem) → In typed modules
+          → global_of typed item ≡ Some global
           → global.is_public ≡ true → A
       from_item typed (GlobalObject number) in_modules e is_public =
           by (slice_get typed.objects number) refl e
@@ -436,14 +451,16 @@ module _ (modules : List TypedModule) (joined : IsJoined modules)
           by None at e = absurd cc
           by (Some public) at e =
               let same : global_object public ≡ global = cc in
-              has_position (is_public_object object.name) 0 typed.objects public (in_at typed.objects number public at)
+              has_position (is_public_object object.name) 0 typed.objects public
+              (in_at typed.objects number public at)
               (and_from _ _ (ap (λ (each : Global). each.is_public) same ∙ is_public)
               ((bytes_eq-Decides public.name object.name).1 (ap (λ (each : Global). each.name) same ∙ named)))
               (λ found there.
               first_module 0 (public_object_in object.name) modules typed found in_modules
               (position_from-zero (is_public_object object.name) typed.objects ∙ there)
               (λ place k its is_found here of_it.
-              then_is (record { number_of_module = 0 + place; number = k }) is_found (at_place place k its here of_it)))
+              then_is (record { number_of_module = 0 + place; number = k }) is_found
+              (at_place place k its here of_it)))
       from_item typed (GlobalProcedure number) in_modules e is_public =
           by (slice_get typed.procedures number) e
         where
@@ -468,7 +485,8 @@ module _ (modules : List TypedModule) (joined : IsJoined modules)
           → public_procedure_in procedure.name its ≡ Some found
           → MeansProcedure modules procedure (record { number_of_module = 0 + at; number = found })
       at_place at found its here of_it =
-          first_position (is_public_of procedure.name) 0 its.procedures found (sym (position_from-zero (is_public_of procedure.name) its.procedures) ∙ of_it)
+          first_position (is_public_of procedure.name) 0 its.procedures found
+          (sym (position_from-zero (is_public_of procedure.name) its.procedures) ∙ of_it)
           (λ k public same there holds.
           let tests = and_parts _ _ holds in
           let its_place : slice_get its.procedures found ≡ Some public =
@@ -485,12 +503,14 @@ module _ (modules : List TypedModule) (joined : IsJoined modules)
           (some_and _ (slice_get its.procedures found) public its_place
           (tests.0, ap (λ (each : Global). agree (DeclaredProcedure procedure) each.declared) (sym one) ∙ agrees)))
         where
-          is_global_if : (visibility : Visibility) → is_public_procedure visibility ≡ true → is_global visibility ≡ true
+          is_global_if : (visibility : Visibility) → is_public_procedure visibility ≡ true
+              → is_global visibility ≡ true
           is_global_if Private e = absurd cc
           is_global_if Public e = refl
           is_global_if External e = refl
 
-      from_item : (typed : TypedModule) (item : GlobalItem) → In typed modules → global_of typed item ≡ Some global
+      from_item : (typed : TypedModule) (item : GlobalItem) → In typed modules
+          → global_of typed item ≡ Some global
           → global.is_public ≡ true → A
       from_item typed (GlobalProcedure number) in_modules e is_public =
           by (slice_get typed.procedures number) refl e
@@ -500,14 +520,17 @@ module _ (modules : List TypedModule) (joined : IsJoined modules)
           by None at e = absurd cc
           by (Some public) at e =
               let same : global_procedure public ≡ global = cc in
-              has_position (is_public_of procedure.name) 0 typed.procedures public (in_at typed.procedures number public at)
+              has_position (is_public_of procedure.name) 0 typed.procedures public
+              (in_at typed.procedures number public at)
               (and_from _ _ (ap (λ (each : Global). each.is_public) same ∙ is_public)
-              ((bytes_eq-Decides public.name procedure.name).1 (ap (λ (each : Global). each.name) same ∙ named)))
+              ((bytes_eq-Decides public.name procedure.name).1
+              (ap (λ (each : Global). each.name) same ∙ named)))
               (λ found there.
               first_module 0 (public_procedure_in procedure.name) modules typed found in_modules
               (position_from-zero (is_public_of procedure.name) typed.procedures ∙ there)
               (λ place k its is_found here of_it.
-              then_is (record { number_of_module = 0 + place; number = k }) is_found (at_place place k its here of_it)))
+              then_is (record { number_of_module = 0 + place; number = k }) is_found
+              (at_place place k its here of_it)))
       from_item typed (GlobalObject number) in_modules e is_public =
           by (slice_get typed.objects number) e
         where
@@ -522,14 +545,16 @@ module _ (modules : List TypedModule) (joined : IsJoined modules)
 -- An EXTERNAL object of modules that make a program stands for a PUBLIC one, which agrees with it.
 pub external_object_meant : (modules : List TypedModule) → IsJoined modules → All ListsGlobals modules
     → (at number : ℕ) (typed : TypedModule) (object : TypedObject)
-    → slice_get modules at ≡ Some typed → slice_get typed.objects number ≡ Some object → object.home ≡ Elsewhere
+    → slice_get modules at ≡ Some typed → slice_get typed.objects number ≡ Some object
+    → object.home ≡ Elsewhere
     → IsSomeAnd
     (object_meant modules (record { number_of_module = at; number = number }) object object.home)
     (MeansObject modules object)
 external_object_meant modules joined listed at number typed object is there elsewhere =
     let each = recursion_from_All ListsGlobals modules listed in
     subst
-    (λ (home : Home). IsSomeAnd (object_meant modules (record { number_of_module = at; number = number }) object home)
+    (λ (home : Home). IsSomeAnd (object_meant modules
+    (record { number_of_module = at; number = number }) object home)
     (MeansObject modules object))
     (sym elsewhere)
     (meets_public modules joined each (global_object object)
@@ -544,7 +569,8 @@ pub external_procedure_meant : (modules : List TypedModule) → IsJoined modules
     → slice_get modules at ≡ Some typed → slice_get typed.procedures number ≡ Some procedure
     → procedure.visibility ≡ External
     → IsSomeAnd
-    (procedure_meant modules (record { number_of_module = at; number = number }) procedure procedure.visibility)
+    (procedure_meant modules (record { number_of_module = at; number = number }) procedure
+    procedure.visibility)
     (MeansProcedure modules procedure)
 external_procedure_meant modules joined listed at number typed procedure is there external =
     let each = recursion_from_All ListsGlobals modules listed in
@@ -584,7 +610,8 @@ same_results (Some one) (Some other) e = ap Some (same_scalars one other e)
 same_results None (Some other) e = absurd cc
 same_results (Some one) None e = absurd cc
 
-pub procedures_agree : (one other : TypedProcedure) → agree (DeclaredProcedure one) (DeclaredProcedure other) ≡ true
+pub procedures_agree : (one other : TypedProcedure)
+    → agree (DeclaredProcedure one) (DeclaredProcedure other) ≡ true
     → (one.result ≡ other.result) × (one.parameter_types ≡ other.parameter_types)
 procedures_agree one other e =
     let tests = and_parts (same_result one.result other.result)

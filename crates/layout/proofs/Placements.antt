@@ -46,7 +46,8 @@ objects_follow bases before (object ∷ objects) [] =
 objects_follow bases before (object ∷ objects) (slot ∷ slots) =
     All-cons (λ (object : Option Slot × ℕ). LiesInSlot bases object.1 object.0)
     (slot, address_by_home bases before slot object.home)
-    (zip slots (addresses_of bases (before ++ address_by_home bases before slot object.home ∷ []) (zip objects slots)))
+    (zip slots (addresses_of bases (before ++ address_by_home bases before slot object.home ∷ [])
+    (zip objects slots)))
     (lies_by_home bases before slot object.home)
     (objects_follow bases (before ++ address_by_home bases before slot object.home ∷ []) objects slots)
 
@@ -86,11 +87,13 @@ count_addresses bases before (object ∷ others) =
     let more = length-append before (address_by_home bases before object.1 (object.0).home ∷ []) in
     omega (arith, rest, more)
 
-count_numbered : {A : Type 0} (first : ℕ) (items : List A) → length (enumerate_from first items) ≡ length items
+count_numbered : {A : Type 0} (first : ℕ) (items : List A)
+    → length (enumerate_from first items) ≡ length items
 count_numbered first [] = refl
 count_numbered first (item ∷ items) = ap (λ (n : ℕ). suc n) (count_numbered (first + 1) items)
 
-count_both : {A B : Type 0} (one : List A) (other : List B) → length other ≡ length one → length (zip one other) ≡ length one
+count_both : {A B : Type 0} (one : List A) (other : List B) → length other ≡ length one
+    → length (zip one other) ≡ length one
 count_both [] other same = refl
 count_both (x ∷ one) [] same = absurd (omega (arith, same))
 count_both (x ∷ one) (y ∷ other) same = ap (λ (n : ℕ). suc n) (count_both one other (omega (arith, same)))
@@ -123,8 +126,10 @@ modules_follow :
     (map (λ (based : TypedModule × Bases). module_placement_by based.1 based.0 (storage_with based.0))
     (zip modules (bases_from code_base data_base modules lengths)))
 modules_follow code_base data_base [] [] count hold code variables = tt
-modules_follow code_base data_base [] (length ∷ lengths) count hold code variables = absurd (omega (arith, count))
-modules_follow code_base data_base (typed ∷ modules) [] count hold code variables = absurd (omega (arith, count))
+modules_follow code_base data_base [] (length ∷ lengths) count hold code variables =
+    absurd (omega (arith, count))
+modules_follow code_base data_base (typed ∷ modules) [] count hold code variables =
+    absurd (omega (arith, count))
 modules_follow code_base data_base (typed ∷ modules) (first ∷ lengths) count hold code variables =
     let codes = sum_by-cons (λ (n : ℕ). n) first lengths in
     let data_all = sum_by-cons (λ (typed : TypedModule). data_bytes typed.objects) typed modules in

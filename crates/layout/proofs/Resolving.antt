@@ -5,8 +5,8 @@ use Rattle.layout.proofs.Prelude.{◌≡◌, ℕ, zero, suc, ◌+◌, ◌-◌, �
 abbrev pub set : List ℕ → List (Option ℕ)
 set bytes = map (λ (byte : ℕ). Some byte) bytes
 
--- A part of a segment that is resolved by itself, whatever stands after it, as long as no word reaches into it
--- from before.
+-- A part of a segment that is resolved by itself, whatever stands after it, as long as no word reaches into
+-- it from before.
 pub record Resolves (address_of : Target → ℕ) (part : Places) (bytes : List (Option ℕ)) : Type 0 where
   pub alone : (rest : Places) → resolved address_of (part ++ rest) ≡ bytes ++ resolved address_of rest
 
@@ -169,7 +169,8 @@ pub resolved_is :
     (address_of : Target → ℕ) (part : Places) (bytes : List (Option ℕ))
     → Resolves address_of part bytes
     → resolved address_of part ≡ bytes
-resolved_is address_of part bytes one = ap (resolved address_of) (sym (append-nil part)) ∙ one.alone [] ∙ append-nil bytes
+resolved_is address_of part bytes one =
+    ap (resolved address_of) (sym (append-nil part)) ∙ one.alone [] ∙ append-nil bytes
 
 abbrev pub StandsAlone : Places → Type 0
 StandsAlone part =

@@ -55,12 +55,15 @@ slots_after typed before (object ∷ others) number in_data whole number_is data
     (slot_is typed number in_data
     (offset_in (offsets_of_module typed).objects number (constant_bytes typed)) object object.home
     (data_is
-    ∙ ap data_bytes (sym (ap (take number) (sym whole) ∙ ap (λ n. take n (before ++ object ∷ others)) number_is
+    ∙ ap data_bytes
+    (sym (ap (take number) (sym whole) ∙ ap (λ n. take n (before ++ object ∷ others)) number_is
     ∙ take-append_seam before (object ∷ others))))
     (object_offset typed number
-    (subst (λ n. n < length typed.objects) (sym number_is) (inside before object others typed.objects whole))))
+    (subst (λ n. n < length typed.objects) (sym number_is)
+    (inside before object others typed.objects whole))))
     ∙ ap (λ rest. slot_of_object typed number object object.home ∷ rest)
-    (slots_after typed (before ++ object ∷ []) others (number + 1) (in_data + bytes_in_data object.home object)
+    (slots_after typed (before ++ object ∷ []) others (number + 1)
+    (in_data + bytes_in_data object.home object)
     (append_assoc before (object ∷ []) others ∙ whole)
     (ap (λ n. n + 1) number_is ∙ sym (length-append before (object ∷ [])))
     (ap (λ n. n + bytes_in_data object.home object) data_is ∙ sym (data_push before object)))
@@ -168,7 +171,8 @@ pub storage_found :
       data_size = data_size;
       constant_size = constant_size;
     })
-storage_found typed tables objects lists data_size constant_size data_is small fit constant_is told objects_are lists_are =
+storage_found typed tables objects lists data_size constant_size data_is small fit constant_is told
+    objects_are lists_are =
     let constant_exact : constant_size ≡ constant_bytes typed =
     uncapped constant_size (constant_bytes typed) constant_is (constants_small typed (sym fit)) in
     by_constants typed (below (data_bytes typed.objects) data_size data_is small)

@@ -39,7 +39,8 @@ module_fillings modules placement numbered =
 abbrev fillings : List TypedModule → Placement → List (ℕ × (TypedModule × ModulePlacement)) → List Filling
 fillings modules placement numbered = flat_map (module_fillings modules placement) numbered
 
-map-map : {A B C : Type 0} (f : B → C) (g : A → B) (h : A → C) (xs : List A) → ((x : A) → f (g x) ≡ h x) → map f (map g xs) ≡ map h xs
+map-map : {A B C : Type 0} (f : B → C) (g : A → B) (h : A → C) (xs : List A) → ((x : A) → f (g x) ≡ h x)
+    → map f (map g xs) ≡ map h xs
 map-map f g h [] same = refl
 map-map f g h (x ∷ xs) same = ap₂ (λ first others. first ∷ others) (same x) (map-map f g h xs same)
 
@@ -62,7 +63,8 @@ module_contents modules placement numbered =
     (map-map contents_in list_filling contents_of_list lists (λ x. refl))
 
 all_contents :
-    (modules : List TypedModule) (placement : Placement) (numbered : List (ℕ × (TypedModule × ModulePlacement)))
+    (modules : List TypedModule) (placement : Placement)
+    (numbered : List (ℕ × (TypedModule × ModulePlacement)))
     → map contents_in (fillings modules placement numbered)
     ≡ flat_map
     (λ (one : ℕ × (TypedModule × ModulePlacement)).
@@ -71,7 +73,8 @@ all_contents modules placement [] = refl
 all_contents modules placement (first ∷ others) =
     ap (map contents_in) (flat_map-cons (module_fillings modules placement) first others)
     ∙ map-both contents_in (module_fillings modules placement first) (fillings modules placement others)
-    ∙ ap₂ (λ one other. one ++ other) (module_contents modules placement first) (all_contents modules placement others)
+    ∙ ap₂ (λ one other. one ++ other) (module_contents modules placement first)
+    (all_contents modules placement others)
     ∙ sym (flat_map-cons
     (λ (one : ℕ × (TypedModule × ModulePlacement)).
     contents_of_module modules placement one.0 (one.1).0 (one.1).1) first others)
@@ -119,12 +122,15 @@ module_pieces modules placement numbered =
     ∙ sym (filter-append has_own_place (filter_map object_piece objects) (map list_piece lists))
 
 all_pieces :
-    (modules : List TypedModule) (placement : Placement) (number : ℕ) (placed : List (TypedModule × ModulePlacement))
+    (modules : List TypedModule) (placement : Placement) (number : ℕ)
+    (placed : List (TypedModule × ModulePlacement))
     → filter_map filled_piece (fillings modules placement (enumerate_from number placed))
     ≡ filter has_own_place (flat_map pieces_of_module placed)
 all_pieces modules placement number [] = refl
 all_pieces modules placement number (first ∷ others) =
-    ap (filter_map filled_piece) (flat_map-cons (module_fillings modules placement) (number, first) (enumerate_from (number + 1) others))
+    ap (filter_map filled_piece)
+    (flat_map-cons (module_fillings modules placement) (number, first)
+    (enumerate_from (number + 1) others))
     ∙ filter_map-append filled_piece (module_fillings modules placement (number, first))
     (fillings modules placement (enumerate_from (number + 1) others))
     ∙ ap₂ (λ one other. one ++ other) (module_pieces modules placement (number, first))
@@ -138,7 +144,8 @@ values_size :
 values_size address_of values =
     length-flat_map (bytes_of_value address_of) values ∙ each values
   where
-    each : (some : List InitialValue) → sum_by (λ value. length (bytes_of_value address_of value)) some ≡ sum_by size_of_value some
+    each : (some : List InitialValue) → sum_by (λ value. length (bytes_of_value address_of value)) some
+        ≡ sum_by size_of_value some
     each [] = refl
     each (value ∷ others) =
         sum_by-cons (λ value. length (bytes_of_value address_of value)) value others
@@ -175,7 +182,8 @@ objects_fill :
 objects_fill address_of [] addresses filled = λ k d within. absurd (omega (arith, within))
 objects_fill address_of (object ∷ objects) [] filled = λ k d within. absurd (omega (arith, within))
 objects_fill address_of (object ∷ objects) (address ∷ addresses) filled =
-    All-cons FillsOne (object_filling address_of (object, address)) (map (object_filling address_of) (zip objects addresses))
+    All-cons FillsOne (object_filling address_of (object, address))
+    (map (object_filling address_of) (zip objects addresses))
     (object_fills address_of (object, address) (filled 0 object (omega arith)))
     (objects_fill address_of objects addresses (λ k d within. filled (suc k) d (omega (arith, within))))
 
@@ -194,14 +202,16 @@ all_fill modules placement number [] placed storable = λ k d within. absurd (om
 all_fill modules placement number (typed ∷ some) [] storable = λ k d within. absurd (omega (arith, within))
 all_fill modules placement number (typed ∷ some) (first ∷ placed) storable =
     let address_of = address_of_object modules placement number typed in
-    rw (flat_map-cons (module_fillings modules placement) (number, (typed, first)) (enumerate_from (number + 1) (zip some placed)))
+    rw (flat_map-cons (module_fillings modules placement) (number, (typed, first))
+    (enumerate_from (number + 1) (zip some placed)))
     (All-append FillsOne (module_fillings modules placement (number, (typed, first)))
     (fillings modules placement (enumerate_from (number + 1) (zip some placed)))
     (All-append FillsOne (map (object_filling address_of) (zip typed.objects first.objects))
     (map list_filling (zip typed.constants.lists first.lists))
     (objects_fill address_of typed.objects first.objects (storable 0 typed (omega arith)).filled)
     (lists_fill (zip typed.constants.lists first.lists)))
-    (all_fill modules placement (number + 1) some placed (λ k d within. storable (suc k) d (omega (arith, within)))))
+    (all_fill modules placement (number + 1) some placed
+    (λ k d within. storable (suc k) d (omega (arith, within)))))
 
 -- contents without bytes cover nothing, and those of a piece only its addresses
 covers_piece :
@@ -282,7 +292,8 @@ in_own ((contents, None) ∷ others) wanted all ends (inr further) =
     in_own others wanted (λ k d within. all (suc k) d (omega (arith, within))) ends further
 in_own ((contents, Some piece) ∷ others) wanted all ends (inl same) =
     let fills : Fills wanted (Some piece) =
-    subst (λ (each : Contents). Fills each (Some piece)) (sym same) (all 0 (contents, Some piece) (omega arith)) in
+    subst (λ (each : Contents). Fills each (Some piece)) (sym same)
+    (all 0 (contents, Some piece) (omega arith)) in
     let limit = ends 0 piece (omega arith) in
     record {
       ends = λ some. omega (arith, fills.0, fills.1, limit);
@@ -298,7 +309,8 @@ in_own ((contents, Some piece) ∷ others) wanted all ends (inr further) =
     }
 
 -- what a filter leaves out does not undo a test
-any_kept : (p q : PlacedPiece → Bool) (pieces : List PlacedPiece) → list_any p (filter q pieces) ≡ true → list_any p pieces ≡ true
+any_kept : (p q : PlacedPiece → Bool) (pieces : List PlacedPiece) → list_any p (filter q pieces) ≡ true
+    → list_any p pieces ≡ true
 any_kept p q [] is = is
 any_kept p q (piece ∷ others) is = by_test (q piece) (any_kept p q others) is
   where
@@ -322,7 +334,8 @@ starts_as modules placement given lawful storable size =
     let numbered = enumerate_from 0 (zip modules placement.modules) in
     let some = fillings modules placement numbered in
     let all = all_fill modules placement 0 modules placement.modules storable in
-    let contents : map contents_in some ≡ contents_of modules placement = all_contents modules placement numbered in
+    let contents : map contents_in some ≡ contents_of modules placement =
+    all_contents modules placement numbered in
     let pieces : filter_map filled_piece some ≡ own_pieces modules placement =
     all_pieces modules placement 0 (zip modules placement.modules) in
     let apart : EachApart (contents_of modules placement) =
@@ -330,8 +343,10 @@ starts_as modules placement given lawful storable size =
     (each_apart some all (subst (AllPairs AreDisjoint) (sym pieces) lawful.disjoint)) in
     let ends : All (λ (piece : PlacedPiece). EndsInMemory piece.range) (filter_map filled_piece some) =
     subst (All (λ (piece : PlacedPiece). EndsInMemory piece.range)) (sym pieces)
-    (All-filter has_own_place (λ (piece : PlacedPiece). EndsInMemory piece.range) (pieces_of modules placement) lawful.in_memory) in
-    let lies : (wanted : Contents) → IsAmong wanted (contents_of modules placement) → LiesInPieces (own_pieces modules placement) wanted =
+    (All-filter has_own_place (λ (piece : PlacedPiece). EndsInMemory piece.range)
+    (pieces_of modules placement) lawful.in_memory) in
+    let lies : (wanted : Contents) → IsAmong wanted (contents_of modules placement)
+    → LiesInPieces (own_pieces modules placement) wanted =
     λ wanted among.
     subst (λ list. LiesInPieces list wanted) pieces
     (in_own some wanted all ends (subst (IsAmong wanted) (sym contents) among)) in

@@ -1,4 +1,5 @@
--- Sums over what is left of a list, as loops over lists of trees need them, and over the values that fill an object.
+-- Sums over what is left of a list, as loops over lists of trees need them, and over the values that fill an
+-- object.
 use Rattle.layout.proofs.Prelude.{◌≡◌, ℕ, suc, ◌+◌, ◌<◌, ◌≤◌, List, [], ◌∷◌, length, drop, flat_map, get_or, map, min, refl, ap, sym, ◌∙◌, add-one, length-append, arith, sum_by, ◌&&◌, Vec, vec_items, list_all, drop_of_length-le, drop-cons, sum_by-cons, Object, ConstantItem, ByteValue, WordValue, LocationValue, InitialValue, size_of_value, bytes_filled, Home, InData, InConstants, TypedObject, TypedModule, object_view, size_of_constant, bytes_of_value, values_in, bytes_in_data, data_bytes, fits_as_object, fits_as_list}
 use Rattle.std.proofs.Common.{Global}
 
@@ -66,7 +67,8 @@ constants_more typed items i item total all within is left =
     ∙ left)
 
 -- nothing is left at the end
-pub capped_end : (total rest all : ℕ) → rest ≡ 0 → total ≤ 4294967295 → min (total + rest) 4294967295 ≡ all → total ≡ all
+pub capped_end : (total rest all : ℕ) → rest ≡ 0 → total ≤ 4294967295
+    → min (total + rest) 4294967295 ≡ all → total ≡ all
 capped_end total rest all none capped left = omega arith
 
 pub data_end :
@@ -102,7 +104,8 @@ constants_left typed items i item total within is left =
     (ap (sum_by (size_of_constant typed)) (left_first items i item within is)
     ∙ sum_by-cons (size_of_constant typed) item (drop (i + 1) items))
   where
-    within_limit : (total all one rest : ℕ) → total + all ≤ 65535 → all ≡ one + rest → total + one + rest ≤ 65535
+    within_limit : (total all one rest : ℕ) → total + all ≤ 65535 → all ≡ one + rest
+        → total + one + rest ≤ 65535
     within_limit total all one rest fits is = omega arith
 
 -- the objects and the lists that are left begin with the one that a loop is at
@@ -125,7 +128,8 @@ pub objects_fit_first :
     → i < length objects
     → object ≡ get_or objects i object
     → list_all fits_as_object (map object_view (drop i objects))
-    ≡ (fits_as_object (object_view object) && list_all fits_as_object (map object_view (drop (i + 1) objects)))
+    ≡ (fits_as_object (object_view object)
+    && list_all fits_as_object (map object_view (drop (i + 1) objects)))
 objects_fit_first objects i object within is =
     ap (list_all fits_as_object) (objects_first objects i object within is)
 

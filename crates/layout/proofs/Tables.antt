@@ -13,7 +13,8 @@ put_first_at (found ∷ others) (suc number) offset d within none =
     ap (λ rest. found ∷ rest) (put_first_at others number offset d (omega arith) none)
 
 pub put_first_past :
-    (table : List (Option ℕ)) (number offset : ℕ) → length table ≤ number → put_first table number offset ≡ table
+    (table : List (Option ℕ)) (number offset : ℕ) → length table ≤ number
+    → put_first table number offset ≡ table
 put_first_past [] number offset past = refl
 put_first_past (found ∷ others) zero offset past = absurd (omega arith)
 put_first_past (found ∷ others) (suc number) offset past =
@@ -58,7 +59,8 @@ bytes_before : (size : ConstantItem → ℕ) (wanted : ConstantItem → Bool) �
 bytes_before size wanted items = sum_by size (take_while (λ (item : ConstantItem). not (wanted item)) items)
 
 before_by :
-    (size : ConstantItem → ℕ) (item : ConstantItem) (others : List ConstantItem) (so_far passed : ℕ) (is : Bool)
+    (size : ConstantItem → ℕ) (item : ConstantItem) (others : List ConstantItem)
+    (so_far passed : ℕ) (is : Bool)
     → so_far + sum_by size (take (cond (not is) (1 + passed) 0) (item ∷ others))
     ≡ cond is so_far (so_far + size item + sum_by size (take passed others))
 before_by size item others so_far passed true = omega arith
@@ -88,8 +90,10 @@ all_more size so_far item others =
 told_object :
     (typed : TypedModule) (so_far : ℕ) (items : List ConstantItem) (tables : OffsetTables) (number : ℕ)
     → number < length tables.objects
-    → offset_in (put_all typed so_far items tables).objects number (so_far + sum_by (size_of_constant typed) items)
-    ≡ offset_in tables.objects number (so_far + bytes_before (size_of_constant typed) (is_object number) items)
+    → offset_in (put_all typed so_far items tables).objects number
+    (so_far + sum_by (size_of_constant typed) items)
+    ≡ offset_in tables.objects number
+    (so_far + bytes_before (size_of_constant typed) (is_object number) items)
 unfolding bytes_before
 told_object typed so_far [] tables number within = refl
 told_object typed so_far (ConstantObject other ∷ others) tables number within =
@@ -114,7 +118,8 @@ told_object typed so_far (ConstantList list ∷ others) tables number within =
 told_list :
     (typed : TypedModule) (so_far : ℕ) (items : List ConstantItem) (tables : OffsetTables) (number : ℕ)
     → number < length tables.lists
-    → offset_in (put_all typed so_far items tables).lists number (so_far + sum_by (size_of_constant typed) items)
+    → offset_in (put_all typed so_far items tables).lists number
+    (so_far + sum_by (size_of_constant typed) items)
     ≡ offset_in tables.lists number (so_far + bytes_before (size_of_constant typed) (is_list number) items)
 unfolding bytes_before
 told_list typed so_far [] tables number within = refl

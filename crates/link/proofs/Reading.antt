@@ -10,8 +10,10 @@ bytes_of files = map (λ file. file.now) files
 
 -- a file more, and its module
 pub one_more :
-    (files : List (Bor (List ℕ))) (objects : List ObjectModule) (i : ℕ) (d : Bor (List ℕ)) (object : ObjectModule)
-    → i < length files → AllZip Spells (bytes_of (take i files)) objects → Spells (get_or files i d).now object
+    (files : List (Bor (List ℕ))) (objects : List ObjectModule) (i : ℕ) (d : Bor (List ℕ))
+    (object : ObjectModule)
+    → i < length files → AllZip Spells (bytes_of (take i files)) objects
+    → Spells (get_or files i d).now object
     → AllZip Spells (bytes_of (take (i + 1) files)) (objects ++ object ∷ [])
 one_more files objects i d object within before spelled =
     subst (λ read. AllZip Spells read (objects ++ object ∷ []))
@@ -29,7 +31,8 @@ parted files i d within =
 
 -- the first file that spells no module
 pub first_faulty :
-    (files : List (Bor (List ℕ))) (objects : List ObjectModule) (i : ℕ) (d : Bor (List ℕ)) (fault : StreamFault)
+    (files : List (Bor (List ℕ))) (objects : List ObjectModule) (i : ℕ) (d : Bor (List ℕ))
+    (fault : StreamFault)
     → i < length files → AllZip Spells (bytes_of (take i files)) objects
     → IsFaultyAt (length objects) (get_or files i d).now fault → HasNoMerge (bytes_of files) fault
 first_faulty files objects i d (stream.Object file fault) within before faulty = record {

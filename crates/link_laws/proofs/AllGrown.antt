@@ -15,15 +15,18 @@ module _ (publics : List Public) (segment : Segment) where
 
   pub grown_fixes :
       (grown : Grown) (linked : List Linked)
-      → (all_grown publics segment grown linked).fixes ≡ grown.fixes ++ flat_map (piece_fixes publics segment) linked
+      → (all_grown publics segment grown linked).fixes
+      ≡ grown.fixes ++ flat_map (piece_fixes publics segment) linked
   grown_fixes grown [] = sym (append-nil grown.fixes)
   grown_fixes grown (one ∷ others) =
       grown_fixes (grown_by publics segment grown one) others
-      ∙ append_assoc grown.fixes (piece_fixes publics segment one) (flat_map (piece_fixes publics segment) others)
+      ∙ append_assoc grown.fixes (piece_fixes publics segment one)
+      (flat_map (piece_fixes publics segment) others)
 
   pub grown_moves :
       (grown : Grown) (linked : List Linked)
-      → (all_grown publics segment grown linked).moves ≡ (grown.moves || list_any (moves_in publics segment) linked)
+      → (all_grown publics segment grown linked).moves
+      ≡ (grown.moves || list_any (moves_in publics segment) linked)
   grown_moves grown [] = (sym (or-false grown.moves))
   grown_moves grown (one ∷ others) =
       grown_moves (grown_by publics segment grown one) others
@@ -37,7 +40,8 @@ some_moves publics [] = refl
 some_moves publics (one ∷ others) =
     ap (λ b. b || list_any (some_high_byte_moves publics) others) (high_moves_by_fixes publics one)
     ∙ ap (λ b. (moves_in publics Code one || moves_in publics Data one) || b) (some_moves publics others)
-    ∙ or_exchanged (moves_in publics Code one) (moves_in publics Data one) (list_any (moves_in publics Code) others)
+    ∙ or_exchanged (moves_in publics Code one) (moves_in publics Data one)
+    (list_any (moves_in publics Code) others)
     (list_any (moves_in publics Data) others)
 
 -- a segment with what is made of all pieces is the one that is joined of these
@@ -62,18 +66,21 @@ segment_grown publics segment linked grown size alignment stored made is ends be
 -- a high byte of a merge moves where one of its code or one of its data does
 pub high_grown :
     (publics : List Public) (linked : List Linked) (code data_bytes : Grown)
-    → code ≡ all_grown publics Code nothing_grown linked → data_bytes ≡ all_grown publics Data nothing_grown linked
+    → code ≡ all_grown publics Code nothing_grown linked
+    → data_bytes ≡ all_grown publics Data nothing_grown linked
     → (code.moves || data_bytes.moves) ≡ list_any (some_high_byte_moves publics) linked
 high_grown publics linked code data_bytes made also =
     ap (λ (g : Grown). g.moves || data_bytes.moves) made
     ∙ ap (λ (g : Grown). (all_grown publics Code nothing_grown linked).moves || g.moves) also
-    ∙ ap (λ b. b || (all_grown publics Data nothing_grown linked).moves) (grown_moves publics Code nothing_grown linked)
+    ∙ ap (λ b. b || (all_grown publics Data nothing_grown linked).moves)
+    (grown_moves publics Code nothing_grown linked)
     ∙ ap (λ b. list_any (moves_in publics Code) linked || b) (grown_moves publics Data nothing_grown linked)
     ∙ sym (some_moves publics linked)
 
 -- a piece more
 pub grown_step :
-    (publics : List Public) (segment : Segment) (grown new total : Grown) (linked : List Linked) (i : ℕ) (one : Linked)
+    (publics : List Public) (segment : Segment) (grown new total : Grown) (linked : List Linked)
+    (i : ℕ) (one : Linked)
     → all_grown publics segment grown (drop i linked) ≡ total → i < length linked → one ≡ get_or linked i one
     → new ≡ grown_by publics segment grown one → all_grown publics segment new (drop (i + 1) linked) ≡ total
 grown_step publics segment grown new total linked i one rest within is now =

@@ -1,12 +1,15 @@
--- Bytes in two parts, of which each has fixes of its own: what becomes of the whole is what becomes of the parts.
+-- Bytes in two parts, of which each has fixes of its own: what becomes of the whole is what becomes of the
+-- parts.
 use Rattle.link_laws.proofs.Prelude.{◌≡◌, ℕ, ◌+◌, ◌-◌, ◌<◌, ◌≤◌, List, [], ◌∷◌, ◌++◌, length, refl, ap, sym, subst, ◌∙◌, arith, set, length-set, set-append_left, get_or_append_left, Fix, FixKind, Low, High, Both, Target, width_of, first_byte_moved, second_byte_moved, fix_end, bytes_fixed, bytes_after, AllPast, fixed_after, AreWithin}
 use Rattle.std.proofs.Math.ListN.{get_or}
 
 -- as many bytes as before
 pub fixed_length :
-    (kind : FixKind) (index gain : ℕ) (bytes : List ℕ) → length (bytes_fixed kind index gain bytes) ≡ length bytes
+    (kind : FixKind) (index gain : ℕ) (bytes : List ℕ)
+    → length (bytes_fixed kind index gain bytes) ≡ length bytes
 fixed_length Low index gain bytes = length-set bytes index (first_byte_moved Low (get_or bytes index 0) gain)
-fixed_length High index gain bytes = length-set bytes index (first_byte_moved High (get_or bytes index 0) gain)
+fixed_length High index gain bytes =
+    length-set bytes index (first_byte_moved High (get_or bytes index 0) gain)
 fixed_length Both index gain bytes =
     let first : ℕ = first_byte_moved Both (get_or bytes index 0) gain in
     length-set (set bytes index first) (index + 1)
@@ -28,7 +31,8 @@ pub after_more :
     ≡ bytes_after gain_of offset more (bytes_after gain_of offset fixes bytes)
 after_more gain_of offset [] more bytes = refl
 after_more gain_of offset (fix ∷ others) more bytes =
-    after_more gain_of offset others more (bytes_fixed fix.kind (fix.offset - offset) (gain_of fix.target) bytes)
+    after_more gain_of offset others more
+    (bytes_fixed fix.kind (fix.offset - offset) (gain_of fix.target) bytes)
 
 -- bytes before others: only they change
 fixed_before :
@@ -36,11 +40,13 @@ fixed_before :
     → bytes_fixed kind index gain (bytes ++ after) ≡ bytes_fixed kind index gain bytes ++ after
 fixed_before Low index gain bytes after h =
     let within : index < length bytes = omega (arith, h) in
-    ap (λ v. set (bytes ++ after) index (first_byte_moved Low v gain)) (get_or_append_left bytes after 0 index within)
+    ap (λ v. set (bytes ++ after) index (first_byte_moved Low v gain))
+    (get_or_append_left bytes after 0 index within)
     ∙ set-append_left bytes after index (first_byte_moved Low (get_or bytes index 0) gain) within
 fixed_before High index gain bytes after h =
     let within : index < length bytes = omega (arith, h) in
-    ap (λ v. set (bytes ++ after) index (first_byte_moved High v gain)) (get_or_append_left bytes after 0 index within)
+    ap (λ v. set (bytes ++ after) index (first_byte_moved High v gain))
+    (get_or_append_left bytes after 0 index within)
     ∙ set-append_left bytes after index (first_byte_moved High (get_or bytes index 0) gain) within
 fixed_before Both index gain bytes after h =
     let within : index < length bytes = omega (arith, h) in
@@ -52,7 +58,8 @@ fixed_before Both index gain bytes after h =
     set (set (bytes ++ after) index (first_byte_moved Both v gain)) (index + 1)
     (second_byte_moved v (get_or (bytes ++ after) (index + 1) 0) gain))
     (get_or_append_left bytes after 0 index within)
-    ∙ ap (λ v. set (set (bytes ++ after) index first) (index + 1) (second_byte_moved (get_or bytes index 0) v gain))
+    ∙ ap (λ v. set (set (bytes ++ after) index first) (index + 1)
+    (second_byte_moved (get_or bytes index 0) v gain))
     (get_or_append_left bytes after 0 (index + 1) next)
     ∙ ap (λ b. set b (index + 1) second) (set-append_left bytes after index first within)
     ∙ set-append_left (set bytes index first) after (index + 1) second (omega (arith, next, long))
@@ -66,7 +73,8 @@ after_first_part gain_of offset (fix ∷ others) bytes after within =
     let low : offset ≤ fix.offset = (within.0).0 in
     let high : fix_end fix ≤ offset + length bytes = (within.0).1 in
     let fixed : List ℕ = bytes_fixed fix.kind (fix.offset - offset) (gain_of fix.target) bytes in
-    let long : length fixed ≡ length bytes = fixed_length fix.kind (fix.offset - offset) (gain_of fix.target) bytes in
+    let long : length fixed ≡ length bytes =
+    fixed_length fix.kind (fix.offset - offset) (gain_of fix.target) bytes in
     ap (bytes_after gain_of offset others)
     (fixed_before fix.kind (fix.offset - offset) (gain_of fix.target) bytes after (omega (arith, low, high)))
     ∙ after_first_part gain_of offset others fixed after
@@ -82,7 +90,8 @@ after_second_part gain_of offset next (fix ∷ others) before bytes at past =
     let low : next ≤ fix.offset = past.0 in
     let index : fix.offset - offset ≡ length before + (fix.offset - next) = omega (arith, at, low) in
     let fixed : List ℕ = bytes_fixed fix.kind (fix.offset - next) (gain_of fix.target) bytes in
-    ap (λ i. bytes_after gain_of offset others (bytes_fixed fix.kind i (gain_of fix.target) (before ++ bytes))) index
+    ap (λ i. bytes_after gain_of offset others
+    (bytes_fixed fix.kind i (gain_of fix.target) (before ++ bytes))) index
     ∙ ap (bytes_after gain_of offset others)
     (fixed_after fix.kind (fix.offset - next) (gain_of fix.target) before bytes)
     ∙ after_second_part gain_of offset next others before fixed at past.1

@@ -13,7 +13,8 @@ module _ (resolved : Resolved) (segment : Segment) where
       go (is_in segment fixed) (λ after. fit_at size after others room) placed fit
     where
       go : (b : Bool)
-          → ((after : ℕ) → Placed size after (filter (is_in segment) others) → AllFit (filter (is_in segment) others)
+          → ((after : ℕ) → Placed size after (filter (is_in segment) others)
+          → AllFit (filter (is_in segment) others)
           → AllFitAt resolved segment others)
           → Placed size end (cond b (fixed ∷ filter (is_in segment) others) (filter (is_in segment) others))
           → AllFit (cond b (fixed ∷ filter (is_in segment) others) (filter (is_in segment) others))
@@ -37,7 +38,9 @@ module _ (resolved : Resolved) (segment : Segment) where
   pub first_room :
       (offset : ℕ) (bytes : List ℕ) (fixes : List Fix) (contents others : List FixedContent) (own : Segment)
       → AllFitAt resolved segment contents
-      → contents ≡ record { content = record { segment = own; offset = offset; bytes = bytes }; fixes = fixes } ∷ others
+      → contents
+      ≡ record { content = record { segment = own; offset = offset; bytes = bytes }; fixes = fixes }
+      ∷ others
       → same_segment own segment ≡ true → start_of resolved.start segment + offset + length bytes ≤ 65535
   first_room offset bytes fixes contents others own fit is here =
       let fixed : FixedContent =
@@ -49,7 +52,9 @@ module _ (resolved : Resolved) (segment : Segment) where
   pub first_within :
       (offset : ℕ) (bytes : List ℕ) (fixes : List Fix) (contents others : List FixedContent) (own : Segment)
       → AllFitAt resolved segment contents
-      → contents ≡ record { content = record { segment = own; offset = offset; bytes = bytes }; fixes = fixes } ∷ others
+      → contents
+      ≡ record { content = record { segment = own; offset = offset; bytes = bytes }; fixes = fixes }
+      ∷ others
       → same_segment own segment ≡ true
       → AreWithin offset (length bytes) (listed (fix_table fixes offset (length bytes)))
   first_within offset bytes fixes contents others own fit is here =
@@ -72,5 +77,6 @@ pub data_fits :
     → AllFitAt resolved Data walking.contents
 data_fits resolved walking fits room =
     let same : walking.data_length ≡ length_of (module_by walking) Data = length_told walking Data in
-    fit_at resolved Data walking.data_length 0 walking.contents (omega (arith, same, room)) fits.data_bytes.placed
+    fit_at resolved Data walking.data_length 0 walking.contents (omega (arith, same, room))
+    fits.data_bytes.placed
     fits.data_bytes.fit

@@ -3,16 +3,19 @@ use Rattle.link_laws.proofs.Prelude.{◌≡◌, ℕ, zero, suc, ◌+◌, ◌≤�
 
 -- a fix that is found is one of those that are within
 found_within :
-    (content : Content) (fixes : List Fix) (offset : ℕ) (fix : Fix) → list_all (is_within content) fixes ≡ true
+    (content : Content) (fixes : List Fix) (offset : ℕ) (fix : Fix)
+    → list_all (is_within content) fixes ≡ true
     → fix_at fixes offset ≡ Some fix → is_within content fix ≡ true
 found_within content [] offset fix all h = absurd (let bad : None ≡ Some fix = h in cc)
 found_within content (first ∷ others) offset fix all h =
-    go (first.offset == offset) h (and_parts (is_within content first) (list_all (is_within content) others) all)
+    go (first.offset == offset) h
+    (and_parts (is_within content first) (list_all (is_within content) others) all)
     (found_within content others offset fix)
   where
     go : (b : Bool) → cond b (Some first) (fix_at others offset) ≡ Some fix
         → (is_within content first ≡ true) × (list_all (is_within content) others ≡ true)
-        → (list_all (is_within content) others ≡ true → fix_at others offset ≡ Some fix → is_within content fix ≡ true)
+        → (list_all (is_within content) others ≡ true → fix_at others offset ≡ Some fix
+        → is_within content fix ≡ true)
         → is_within content fix ≡ true
     go true k parts later = subst (λ f. is_within content f ≡ true) (same_Some first fix k) parts.0
     go false k parts later = later parts.1 k
@@ -36,11 +39,13 @@ table_within content fixes all (suc count) offset =
 pub own_within :
     (fixed : FixedContent) → list_all (is_within fixed.content) fixed.fixes ≡ true
     → AreWithin (fixed.content).offset (length (fixed.content).bytes) (fixes_by_place fixed)
-own_within fixed all = table_within fixed.content fixed.fixes all (length (fixed.content).bytes) (fixed.content).offset
+own_within fixed all =
+    table_within fixed.content fixed.fixes all (length (fixed.content).bytes) (fixed.content).offset
 
 -- fixes of a table begin at its first place or later
 table_past :
-    (fixes : List Fix) (end count offset : ℕ) → end ≤ offset → AllPast end (listed (fix_table fixes offset count))
+    (fixes : List Fix) (end count offset : ℕ) → end ≤ offset
+    → AllPast end (listed (fix_table fixes offset count))
 table_past fixes end zero offset h = tt
 table_past fixes end (suc count) offset h =
     go (fix_at fixes offset) refl (table_past fixes end count (offset + 1) (omega (arith, h)))
@@ -60,5 +65,6 @@ later_past size end low [] h placed = tt
 later_past size end low (fixed ∷ others) h placed =
     let begins : end ≤ (fixed.content).offset = placed.0 in
     past_append low (fixes_by_place fixed) (flat_map fixes_by_place others)
-    (table_past fixed.fixes low (length (fixed.content).bytes) (fixed.content).offset (omega (arith, begins, h)))
+    (table_past fixed.fixes low (length (fixed.content).bytes) (fixed.content).offset
+    (omega (arith, begins, h)))
     (later_past size (content_end fixed.content) low others (omega (arith, begins, h)) placed.2)

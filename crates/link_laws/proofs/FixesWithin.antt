@@ -3,7 +3,8 @@ use Rattle.link_laws.proofs.Prelude.{◌≡◌, ℕ, suc, ◌+◌, ◌<◌, ◌�
 
 -- fixes after the first place are within what begins one place before
 within_earlier :
-    (offset size : ℕ) (fixes : List Fix) → AreWithin (offset + 1) size fixes → AreWithin offset (suc size) fixes
+    (offset size : ℕ) (fixes : List Fix) → AreWithin (offset + 1) size fixes
+    → AreWithin offset (suc size) fixes
 within_earlier offset size [] all = tt
 within_earlier offset size (fix ∷ others) all =
     let low : offset + 1 ≤ fix.offset = (all.0).0 in
@@ -29,13 +30,15 @@ before_within offset value (Some fixup) others fixes whole all =
   where
     go : (kind : FixKind) (target : Target)
         → words_are_whole
-        (row_of (record { value = value; fixup = Some (record { kind = kind; target = target }) } ∷ others)) ≡ true
+        (row_of (record { value = value; fixup = Some (record { kind = kind; target = target }) } ∷ others))
+        ≡ true
         → offset + width_of kind ≤ offset + suc (length others)
     go Low target w = omega arith
     go High target w = omega arith
     go Both target w =
         let room : 0 < length others =
-        word_room (record { value = value; fixup = Some (record { kind = Both; target = target }) }) others w refl in
+        word_room (record { value = value; fixup = Some (record { kind = Both; target = target }) }) others w
+        refl in
         omega (arith, room)
 
 later_whole :
@@ -43,7 +46,8 @@ later_whole :
     → words_are_whole (row_of others) ≡ true
 later_whole here [] whole = refl
 later_whole here (next ∷ others) whole =
-    (and_parts (not (begins_word (Some here)) || is_plain (Some next)) (words_are_whole (row_of (next ∷ others))) whole).1
+    (and_parts (not (begins_word (Some here)) || is_plain (Some next))
+    (words_are_whole (row_of (next ∷ others))) whole).1
 
 items_within :
     (offset : ℕ) (items : List SetByte) → words_are_whole (row_of items) ≡ true
@@ -55,14 +59,16 @@ items_within offset (here ∷ others) whole =
     (within_earlier offset (length others) (fixes_from (offset + 1) others)
     (items_within (offset + 1) others (later_whole here others whole))))
 
-within_below : (offset size : ℕ) (fixes : List Fix) → AreWithin offset size fixes → AllBelow (offset + size) fixes
+within_below : (offset size : ℕ) (fixes : List Fix) → AreWithin offset size fixes
+    → AllBelow (offset + size) fixes
 within_below offset size [] all = tt
 within_below offset size (fix ∷ others) all =
     let high : fix_end fix ≤ offset + size = (all.0).1 in
     let some : 1 ≤ width_of fix.kind = some_width fix.kind in
     (omega (arith, high, some), within_below offset size others all.1)
 
-past_runs : (end : ℕ) (runs : List (Run SetByte)) → AllFrom end runs → AllPast end (flat_map fixes_of_run runs)
+past_runs : (end : ℕ) (runs : List (Run SetByte)) → AllFrom end runs
+    → AllPast end (flat_map fixes_of_run runs)
 past_runs end [] all = tt
 past_runs end (run ∷ others) all =
     past_append end (fixes_from run.offset run.items) (flat_map fixes_of_run others)
@@ -73,7 +79,8 @@ abbrev AllEnd : (size : ℕ) → List (Run ℕ) → Type 0
 AllEnd size runs =
     AllByRecursion (λ (run : Run ℕ). (run_end run ≤ size) × (is_empty run.items ≡ false)) runs
 
-first_ends : (size : ℕ) (run : Run ℕ) (others : List (Run ℕ)) → AllEnd size (run ∷ others) → run_end run ≤ size
+first_ends : (size : ℕ) (run : Run ℕ) (others : List (Run ℕ)) → AllEnd size (run ∷ others)
+    → run_end run ≤ size
 first_ends size run others all = (all.0).0
 
 has_bytes : (empty : Bool) → not empty ≡ true → empty ≡ false
@@ -114,7 +121,8 @@ have_fixes size (run ∷ others) apart ends =
       (ends.0).1,
       subst (AreWithin run.offset (length (values_of run.items))) (sym (below_first end own later below past))
           (subst (λ n. AreWithin run.offset n own) (sym long) within),
-      subst (λ f. HaveTheirFixes size f (map bytes_of_run others)) (sym (past_others end own later below past))
+      subst (λ f. HaveTheirFixes size f (map bytes_of_run others))
+          (sym (past_others end own later below past))
           (have_fixes size others apart.2 ends.1),
     )
 
@@ -124,7 +132,8 @@ pub whole_places :
     → words_are_whole (places_of object segment) ≡ true
 whole_places object Absolute valid = refl
 whole_places object Code valid = (places_are (length object.externals) object.code valid.code).whole
-whole_places object Data valid = (places_are (length object.externals) object.data_places valid.data_places).whole
+whole_places object Data valid =
+    (places_are (length object.externals) object.data_places valid.data_places).whole
 whole_places object Stack valid = refl
 
 -- the runs of a module that is valid have their fixes

@@ -37,7 +37,8 @@ no_main objects h = no_first (main_modules (linked_modules objects)) h
 
 -- parts that are joined are those of the merge
 pub joined_merged :
-    (objects : List ObjectModule) (publics : List Public) (linked : List Linked) (stack : ℕ) (main : List ℕ × ℕ)
+    (objects : List ObjectModule) (publics : List Public) (linked : List Linked)
+    (stack : ℕ) (main : List ℕ × ℕ)
     (parts : ModuleParts)
     → AreJoined publics linked stack main parts → linked ≡ linked_modules objects
     → publics ≡ all_publics (linked_modules objects)
@@ -65,7 +66,8 @@ pub by_names :
     → merge_of objects ≡ Err refusal
 by_names objects refusal h = is_refused objects refusal (refused_duplicate objects refusal h)
 
-module _ (objects : List ObjectModule) (names : List (List ℕ)) (known : gathered [] (public_names objects) ≡ Ok names) where
+module _ (objects : List ObjectModule) (names : List (List ℕ))
+    (known : gathered [] (public_names objects) ≡ Ok names) where
   pub by_externals :
       (name : List ℕ) → Some name ≡ missing_in names (externals_of objects)
       → merge_of objects ≡ Err (UnresolvedExternal name)
@@ -82,20 +84,25 @@ module _ (objects : List ObjectModule) (names : List (List ℕ)) (known : gather
     module _ (fits : some_segment_is_too_long objects (linked_modules objects) ≡ false) where
       pub by_mains :
           (length (main_modules (linked_modules objects)) == 1) ≡ false → merge_of objects ≡ Err NotOneMain
-      by_mains none = is_refused objects NotOneMain (refused_mains objects names known resolved fits (ap not none))
+      by_mains none =
+          is_refused objects NotOneMain (refused_mains objects names known resolved fits (ap not none))
 
       pub by_no_main :
           None ≡ slice_get (main_modules (linked_modules objects)) 0 → merge_of objects ≡ Err NotOneMain
       by_no_main none =
-          is_refused objects NotOneMain (refused_mains objects names known resolved fits (no_main objects none))
+          is_refused objects NotOneMain
+          (refused_mains objects names known resolved fits (no_main objects none))
 
       module _ (main : (length (main_modules (linked_modules objects)) == 1) ≡ true) where
         single : not (length (main_modules (linked_modules objects)) == 1) ≡ false
         single = ap not main
 
-        module _ (publics : List Public) (linked : List Linked) (high : Bool) (these : linked ≡ linked_modules objects) (named : publics ≡ all_publics (linked_modules objects)) (is_high : high ≡ list_any (some_high_byte_moves publics) linked) where
+        module _ (publics : List Public) (linked : List Linked) (high : Bool)
+            (these : linked ≡ linked_modules objects) (named : publics ≡ all_publics (linked_modules objects))
+            (is_high : high ≡ list_any (some_high_byte_moves publics) linked) where
           same_high :
-              list_any (some_high_byte_moves (all_publics (linked_modules objects))) (linked_modules objects) ≡ high
+              list_any (some_high_byte_moves (all_publics (linked_modules objects))) (linked_modules objects)
+              ≡ high
           same_high =
               sym (is_high ∙ ap (λ p. list_any (some_high_byte_moves p) linked) named
               ∙ ap (list_any (some_high_byte_moves (all_publics (linked_modules objects)))) these)
@@ -109,7 +116,8 @@ module _ (objects : List ObjectModule) (names : List (List ℕ)) (known : gather
           none_refused stays = allowed objects names known resolved fits single (same_high ∙ stays)
 
 pub made_kept :
-    (objects : List ObjectModule) (parts : ModuleParts) → link_refusal objects ≡ None → AreMerged objects parts
+    (objects : List ObjectModule) (parts : ModuleParts) → link_refusal objects ≡ None
+    → AreMerged objects parts
     → All IsObjectModule objects → AreKept parts
 made_kept objects parts free made valid = merged_kept objects parts valid free made
 

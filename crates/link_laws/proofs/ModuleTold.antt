@@ -1,4 +1,5 @@
--- The module that a walk over a file tells: its lengths, and the runs and fixes of its segments, by the contents.
+-- The module that a walk over a file tells: its lengths, and the runs and fixes of its segments, by the
+-- contents.
 use Rattle.link_laws.proofs.Prelude.{◌≡◌, ℕ, true, List, length, map, filter, flat_map, refl, ap, sym, ◌∙◌, range_with_len, length-map-range_with_len, Alignment, Segment, Absolute, Code, Data, Stack, same_segment, ObjectModule, Places, Public, alignment_of, length_of, bytes_of_run, fixes_in, fixes_of_run, runs_of, FixedContent, set_in, runs_from, Walking, alignment_by, length_by, module_by, places_by, ContentsFit, SegmentFits, fixes_by_place, is_in, runs_kept, kept_places, kept_stored}
 use Rattle.object_modules.proofs.StoredRuns.{stored_bytes, stored_fixes}
 
@@ -36,15 +37,19 @@ module _ (walking : Walking) (fits : ContentsFit walking) where
 
   pub data_runs : runs_of (module_by walking) Data ≡ runs_kept (filter (is_in Data) walking.contents)
   unfolding runs_of module_by
-  data_runs = segment_runs walking.data_length walking.data_alignment Data walking.contents refl fits.data_bytes
+  data_runs =
+      segment_runs walking.data_length walking.data_alignment Data walking.contents refl fits.data_bytes
 
-  pub code_fixes : fixes_in (module_by walking) Code ≡ flat_map fixes_by_place (filter (is_in Code) walking.contents)
+  pub code_fixes : fixes_in (module_by walking) Code
+      ≡ flat_map fixes_by_place (filter (is_in Code) walking.contents)
   unfolding fixes_in module_by
   code_fixes = segment_fixes walking.code_length walking.code_alignment Code walking.contents refl fits.code
 
-  pub data_fixes : fixes_in (module_by walking) Data ≡ flat_map fixes_by_place (filter (is_in Data) walking.contents)
+  pub data_fixes : fixes_in (module_by walking) Data
+      ≡ flat_map fixes_by_place (filter (is_in Data) walking.contents)
   unfolding fixes_in module_by
-  data_fixes = segment_fixes walking.data_length walking.data_alignment Data walking.contents refl fits.data_bytes
+  data_fixes =
+      segment_fixes walking.data_length walking.data_alignment Data walking.contents refl fits.data_bytes
 
 -- What a walk tells is what the module has.
 pub name_told : (walking : Walking) → walking.name ≡ (module_by walking).name
@@ -63,7 +68,8 @@ pub publics_told : (walking : Walking) → walking.publics ≡ (module_by walkin
 unfolding module_by
 publics_told walking = refl
 
-pub length_told : (walking : Walking) (segment : Segment) → length_by walking segment ≡ length_of (module_by walking) segment
+pub length_told : (walking : Walking) (segment : Segment)
+    → length_by walking segment ≡ length_of (module_by walking) segment
 unfolding module_by
 length_told walking Absolute = refl
 length_told walking Code = sized walking.contents Code walking.code_length
@@ -71,7 +77,8 @@ length_told walking Data = sized walking.contents Data walking.data_length
 length_told walking Stack = refl
 
 pub alignment_told :
-    (walking : Walking) (segment : Segment) → alignment_by walking segment ≡ alignment_of (module_by walking) segment
+    (walking : Walking) (segment : Segment)
+    → alignment_by walking segment ≡ alignment_of (module_by walking) segment
 unfolding module_by
 alignment_told walking Absolute = refl
 alignment_told walking Code = refl

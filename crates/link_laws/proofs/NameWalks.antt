@@ -7,14 +7,17 @@ use Rattle.object_modules.specs.Walking.{HandsOut}
 use Rattle.object_modules.specs.declared.public.PublicName.{PublicName}
 
 -- a public more
-module _ (known : List (List ℕ)) (total : Result (List (List ℕ)) LinkRefusal) (publics left : List Public) (public : Public) (is_new : Bool) (rest : gathered known (map public_name publics) ≡ total) (next : publics ≡ public ∷ left) (tells : is_new ≡ not (is_among public.name known)) where
+module _ (known : List (List ℕ)) (total : Result (List (List ℕ)) LinkRefusal) (publics left : List Public)
+    (public : Public) (is_new : Bool) (rest : gathered known (map public_name publics) ≡ total)
+    (next : publics ≡ public ∷ left) (tells : is_new ≡ not (is_among public.name known)) where
   one_name :
       (found : Bool) → is_among public.name known ≡ found
       → cond found (Err (DuplicatePublic public.name))
       (gathered (known ++ public.name ∷ []) (map public_name left)) ≡ total
   one_name found is =
       ap (λ b.
-      cond b (Err (DuplicatePublic public.name)) (gathered (known ++ public.name ∷ []) (map public_name left)))
+      cond b (Err (DuplicatePublic public.name))
+      (gathered (known ++ public.name ∷ []) (map public_name left)))
       (sym is)
       ∙ ap (λ p. gathered known (map public_name p)) (sym next)
       ∙ rest
@@ -40,11 +43,14 @@ module _ (known : List (List ℕ)) (total : Result (List (List ℕ)) LinkRefusal
       ∙ one_name false (known_by false fresh)
 
 -- an external name more
-module _ (known : List (List ℕ)) (total : Option (List ℕ)) (names left : List (List ℕ)) (name : List ℕ) (rest : missing_in known names ≡ total) (next : names ≡ name ∷ left) where
+module _ (known : List (List ℕ)) (total : Option (List ℕ)) (names left : List (List ℕ)) (name : List ℕ)
+    (rest : missing_in known names ≡ total) (next : names ≡ name ∷ left) where
   one_missing :
-      (found : Bool) → is_among name known ≡ found → cond (not found) (Some name) (missing_in known left) ≡ total
+      (found : Bool) → is_among name known ≡ found
+      → cond (not found) (Some name) (missing_in known left) ≡ total
   one_missing found is =
-      ap (λ b. cond (not b) (Some name) (missing_in known left)) (sym is) ∙ ap (missing_in known) (sym next) ∙ rest
+      ap (λ b. cond (not b) (Some name) (missing_in known left)) (sym is)
+      ∙ ap (missing_in known) (sym next) ∙ rest
 
   pub missing_found : is_among name known ≡ false → Some name ≡ total
   missing_found absent = one_missing false absent
@@ -78,7 +84,8 @@ name_handed old new None out valid = tt
 
 pub public_handed :
     (old new : List Public) (first : Option PublicName) → HandsOut old new (option_map public_view first)
-    → list_all is_name (map public_name old) ≡ true → IfSome first (λ public. is_name (public.name).now ≡ true)
+    → list_all is_name (map public_name old) ≡ true
+    → IfSome first (λ public. is_name (public.name).now ≡ true)
 public_handed old new (Some public) out valid =
     (and_parts (is_name (public.name).now) (list_all is_name (map public_name new))
     (sym (ap (λ p. list_all is_name (map public_name p)) out) ∙ valid)).0
@@ -99,7 +106,8 @@ publics_handed old new first out = out
 
 -- and its contents stay
 pub fits_without_externals :
-    (old new : Walking) (externals : List (List ℕ)) → new ≡ record old { externals = externals } → ContentsFit old
+    (old new : Walking) (externals : List (List ℕ))
+    → new ≡ record old { externals = externals } → ContentsFit old
     → ContentsFit new
 fits_without_externals old new externals is fits =
     subst ContentsFit (sym is) (record { code = fits.code; data_bytes = fits.data_bytes })

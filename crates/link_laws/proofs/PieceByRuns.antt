@@ -8,7 +8,8 @@ parted end [] = refl
 parted end (fix ∷ others) = go (nat_lt fix.offset end) (parted end others)
   where
     go : (b : Bool) → fixes_below end others ++ fixes_past end others ≡ others
-        → cond b (fix ∷ fixes_below end others) [] ++ cond b (fixes_past end others) (fix ∷ others) ≡ fix ∷ others
+        → cond b (fix ∷ fixes_below end others) [] ++ cond b (fixes_past end others) (fix ∷ others)
+        ≡ fix ∷ others
     go true later = ap (λ f. fix ∷ f) later
     go false later = refl
 
@@ -71,7 +72,8 @@ module _ (resolved : Resolved) (segment : Segment) where
       (ap (λ f. grown.moves || list_any (moves_by resolved) f) of_these)
 
 -- and those of a module with other names
-module _ (resolved : Resolved) (grown : Grown) (object : ObjectModule) (publics : List Public) (externals : List (List ℕ)) where
+module _ (resolved : Resolved) (grown : Grown) (object : ObjectModule) (publics : List Public)
+    (externals : List (List ℕ)) where
   pub code_kept :
       grown_from resolved Code grown object
       ≡ grown_from resolved Code grown (record object { publics = publics; externals = externals })

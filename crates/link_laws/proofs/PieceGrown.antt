@@ -5,7 +5,8 @@ use Rattle.link_laws.proofs.RunsByContents.{runs_by_contents, runs_grown}
 
 -- What the external names of a module stand for.
 flat_named :
-    {A B : Type 0} (f : A → Option B) (found : Option A) → option_flatten (option_map f found) ≡ option_and_then f found
+    {A B : Type 0} (f : A → Option B) (found : Option A)
+    → option_flatten (option_map f found) ≡ option_and_then f found
 flat_named f None = refl
 flat_named f (Some x) = refl
 
@@ -21,7 +22,8 @@ module _ (publics : List Public) (one : Linked) where
   gain_at : (target : Target) → gain_by (resolved_in publics one) target ≡ gain_in publics one target
   gain_at (InSegment segment) = refl
   gain_at (External number) =
-      ap (λ (found : Option Public). option_map_or (λ (public : Public). public.offset) found 0) (meant_same number)
+      ap (λ (found : Option Public). option_map_or (λ (public : Public). public.offset) found 0)
+      (meant_same number)
 
   kept_at : (target : Target) → kept_by (resolved_in publics one) target ≡ target_kept publics one target
   kept_at (InSegment segment) = refl
@@ -70,14 +72,18 @@ module _ (resolved : Resolved) (segment : Segment) where
   abbrev grown_parts : Grown → List FixedContent → Grown
   grown_parts grown contents = record {
     runs = runs_grown start_here (gain_by resolved) grown.runs contents;
-    fixes = grown.fixes ++ filter_map (fix_kept start_here (kept_by resolved)) (flat_map fixes_by_place contents);
+    fixes = grown.fixes ++ filter_map (fix_kept start_here (kept_by resolved))
+        (flat_map fixes_by_place contents);
     moves = grown.moves || list_any (moves_by resolved) (flat_map fixes_by_place contents);
   }
 
-  grown_in_parts : (grown : Grown) (contents : List FixedContent) → grown_each grown contents ≡ grown_parts grown contents
+  grown_in_parts : (grown : Grown) (contents : List FixedContent)
+      → grown_each grown contents ≡ grown_parts grown contents
   grown_in_parts grown [] =
-      ap (λ fixes. record { runs = grown.runs; fixes = fixes; moves = grown.moves }) (sym (append-nil grown.fixes))
-      ∙ ap (λ moves. record { runs = grown.runs; fixes = grown.fixes ++ []; moves = moves }) (sym (or-false grown.moves))
+      ap (λ fixes. record { runs = grown.runs; fixes = fixes; moves = grown.moves })
+      (sym (append-nil grown.fixes))
+      ∙ ap (λ moves. record { runs = grown.runs; fixes = grown.fixes ++ []; moves = moves })
+      (sym (or-false grown.moves))
   grown_in_parts grown (fixed ∷ others) =
       let own : List Fix = fixes_by_place fixed in
       let later : List Fix = flat_map fixes_by_place others in
@@ -90,7 +96,8 @@ module _ (resolved : Resolved) (segment : Segment) where
         fixes = fixes;
         moves = (grown.moves || list_any (moves_by resolved) own) || list_any (moves_by resolved) later;
       })
-      (append_assoc grown.fixes (keep own) (keep later) ∙ ap (λ f. grown.fixes ++ f) (sym (kept_both own later)))
+      (append_assoc grown.fixes (keep own) (keep later)
+      ∙ ap (λ f. grown.fixes ++ f) (sym (kept_both own later)))
       ∙ ap (λ moves. record { runs = runs; fixes = grown.fixes ++ keep (own ++ later); moves = moves })
       (or_assoc grown.moves (list_any (moves_by resolved) own) (list_any (moves_by resolved) later)
       ∙ ap (λ m. grown.moves || m) (sym (list_any-append (moves_by resolved) own later)))
@@ -124,10 +131,12 @@ piece_is resolved segment object grown size own placed fit runs fixes =
     let these_fixes : listed ≡ fixes_in object segment = sym fixes in
     let these_runs :
     runs_grown by (gain_by resolved) grown.runs own
-    ≡ with_runs grown.runs (runs_fixed by (gain_by resolved) (fixes_in object segment) (runs_of object segment)) =
+    ≡ with_runs grown.runs
+    (runs_fixed by (gain_by resolved) (fixes_in object segment) (runs_of object segment)) =
     sym (runs_by_contents by (gain_by resolved) grown.runs size 0 own placed fit)
     ∙ ap (λ r. with_runs grown.runs (runs_fixed by (gain_by resolved) listed r)) (sym runs)
-    ∙ ap (λ f. with_runs grown.runs (runs_fixed by (gain_by resolved) f (runs_of object segment))) these_fixes in
+    ∙ ap (λ f. with_runs grown.runs (runs_fixed by (gain_by resolved) f (runs_of object segment)))
+    these_fixes in
     parts_same _ _ _ _ _ _ these_runs
     (ap (λ f. grown.fixes ++ filter_map (fix_kept by (kept_by resolved)) f) these_fixes)
     (ap (λ f. grown.moves || list_any (moves_by resolved) f) these_fixes)
@@ -140,7 +149,8 @@ module _ (resolved : Resolved) (walking : Walking) (fits : ContentsFit walking) 
       let own : List FixedContent = filter (is_in Code) walking.contents in
       grown_own resolved Code grown walking.contents
       ∙ grown_in_parts resolved Code grown own
-      ∙ piece_is resolved Code (module_by walking) grown walking.code_length own fits.code.placed fits.code.fit
+      ∙ piece_is resolved Code (module_by walking) grown walking.code_length own
+      fits.code.placed fits.code.fit
       (code_runs walking fits) (code_fixes walking fits)
 
   pub data_grown :
@@ -165,6 +175,7 @@ piece_grown publics segment one object resolved grown same is =
     ap (grown_from resolved segment grown) same
     ∙ ap (λ r. grown_from r segment grown one.object) is
     ∙ parts_same _ _ _ _ _ _
-    (ap (λ gain. with_runs grown.runs (runs_fixed by gain fixes (runs_of one.object segment))) (gain_same publics one))
+    (ap (λ gain. with_runs grown.runs (runs_fixed by gain fixes (runs_of one.object segment)))
+    (gain_same publics one))
     (ap (λ kept. grown.fixes ++ filter_map (fix_kept by kept) fixes) (kept_same publics one))
     (ap (λ moves. grown.moves || list_any moves fixes) (moves_same publics one))

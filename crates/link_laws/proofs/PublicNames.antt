@@ -21,9 +21,11 @@ named_at name publics =
     ∙ ap (slice_get (map owned_public_view publics)) (same_place name publics)
     ∙ slice_get-map owned_public_view publics (place_of name publics)
 
-module _ (name : List ℕ) (names : List (List ℕ)) (publics : List OwnedPublic) (same : names ≡ map name_of publics) where
+module _ (name : List ℕ) (names : List (List ℕ)) (publics : List OwnedPublic)
+    (same : names ≡ map name_of publics) where
   known : (found : Option ℕ) → position (bytes_eq name) names ≡ found
-      → cond (nat_lt (place_of name publics) (length (map name_of publics))) (Some (place_of name publics)) None ≡ found
+      → cond (nat_lt (place_of name publics) (length (map name_of publics)))
+      (Some (place_of name publics)) None ≡ found
   known found is = sym (ap (position (bytes_eq name)) same) ∙ is
 
   pub named_found :

@@ -3,7 +3,8 @@ use Rattle.link_laws.proofs.Prelude.{◌≡◌, List, [], ◌∷◌, ◌++◌, m
 
 -- one more, whose view is made of what was handed out
 pub view_handed :
-    {A B C : Type 0} (view : A → C) (make : B → C) (done : List A) (made : A) (given left : List B) (first : B)
+    {A B C : Type 0} (view : A → C) (make : B → C) (done : List A) (made : A)
+    (given left : List B) (first : B)
     (total : List C)
     → map view done ++ map make given ≡ total → given ≡ first ∷ left → view made ≡ make first
     → map view (done ++ made ∷ []) ++ map make left ≡ total

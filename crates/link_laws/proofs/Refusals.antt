@@ -3,7 +3,8 @@ use Rattle.link_laws.proofs.Prelude.{◌≡◌, ℕ, Bool, true, false, cond, no
 use Rattle.omf80.specs.Records.{first_that_holds}
 
 -- what the first name that is repeated makes of names that are gathered
-abbrev pub gathered_with : (known names : List (List ℕ)) → Option (List ℕ) → Result (List (List ℕ)) LinkRefusal
+abbrev pub gathered_with : (known names : List (List ℕ)) → Option (List ℕ)
+    → Result (List (List ℕ)) LinkRefusal
 gathered_with known names None = Ok (known ++ names)
 gathered_with known names (Some name) = Err (DuplicatePublic name)
 
@@ -14,7 +15,8 @@ one_moved known others name None = ap Ok (append_assoc known (name ∷ []) other
 one_moved known others name (Some other) = refl
 
 alike_pushed :
-    (known reversed : List (List ℕ)) (name : List ℕ) → Alike known reversed → Alike (known ++ name ∷ []) (name ∷ reversed)
+    (known reversed : List (List ℕ)) (name : List ℕ) → Alike known reversed
+    → Alike (known ++ name ∷ []) (name ∷ reversed)
 alike_pushed known reversed name same other =
     any_moved (bytes_eq other) known name []
     ∙ ap (λ k. bytes_eq other name || list_any (bytes_eq other) k) (append-nil known)
@@ -30,7 +32,8 @@ gathered_after known reversed (name ∷ others) same =
     ∙ one_moved known others name (repeated_after (name ∷ reversed) others))
   where
     go : (b c : Bool) → b ≡ c
-        → gathered (known ++ name ∷ []) others ≡ gathered_with known (name ∷ others) (repeated_after (name ∷ reversed) others)
+        → gathered (known ++ name ∷ []) others
+        ≡ gathered_with known (name ∷ others) (repeated_after (name ∷ reversed) others)
         → cond b (Err (DuplicatePublic name)) (gathered (known ++ name ∷ []) others)
         ≡ gathered_with known (name ∷ others) (cond c (Some name) (repeated_after (name ∷ reversed) others))
     go true true e later = refl
@@ -94,7 +97,8 @@ module _ (objects : List ObjectModule) where
   refusal_is = refl
 
   pub refused_duplicate :
-      (refusal : LinkRefusal) → gathered [] (public_names objects) ≡ Err refusal → link_refusal objects ≡ Some refusal
+      (refusal : LinkRefusal) → gathered [] (public_names objects) ≡ Err refusal
+      → link_refusal objects ≡ Some refusal
   refused_duplicate refusal h =
       refusal_is
       ∙ ap (λ r.
@@ -112,7 +116,8 @@ module _ (objects : List ObjectModule) where
         (all_gathered (public_names objects) names known).new
 
     resolved : missing_in names (externals_of objects) ≡ unresolved objects
-    resolved = ap (λ n. missing_in n (externals_of objects)) (all_gathered (public_names objects) names known).all_is
+    resolved =
+        ap (λ n. missing_in n (externals_of objects)) (all_gathered (public_names objects) names known).all_is
 
     pub refused_unresolved :
         (name : List ℕ) → Some name ≡ missing_in names (externals_of objects)
@@ -122,21 +127,26 @@ module _ (objects : List ObjectModule) where
 
     module _ (all_resolved : None ≡ missing_in names (externals_of objects)) where
       after_names : link_refusal objects ≡ by_passes None None long other_mains high
-      after_names = no_repeat ∙ ap (λ m. by_passes None m long other_mains high) (sym (all_resolved ∙ resolved))
+      after_names =
+          no_repeat ∙ ap (λ m. by_passes None m long other_mains high) (sym (all_resolved ∙ resolved))
 
       pub refused_long : long ≡ true → link_refusal objects ≡ Some SegmentTooLong
       refused_long h = after_names ∙ ap (λ t. by_passes None None t other_mains high) h
 
       pub refused_mains : long ≡ false → other_mains ≡ true → link_refusal objects ≡ Some NotOneMain
       refused_mains h k =
-          after_names ∙ ap (λ t. by_passes None None t other_mains high) h ∙ ap (λ t. by_passes None None false t high) k
+          after_names ∙ ap (λ t. by_passes None None t other_mains high) h
+          ∙ ap (λ t. by_passes None None false t high) k
 
-      pub refused_high : long ≡ false → other_mains ≡ false → high ≡ true → link_refusal objects ≡ Some HighByteMoves
+      pub refused_high : long ≡ false → other_mains ≡ false → high ≡ true
+          → link_refusal objects ≡ Some HighByteMoves
       refused_high h k j =
-          after_names ∙ ap (λ t. by_passes None None t other_mains high) h ∙ ap (λ t. by_passes None None false t high) k
+          after_names ∙ ap (λ t. by_passes None None t other_mains high) h
+          ∙ ap (λ t. by_passes None None false t high) k
           ∙ ap (by_passes None None false false) j
 
       pub allowed : long ≡ false → other_mains ≡ false → high ≡ false → link_refusal objects ≡ None
       allowed h k j =
-          after_names ∙ ap (λ t. by_passes None None t other_mains high) h ∙ ap (λ t. by_passes None None false t high) k
+          after_names ∙ ap (λ t. by_passes None None t other_mains high) h
+          ∙ ap (λ t. by_passes None None false t high) k
           ∙ ap (by_passes None None false false) j

@@ -1,5 +1,5 @@
--- The runs of contents, after the fixes of all, are those of each content after its own fixes, pushed one after
--- another.
+-- The runs of contents, after the fixes of all, are those of each content after its own fixes, pushed one
+-- after another.
 use Rattle.link_laws.proofs.Prelude.{◌≡◌, ℕ, ◌+◌, ◌≤◌, Bool, true, false, cond, ◌==◌, nat_lt, List, [], ◌∷◌, ◌++◌, length, flat_map, refl, ap, sym, subst, ◌∙◌, arith, eqb-true, eq-eqb, lt-ltb, append_assoc, length-append, Fix, Target, content_end, is_empty, width_of, fix_end, FixedContent, Run, bytes_after, fixes_below, fixes_past, run_at, run_end, run_fixed, runs_fixed, with_run, with_runs, AllBelow, AllPast, below_first, past_others, AreWithin, AllFit, Placed, fixes_by_place, open_run, runs_kept, some_width}
 use Rattle.link_laws.proofs.BytesInParts.{after_both_parts, after_length}
 use Rattle.link_laws.proofs.FixesByPlace.{later_past, own_within}
@@ -12,8 +12,10 @@ last_in_parts :
     ≡ with_run (last ∷ []) (run_at offset (first ++ second))
 last_in_parts last offset first second true e =
     let at : offset ≡ last.offset + length last.items = eqb-true offset (last.offset + length last.items) e in
-    let long : length (last.items ++ first) ≡ length last.items + length first = length-append last.items first in
-    let joined : offset + length first ≡ last.offset + length (last.items ++ first) = omega (arith, at, long) in
+    let long : length (last.items ++ first) ≡ length last.items + length first =
+    length-append last.items first in
+    let joined : offset + length first ≡ last.offset + length (last.items ++ first) =
+    omega (arith, at, long) in
     ap (λ (b : Bool).
     with_run (cond b (run_at last.offset (last.items ++ first) ∷ []) (last ∷ run_at offset first ∷ []))
     (run_at (offset + length first) second)) e
@@ -23,16 +25,19 @@ last_in_parts last offset first second true e =
     (eq-eqb (offset + length first) (last.offset + length (last.items ++ first)) joined)
     ∙ ap (λ items. run_at last.offset items ∷ []) (append_assoc last.items first second)
     ∙ sym (ap (λ (b : Bool).
-    cond b (run_at last.offset (last.items ++ (first ++ second)) ∷ []) (last ∷ run_at offset (first ++ second) ∷ [])) e)
+    cond b (run_at last.offset (last.items ++ (first ++ second)) ∷ [])
+    (last ∷ run_at offset (first ++ second) ∷ [])) e)
 last_in_parts last offset first second false e =
     ap (λ (b : Bool).
     with_run (cond b (run_at last.offset (last.items ++ first) ∷ []) (last ∷ run_at offset first ∷ []))
     (run_at (offset + length first) second)) e
     ∙ ap (λ (b : Bool).
-    last ∷ cond b (run_at offset (first ++ second) ∷ []) (run_at offset first ∷ run_at (offset + length first) second ∷ []))
+    last ∷ cond b (run_at offset (first ++ second) ∷ [])
+    (run_at offset first ∷ run_at (offset + length first) second ∷ []))
     (eq-eqb (offset + length first) (offset + length first) refl)
     ∙ sym (ap (λ (b : Bool).
-    cond b (run_at last.offset (last.items ++ (first ++ second)) ∷ []) (last ∷ run_at offset (first ++ second) ∷ [])) e)
+    cond b (run_at last.offset (last.items ++ (first ++ second)) ∷ [])
+    (last ∷ run_at offset (first ++ second) ∷ [])) e)
 
 -- what is not the last run stays
 skip_first :
@@ -53,7 +58,8 @@ in_parts :
     ≡ with_run runs (run_at offset (first ++ second))
 in_parts [] offset first second =
     ap (λ (b : Bool).
-    cond b (run_at offset (first ++ second) ∷ []) (run_at offset first ∷ run_at (offset + length first) second ∷ []))
+    cond b (run_at offset (first ++ second) ∷ [])
+    (run_at offset first ∷ run_at (offset + length first) second ∷ []))
     (eq-eqb (offset + length first) (offset + length first) refl)
 in_parts (last ∷ []) offset first second =
     last_in_parts last offset first second (offset == last.offset + length last.items) refl
@@ -66,7 +72,8 @@ pub pushed_in_parts :
     → with_run (with_run runs (run_at offset first)) (run_at next second)
     ≡ with_run runs (run_at offset (first ++ second))
 pushed_in_parts runs offset next first second at =
-    ap (λ n. with_run (with_run runs (run_at offset first)) (run_at n second)) at ∙ in_parts runs offset first second
+    ap (λ n. with_run (with_run runs (run_at offset first)) (run_at n second)) at
+    ∙ in_parts runs offset first second
 
 -- Fixes before and after a place.
 below_both :
@@ -82,18 +89,21 @@ past_both :
     → fixes_past end (fixes ++ more) ≡ fixes_past end more
 past_both end [] more below = refl
 past_both end (fix ∷ others) more below =
-    ap (λ b. cond b (fixes_past end (others ++ more)) (fix ∷ (others ++ more))) (lt-ltb fix.offset end below.0)
+    ap (λ b. cond b (fixes_past end (others ++ more)) (fix ∷ (others ++ more)))
+    (lt-ltb fix.offset end below.0)
     ∙ past_both end others more below.1
 
 taken_past : (end low : ℕ) (fixes : List Fix) → AllPast low fixes → AllPast low (fixes_below end fixes)
 taken_past end low [] past = tt
 taken_past end low (fix ∷ others) past = go (nat_lt fix.offset end) (taken_past end low others past.1)
   where
-    go : (b : Bool) → AllPast low (fixes_below end others) → AllPast low (cond b (fix ∷ fixes_below end others) [])
+    go : (b : Bool) → AllPast low (fixes_below end others)
+        → AllPast low (cond b (fix ∷ fixes_below end others) [])
     go true later = (past.0, later)
     go false later = tt
 
-within_below : (offset size end : ℕ) (fixes : List Fix) → offset + size ≤ end → AreWithin offset size fixes → AllBelow end fixes
+within_below : (offset size end : ℕ) (fixes : List Fix) → offset + size ≤ end → AreWithin offset size fixes
+    → AllBelow end fixes
 within_below offset size end [] h all = tt
 within_below offset size end (fix ∷ others) h all =
     let high : fix_end fix ≤ offset + size = (all.0).1 in
@@ -121,14 +131,17 @@ module _ (start : ℕ) (gain_of : Target → ℕ) where
       (own later : List Fix)
       → AreWithin offset (length bytes) own → AllPast (offset + length bytes) later
       → next.offset ≡ offset + length bytes
-      → with_runs runs (runs_fixed start gain_of (own ++ later) (run_at offset (bytes ++ next.items) ∷ others))
+      → with_runs runs
+      (runs_fixed start gain_of (own ++ later) (run_at offset (bytes ++ next.items) ∷ others))
       ≡ with_runs (with_run runs (run_fixed start gain_of own (run_at offset bytes)))
       (runs_fixed start gain_of later (next ∷ others))
   joined_first runs offset bytes next others own later within past at =
       let end : ℕ = offset + length (bytes ++ next.items) in
-      let long : length (bytes ++ next.items) ≡ length bytes + length next.items = length-append bytes next.items in
+      let long : length (bytes ++ next.items) ≡ length bytes + length next.items =
+      length-append bytes next.items in
       let same : end ≡ run_end next = omega (arith, at, long) in
-      let below : AllBelow end own = within_below offset (length bytes) end own (omega (arith, long)) within in
+      let below : AllBelow end own =
+      within_below offset (length bytes) end own (omega (arith, long)) within in
       let taken : List Fix = fixes_below (run_end next) later in
       let first : List ℕ = bytes_after gain_of offset own bytes in
       let second : List ℕ = bytes_after gain_of next.offset taken next.items in
@@ -141,12 +154,14 @@ module _ (start : ℕ) (gain_of : Target → ℕ) where
       (below_both end own later below)
       ∙ ap (λ f.
       with_runs
-      (with_run runs (run_fixed start gain_of (own ++ fixes_below end later) (run_at offset (bytes ++ next.items))))
+      (with_run runs (run_fixed start gain_of (own ++ fixes_below end later)
+      (run_at offset (bytes ++ next.items))))
       (runs_fixed start gain_of f others))
       (past_both end own later below)
       ∙ ap (λ n.
       with_runs
-      (with_run runs (run_fixed start gain_of (own ++ fixes_below n later) (run_at offset (bytes ++ next.items))))
+      (with_run runs (run_fixed start gain_of (own ++ fixes_below n later)
+      (run_at offset (bytes ++ next.items))))
       (runs_fixed start gain_of (fixes_past n later) others))
       same
       ∙ ap (λ items.
@@ -167,7 +182,8 @@ module _ (start : ℕ) (gain_of : Target → ℕ) where
   one_content runs offset (byte ∷ bytes) [] own later within past =
       let end : ℕ = offset + length (byte ∷ bytes) in
       ap (λ f. with_run runs (run_fixed start gain_of f (run_at offset (byte ∷ bytes))))
-      (below_first end own later (within_below offset (length (byte ∷ bytes)) end own (omega arith) within) past)
+      (below_first end own later (within_below offset (length (byte ∷ bytes)) end own (omega arith) within)
+      past)
   one_content runs offset (byte ∷ bytes) (next ∷ others) own later within past =
       go (next.offset == offset + length (byte ∷ bytes)) refl
     where
@@ -175,7 +191,8 @@ module _ (start : ℕ) (gain_of : Target → ℕ) where
       end = offset + length (byte ∷ bytes)
 
       below : AllBelow (offset + length (byte ∷ bytes)) own
-      below = within_below offset (length (byte ∷ bytes)) (offset + length (byte ∷ bytes)) own (omega arith) within
+      below = within_below offset (length (byte ∷ bytes)) (offset + length (byte ∷ bytes)) own
+          (omega arith) within
 
       go : (b : Bool) → (next.offset == offset + length (byte ∷ bytes)) ≡ b
           → with_runs runs
@@ -190,7 +207,8 @@ module _ (start : ℕ) (gain_of : Target → ℕ) where
       go false e =
           ap (λ f.
           with_runs (with_run runs (run_fixed start gain_of f (run_at offset (byte ∷ bytes))))
-          (runs_fixed start gain_of (fixes_past (offset + length (byte ∷ bytes)) (own ++ later)) (next ∷ others)))
+          (runs_fixed start gain_of (fixes_past (offset + length (byte ∷ bytes)) (own ++ later))
+          (next ∷ others)))
           (below_first (offset + length (byte ∷ bytes)) own later below past)
           ∙ ap (λ f.
           with_runs (with_run runs (run_fixed start gain_of own (run_at offset (byte ∷ bytes))))
@@ -204,7 +222,8 @@ module _ (start : ℕ) (gain_of : Target → ℕ) where
       runs_grown (with_bytes runs (fixed.content).offset (fixed.content).bytes (fixes_by_place fixed)) others
 
   pub runs_by_contents :
-      (runs : List (Run ℕ)) (size end : ℕ) (contents : List FixedContent) → Placed size end contents → AllFit contents
+      (runs : List (Run ℕ)) (size end : ℕ) (contents : List FixedContent)
+      → Placed size end contents → AllFit contents
       → with_runs runs (runs_fixed start gain_of (flat_map fixes_by_place contents) (runs_kept contents))
       ≡ runs_grown runs contents
   runs_by_contents runs size end [] placed fit = refl
@@ -212,5 +231,6 @@ module _ (start : ℕ) (gain_of : Target → ℕ) where
       one_content runs (fixed.content).offset (fixed.content).bytes (runs_kept others) (fixes_by_place fixed)
       (flat_map fixes_by_place others) (own_within fixed fit.0)
       (later_past size (content_end fixed.content) (content_end fixed.content) others (omega arith) placed.2)
-      ∙ runs_by_contents (with_bytes runs (fixed.content).offset (fixed.content).bytes (fixes_by_place fixed)) size
+      ∙ runs_by_contents (with_bytes runs (fixed.content).offset (fixed.content).bytes (fixes_by_place fixed))
+      size
       (content_end fixed.content) others placed.2 fit.2

@@ -3,7 +3,8 @@ use Rattle.link_laws.proofs.Prelude.{◌≡◌, ℕ, ◌+◌, ◌-◌, ◌≤◌
 
 -- the piece of a segment of a module
 abbrev pub piece_in : List Public → Segment → Linked → ℕ × List (Option SetByte)
-piece_in publics segment one = (displacement_in one segment, places_moved publics one (places_of one.object segment))
+piece_in publics segment one =
+    (displacement_in one segment, places_moved publics one (places_of one.object segment))
 
 -- where it ends
 abbrev pub end_of : Segment → Linked → ℕ
@@ -44,7 +45,8 @@ module _ (publics : List Public) (segment : Segment) where
   made_length made one h =
       let piece : List (Option SetByte) = (piece_in publics segment one).1 in
       let gap : List (Option SetByte) = replicate (displacement_in one segment - length made) None in
-      let a : length (made ++ (gap ++ piece)) ≡ length made + length (gap ++ piece) = length-append made (gap ++ piece) in
+      let a : length (made ++ (gap ++ piece)) ≡ length made + length (gap ++ piece) =
+      length-append made (gap ++ piece) in
       let b : length (gap ++ piece) ≡ length gap + length piece = length-append gap piece in
       let c : length gap ≡ displacement_in one segment - length made =
       length-replicate (displacement_in one segment - length made) None in
@@ -71,7 +73,8 @@ module _ (publics : List Public) (segment : Segment) where
       ∙ ap (λ n. made_with made one ++ joined_after n rest) long
 
   follow_on :
-      (made : List (Option SetByte)) (one : Linked) (others : List Linked) → Follow segment (length made) (one ∷ others)
+      (made : List (Option SetByte)) (one : Linked) (others : List Linked)
+      → Follow segment (length made) (one ∷ others)
       → Follow segment (length (made_with made one)) others
   follow_on made one others follow =
       subst (λ n. Follow segment n others) (sym (made_length made one follow.1)) follow.2
@@ -91,7 +94,8 @@ module _ (publics : List Public) (segment : Segment) where
 
   pub all_fixes :
       (made : List (Option SetByte)) (linked : List Linked) → Follow segment (length made) linked
-      → place_fixes 0 (all_of made linked) ≡ place_fixes 0 made ++ flat_map (piece_fixes publics segment) linked
+      → place_fixes 0 (all_of made linked)
+      ≡ place_fixes 0 made ++ flat_map (piece_fixes publics segment) linked
   all_fixes made [] follow = ap (place_fixes 0) (append-nil made) ∙ sym (append-nil (place_fixes 0 made))
   all_fixes made (one ∷ others) follow =
       ap (place_fixes 0) (all_step made one others follow.1)
@@ -99,9 +103,11 @@ module _ (publics : List Public) (segment : Segment) where
       ∙ ap (λ f. f ++ flat_map (piece_fixes publics segment) others)
       (fixes_with_piece (displacement_in one segment) (gain_in publics one) (target_kept publics one) made
       (places_of one.object segment) follow.1
-      ∙ ap (λ f. place_fixes 0 made ++ filter_map (fix_kept (displacement_in one segment) (target_kept publics one)) f)
+      ∙ ap (λ f. place_fixes 0 made ++ filter_map
+      (fix_kept (displacement_in one segment) (target_kept publics one)) f)
       (placed_fixes one))
-      ∙ append_assoc (place_fixes 0 made) (piece_fixes publics segment one) (flat_map (piece_fixes publics segment) others)
+      ∙ append_assoc (place_fixes 0 made) (piece_fixes publics segment one)
+      (flat_map (piece_fixes publics segment) others)
 
   pub all_length :
       (made : List (Option SetByte)) (linked : List Linked) → Follow segment (length made) linked

@@ -49,7 +49,8 @@ pub code_merged :
     ≡ stored_of (merged_code objects).alignment (merged_code objects).places
 code_merged objects valid =
     let linked : List Linked = linked_modules objects in
-    let follow : Follow Code 0 linked = code_follows 0 0 objects (recursion_from_All IsObjectModule objects valid) in
+    let follow : Follow Code 0 linked =
+    code_follows 0 0 objects (recursion_from_All IsObjectModule objects valid) in
     let size = sym (all_length (all_publics linked) Code [] linked follow) in
     let runs = sym (all_runs (all_publics linked) Code [] linked follow) in
     let fixes = sym (all_fixes (all_publics linked) Code [] linked follow) in
@@ -63,7 +64,8 @@ pub data_merged :
     ≡ stored_of (merged_data objects).alignment (merged_data objects).places
 data_merged objects valid =
     let linked : List Linked = linked_modules objects in
-    let follow : Follow Data 0 linked = data_follows 0 0 objects (recursion_from_All IsObjectModule objects valid) in
+    let follow : Follow Data 0 linked =
+    data_follows 0 0 objects (recursion_from_All IsObjectModule objects valid) in
     let size = sym (all_length (all_publics linked) Data [] linked follow) in
     let runs = sym (all_runs (all_publics linked) Data [] linked follow) in
     let fixes = sym (all_fixes (all_publics linked) Data [] linked follow) in

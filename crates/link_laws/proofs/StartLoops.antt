@@ -5,7 +5,8 @@ use Rattle.link_laws.proofs.NameLoops.{at_item}
 -- where the last pieces end
 last_code :
     (first : ObjectModule) (others : List ObjectModule) (code data_before : ℕ)
-    → last_end code_end (linked_from code data_before (first ∷ others)) ≡ code_after code data_before (first ∷ others)
+    → last_end code_end (linked_from code data_before (first ∷ others))
+    ≡ code_after code data_before (first ∷ others)
 last_code first [] code data_before = refl
 last_code first (next ∷ others) code data_before =
     let one : Linked = linked_after code data_before first in
@@ -13,7 +14,8 @@ last_code first (next ∷ others) code data_before =
 
 last_data :
     (first : ObjectModule) (others : List ObjectModule) (code data_before : ℕ)
-    → last_end data_end (linked_from code data_before (first ∷ others)) ≡ data_after code data_before (first ∷ others)
+    → last_end data_end (linked_from code data_before (first ∷ others))
+    ≡ data_after code data_before (first ∷ others)
 last_data first [] code data_before = refl
 last_data first (next ∷ others) code data_before =
     let one : Linked = linked_after code data_before first in
@@ -39,7 +41,8 @@ code_grows code data_before (object ∷ others) =
     let begins : code ≤ start_after code object.code.alignment = later_start code object.code.alignment in
     omega (arith, later, begins)
 
-data_grows : (code data_before : ℕ) (modules : List ObjectModule) → data_before ≤ data_after code data_before modules
+data_grows : (code data_before : ℕ) (modules : List ObjectModule)
+    → data_before ≤ data_after code data_before modules
 data_grows code data_before [] = omega arith
 data_grows code data_before (object ∷ others) =
     let one : Linked = linked_after code data_before object in
@@ -56,7 +59,8 @@ stack_of object = object.stack_length
 
 -- the lengths of stacks from one on
 abbrev pub stack_after : (stack : ℕ) → List ObjectModule → ℕ
-stack_after stack modules = fold (λ (sum : ℕ) (object : ObjectModule). sum + object.stack_length) stack modules
+stack_after stack modules =
+    fold (λ (sum : ℕ) (object : ObjectModule). sum + object.stack_length) stack modules
 
 stack_grows : (stack : ℕ) (modules : List ObjectModule) → stack ≤ stack_after stack modules
 stack_grows stack [] = omega arith
@@ -66,7 +70,8 @@ stack_grows stack (object ∷ others) =
     omega (arith, later)
 
 -- what is known before each module
-pub record SoFar (code data_end stack : ℕ) (placed : List Linked) (left all : List ObjectModule) : Type 0 where
+pub record SoFar (code data_end stack : ℕ) (placed : List Linked)
+    (left all : List ObjectModule) : Type 0 where
   pub code_limit : code ≤ 65535
   pub data_limit : data_end ≤ 65535
   pub stack_limit : stack ≤ 65535
@@ -83,7 +88,9 @@ abbrev pub start_at : (code data_start : ℕ) → Start
 start_at code data_start = record { code = code; data_start = data_start }
 
 -- one module more
-module _ (code data_before stack : ℕ) (placed : List Linked) (modules : List ObjectModule) (i : ℕ) (known : SoFar code data_before stack placed (drop i modules) modules) (object : ObjectModule) (within : i < length modules) (is : object ≡ get_or modules i object) where
+module _ (code data_before stack : ℕ) (placed : List Linked) (modules : List ObjectModule) (i : ℕ)
+    (known : SoFar code data_before stack placed (drop i modules) modules) (object : ObjectModule)
+    (within : i < length modules) (is : object ≡ get_or modules i object) where
   left_is : drop i modules ≡ object ∷ drop (i + 1) modules
   left_is = at_item (λ (left : List ObjectModule). left) modules i object within is
 
@@ -101,9 +108,11 @@ module _ (code data_before stack : ℕ) (placed : List Linked) (modules : List O
       let same : last_end code_end (linked_modules modules) ≡ code_after 0 0 modules = all_code modules in
       let past : 65535 < last_end code_end (linked_modules modules) =
       omega (arith, begins, sized, long, grows, total, same) in
-      or_left (is_too_long (last_end code_end (linked_modules modules)) || is_too_long (last_end data_end (linked_modules modules)))
+      or_left (is_too_long (last_end code_end (linked_modules modules))
+      || is_too_long (last_end data_end (linked_modules modules)))
       (is_too_long (sum_by stack_of modules))
-      (or_left (is_too_long (last_end code_end (linked_modules modules))) (is_too_long (last_end data_end (linked_modules modules)))
+      (or_left (is_too_long (last_end code_end (linked_modules modules)))
+      (is_too_long (last_end data_end (linked_modules modules)))
       (first_passes (last_end code_end (linked_modules modules)) past))
 
   pub data_too_long :
@@ -121,34 +130,44 @@ module _ (code data_before stack : ℕ) (placed : List Linked) (modules : List O
       let same : last_end data_end (linked_modules modules) ≡ data_after 0 0 modules = all_data modules in
       let past : 65535 < last_end data_end (linked_modules modules) =
       omega (arith, begins, sized, long, grows, total, same) in
-      or_left (is_too_long (last_end code_end (linked_modules modules)) || is_too_long (last_end data_end (linked_modules modules)))
+      or_left (is_too_long (last_end code_end (linked_modules modules))
+      || is_too_long (last_end data_end (linked_modules modules)))
       (is_too_long (sum_by stack_of modules))
-      (or_right (is_too_long (last_end code_end (linked_modules modules))) (is_too_long (last_end data_end (linked_modules modules)))
+      (or_right (is_too_long (last_end code_end (linked_modules modules)))
+      (is_too_long (last_end data_end (linked_modules modules)))
       (first_passes (last_end data_end (linked_modules modules)) past))
 
   pub stack_too_long :
       (more : ℕ) → more ≡ object.stack_length → 65535 < stack + more
       → some_segment_is_too_long modules (linked_modules modules) ≡ true
   stack_too_long more same long =
-      let grows : stack + object.stack_length ≤ stack_after (stack + object.stack_length) (drop (i + 1) modules) =
+      let grows : stack + object.stack_length
+      ≤ stack_after (stack + object.stack_length) (drop (i + 1) modules) =
       stack_grows (stack + object.stack_length) (drop (i + 1) modules) in
       let total : stack_after (stack + object.stack_length) (drop (i + 1) modules) ≡ stack_after 0 modules =
       sym (ap (stack_after stack) left_is) ∙ known.stack_rest in
       let past : 65535 < stack_after 0 modules = omega (arith, same, long, grows, total) in
-      or_right (is_too_long (last_end code_end (linked_modules modules)) || is_too_long (last_end data_end (linked_modules modules)))
+      or_right
+      (is_too_long (last_end code_end (linked_modules modules))
+      || is_too_long (last_end data_end (linked_modules modules)))
       (is_too_long (sum_by stack_of modules)) (first_passes (stack_after 0 modules) past)
 
   pub one_more :
       (code_start data_start code_size data_size more : ℕ) (new : List Linked) (one : Linked)
-      → code_start ≡ start_after code object.code.alignment → data_start ≡ start_after data_before object.data_places.alignment
-      → code_size ≡ length object.code.places → data_size ≡ length object.data_places.places → more ≡ object.stack_length
+      → code_start ≡ start_after code object.code.alignment
+      → data_start ≡ start_after data_before object.data_places.alignment
+      → code_size ≡ length object.code.places → data_size ≡ length object.data_places.places
+      → more ≡ object.stack_length
       → code_start + code_size ≤ 65535 → data_start + data_size ≤ 65535 → stack + more ≤ 65535
-      → one.object ≡ object → one.start ≡ start_at code_start data_start → IsObjectModule object → new ≡ placed ++ one ∷ []
-      → SoFar (code_start + code_size) (data_start + data_size) (stack + more) new (drop (i + 1) modules) modules
+      → one.object ≡ object → one.start ≡ start_at code_start data_start → IsObjectModule object
+      → new ≡ placed ++ one ∷ []
+      → SoFar (code_start + code_size) (data_start + data_size) (stack + more) new
+      (drop (i + 1) modules) modules
   one_more code_start data_start code_size data_size more new one a b c d e f g h same begins valid made =
       let next : Linked = linked_after code data_before object in
       let rest : List ObjectModule = drop (i + 1) modules in
-      let code_is : code_start + code_size ≡ code_end next = ap (λ n. n + code_size) a ∙ ap (λ n. start_after code object.code.alignment + n) c in
+      let code_is : code_start + code_size ≡ code_end next =
+      ap (λ n. n + code_size) a ∙ ap (λ n. start_after code object.code.alignment + n) c in
       let data_is : data_start + data_size ≡ data_end next =
       ap (λ n. n + data_size) b ∙ ap (λ n. start_after data_before object.data_places.alignment + n) d in
       let start_is : one.start ≡ next.start =
@@ -159,26 +178,33 @@ module _ (code data_before stack : ℕ) (placed : List Linked) (modules : List O
         data_limit = g;
         stack_limit = h;
         code_rest =
-            ap (λ n. code_after n (data_start + data_size) rest) code_is ∙ ap (λ n. code_after (code_end next) n rest) data_is
+            ap (λ n. code_after n (data_start + data_size) rest) code_is
+            ∙ ap (λ n. code_after (code_end next) n rest) data_is
             ∙ sym (ap (code_after code data_before) left_is) ∙ known.code_rest;
         data_rest =
-            ap (λ n. data_after n (data_start + data_size) rest) code_is ∙ ap (λ n. data_after (code_end next) n rest) data_is
+            ap (λ n. data_after n (data_start + data_size) rest) code_is
+            ∙ ap (λ n. data_after (code_end next) n rest) data_is
             ∙ sym (ap (data_after code data_before) left_is) ∙ known.data_rest;
         stack_rest =
-            ap (λ n. stack_after (stack + n) rest) e ∙ sym (ap (stack_after stack) left_is) ∙ known.stack_rest;
+            ap (λ n. stack_after (stack + n) rest) e
+            ∙ sym (ap (stack_after stack) left_is) ∙ known.stack_rest;
         placed_rest =
             ap (λ n. n ++ linked_from (code_start + code_size) (data_start + data_size) rest) made
-            ∙ append_assoc placed (one ∷ []) (linked_from (code_start + code_size) (data_start + data_size) rest)
-            ∙ ap (λ l. placed ++ l ∷ linked_from (code_start + code_size) (data_start + data_size) rest) one_is
+            ∙ append_assoc placed (one ∷ [])
+            (linked_from (code_start + code_size) (data_start + data_size) rest)
+            ∙ ap (λ l. placed ++ l ∷ linked_from (code_start + code_size) (data_start + data_size) rest)
+            one_is
             ∙ ap (λ n. placed ++ next ∷ linked_from n (data_start + data_size) rest) code_is
             ∙ ap (λ n. placed ++ next ∷ linked_from (code_end next) n rest) data_is
             ∙ sym (ap (λ left. placed ++ linked_from code data_before left) left_is)
             ∙ known.placed_rest;
-        valid_rest = λ later. known.valid_rest (subst (AllByRecursion IsObjectModule) (sym left_is) (valid, later));
+        valid_rest =
+            λ later. known.valid_rest (subst (AllByRecursion IsObjectModule) (sym left_is) (valid, later));
       }
 
 -- at the end
-module _ (code data_before stack : ℕ) (placed : List Linked) (modules : List ObjectModule) (i : ℕ) (known : SoFar code data_before stack placed (drop i modules) modules) (past : length modules ≤ i) where
+module _ (code data_before stack : ℕ) (placed : List Linked) (modules : List ObjectModule) (i : ℕ)
+    (known : SoFar code data_before stack placed (drop i modules) modules) (past : length modules ≤ i) where
   none_left : drop i modules ≡ []
   none_left = at_drop_all (λ (left : List ObjectModule). left) modules i past
 
@@ -190,7 +216,8 @@ module _ (code data_before stack : ℕ) (placed : List Linked) (modules : List O
 
   pub all_valid : All IsObjectModule modules
   all_valid =
-      All-from_recursion IsObjectModule modules (known.valid_rest (subst (AllByRecursion IsObjectModule) (sym none_left) tt))
+      All-from_recursion IsObjectModule modules
+      (known.valid_rest (subst (AllByRecursion IsObjectModule) (sym none_left) tt))
 
   pub all_stacks : stack ≡ sum_by stack_of modules
   all_stacks = sym (ap (stack_after stack) none_left) ∙ known.stack_rest
@@ -205,9 +232,11 @@ module _ (code data_before stack : ℕ) (placed : List Linked) (modules : List O
       let code_limit : code ≤ 65535 = known.code_limit in
       let data_limit : data_before ≤ 65535 = known.data_limit in
       let stack_limit : stack ≤ 65535 = known.stack_limit in
-      or_from (is_too_long (last_end code_end (linked_modules modules)) || is_too_long (last_end data_end (linked_modules modules)))
+      or_from (is_too_long (last_end code_end (linked_modules modules))
+      || is_too_long (last_end data_end (linked_modules modules)))
       (is_too_long (sum_by stack_of modules))
-      (or_from (is_too_long (last_end code_end (linked_modules modules))) (is_too_long (last_end data_end (linked_modules modules)))
+      (or_from (is_too_long (last_end code_end (linked_modules modules)))
+      (is_too_long (last_end data_end (linked_modules modules)))
       (le-ltb 65535 (last_end code_end (linked_modules modules)) (omega (arith, c, code_limit)))
       (le-ltb 65535 (last_end data_end (linked_modules modules)) (omega (arith, d, data_limit))))
       (le-ltb 65535 (stack_after 0 modules) (omega (arith, s, stack_limit)))

@@ -3,17 +3,20 @@ use Rattle.listings.proofs.Prelude.{◌≡◌, ℕ, ◌+◌, ◌-◌, ◌/◌, �
 use Rattle.std.proofs.Common.{IfSome}
 
 -- an address after a space
-pub address_written : {E : Type 0} (result : Result (Unit {0}) E) (d : _) (spec : _) (n : ℕ) (old new : List ℕ)
+pub address_written : {E : Type 0} (result : Result (Unit {0}) E) (d : _) (spec : _)
+    (n : ℕ) (old new : List ℕ)
     → digits_output d ≡ Some (digits 16 true n) → spec ≡ format_spec 32 0 4 4 (2 ^ 64 - 1) → n < 65536
     → OnOk result (IfSome (Some (32 ∷ []) ++? styled_digits_output d spec) (Appends (Some old) (Some new)))
     → OnOk result (new ≡ old ++ 32 ∷ address_digits n)
 address_written result d spec n old new shown is small wrote =
-    subst (λ (o : Option (List ℕ)). OnOk result (IfSome (Some (32 ∷ []) ++? o) (Appends (Some old) (Some new))))
+    subst (λ (o : Option (List ℕ)). OnOk result
+    (IfSome (Some (32 ∷ []) ++? o) (Appends (Some old) (Some new))))
     (hole_is d spec n shown is small) wrote
 
 -- how many digits a number has
 one_more : (n : ℕ) → 10 ≤ n → n < 18446744073709551616 → length (decimal n) ≡ length (decimal (n / 10)) + 1
-one_more n large fits = ap length (decimal_step n large fits) ∙ length-append (decimal (n / 10)) ((48 + n % 10) ∷ [])
+one_more n large fits =
+    ap length (decimal_step n large fits) ∙ length-append (decimal (n / 10)) ((48 + n % 10) ∷ [])
 
 pub one_digit : (n : ℕ) → n < 10 → length (decimal n) ≡ 1
 one_digit n small = ap length (decimal_digit n small)
@@ -51,5 +54,6 @@ five_digits n large fits =
     let last = some_digits (n / 10 / 10 / 10 / 10) (omega arith) in
     omega (arith, first, second, third, fourth, last)
 
-pub room_is : (n room : ℕ) → 5 - length (decimal n) ≡ room → replicate {A = ℕ} room 32 ≡ replicate {A = ℕ} (5 - length (decimal n)) 32
+pub room_is : (n room : ℕ) → 5 - length (decimal n) ≡ room
+    → replicate {A = ℕ} room 32 ≡ replicate {A = ℕ} (5 - length (decimal n)) 32
 room_is n room e = ap (λ (k : ℕ). replicate {A = ℕ} k 32) (sym e)

@@ -5,27 +5,35 @@ use Rattle.sources.specs.{Programs.{AreSourcesOf, IsProgramOf}, Reading.{IsSourc
 use Rattle.listings.proofs.Prelude.{◌≡◌, ℕ, zero, suc, ◌+◌, ◌<◌, ◌≤◌, List, [], ◌∷◌, ◌++◌, length, map, get_or, slice_get, take, Some, refl, ap, sym, subst, ◌∙◌, arith, All, AllByRecursion, All-from_recursion, length-map, take_all, none-some, same_Some, program_modules, texts_of, Source, Construction, IsConstruction, ModuleView, AreFirstViews, AreViews, Follow, IsViewAt, code_size, data_size, object_of, placed_of, text_of, typed_of, map_push}
 
 -- the first elements of a list, and the one after them
-taken : {A : Type 0} (xs : List A) (n : ℕ) (x : A) → slice_get xs n ≡ Some x → take n xs ++ x ∷ [] ≡ take (suc n) xs
+taken : {A : Type 0} (xs : List A) (n : ℕ) (x : A) → slice_get xs n ≡ Some x
+    → take n xs ++ x ∷ [] ≡ take (suc n) xs
 taken [] n x e = absurd (none-some x e)
 taken (y ∷ xs) zero x e = ap (λ first. first ∷ []) (sym (same_Some y x e))
 taken (y ∷ xs) (suc n) x e = ap (λ others. y ∷ others) (taken xs n x e)
 
-mapped : {A B : Type 0} (f : A → B) (seen : List A) (x : A) (all : List B) (n : ℕ) → map f seen ≡ take n all → slice_get all n ≡ Some (f x) → map f (seen ++ x ∷ []) ≡ take (suc n) all
-mapped f seen x all n are at = map_push f seen x ∙ ap (λ others. others ++ f x ∷ []) are ∙ taken all n (f x) at
+mapped : {A B : Type 0} (f : A → B) (seen : List A) (x : A) (all : List B) (n : ℕ) → map f seen ≡ take n all
+    → slice_get all n ≡ Some (f x) → map f (seen ++ x ∷ []) ≡ take (suc n) all
+mapped f seen x all n are at =
+    map_push f seen x ∙ ap (λ others. others ++ f x ∷ []) are ∙ taken all n (f x) at
 
 -- one module more
-follow_more : (code_base data_base : ℕ) (views : List ModuleView) (view : ModuleView) (code next_data code_end data_end : ℕ) → Follow code_base data_base views code next_data
-    → view.code_base ≡ code → view.data_base ≡ next_data → code_end ≡ code + code_size view → data_end ≡ next_data + data_size view → Follow code_base data_base (views ++ view ∷ []) code_end data_end
+follow_more : (code_base data_base : ℕ) (views : List ModuleView) (view : ModuleView)
+    (code next_data code_end data_end : ℕ) → Follow code_base data_base views code next_data
+    → view.code_base ≡ code → view.data_base ≡ next_data → code_end ≡ code + code_size view
+    → data_end ≡ next_data + data_size view
+    → Follow code_base data_base (views ++ view ∷ []) code_end data_end
 follow_more code_base data_base [] view code next_data code_end data_end are code_at data_at code_is data_is = (
   code_at ∙ sym are.0,
   data_at ∙ sym are.1,
   (ap (λ (n : ℕ). n + code_size view) are.0 ∙ sym code_is, ap (λ (n : ℕ). n + data_size view) are.1 ∙ sym data_is),
 )
-follow_more code_base data_base (first ∷ views) view code next_data code_end data_end are code_at data_at code_is data_is = (
-  are.0,
-  are.1,
-  follow_more (code_base + code_size first) (data_base + data_size first) views view code next_data code_end data_end are.2 code_at data_at code_is data_is,
-)
+follow_more code_base data_base (first ∷ views) view code next_data code_end data_end are code_at
+    data_at code_is data_is = (
+      are.0,
+      are.1,
+      follow_more (code_base + code_size first) (data_base + data_size first) views view code next_data code_end
+          data_end are.2 code_at data_at code_is data_is,
+    )
 
 pub no_views : (texts : List (List ℕ)) (built : Construction) (code next_data : ℕ)
     → code ≡ built.plan.code → next_data ≡ built.plan.data_base
@@ -54,9 +62,11 @@ view_added texts built count next code next_data code_end data_end now new view 
     let after : next ≡ suc count = omega (arith, counted) in
     rw (is, after) (record {
       text_of_each = mapped text_of now view texts count so_far.text_of_each here.text;
-      typed_of_each = mapped typed_of now view (program_modules built.program) count so_far.typed_of_each here.typed;
+      typed_of_each =
+          mapped typed_of now view (program_modules built.program) count so_far.typed_of_each here.typed;
       object_of_each = mapped object_of now view built.objects count so_far.object_of_each here.object;
-      placed_of_each = mapped placed_of now view built.placement.modules count so_far.placed_of_each here.placed;
+      placed_of_each =
+          mapped placed_of now view built.placement.modules count so_far.placed_of_each here.placed;
       follow = follow_more built.plan.code built.plan.data_base now view code next_data code_end data_end
           so_far.follow here.code here.data_at code_is data_is;
       code_within = within code (code_size view) code_end so_far.code_within code_small code_is;
@@ -68,13 +78,18 @@ view_added texts built count next code next_data code_end data_end now new view 
     within from size end low small e = omega (arith, low, small, e)
 
 -- all modules
-pub all_views : (sources : List Source) (built : Construction) (count code next_data : ℕ) (views : List ModuleView) → AreFirstViews (texts_of sources) built count code next_data views → IsConstruction built
+pub all_views : (sources : List Source) (built : Construction) (count code next_data : ℕ)
+    (views : List ModuleView) → AreFirstViews (texts_of sources) built count code next_data views
+    → IsConstruction built
     → length sources ≡ count → count ≡ length built.objects → AreViews (texts_of sources) built views
 all_views sources built count code next_data views are construction given counted =
-    let texts : length (texts_of sources) ≤ count = omega (arith, length-map sources (λ (source : Source). source.text.now), given) in
-    let modules : length (program_modules built.program) ≤ count = omega (arith, construction.objects, counted) in
+    let texts : length (texts_of sources) ≤ count =
+    omega (arith, length-map sources (λ (source : Source). source.text.now), given) in
+    let modules : length (program_modules built.program) ≤ count =
+    omega (arith, construction.objects, counted) in
     let objects : length built.objects ≤ count = omega (arith, counted) in
-    let placed : length built.placement.modules ≤ count = omega (arith, construction.lawful.for_each_module, construction.objects, counted) in
+    let placed : length built.placement.modules ≤ count =
+    omega (arith, construction.lawful.for_each_module, construction.objects, counted) in
     record {
       code_end = code;
       data_end = next_data;
@@ -86,17 +101,21 @@ all_views sources built count code next_data views are construction given counte
     }
 
 -- the sources of a program
-are_sources : (texts : List (List ℕ)) (modules : List TypedModule) → AreSourcesOf texts modules → AllByRecursion IsSource texts
+are_sources : (texts : List (List ℕ)) (modules : List TypedModule) → AreSourcesOf texts modules
+    → AllByRecursion IsSource texts
 are_sources [] [] are = tt
 are_sources [] (typed ∷ modules) are = absurd are
 are_sources (text ∷ texts) [] are = absurd are
 are_sources (text ∷ texts) (typed ∷ modules) are =
     (record { typed = typed; source = are.0 }, are_sources texts modules are.1)
 
-pub program_sources : (texts : List (List ℕ)) (modules : List TypedModule) → IsProgramOf texts modules → All IsSource texts
-program_sources texts modules program = All-from_recursion IsSource texts (are_sources texts modules program.sources)
+pub program_sources : (texts : List (List ℕ)) (modules : List TypedModule) → IsProgramOf texts modules
+    → All IsSource texts
+program_sources texts modules program =
+    All-from_recursion IsSource texts (are_sources texts modules program.sources)
 
-pub source_at : (sources : List Source) (index : ℕ) (d : Source) → All IsSource (texts_of sources) → index < length sources
+pub source_at : (sources : List Source) (index : ℕ) (d : Source) → All IsSource (texts_of sources)
+    → index < length sources
     → IsSource (get_or sources index d).text.now
 source_at sources index d each below =
     subst IsSource (get_or-map (λ (source : Source). source.text.now) sources index d [] below)
@@ -109,7 +128,8 @@ source_there sources number source each found =
     (source_at sources number source each (slice_get_within sources number source found))
 
 -- there are as many as the program has modules, and object modules
-same_count : (texts : List (List ℕ)) (modules : List TypedModule) → AreSourcesOf texts modules → length texts ≡ length modules
+same_count : (texts : List (List ℕ)) (modules : List TypedModule) → AreSourcesOf texts modules
+    → length texts ≡ length modules
 same_count [] [] are = refl
 same_count [] (typed ∷ modules) are = absurd are
 same_count (text ∷ texts) [] are = absurd are

@@ -20,7 +20,8 @@ stands output word words kind (Some text) is agree =
 -- how a look-up goes through the first entry, where the key is that of the entry, and where it is another
 module _ {X : Type 0} (name : List ℕ) (key other : List ℕ) (value was : X) (rest : Option X) where
   through_same : key ≡ other
-      → cond (bytes_eq name other) (Some value) rest ≡ cond (bytes_eq name key) (Some value) (cond (bytes_eq name other) (Some was) rest)
+      → cond (bytes_eq name other) (Some value) rest
+      ≡ cond (bytes_eq name key) (Some value) (cond (bytes_eq name other) (Some was) rest)
   through_same same = by (bytes_eq name other) refl
     where
       by : (b : Bool)
@@ -32,7 +33,8 @@ module _ {X : Type 0} (name : List ℕ) (key other : List ℕ) (value was : X) (
   through_other : bytes_eq key other ≡ false
       → (rest_then : Option X)
       → rest_then ≡ cond (bytes_eq name key) (Some value) rest
-      → cond (bytes_eq name other) (Some was) rest_then ≡ cond (bytes_eq name key) (Some value) (cond (bytes_eq name other) (Some was) rest)
+      → cond (bytes_eq name other) (Some was) rest_then
+      ≡ cond (bytes_eq name key) (Some value) (cond (bytes_eq name other) (Some was) rest)
   through_other differ rest_then later = by (bytes_eq name other) (bytes_eq name key) refl refl later
     where
       by : (b k : Bool)
@@ -40,15 +42,22 @@ module _ {X : Type 0} (name : List ℕ) (key other : List ℕ) (value was : X) (
           → bytes_eq name key ≡ k
           → rest_then ≡ cond k (Some value) rest
           → cond b (Some was) rest_then ≡ cond k (Some value) (cond b (Some was) rest)
-      by true true one two later = absurd (cc ((bytes_eq-Decides key other).1 (sym ((bytes_eq-Decides name key).0 two) ∙ (bytes_eq-Decides name other).0 one)))
+      by true true one two later =
+          absurd (cc ((bytes_eq-Decides key other).1
+          (sym ((bytes_eq-Decides name key).0 two) ∙ (bytes_eq-Decides name other).0 one)))
       by true false one two later = refl
       by false k one two later = later
 
 -- the words for a name after an insertion
 pub words_for_inserted : {X : Type 0} (entries : List (Key × X)) (key : Key) (value : X) (name : List ℕ)
-    → lookup (λ k. bytes_eq name (name_of k.text.now)) (insert_entry (λ a b. bytes_eq (name_of a.text.now) (name_of b.text.now)) entries key value) ≡ cond (bytes_eq name (name_of key.text.now)) (Some value) (lookup (λ k. bytes_eq name (name_of k.text.now)) entries)
+    → lookup (λ k. bytes_eq name (name_of k.text.now))
+    (insert_entry (λ a b. bytes_eq (name_of a.text.now) (name_of b.text.now)) entries key value)
+    ≡ cond (bytes_eq name (name_of key.text.now)) (Some value)
+    (lookup (λ k. bytes_eq name (name_of k.text.now)) entries)
 words_for_inserted {X} [] key value name = refl
-words_for_inserted {X} (entry ∷ entries) key value name = by (bytes_eq (name_of key.text.now) (name_of entry.0.text.now)) refl (words_for_inserted entries key value name)
+words_for_inserted {X} (entry ∷ entries) key value name =
+    by (bytes_eq (name_of key.text.now) (name_of entry.0.text.now)) refl
+    (words_for_inserted entries key value name)
   where
     found : List (Key × X) → Option X
     found entries = lookup (λ k. bytes_eq name (name_of k.text.now)) entries
@@ -59,9 +68,14 @@ words_for_inserted {X} (entry ∷ entries) key value name = by (bytes_eq (name_o
     by : (b : Bool)
         → bytes_eq (name_of key.text.now) (name_of entry.0.text.now) ≡ b
         → found after ≡ cond (bytes_eq name (name_of key.text.now)) (Some value) (found entries)
-        → found (cond b ((entry.0, value) ∷ entries) (entry ∷ after)) ≡ cond (bytes_eq name (name_of key.text.now)) (Some value) (found (entry ∷ entries))
-    by true is later = through_same name (name_of key.text.now) (name_of entry.0.text.now) value entry.1 (found entries) ((bytes_eq-Decides (name_of key.text.now) (name_of entry.0.text.now)).0 is)
-    by false is later = through_other name (name_of key.text.now) (name_of entry.0.text.now) value entry.1 (found entries) is (found after) later
+        → found (cond b ((entry.0, value) ∷ entries) (entry ∷ after))
+        ≡ cond (bytes_eq name (name_of key.text.now)) (Some value) (found (entry ∷ entries))
+    by true is later =
+        through_same name (name_of key.text.now) (name_of entry.0.text.now) value entry.1 (found entries)
+        ((bytes_eq-Decides (name_of key.text.now) (name_of entry.0.text.now)).0 is)
+    by false is later =
+        through_other name (name_of key.text.now) (name_of entry.0.text.now) value entry.1 (found entries)
+        is (found after) later
 
 -- the definition that a word completes, by its name
 pub definition_is : {N : Type 0} (name_in : N → List ℕ) (name : N) (word : Lexeme) (before : List Lexeme)
@@ -70,17 +84,25 @@ pub definition_is : {N : Type 0} (name_in : N → List ℕ) (name : N) (word : L
 definition_is name_in name word before is = ap (option_map (λ name. (name, text_of word))) (sym is)
 
 -- the definition of the last word is held with those before it
-pub held_then : {S : Type 0} (output : List Lexeme) (word : Lexeme) (name : List ℕ) (words : Vec Word Global) (map after : IndexMap Key (Vec Word Global) S)
+pub held_then : {S : Type 0} (output : List Lexeme) (word : Lexeme) (name : List ℕ) (words : Vec Word Global)
+    (map after : IndexMap Key (Vec Word Global) S)
     → definition_by word (reverse output) ≡ Some (name, text_of word)
     → IsTextOf (text_of word) (lexemes_of words.items)
-    → ((other : List ℕ) → words_for after other ≡ cond (bytes_eq other name) (Some words) (words_for map other)) → AreHeld output map → AreHeld (output ++ word ∷ []) after
+    → ((other : List ℕ) → words_for after other
+    ≡ cond (bytes_eq other name) (Some words) (words_for map other)) → AreHeld output map
+    → AreHeld (output ++ word ∷ []) after
 held_then output word name words map after is text inserted held other =
-    let read_back : text_in other (reverse (output ++ word ∷ [])) ≡ cond (bytes_eq other name) (Some (text_of word)) (text_in other (reverse output)) =
-    text_in_push other output word ∙ ap (λ definition. text_if other definition (text_in other (reverse output))) is in
-    subst (λ t. Agree t (words_for after other)) (sym read_back) (subst (Agree (cond (bytes_eq other name) (Some (text_of word)) (text_in other (reverse output)))) (sym (inserted other)) (by (bytes_eq other name)))
+    let read_back : text_in other (reverse (output ++ word ∷ []))
+    ≡ cond (bytes_eq other name) (Some (text_of word)) (text_in other (reverse output)) =
+    text_in_push other output word ∙ ap
+    (λ definition. text_if other definition (text_in other (reverse output))) is in
+    subst (λ t. Agree t (words_for after other)) (sym read_back)
+    (subst (Agree (cond (bytes_eq other name) (Some (text_of word)) (text_in other (reverse output))))
+    (sym (inserted other)) (by (bytes_eq other name)))
   where
     by : (b : Bool)
-        → Agree (cond b (Some (text_of word)) (text_in other (reverse output))) (cond b (Some words) (words_for map other))
+        → Agree (cond b (Some (text_of word)) (text_in other (reverse output)))
+        (cond b (Some words) (words_for map other))
     by true = text
     by false = held other
 
@@ -89,7 +111,8 @@ pub sound_by : (output : List Lexeme) (word : Lexeme) (name : List ℕ) (words :
     → definition_by word (reverse output) ≡ Some (name, text_of word)
     → IsTextOf (text_of word) words
     → IsSound output word
-sound_by output word name words is text = subst (λ definition. IfSome definition (λ d. IsSoundText d.1)) (sym is) (text.0, (words, text.1))
+sound_by output word name words is text =
+    subst (λ definition. IfSome definition (λ d. IsSoundText d.1)) (sym is) (text.0, (words, text.1))
 
 -- no text in force holds a quote
 pub free_in_force : {S : Type 0} (output : List Lexeme) (map : IndexMap Key (Vec Word Global) S)
@@ -97,7 +120,9 @@ pub free_in_force : {S : Type 0} (output : List Lexeme) (map : IndexMap Key (Vec
     → (word : Lexeme) (text : List ℕ)
     → in_force output word ≡ Some text
     → has_quote text ≡ false
-free_in_force output map held word text is = agree _ (subst (λ t. Agree t (words_for map (name_of word.text))) (text_in_force output word text is) (held (name_of word.text)))
+free_in_force output map held word text is =
+    agree _ (subst (λ t. Agree t (words_for map (name_of word.text))) (text_in_force output word text is)
+    (held (name_of word.text)))
   where
     agree : (found : Option (Vec Word Global)) → Agree (Some text) found → has_quote text ≡ false
     agree None never = absurd never
@@ -108,16 +133,20 @@ pub held_append : {S : Type 0} (output now : List Lexeme) (map : IndexMap Key (V
     → HasNoString now
     → AreHeld output map
     → AreHeld (output ++ now) map
-held_append output now map none held name = subst (λ text. Agree text (words_for map name)) (sym (text_in_after name output now none)) (held name)
+held_append output now map none held name =
+    subst (λ text. Agree text (words_for map name)) (sym (text_in_after name output now none)) (held name)
 
 -- so does what a name in force becomes
-pub held_after : {S : Type 0} (output : List Lexeme) (processed : ℕ) (word : Lexeme) (inner : List Lexeme) (whole : List Lexeme) (count : ℕ) (map : IndexMap Key (Vec Word Global) S)
+pub held_after : {S : Type 0} (output : List Lexeme) (processed : ℕ) (word : Lexeme) (inner : List Lexeme)
+    (whole : List Lexeme) (count : ℕ) (map : IndexMap Key (Vec Word Global) S)
     → StandsFor output word inner
     → AreHeld output map
     → Adds output processed word whole count
     → AreHeld whole map
 held_after output processed word inner whole count map stands held added =
-    let none = becomes_no_string (free_in_force output map held) (name_in_force output word stands.0 stands.1, tt) added.2 in
+    let none =
+    becomes_no_string (free_in_force output map held)
+    (name_in_force output word stands.0 stands.1, tt) added.2 in
     subst (λ words. AreHeld words map) (sym added.3) (held_append output added.0 map none held)
 
 -- a name in force before LITERALLY

@@ -4,14 +4,16 @@ use Rattle.literally.proofs.DefinitionsNoStrings.{HasNoString}
 
 -- one more word
 pub text_in_push : (name : List ℕ) (output : List Lexeme) (word : Lexeme)
-    → text_in name (reverse (output ++ word ∷ [])) ≡ text_if name (definition_by word (reverse output)) (text_in name (reverse output))
+    → text_in name (reverse (output ++ word ∷ []))
+    ≡ text_if name (definition_by word (reverse output)) (text_in name (reverse output))
 text_in_push name output word = ap (text_in name) (reverse-append output (word ∷ []))
 
 -- a word that is no string completes no definition
 pub completes_none : (word : Lexeme) (before : List Lexeme)
     → is_string word.kind ≡ false
     → definition_by word before ≡ None
-completes_none word before other = ap (λ b. option_map (λ name. (name, text_of word)) (cond b (name_before before) None)) other
+completes_none word before other =
+    ap (λ b. option_map (λ name. (name, text_of word)) (cond b (name_before before) None)) other
 
 -- words without a string define nothing
 pub text_in_after : (name : List ℕ) (output now : List Lexeme)
@@ -19,7 +21,8 @@ pub text_in_after : (name : List ℕ) (output now : List Lexeme)
     → text_in name (reverse (output ++ now)) ≡ text_in name (reverse output)
 text_in_after name output [] none = ap (λ words. text_in name (reverse words)) (append-nil output)
 text_in_after name output (word ∷ now) none =
-    ap (λ words. text_in name (reverse words)) (sym (append_assoc output (word ∷ []) now)) ∙ text_in_after name (output ++ word ∷ []) now none.1
+    ap (λ words. text_in name (reverse words)) (sym (append_assoc output (word ∷ []) now))
+    ∙ text_in_after name (output ++ word ∷ []) now none.1
     ∙ text_in_push name output word ∙ ap (λ definition. text_if name definition (text_in name (reverse output))) (completes_none word (reverse output) none.0)
 
 -- a name that is in force is no string, and its text is that of its name

@@ -22,7 +22,10 @@ no_string_of_reserved None = refl
 no_string_of_reserved (Some word) = refl
 
 no_string_of_name : (text : List ℕ) → IsNoString (name_item text)
-no_string_of_name text = either (nat_lt LONGEST_NAME (length (name_of text))) (Wrong LongName) (Spelled (kind_of_name (name_of text)) (length text)) (λ _. record { other = tt }) (λ _. record { other = no_string_of_reserved (reserved_of (name_of text)) })
+no_string_of_name text =
+    either (nat_lt LONGEST_NAME (length (name_of text))) (Wrong LongName)
+    (Spelled (kind_of_name (name_of text)) (length text)) (λ _. record { other = tt })
+    (λ _. record { other = no_string_of_reserved (reserved_of (name_of text)) })
 
 no_string_of_number : (found : Option ℕ) (taken : ℕ)
     → IsNoString (option_map_or (λ value. Spelled (Number value) taken) found (Wrong BadNumber))
@@ -47,16 +50,21 @@ no_string_at : (text : List ℕ) → has_quote text ≡ false → IsNoString (it
 no_string_at [] free = record { other = tt }
 no_string_at (first ∷ text) free =
     either (is_blank first) _ _ (λ _. record { other = tt })
-    (λ _. either (is_ascii_alphabetic first) _ _ (λ _. no_string_of_name (take_while is_word_byte (first ∷ text)))
+    (λ _. either (is_ascii_alphabetic first) _ _
+    (λ _. no_string_of_name (take_while is_word_byte (first ∷ text)))
     (λ _. either (is_ascii_digit first) _ _ (λ _. no_string_of_number _ _)
     (λ _. either (eqb first 39) _ _ (λ quote. absurd (no_quote_first first text free quote))
-    (λ _. either ((first == 47) && (slice_index text 0 == 42)) (comment_item (comment_end false (drop 1 text))) (mark_item (first ∷ text)) (λ _. no_string_of_comment (comment_end false (drop 1 text))) (λ _. no_string_of_mark (mark_at (first ∷ text)))))))
+    (λ _. either ((first == 47) && (slice_index text 0 == 42))
+    (comment_item (comment_end false (drop 1 text))) (mark_item (first ∷ text))
+    (λ _. no_string_of_comment (comment_end false (drop 1 text)))
+    (λ _. no_string_of_mark (mark_at (first ∷ text)))))))
 
 -- what follows a place holds no quote either
 free_after : (place : ℕ) (text : List ℕ) → has_quote text ≡ false → has_quote (drop place text) ≡ false
 free_after zero text free = free
 free_after (suc place) [] free = refl
-free_after (suc place) (first ∷ text) free = free_after place text (or_parts (eqb first 39) (has_quote text) free).1
+free_after (suc place) (first ∷ text) free =
+    free_after place text (or_parts (eqb first 39) (has_quote text) free).1
 
 -- no word of a list is a string
 abbrev pub HasNoString : List Lexeme → Type 0
@@ -95,5 +103,7 @@ pub becomes_no_string : {output : List Lexeme} {depth count : ℕ} {words now : 
     → HasNoString now
 becomes_no_string free none no_words = tt
 becomes_no_string free none (stays is rest) = (none.0, becomes_no_string free none.1 rest)
-becomes_no_string free none (replaced {text = text} {word = word} {inner = inner} {front = front} {back = back} is spells room inside rest) =
+becomes_no_string free none
+    (replaced {text = text} {word = word} {inner = inner} {front = front} {back = back} is
+    spells room inside rest) =
     no_string_append front back (becomes_no_string free (no_string_at_use word inner (spells_no_string (free word text is) spells)) inside) (becomes_no_string free none.1 rest)

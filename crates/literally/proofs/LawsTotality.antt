@@ -10,12 +10,15 @@ AreTexts output = (word : Lexeme) (text : List ℕ) → in_force output word ≡
 
 module _ (output : List Lexeme) (texts : AreTexts output) where
   abbrev Comes : ℕ → List Lexeme → Type 0
-  Comes depth words = ((now : List Lexeme) × (count : ℕ) × Becomes output depth words now count) ⊎ IsTooDeep output depth words
+  Comes depth words =
+      ((now : List Lexeme) × (count : ℕ) × Becomes output depth words now count)
+      ⊎ IsTooDeep output depth words
 
   -- what a use is replaced by
   abbrev Gives : ℕ → Lexeme → List ℕ → Type 0
   Gives depth word text =
-      ((inner : List Lexeme) × (front : List Lexeme) × (some : ℕ) × Spells text inner × (depth < DEEPEST) × Becomes output (depth + 1) (map (at_use word) inner) front some)
+      ((inner : List Lexeme) × (front : List Lexeme) × (some : ℕ) × Spells text inner × (depth < DEEPEST)
+      × Becomes output (depth + 1) (map (at_use word) inner) front some)
       ⊎ ((words : List Lexeme) → IsTooDeep output depth (word ∷ words))
 
   comes_after : (depth : ℕ) (word : Lexeme) (words : List Lexeme) (text : List ℕ)
@@ -24,7 +27,8 @@ module _ (output : List Lexeme) (texts : AreTexts output) where
       → Comes depth words
       → Comes depth (word ∷ words)
   comes_after depth word words text is gives (inr deep) = inr (later_word deep)
-  comes_after depth word words text is (inl front) (inl back) = inl (front.1 ++ back.0, 1 + front.2 + back.1, replaced is front.3 front.4 front.5 back.2)
+  comes_after depth word words text is (inl front) (inl back) =
+      inl (front.1 ++ back.0, 1 + front.2 + back.1, replaced is front.3 front.4 front.5 back.2)
   comes_after depth word words text is (inr deep) (inl back) = inr (deep words)
 
   comes_kept : (depth : ℕ) (word : Lexeme) (words : List Lexeme)
@@ -40,14 +44,16 @@ module _ (output : List Lexeme) (texts : AreTexts output) where
       → Comes depth words
       → Comes depth (word ∷ words)
   comes_word depth word words None is gives back = comes_kept depth word words is back
-  comes_word depth word words (Some text) is gives back = comes_after depth word words text is (gives text is) back
+  comes_word depth word words (Some text) is gives back =
+      comes_after depth word words text is (gives text is) back
 
   comes_all : (depth : ℕ)
       → ((word : Lexeme) (text : List ℕ) → in_force output word ≡ Some text → Gives depth word text)
       → (words : List Lexeme)
       → Comes depth words
   comes_all depth gives [] = inl ([], 0, no_words)
-  comes_all depth gives (word ∷ words) = comes_word depth word words (in_force output word) refl (gives word) (comes_all depth gives words)
+  comes_all depth gives (word ∷ words) =
+      comes_word depth word words (in_force output word) refl (gives word) (comes_all depth gives words)
 
   gives_inside : (depth : ℕ) (word : Lexeme) (text : List ℕ) (inner : List Lexeme)
       → in_force output word ≡ Some text
@@ -55,16 +61,22 @@ module _ (output : List Lexeme) (texts : AreTexts output) where
       → depth < DEEPEST
       → Comes (depth + 1) (map (at_use word) inner)
       → Gives depth word text
-  gives_inside depth word text inner is spells room (inl front) = inl (inner, front.0, front.1, spells, room, front.2)
+  gives_inside depth word text inner is spells room (inl front) =
+      inl (inner, front.0, front.1, spells, room, front.2)
   gives_inside depth word text inner is spells room (inr deep) = inr (λ words. deeper is spells deep)
 
   -- by the depths that are left
   comes : (room depth : ℕ) → depth + room ≡ DEEPEST → (words : List Lexeme) → Comes depth words
-  comes zero depth full = comes_all depth (λ word text is. inr (λ words. let same : DEEPEST ≡ depth = omega arith in subst (λ d. IsTooDeep output d (word ∷ words)) same (too_deep is)))
+  comes zero depth full =
+      comes_all depth
+      (λ word text is. inr (λ words. let same : DEEPEST ≡ depth = omega arith in subst (λ d. IsTooDeep output
+      d (word ∷ words)) same (too_deep is)))
   comes (suc room) depth left =
       let inside : depth + 1 + room ≡ DEEPEST = omega arith in
       let below : depth < DEEPEST = omega arith in
-      comes_all depth (λ word text is. let spelled = texts word text is in gives_inside depth word text spelled.1.0 is spelled.1.1 below (comes room (depth + 1) inside (map (at_use word) spelled.1.0)))
+      comes_all depth
+      (λ word text is. let spelled = texts word text is in gives_inside depth word text spelled.1.0 is
+      spelled.1.1 below (comes room (depth + 1) inside (map (at_use word) spelled.1.0)))
 
 -- what words become is processed
 processes_all : {output : List Lexeme} {depth count : ℕ} {words now : List Lexeme}
@@ -72,21 +84,24 @@ processes_all : {output : List Lexeme} {depth count : ℕ} {words now : List Lex
     → ProcessesAtLeast output depth words count
 processes_all no_words = none_yet
 processes_all (stays none rest) = word_then (processes_all rest)
-processes_all (replaced is spells room inside rest) = text_then is spells (processes_all inside) (processes_all rest)
+processes_all (replaced is spells room inside rest) =
+    text_then is spells (processes_all inside) (processes_all rest)
 
 -- each text that an output defines is sound
 abbrev Defines : List Lexeme → Type 0
 Defines output = (name text : List ℕ) → text_in name (reverse output) ≡ Some text → IsSoundText text
 
 texts_in_force : (output : List Lexeme) → Defines output → AreTexts output
-texts_in_force output defines word text is = defines (name_of word.text) text (text_in_force output word text is)
+texts_in_force output defines word text is =
+    defines (name_of word.text) text (text_in_force output word text is)
 
 -- after a word that stays
 defines_push : (output : List Lexeme) (word : Lexeme)
     → Defines output
     → IsSound output word
     → Defines (output ++ word ∷ [])
-defines_push output word defines sound name text is = by (definition_by word (reverse output)) sound (sym (text_in_push name output word) ∙ is)
+defines_push output word defines sound name text is =
+    by (definition_by word (reverse output)) sound (sym (text_in_push name output word) ∙ is)
   where
     if_same : (b : Bool) (definition : List ℕ)
         → IsSoundText definition
@@ -113,7 +128,9 @@ defines_after output now word count None is defines sound becomes =
     let only = one_becomes output (stays is no_words) now count becomes in
     subst (λ words. Defines (output ++ words)) only.0 (defines_push output word defines sound)
 defines_after output now word count (Some text) is defines sound becomes =
-    let none = becomes_no_string (λ w t at. (texts_in_force output defines w t at).0) (name_in_force output word text is, tt) becomes in
+    let none =
+    becomes_no_string (λ w t at. (texts_in_force output defines w t at).0)
+    (name_in_force output word text is, tt) becomes in
     (λ name other there. defines name other (sym (text_in_after name output now none) ∙ there))
 
 -- the definition that a word completes is sound, or a fault
@@ -152,12 +169,14 @@ sound_or_fails output processed word words = by (definition_by word (reverse out
     by (Some definition) is = quoted (has_quote definition.1) definition.0 definition.1 is refl
 
 abbrev Goes : List Lexeme → ℕ → List Lexeme → Type 0
-Goes output processed words = ((whole : List Lexeme) × ExpandsFrom output processed words whole) ⊎ Fails output processed words
+Goes output processed words =
+    ((whole : List Lexeme) × ExpandsFrom output processed words whole) ⊎ Fails output processed words
 
 -- what a word becomes leads on, or is a fault
 goes_word : (output : List Lexeme) (processed : ℕ) (word : Lexeme) (words : List Lexeme)
     → Defines output
-    → ((now : List Lexeme) (count : ℕ) → Defines (output ++ now) → Goes (output ++ now) (processed + count) words)
+    → ((now : List Lexeme) (count : ℕ) → Defines (output ++ now)
+    → Goes (output ++ now) (processed + count) words)
     → Goes output processed (word ∷ words)
 goes_word output processed word words defines rest = again (is_defined_again output word words) refl
   where
@@ -168,8 +187,10 @@ goes_word output processed word words defines rest = again (is_defined_again out
         → processed + count ≤ MOST_WORDS
         → Goes (output ++ now) (processed + count) words
         → Goes output processed (word ∷ words)
-    on now count once sound becomes room (inl whole) = inl (whole.0, after_word once sound becomes room whole.1)
-    on now count once sound becomes room (inr fails) = inr (fails.0, fault_after_word once sound becomes room fails.1)
+    on now count once sound becomes room (inl whole) =
+        inl (whole.0, after_word once sound becomes room whole.1)
+    on now count once sound becomes room (inr fails) =
+        inr (fails.0, fault_after_word once sound becomes room fails.1)
 
     counted : (now : List Lexeme) (count : ℕ)
         → is_defined_again output word words ≡ false
@@ -177,7 +198,10 @@ goes_word output processed word words defines rest = again (is_defined_again out
         → Becomes output 0 (word ∷ []) now count
         → (processed + count ≤ MOST_WORDS) ⊎ (MOST_WORDS < processed + count)
         → Goes output processed (word ∷ words)
-    counted now count once sound becomes (inl room) = on now count once sound becomes room (rest now count (defines_after output now word count (in_force output word) refl defines sound becomes))
+    counted now count once sound becomes (inl room) =
+        on now count once sound becomes room
+        (rest now count (defines_after output now word count (in_force output word) refl
+        defines sound becomes))
     counted now count once sound becomes (inr over) = inr (_, count_passed (processes_all becomes) over)
 
     fits : (a b : ℕ) → (a ≤ b) ⊎ (b < a)
@@ -197,13 +221,15 @@ goes_word output processed word words defines rest = again (is_defined_again out
     sounds : is_defined_again output word words ≡ false
         → IsSound output word ⊎ Fails output processed (word ∷ words)
         → Goes output processed (word ∷ words)
-    sounds once (inl sound) = becomes once sound (comes output (texts_in_force output defines) DEEPEST 0 (omega arith) (word ∷ []))
+    sounds once (inl sound) =
+        becomes once sound (comes output (texts_in_force output defines) DEEPEST 0 (omega arith) (word ∷ []))
     sounds once (inr fails) = inr fails
 
     again : (b : Bool) → is_defined_again output word words ≡ b → Goes output processed (word ∷ words)
     again true is = inr (_, defined_again is)
     again false is = sounds is (sound_or_fails output processed word words)
 
-pub expands_or_fails : (words output : List Lexeme) (processed : ℕ) → Defines output → Goes output processed words
+pub expands_or_fails : (words output : List Lexeme) (processed : ℕ) → Defines output
+    → Goes output processed words
 expands_or_fails [] output processed defines = inl (output, at_end)
 expands_or_fails (word ∷ words) output processed defines = goes_word output processed word words defines (λ now count after. expands_or_fails words (output ++ now) (processed + count) after)

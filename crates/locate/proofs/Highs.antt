@@ -12,7 +12,8 @@ fixes_are_at :
 fixes_are_at n [] = refl
 fixes_are_at n (None ∷ others) = fixes_are_at (n + 1) others
 fixes_are_at n (Some here ∷ others) =
-    before_runs_fixes n here (runs_from (n + 1) others) ∙ ap (before_fixes n here.fixup) (fixes_are_at (n + 1) others)
+    before_runs_fixes n here (runs_from (n + 1) others)
+    ∙ ap (before_fixes n here.fixup) (fixes_are_at (n + 1) others)
 
 abbrev target_at : Option SetByte → Option Target
 target_at place = option_and_then (λ (here : SetByte). option_and_then high_target here.fixup) place
@@ -21,7 +22,8 @@ abbrev breaks : (gain_of : Target → ℕ) → Target → Bool
 breaks gain_of target = not (gain_of target % 256 == 0)
 
 any_kind :
-    (gain_of : Target → ℕ) (n value : ℕ) (kind : FixKind) (target : Target) (fixes : List Fix) (targets : List Target)
+    (gain_of : Target → ℕ) (n value : ℕ) (kind : FixKind) (target : Target) (fixes : List Fix)
+    (targets : List Target)
     → list_any (breaks_high gain_of) fixes ≡ list_any (breaks gain_of) targets
     → list_any (breaks_high gain_of) (record { kind = kind; target = target; offset = n } ∷ fixes)
     ≡ list_any (breaks gain_of) (cons_option (high_target (record { kind = kind; target = target })) targets)
@@ -33,13 +35,16 @@ any_fixup :
     (gain_of : Target → ℕ) (n value : ℕ) (fixup : Option Fixup) (fixes : List Fix) (targets : List Target)
     → list_any (breaks_high gain_of) fixes ≡ list_any (breaks gain_of) targets
     → list_any (breaks_high gain_of) (before_fixes n fixup fixes)
-    ≡ list_any (breaks gain_of) (cons_option (target_at (Some (record { value = value; fixup = fixup }))) targets)
+    ≡ list_any (breaks gain_of)
+    (cons_option (target_at (Some (record { value = value; fixup = fixup }))) targets)
 any_fixup gain_of n value None fixes targets h = h
-any_fixup gain_of n value (Some fixup) fixes targets h = any_kind gain_of n value fixup.kind fixup.target fixes targets h
+any_fixup gain_of n value (Some fixup) fixes targets h =
+    any_kind gain_of n value fixup.kind fixup.target fixes targets h
 
 any_high :
     (gain_of : Target → ℕ) (n : ℕ) (places : List (Option SetByte))
-    → list_any (breaks_high gain_of) (fixes_at n places) ≡ list_any (breaks gain_of) (filter_map target_at places)
+    → list_any (breaks_high gain_of) (fixes_at n places)
+    ≡ list_any (breaks gain_of) (filter_map target_at places)
 any_high gain_of n [] = refl
 any_high gain_of n (None ∷ others) = any_high gain_of (n + 1) others
 any_high gain_of n (Some here ∷ others) =
@@ -60,7 +65,8 @@ any_append {A} p (x ∷ xs) ys = go (p x) (any_append p xs ys)
 pub high_is :
     (gain_of : Target → ℕ) (object : ObjectModule)
     → list_any (λ target. not (gain_of target % 256 == 0)) (high_targets object)
-    ≡ (list_any (breaks_high gain_of) (fixes_in object Code) || list_any (breaks_high gain_of) (fixes_in object Data))
+    ≡ (list_any (breaks_high gain_of) (fixes_in object Code)
+    || list_any (breaks_high gain_of) (fixes_in object Data))
 unfolding fixes_in
 high_is gain_of object =
     let code : List (Option SetByte) = places_of object Code in

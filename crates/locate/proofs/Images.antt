@@ -6,7 +6,8 @@ use Rattle.locate.proofs.Pieces.{piece_end, one_more, no_byte_above, no_byte_bel
 use Rattle.locate.proofs.Places.{pieces_at, bytes_are, begins_at, ends_at, are_runs_at}
 
 length_moved :
-    (gain_of : Target → ℕ) (kept : Target → Option Target) (before : Option SetByte) (places : List (Option SetByte))
+    (gain_of : Target → ℕ) (kept : Target → Option Target) (before : Option SetByte)
+    (places : List (Option SetByte))
     → length (map (option_map value_of) (moved_after gain_of kept before places)) ≡ length places
 length_moved gain_of kept before [] = refl
 length_moved gain_of kept before (here ∷ others) = ap suc (length_moved gain_of kept here others)
@@ -17,12 +18,16 @@ pub record Lie (base size : ℕ) (pieces : List Piece) : Type 0 where
   pub begins : Begins base pieces
   pub ends : Ends (base + size) pieces
 
-lie_at : (base : ℕ) (places : List (Option ℕ)) → Lie base (length places) (pieces_at base (runs_from 0 places))
+lie_at : (base : ℕ) (places : List (Option ℕ))
+    → Lie base (length places) (pieces_at base (runs_from 0 places))
 lie_at base places = record {
   runs = are_runs_at base 0 places;
-  begins = Begins-less base (base + 0) (pieces_at base (runs_from 0 places)) (omega arith) (begins_at base 0 places);
+  begins =
+      Begins-less base (base + 0) (pieces_at base (runs_from 0 places)) (omega arith)
+      (begins_at base 0 places);
   ends =
-      Ends-more (base + 0 + length places) (base + length places) (pieces_at base (runs_from 0 places)) (omega arith)
+      Ends-more (base + 0 + length places) (base + length places)
+      (pieces_at base (runs_from 0 places)) (omega arith)
       (ends_at base 0 places);
 }
 
@@ -38,9 +43,11 @@ segment_lies :
     (plan : Plan) (object : ObjectModule) (segment : Segment)
     → Lie (base_of plan segment) (length (places_of object segment)) (segment_pieces plan object segment)
 segment_lies plan object segment =
-    let P : List Piece → Type 0 = λ pieces. Lie (base_of plan segment) (length (places_of object segment)) pieces in
+    let P : List Piece → Type 0 =
+    λ pieces. Lie (base_of plan segment) (length (places_of object segment)) pieces in
     let Q : ℕ → Type 0 = λ size.
-    Lie (base_of plan segment) size (pieces_at (base_of plan segment) (runs_from 0 (placed_bytes plan object segment))) in
+    Lie (base_of plan segment) size
+    (pieces_at (base_of plan segment) (runs_from 0 (placed_bytes plan object segment))) in
     subst P (sym (segment_are plan object segment))
     (subst Q (length_moved (gain_at plan) (λ target. None) None (places_of object segment))
     (lie_at (base_of plan segment) (placed_bytes plan object segment)))
@@ -62,7 +69,8 @@ two_lie :
     → (are_runs (in_turn first second) ≡ true) × Ends 65536 (in_turn first second)
 two_lie a m b n first second f s order apart h k =
     go second s (runs_with_pieces 0 [] first refl tt f.runs (Begins-less 0 a first (omega arith) f.begins))
-    (ends_with_pieces 0 (a + m) [] first tt (omega arith) f.runs (Begins-less 0 a first (omega arith) f.begins) f.ends)
+    (ends_with_pieces 0 (a + m) [] first tt (omega arith) f.runs
+    (Begins-less 0 a first (omega arith) f.begins) f.ends)
   where
     go : (later : List Piece) → Lie b n later → are_runs (with_pieces [] first) ≡ true
         → Ends (a + m) (with_pieces [] first)
@@ -79,7 +87,8 @@ two_lie a m b n first second f s order apart h k =
               (Ends-more (b + n) 65536 (piece ∷ others) k l.ends),
         )
 
-none_past : (n : ℕ) (pieces : List Piece) (address : ℕ) → Ends n pieces → n ≤ address → byte_in pieces address ≡ None
+none_past : (n : ℕ) (pieces : List Piece) (address : ℕ) → Ends n pieces → n ≤ address
+    → byte_in pieces address ≡ None
 none_past n [] address ends h = refl
 none_past n (piece ∷ others) address ends h =
     let k : piece_end piece ≤ n = ends.0 in
@@ -114,14 +123,16 @@ either_order :
 either_order a m b n first second address f s order apart =
     elim (cases_lt address a) [
       | inl under ↦
-          left_none (byte_in first address) (byte_in second address) (none_before a first address f.runs f.begins under)
+          left_none (byte_in first address) (byte_in second address)
+          (none_before a first address f.runs f.begins under)
       | inr over ↦
           elim (cases_lt address (b + n)) [
             | inl within ↦
                 left_none (byte_in first address) (byte_in second address)
                 (none_past (a + m) first address f.ends (omega arith))
             | inr past ↦
-                right_none (byte_in first address) (byte_in second address) (none_past (b + n) second address s.ends past)
+                right_none (byte_in first address) (byte_in second address)
+                (none_past (b + n) second address s.ends past)
           ]
     ]
 
@@ -152,10 +163,12 @@ image_is plan object h = go (nat_le plan.code_base plan.data_base) refl
   where
     bytes :
         (address : ℕ)
-        → option_or (byte_in (segment_pieces plan object Code) address) (byte_in (segment_pieces plan object Data) address)
+        → option_or (byte_in (segment_pieces plan object Code) address)
+        (byte_in (segment_pieces plan object Data) address)
         ≡ image_at plan object address
     bytes address =
-        ap (λ x. option_or x (byte_in (segment_pieces plan object Data) address)) (segment_byte plan object Code address)
+        ap (λ x. option_or x (byte_in (segment_pieces plan object Data) address))
+        (segment_byte plan object Code address)
         ∙ ap (option_or (at_address plan.code_base (placed_bytes plan object Code) address))
         (segment_byte plan object Data address)
         ∙ image_unfolds plan object address
@@ -167,21 +180,24 @@ image_is plan object h = go (nat_le plan.code_base plan.data_base) refl
     go true e =
         let is = allowed plan object h in
         let order : plan.code_base ≤ plan.data_base = leb-true plan.code_base plan.data_base e in
-        let t = two_lie plan.code_base (length (places_of object Code)) plan.data_base (length (places_of object Data))
+        let t = two_lie plan.code_base (length (places_of object Code)) plan.data_base
+        (length (places_of object Data))
         (segment_pieces plan object Code) (segment_pieces plan object Data) (segment_lies plan object Code)
         (segment_lies plan object Data) order is.apart is.code is.data_places in
         record {
           longest = record {
             runs = t.0;
             bytes = λ address.
-                in_turn_is (segment_pieces plan object Code) (segment_pieces plan object Data) address ∙ bytes address;
+                in_turn_is (segment_pieces plan object Code) (segment_pieces plan object Data) address
+                ∙ bytes address;
           };
           ends = t.1;
         }
     go false e =
         let is = allowed plan object h in
         let order : plan.data_base < plan.code_base = leb-false plan.code_base plan.data_base e in
-        let t = two_lie plan.data_base (length (places_of object Data)) plan.code_base (length (places_of object Code))
+        let t = two_lie plan.data_base (length (places_of object Data)) plan.code_base
+        (length (places_of object Code))
         (segment_pieces plan object Data) (segment_pieces plan object Code) (segment_lies plan object Data)
         (segment_lies plan object Code) (omega arith) (omega (arith, is.apart)) is.data_places is.code in
         record {
@@ -190,7 +206,8 @@ image_is plan object h = go (nat_le plan.code_base plan.data_base) refl
             bytes = λ address.
                 in_turn_is (segment_pieces plan object Data) (segment_pieces plan object Code) address
                 ∙ either_order plan.code_base (length (places_of object Code)) plan.data_base
-                (length (places_of object Data)) (segment_pieces plan object Code) (segment_pieces plan object Data) address
+                (length (places_of object Data)) (segment_pieces plan object Code)
+                (segment_pieces plan object Data) address
                 (segment_lies plan object Code) (segment_lies plan object Data) (omega arith) is.apart
                 ∙ bytes address;
           };
@@ -205,7 +222,8 @@ before_bytes n here [] = refl
 before_bytes n here (next ∷ others) = go (next.offset == n + 1)
   where
     go : (b : Bool)
-        → cond b (record { offset = n; items = here.value ∷ map value_of next.items } ∷ map bytes_of_run others)
+        → cond b
+        (record { offset = n; items = here.value ∷ map value_of next.items } ∷ map bytes_of_run others)
         (record { offset = n; items = here.value ∷ [] } ∷ bytes_of_run next ∷ map bytes_of_run others)
         ≡ map bytes_of_run
         (cond b (record { offset = n; items = here ∷ next.items } ∷ others)
@@ -219,14 +237,17 @@ runs_of_values :
 runs_of_values n [] = refl
 runs_of_values n (None ∷ others) = runs_of_values (n + 1) others
 runs_of_values n (Some here ∷ others) =
-    ap (before_runs n here.value) (runs_of_values (n + 1) others) ∙ before_bytes n here (runs_from (n + 1) others)
+    ap (before_runs n here.value) (runs_of_values (n + 1) others)
+    ∙ before_bytes n here (runs_from (n + 1) others)
 
-length_values_of : (places : List (Option SetByte)) → length (map (option_map value_of) places) ≡ length places
+length_values_of : (places : List (Option SetByte))
+    → length (map (option_map value_of) places) ≡ length places
 length_values_of [] = refl
 length_values_of (here ∷ others) = ap suc (length_values_of others)
 
 lie_in_memory :
-    (base size : ℕ) (runs : List (Run ℕ)) → are_runs (pieces_at base runs) ≡ true → Ends size (pieces_at base runs)
+    (base size : ℕ) (runs : List (Run ℕ)) → are_runs (pieces_at base runs) ≡ true
+    → Ends size (pieces_at base runs)
     → size ≤ 65536 → LieInMemory base runs
 lie_in_memory base size [] runs ends h = tt
 lie_in_memory base size (run ∷ others) runs ends h =

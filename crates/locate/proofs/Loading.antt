@@ -31,7 +31,8 @@ each_place :
     (count : ℕ) (gain_of : Target → ℕ) (before : Option SetByte) (places : List (Option SetByte)) (index : ℕ)
     → are_valid count places ≡ true
     → IsByte (option_flatten (slice_get
-    (map (option_map (λ (here : SetByte). here.value)) (moved_after gain_of (λ target. None) before places)) index))
+    (map (option_map (λ (here : SetByte). here.value)) (moved_after gain_of (λ target. None) before places))
+    index))
 each_place count gain_of before [] index valid = no_byte
 each_place count gain_of before (None ∷ others) zero valid = no_byte
 each_place count gain_of before (Some here ∷ others) zero valid =
@@ -46,13 +47,15 @@ at_place : (below : Bool) (found : Option ℕ) → IsByte found → IsByte (if b
 at_place true found is = no_byte
 at_place false found is = is
 
-valid_places : (count : ℕ) (segment : Places) → is_valid_segment count segment ≡ true → are_valid count segment.places ≡ true
+valid_places : (count : ℕ) (segment : Places) → is_valid_segment count segment ≡ true
+    → are_valid count segment.places ≡ true
 valid_places count segment valid =
     (and_parts _ _ (and_parts _ _ (and_parts _ _ valid).0).0).1
 
 -- an image has bytes
 module _ (plan : Plan) (object : ObjectModule) (is : IsObjectModule object) where
-  in_segment : (base address : ℕ) (segment : Places) → is_valid_segment (length object.externals) segment ≡ true
+  in_segment : (base address : ℕ) (segment : Places)
+      → is_valid_segment (length object.externals) segment ≡ true
       → IsByte (at_address base (bytes_resolved (gain_at plan) segment.places) address)
   in_segment base address segment valid =
       at_place (nat_lt address base) _
@@ -81,11 +84,14 @@ module _
   whole = is_loaded pieces memory (loaded pieces memory) runs.runs ends refl is.size
 
   with_image : (address : ℕ) → address < 65536
-      → slice_index (loaded pieces memory) address ≡ unwrap_or (image.byte_at address) (slice_index memory address)
+      → slice_index (loaded pieces memory) address
+      ≡ unwrap_or (image.byte_at address) (slice_index memory address)
   with_image address low =
-      whole.bytes address low ∙ ap (λ found. unwrap_or found (slice_index memory address)) (runs.bytes address)
+      whole.bytes address low ∙ ap (λ found. unwrap_or found (slice_index memory address))
+      (runs.bytes address)
 
-  byte_below : (index other : ℕ) → index < length (loaded pieces memory) → slice_index (loaded pieces memory) index < 256
+  byte_below : (index other : ℕ) → index < length (loaded pieces memory)
+      → slice_index (loaded pieces memory) index < 256
   byte_below index other below =
       let low : index < 65536 = omega (arith, below, whole.size, is.size) in
       let before : slice_index memory index < 256 = is.bytes index 0 (omega (arith, low, is.size)) in
@@ -103,7 +109,8 @@ module _
     };
   }
 
-same_image : (value other : Image) → ◌≡◌ {A = Result Image PlacementRefusal} (Ok value) (Ok other) → value ≡ other
+same_image : (value other : Image) → ◌≡◌ {A = Result Image PlacementRefusal} (Ok value) (Ok other)
+    → value ≡ other
 same_image value other same = ap given same
   where
     given : Result Image PlacementRefusal → Image
@@ -118,9 +125,11 @@ pub gives_its_image :
     → absolute.pieces ≡ image_pieces plan object
     → GivesItsImage plan object absolute
 gives_its_image plan object absolute allowed is same image found memory is_memory =
-    let there : image_of plan object ≡ Ok (placed plan object) = ap (unless_refused (placed plan object)) allowed in
+    let there : image_of plan object ≡ Ok (placed plan object) =
+    ap (unless_refused (placed plan object)) allowed in
     subst (λ (image : Image). GivesImage image absolute.pieces memory)
     (same_image (placed plan object) image (sym there ∙ found))
     (gives_image (placed plan object) absolute.pieces memory (image_bytes plan object is)
-    (subst (λ (pieces : List Piece). AreLongestRuns pieces (image_at plan object)) (sym same) (image_is plan object allowed).longest)
+    (subst (λ (pieces : List Piece). AreLongestRuns pieces (image_at plan object)) (sym same)
+    (image_is plan object allowed).longest)
     (image_in_memory plan object absolute.pieces allowed same) is_memory)

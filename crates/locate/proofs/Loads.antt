@@ -14,7 +14,8 @@ starts_all n (piece ∷ others) runs begins =
     let k : n ≤ piece.start = begins in
     (begins, starts_all n others p.2 (Begins-less n (piece_end piece + 1) others (omega arith) p.1))
 
-apart_from : (piece : Piece) (others : List Piece) → Starts (piece_end piece + 1) others → AllByRecursion (AreApart piece) others
+apart_from : (piece : Piece) (others : List Piece) → Starts (piece_end piece + 1) others
+    → AllByRecursion (AreApart piece) others
 apart_from piece [] s = tt
 apart_from piece (next ∷ others) s =
     let k : piece_end piece + 1 ≤ next.start = s.0 in
@@ -26,14 +27,17 @@ runs_apart [] runs = λ i j d before within. absurd (omega arith)
 runs_apart (piece ∷ others) runs =
     let p = runs_parts piece others runs in
     AllPairs-cons AreApart piece others
-    (All-from_recursion (AreApart piece) others (apart_from piece others (starts_all (piece_end piece + 1) others p.2 p.1)))
+    (All-from_recursion (AreApart piece) others
+    (apart_from piece others (starts_all (piece_end piece + 1) others p.2 p.1)))
     (runs_apart others p.2)
 
-pub runs_writable : (pieces : List Piece) → are_runs pieces ≡ true → All EndsInMemory pieces → AreWritable pieces
+pub runs_writable : (pieces : List Piece) → are_runs pieces ≡ true → All EndsInMemory pieces
+    → AreWritable pieces
 runs_writable pieces runs ends = record { in_memory = ends; apart = runs_apart pieces runs }
 
 -- bytes that are put into a memory
-length_with : (bytes : List ℕ) (start : ℕ) (memory : List ℕ) → start + length bytes ≤ length memory → length (with_bytes bytes start memory) ≡ length memory
+length_with : (bytes : List ℕ) (start : ℕ) (memory : List ℕ) → start + length bytes ≤ length memory
+    → length (with_bytes bytes start memory) ≡ length memory
 length_with bytes start memory h =
     omega (
       arith,
@@ -44,11 +48,13 @@ length_with bytes start memory h =
     )
 
 byte_before :
-    (bytes : List ℕ) (start : ℕ) (memory : List ℕ) (address : ℕ) → start + length bytes ≤ length memory → address < start
+    (bytes : List ℕ) (start : ℕ) (memory : List ℕ) (address : ℕ)
+    → start + length bytes ≤ length memory → address < start
     → get_or (with_bytes bytes start memory) address 0 ≡ get_or memory address 0
 byte_before bytes start memory address h k =
     let size = length-take-le start memory (omega arith) in
-    get_or_append_left (take start memory) (bytes ++ drop (start + length bytes) memory) 0 address (omega arith)
+    get_or_append_left (take start memory) (bytes ++ drop (start + length bytes) memory) 0
+    address (omega arith)
     ∙ get_or-take start memory address 0 k
 
 byte_within :
@@ -68,7 +74,8 @@ byte_after bytes start memory address h past =
     let same : start + length bytes + (address - start - length bytes) ≡ address = omega arith in
     get_or-append_right (take start memory) (bytes ++ drop (start + length bytes) memory) start address 0
     (length-take-le start memory (omega arith)) (omega arith)
-    ∙ get_or-append_right bytes (drop (start + length bytes) memory) (length bytes) (address - start) 0 refl (omega arith)
+    ∙ get_or-append_right bytes (drop (start + length bytes) memory) (length bytes) (address - start)
+    0 refl (omega arith)
     ∙ get_or-drop (start + length bytes) memory (address - start - length bytes) 0
     ∙ ap (λ i. get_or memory i 0) same
 
@@ -94,11 +101,14 @@ one_loaded piece memory address h =
     ]
 
 -- first a piece and then others, where no address is in both
-in_turn : (first others : Option ℕ) (byte : ℕ) → (others ≡ None) ⊎ (first ≡ None) → unwrap_or others (unwrap_or first byte) ≡ unwrap_or (option_or first others) byte
+in_turn : (first others : Option ℕ) (byte : ℕ) → (others ≡ None) ⊎ (first ≡ None)
+    → unwrap_or others (unwrap_or first byte) ≡ unwrap_or (option_or first others) byte
 in_turn None others byte h = refl
 in_turn (Some value) None byte h = refl
-in_turn (Some value) (Some other) byte (inl h) = absurd (let bad : ◌≡◌ {A = Option ℕ} (Some other) None = h in cc)
-in_turn (Some value) (Some other) byte (inr h) = absurd (let bad : ◌≡◌ {A = Option ℕ} (Some value) None = h in cc)
+in_turn (Some value) (Some other) byte (inl h) =
+    absurd (let bad : ◌≡◌ {A = Option ℕ} (Some other) None = h in cc)
+in_turn (Some value) (Some other) byte (inr h) =
+    absurd (let bad : ◌≡◌ {A = Option ℕ} (Some value) None = h in cc)
 
 not_in_both :
     (piece : Piece) (others : List Piece) (address : ℕ) → are_runs (piece ∷ others) ≡ true
@@ -112,7 +122,8 @@ not_in_both piece others address runs =
     ]
 
 length_loaded :
-    (pieces : List Piece) (memory : List ℕ) → Ends (length memory) pieces → length (loaded pieces memory) ≡ length memory
+    (pieces : List Piece) (memory : List ℕ) → Ends (length memory) pieces
+    → length (loaded pieces memory) ≡ length memory
 length_loaded [] memory ends = refl
 length_loaded (piece ∷ others) memory ends =
     let size = length_with piece.bytes piece.start memory ends.0 in
@@ -120,7 +131,8 @@ length_loaded (piece ∷ others) memory ends =
     length_loaded others (with_bytes piece.bytes piece.start memory) (subst P (sym size) ends.1) ∙ size
 
 byte_loaded :
-    (pieces : List Piece) (memory : List ℕ) (address : ℕ) → are_runs pieces ≡ true → Ends (length memory) pieces
+    (pieces : List Piece) (memory : List ℕ) (address : ℕ) → are_runs pieces ≡ true
+    → Ends (length memory) pieces
     → get_or (loaded pieces memory) address 0 ≡ unwrap_or (byte_in pieces address) (get_or memory address 0)
 byte_loaded [] memory address runs ends = refl
 byte_loaded (piece ∷ others) memory address runs ends =
@@ -143,10 +155,12 @@ pub is_loaded :
     → loaded pieces before ≡ after → length before ≡ 65536 → IsLoaded (byte_in pieces) before after
 is_loaded pieces before after runs ends same size =
     let P : ℕ → Type 0 = λ n. Ends n pieces in
-    let room : Ends (length before) pieces = subst P (sym size) (ends_of pieces (recursion_from_All EndsInMemory pieces ends)) in
+    let room : Ends (length before) pieces =
+    subst P (sym size) (ends_of pieces (recursion_from_All EndsInMemory pieces ends)) in
     record {
       size = ap length (sym same) ∙ length_loaded pieces before room;
-      bytes = λ address low. ap (λ m. get_or m address 0) (sym same) ∙ byte_loaded pieces before address runs room;
+      bytes = λ address low. ap (λ m. get_or m address 0) (sym same)
+          ∙ byte_loaded pieces before address runs room;
     }
 
 -- the same where there may be no pieces, and the size of the memory is known only where there are some

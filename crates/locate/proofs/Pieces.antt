@@ -21,11 +21,13 @@ one_more piece others address = go (has_address address piece)
     go : (b : Bool)
         → option_map (λ (p : Piece). slice_index p.bytes (address - p.start))
         (cond b (Some piece) (find (has_address address) others))
-        ≡ option_or (cond b (Some (slice_index piece.bytes (address - piece.start))) None) (byte_in others address)
+        ≡ option_or (cond b (Some (slice_index piece.bytes (address - piece.start))) None)
+        (byte_in others address)
     go true = refl
     go false = refl
 
-pub byte_in_one_piece : (piece : Piece) (address : ℕ) → byte_in (piece ∷ []) address ≡ byte_of_piece piece address
+pub byte_in_one_piece : (piece : Piece) (address : ℕ)
+    → byte_in (piece ∷ []) address ≡ byte_of_piece piece address
 byte_in_one_piece piece address = one_more piece [] address ∙ or_none_same (byte_of_piece piece address)
 
 pub within :
@@ -41,10 +43,12 @@ no_byte_below piece address h =
     ap (λ b. cond b (Some (slice_index piece.bytes (address - piece.start))) None)
     (and_left (nat_le piece.start address) (nat_lt address (piece_end piece)) (lt-leb piece.start address h))
 
-pub no_byte_above : (piece : Piece) (address : ℕ) → piece_end piece ≤ address → byte_of_piece piece address ≡ None
+pub no_byte_above : (piece : Piece) (address : ℕ) → piece_end piece ≤ address
+    → byte_of_piece piece address ≡ None
 no_byte_above piece address h =
     ap (λ b. cond b (Some (slice_index piece.bytes (address - piece.start))) None)
-    (and_right (nat_le piece.start address) (nat_lt address (piece_end piece)) (le-ltb address (piece_end piece) h))
+    (and_right (nat_le piece.start address) (nat_lt address (piece_end piece))
+    (le-ltb address (piece_end piece) h))
 
 abbrev both_in_one : Piece → Piece → Piece
 both_in_one piece next = record { start = piece.start; bytes = piece.bytes ++ next.bytes }
@@ -72,7 +76,8 @@ touching piece next address touch =
       | inr low ↦
           elim (cases_lt address (piece_end piece)) [
             | inl first ↦
-                either piece next address (Some (get_or (piece.bytes ++ next.bytes) (address - piece.start) 0))
+                either piece next address
+                (Some (get_or (piece.bytes ++ next.bytes) (address - piece.start) 0))
                 (Some (get_or piece.bytes (address - piece.start) 0)) None None
                 (within (both_in_one piece next) address low (omega arith)) (within piece address low first)
                 (no_byte_below next address (omega arith))
@@ -80,17 +85,22 @@ touching piece next address touch =
             | inr past ↦
                 elim (cases_lt address (piece_end next)) [
                   | inl second ↦
-                      let same : address - piece.start - length piece.bytes ≡ address - next.start = omega arith in
-                      either piece next address (Some (get_or (piece.bytes ++ next.bytes) (address - piece.start) 0)) None
+                      let same : address - piece.start - length piece.bytes ≡ address - next.start =
+                      omega arith in
+                      either piece next address
+                      (Some (get_or (piece.bytes ++ next.bytes) (address - piece.start) 0)) None
                       (Some (get_or next.bytes (address - next.start) 0)) None
-                      (within (both_in_one piece next) address low (omega arith)) (no_byte_above piece address past)
+                      (within (both_in_one piece next) address low (omega arith))
+                      (no_byte_above piece address past)
                       (within next address (omega arith) second)
                       (ap Some
-                      (get_or-append_right piece.bytes next.bytes (length piece.bytes) (address - piece.start) 0 refl
+                      (get_or-append_right piece.bytes next.bytes (length piece.bytes)
+                      (address - piece.start) 0 refl
                       (omega arith)
                       ∙ ap (λ i. get_or next.bytes i 0) same))
                   | inr over ↦
-                      either piece next address None None None None (no_byte_above (both_in_one piece next) address (omega arith))
+                      either piece next address None None None None
+                      (no_byte_above (both_in_one piece next) address (omega arith))
                       (no_byte_above piece address past) (no_byte_above next address over) refl
                 ]
           ]
@@ -98,31 +108,40 @@ touching piece next address touch =
 
 joined_is :
     (piece next : Piece) (address : ℕ)
-    → byte_in (joined piece next) address ≡ option_or (byte_of_piece piece address) (byte_of_piece next address)
+    → byte_in (joined piece next) address
+    ≡ option_or (byte_of_piece piece address) (byte_of_piece next address)
 joined_is piece next address = go (piece_end piece == next.start) refl
   where
     go : (b : Bool) → (piece_end piece == next.start) ≡ b
         → byte_in (cond b (both_in_one piece next ∷ []) (piece ∷ next ∷ [])) address
         ≡ option_or (byte_of_piece piece address) (byte_of_piece next address)
-    go true e = byte_in_one_piece (both_in_one piece next) address ∙ touching piece next address (eqb-true (piece_end piece) next.start e)
-    go false e = one_more piece (next ∷ []) address ∙ ap (option_or (byte_of_piece piece address)) (byte_in_one_piece next address)
+    go true e =
+        byte_in_one_piece (both_in_one piece next) address
+        ∙ touching piece next address (eqb-true (piece_end piece) next.start e)
+    go false e =
+        one_more piece (next ∷ []) address
+        ∙ ap (option_or (byte_of_piece piece address)) (byte_in_one_piece next address)
 
 with_piece_is :
     (pieces : List Piece) (next : Piece) (address : ℕ)
-    → byte_in (with_piece pieces next) address ≡ option_or (byte_in pieces address) (byte_of_piece next address)
+    → byte_in (with_piece pieces next) address
+    ≡ option_or (byte_in pieces address) (byte_of_piece next address)
 with_piece_is [] next address = byte_in_one_piece next address
 with_piece_is (piece ∷ []) next address =
-    joined_is piece next address ∙ ap (λ x. option_or x (byte_of_piece next address)) (sym (byte_in_one_piece piece address))
+    joined_is piece next address ∙ ap (λ x. option_or x (byte_of_piece next address))
+    (sym (byte_in_one_piece piece address))
 with_piece_is (piece ∷ second ∷ others) next address =
     one_more piece (with_piece (second ∷ others) next) address
     ∙ ap (option_or (byte_of_piece piece address)) (with_piece_is (second ∷ others) next address)
-    ∙ sym (or_assoc (byte_of_piece piece address) (byte_in (second ∷ others) address) (byte_of_piece next address))
+    ∙ sym (or_assoc (byte_of_piece piece address) (byte_in (second ∷ others) address)
+    (byte_of_piece next address))
     ∙ ap (λ x. option_or x (byte_of_piece next address)) (sym (one_more piece (second ∷ others) address))
 
 -- pieces with others after them have the bytes of both
 pub with_pieces_is :
     (pieces others : List Piece) (address : ℕ)
-    → byte_in (with_pieces pieces others) address ≡ option_or (byte_in pieces address) (byte_in others address)
+    → byte_in (with_pieces pieces others) address
+    ≡ option_or (byte_in pieces address) (byte_in others address)
 with_pieces_is pieces [] address = sym (or_none_same (byte_in pieces address))
 with_pieces_is pieces (next ∷ others) address =
     with_pieces_is (with_piece pieces next) others address
@@ -141,7 +160,8 @@ Begins n (piece ∷ others) = n ≤ piece.start
 
 pub Ends-more : (m n : ℕ) (pieces : List Piece) → m ≤ n → Ends m pieces → Ends n pieces
 Ends-more m n [] h e = tt
-Ends-more m n (piece ∷ others) h e = (let k : piece_end piece ≤ m = e.0 in omega arith, Ends-more m n others h e.1)
+Ends-more m n (piece ∷ others) h e =
+    (let k : piece_end piece ≤ m = e.0 in omega arith, Ends-more m n others h e.1)
 
 pub runs_cons :
     (piece : Piece) (others : List Piece) → has_bytes piece ≡ true → Begins (piece_end piece + 1) others
@@ -248,7 +268,8 @@ pub ends_with_pieces :
 ends_with_pieces m n pieces [] e h runs b last = Ends-more m n pieces h e
 ends_with_pieces m n pieces (next ∷ others) e h runs b last =
     let p = runs_parts next others runs in
-    ends_with_pieces (piece_end next) n (with_piece pieces next) others (ends_with m pieces next e b) last.0 p.2
+    ends_with_pieces (piece_end next) n (with_piece pieces next) others
+    (ends_with m pieces next e b) last.0 p.2
     (Begins-less (piece_end next) (piece_end next + 1) others (omega arith) p.1) last.1
 
 -- a piece after others of which one is the last

@@ -9,7 +9,8 @@ pieces_at base runs = map (piece_at base) runs
 abbrev one : (start value : ℕ) → Piece
 one start value = record { start = start; bytes = value ∷ [] }
 
-one_byte : (start value address : ℕ) → byte_of_piece (one start value) address ≡ cond (address == start) (Some value) None
+one_byte : (start value address : ℕ)
+    → byte_of_piece (one start value) address ≡ cond (address == start) (Some value) None
 one_byte start value address = elim (cases_order address start) [
   | inl same ↦
       let zero_in : address - start ≡ 0 = omega arith in
@@ -34,47 +35,57 @@ before_is :
     → byte_in (pieces_at base (before_runs n value runs)) address
     ≡ option_or (byte_of_piece (one (base + n) value) address) (byte_in (pieces_at base runs) address)
 before_is base n value [] address =
-    byte_in_one_piece (one (base + n) value) address ∙ sym (or_none_same (byte_of_piece (one (base + n) value) address))
+    byte_in_one_piece (one (base + n) value) address
+    ∙ sym (or_none_same (byte_of_piece (one (base + n) value) address))
 before_is base n value (next ∷ others) address = go (next.offset == n + 1) refl
   where
     go : (b : Bool) → (next.offset == n + 1) ≡ b
         → byte_in (pieces_at base
         (cond b (record { offset = n; items = value ∷ next.items } ∷ others)
         (record { offset = n; items = value ∷ [] } ∷ next ∷ others))) address
-        ≡ option_or (byte_of_piece (one (base + n) value) address) (byte_in (pieces_at base (next ∷ others)) address)
+        ≡ option_or (byte_of_piece (one (base + n) value) address)
+        (byte_in (pieces_at base (next ∷ others)) address)
     go true e =
         let same : next.offset ≡ n + 1 = eqb-true next.offset (n + 1) e in
         let first : Piece = one (base + n) value in
         let second : Piece = piece_at base next in
         let whole : Piece = record { start = base + n; bytes = value ∷ next.items } in
         one_more whole (pieces_at base others) address
-        ∙ ap (λ x. option_or x (byte_in (pieces_at base others) address)) (touching first second address (omega arith))
-        ∙ or_assoc (byte_of_piece first address) (byte_of_piece second address) (byte_in (pieces_at base others) address)
+        ∙ ap (λ x. option_or x (byte_in (pieces_at base others) address))
+        (touching first second address (omega arith))
+        ∙ or_assoc (byte_of_piece first address) (byte_of_piece second address)
+        (byte_in (pieces_at base others) address)
         ∙ ap (option_or (byte_of_piece first address)) (sym (one_more second (pieces_at base others) address))
     go false e = one_more (one (base + n) value) (pieces_at base (next ∷ others)) address
 
 -- bytes at addresses, from the first on
 at_front :
     (start : ℕ) (first : Option ℕ) (others : List (Option ℕ)) (address : ℕ)
-    → at_address start (first ∷ others) address ≡ cond (address == start) first (at_address (start + 1) others address)
+    → at_address start (first ∷ others) address
+    ≡ cond (address == start) first (at_address (start + 1) others address)
 at_front start first others address = elim (cases_order address start) [
   | inl same ↦
       let zero_in : address - start ≡ 0 = omega arith in
-      ap (λ b. cond b None (option_flatten (slice_get (first ∷ others) (address - start)))) (le-ltb address start (omega arith))
+      ap (λ b. cond b None (option_flatten (slice_get (first ∷ others) (address - start))))
+      (le-ltb address start (omega arith))
       ∙ ap (λ i. option_flatten (slice_get (first ∷ others) i)) zero_in
       ∙ sym (ap (λ b. cond b first (at_address (start + 1) others address)) (eq-eqb address start same))
   | inr other ↦ elim other [
     | inl under ↦
         let differ : (address ≡ start → ⊥) = λ (e : address ≡ start). omega (arith, e) in
-        ap (λ b. cond b None (option_flatten (slice_get (first ∷ others) (address - start)))) (lt-ltb address start under)
-        ∙ sym (ap (λ b. cond b None (option_flatten (slice_get others (address - (start + 1))))) (lt-ltb address (start + 1) (omega arith)))
+        ap (λ b. cond b None (option_flatten (slice_get (first ∷ others) (address - start))))
+        (lt-ltb address start under)
+        ∙ sym (ap (λ b. cond b None (option_flatten (slice_get others (address - (start + 1)))))
+        (lt-ltb address (start + 1) (omega arith)))
         ∙ sym (ap (λ b. cond b first (at_address (start + 1) others address)) (ne_eqb address start differ))
     | inr over ↦
         let differ : (address ≡ start → ⊥) = λ (e : address ≡ start). omega (arith, e) in
         let next : address - start ≡ suc (address - (start + 1)) = omega arith in
-        ap (λ b. cond b None (option_flatten (slice_get (first ∷ others) (address - start)))) (le-ltb address start (omega arith))
+        ap (λ b. cond b None (option_flatten (slice_get (first ∷ others) (address - start))))
+        (le-ltb address start (omega arith))
         ∙ ap (λ i. option_flatten (slice_get (first ∷ others) i)) next
-        ∙ sym (ap (λ b. cond b None (option_flatten (slice_get others (address - (start + 1))))) (le-ltb address (start + 1) (omega arith)))
+        ∙ sym (ap (λ b. cond b None (option_flatten (slice_get others (address - (start + 1)))))
+        (le-ltb address (start + 1) (omega arith)))
         ∙ sym (ap (λ b. cond b first (at_address (start + 1) others address)) (ne_eqb address start differ))
   ]
 ]
@@ -84,17 +95,20 @@ at_nothing start address = none_either_way (nat_lt address start)
 
 skipped :
     (start : ℕ) (others : List (Option ℕ)) (address : ℕ)
-    → at_address (start + 1) others address ≡ cond (address == start) None (at_address (start + 1) others address)
+    → at_address (start + 1) others address
+    ≡ cond (address == start) None (at_address (start + 1) others address)
 skipped start others address = go (address == start) refl
   where
     go : (b : Bool) → (address == start) ≡ b
         → at_address (start + 1) others address ≡ cond b None (at_address (start + 1) others address)
     go true e =
         let same : address ≡ start = eqb-true address start e in
-        ap (λ b. cond b None (option_flatten (slice_get others (address - (start + 1))))) (lt-ltb address (start + 1) (omega arith))
+        ap (λ b. cond b None (option_flatten (slice_get others (address - (start + 1)))))
+        (lt-ltb address (start + 1) (omega arith))
     go false e = refl
 
-chosen : (b : Bool) (value : ℕ) (rest : Option ℕ) → option_or (cond b (Some value) None) rest ≡ cond b (Some value) rest
+chosen : (b : Bool) (value : ℕ) (rest : Option ℕ)
+    → option_or (cond b (Some value) None) rest ≡ cond b (Some value) rest
 chosen true value rest = refl
 chosen false value rest = refl
 
@@ -112,7 +126,8 @@ bytes_are base n (None ∷ others) address =
 bytes_are base n (Some value ∷ others) address =
     let same : base + (n + 1) ≡ base + n + 1 = omega arith in
     before_is base n value (runs_from (n + 1) others) address
-    ∙ ap (λ x. option_or x (byte_in (pieces_at base (runs_from (n + 1) others)) address)) (one_byte (base + n) value address)
+    ∙ ap (λ x. option_or x (byte_in (pieces_at base (runs_from (n + 1) others)) address))
+    (one_byte (base + n) value address)
     ∙ chosen (address == base + n) value (byte_in (pieces_at base (runs_from (n + 1) others)) address)
     ∙ ap (cond (address == base + n) (Some value))
     (bytes_are base (n + 1) others address ∙ ap (λ start. at_address start others address) same)
@@ -131,7 +146,8 @@ before_begins base n value (next ∷ others) = go (next.offset == n + 1)
     go false = omega arith
 
 -- they begin at their base
-pub begins_at : (base n : ℕ) (places : List (Option ℕ)) → Begins (base + n) (pieces_at base (runs_from n places))
+pub begins_at : (base n : ℕ) (places : List (Option ℕ))
+    → Begins (base + n) (pieces_at base (runs_from n places))
 begins_at base n [] = tt
 begins_at base n (None ∷ others) =
     Begins-less (base + n) (base + (n + 1)) (pieces_at base (runs_from (n + 1) others)) (omega arith)
@@ -156,19 +172,22 @@ before_ends base n value end (next ∷ others) h ends = go (next.offset == n + 1
 
 -- and end where the places end, or before
 pub ends_at :
-    (base n : ℕ) (places : List (Option ℕ)) → Ends (base + n + length places) (pieces_at base (runs_from n places))
+    (base n : ℕ) (places : List (Option ℕ))
+    → Ends (base + n + length places) (pieces_at base (runs_from n places))
 ends_at base n [] = tt
 ends_at base n (None ∷ others) =
     Ends-more (base + (n + 1) + length others) (base + n + suc (length others))
     (pieces_at base (runs_from (n + 1) others)) (omega arith) (ends_at base (n + 1) others)
 ends_at base n (Some value ∷ others) =
-    before_ends base n value (base + n + length (Some value ∷ others)) (runs_from (n + 1) others) (omega arith)
+    before_ends base n value (base + n + length (Some value ∷ others))
+    (runs_from (n + 1) others) (omega arith)
     (Ends-more (base + (n + 1) + length others) (base + n + length (Some value ∷ others))
     (pieces_at base (runs_from (n + 1) others)) (omega arith) (ends_at base (n + 1) others))
 
 before_are_runs :
     (base n value : ℕ) (runs : List (Run ℕ)) → are_runs (pieces_at base runs) ≡ true
-    → Begins (base + (n + 1)) (pieces_at base runs) → are_runs (pieces_at base (before_runs n value runs)) ≡ true
+    → Begins (base + (n + 1)) (pieces_at base runs)
+    → are_runs (pieces_at base (before_runs n value runs)) ≡ true
 before_are_runs base n value [] runs begins = lt-ltb 0 (length (value ∷ [])) (omega arith)
 before_are_runs base n value (next ∷ others) runs begins = go (next.offset == n + 1) refl
   where
@@ -187,11 +206,13 @@ before_are_runs base n value (next ∷ others) runs begins = go (next.offset == 
     go false e =
         let apart : (next.offset ≡ n + 1 → ⊥) = eqb-false next.offset (n + 1) e in
         let k : base + (n + 1) ≤ base + next.offset = begins in
-        runs_cons (one (base + n) value) (pieces_at base (next ∷ others)) (lt-ltb 0 (length (value ∷ [])) (omega arith))
+        runs_cons (one (base + n) value) (pieces_at base (next ∷ others))
+        (lt-ltb 0 (length (value ∷ [])) (omega arith))
         (omega arith) runs
 
 -- and are runs
-pub are_runs_at : (base n : ℕ) (places : List (Option ℕ)) → are_runs (pieces_at base (runs_from n places)) ≡ true
+pub are_runs_at : (base n : ℕ) (places : List (Option ℕ))
+    → are_runs (pieces_at base (runs_from n places)) ≡ true
 are_runs_at base n [] = refl
 are_runs_at base n (None ∷ others) = are_runs_at base (n + 1) others
 are_runs_at base n (Some value ∷ others) =

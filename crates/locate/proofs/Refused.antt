@@ -21,7 +21,8 @@ pub refusal_is :
     (plan : Plan) (object : ObjectModule)
     → placement_refusal plan object
     ≡ refusal_by (not (is_empty object.externals)) (is_none object.start)
-    (passes_memory (code_range plan object) || passes_memory (data_range plan object) || passes_memory (stack_range plan))
+    (passes_memory (code_range plan object) || passes_memory (data_range plan object)
+    || passes_memory (stack_range plan))
     (ranges_meet (code_range plan object) (data_range plan object)
     || ranges_meet (code_range plan object) (stack_range plan)
     || ranges_meet (data_range plan object) (stack_range plan))
@@ -30,7 +31,8 @@ pub refusal_is :
 unfolding placement_refusal
 refusal_is plan object =
     first_is (not (is_empty object.externals)) (is_none object.start)
-    (passes_memory (code_range plan object) || passes_memory (data_range plan object) || passes_memory (stack_range plan))
+    (passes_memory (code_range plan object) || passes_memory (data_range plan object)
+    || passes_memory (stack_range plan))
     (ranges_meet (code_range plan object) (data_range plan object)
     || ranges_meet (code_range plan object) (stack_range plan)
     || ranges_meet (data_range plan object) (stack_range plan))

@@ -12,7 +12,8 @@ Ordered-less m n [] h o = tt
 Ordered-less m n (run ∷ others) h o = (let k : n ≤ run.offset = o.0 in omega arith, o.1)
 
 ordered_before :
-    {A : Type 0} (n : ℕ) (item : A) (runs : List (Run A)) → Ordered (n + 1) runs → Ordered n (before_runs n item runs)
+    {A : Type 0} (n : ℕ) (item : A) (runs : List (Run A)) → Ordered (n + 1) runs
+    → Ordered n (before_runs n item runs)
 ordered_before n item [] o = (omega arith, tt)
 ordered_before {A} n item (next ∷ others) o = go (next.offset == n + 1) refl
   where
@@ -26,7 +27,8 @@ ordered_before {A} n item (next ∷ others) o = go (next.offset == n + 1) refl
 
 pub ordered : {A : Type 0} (n : ℕ) (places : List (Option A)) → Ordered n (runs_from n places)
 ordered n [] = tt
-ordered n (None ∷ others) = Ordered-less n (n + 1) (runs_from (n + 1) others) (omega arith) (ordered (n + 1) others)
+ordered n (None ∷ others) =
+    Ordered-less n (n + 1) (runs_from (n + 1) others) (omega arith) (ordered (n + 1) others)
 ordered n (Some item ∷ others) = ordered_before n item (runs_from (n + 1) others) (ordered (n + 1) others)
 
 heads_runs : (n : ℕ) (runs : List (Run SetByte)) → Ordered n runs → Heads n (flat_map fixes_of_run runs)
@@ -48,7 +50,8 @@ pieces_are :
 pieces_are gain_of base n [] o = refl
 pieces_are gain_of base n (run ∷ others) o =
     let rest : List Fix = flat_map fixes_of_run others in
-    let heads : Heads (run.offset + length run.items) rest = heads_runs (run.offset + length run.items) others o.1 in
+    let heads : Heads (run.offset + length run.items) rest =
+    heads_runs (run.offset + length run.items) others o.1 in
     ap (λ fixes.
     piece_of gain_of base (bytes_of_run run) (fixes_from run.offset run.items ++ rest)
     ∷ pieces_from gain_of base (map bytes_of_run others) fixes)
@@ -61,7 +64,8 @@ pieces_are gain_of base n (run ∷ others) o =
     (pieces_are gain_of base (run.offset + length run.items) others o.1)
 
 -- runs, moved, where the place before the first may be one of a word that is fixed
-abbrev runs_moved_after : (gain_of : Target → ℕ) → (before : Option SetByte) → (n : ℕ) → List (Run SetByte) → List (Run ℕ)
+abbrev runs_moved_after : (gain_of : Target → ℕ) → (before : Option SetByte) → (n : ℕ)
+    → List (Run SetByte) → List (Run ℕ)
 runs_moved_after gain_of before n [] = []
 runs_moved_after gain_of before n (run ∷ others) =
     record { offset = run.offset; items = moved_items gain_of (cond (run.offset == n) before None) run.items }
@@ -72,11 +76,13 @@ after_nothing :
     → runs_moved_after gain_of None n runs ≡ map (moved_run gain_of) runs
 after_nothing gain_of n [] = refl
 after_nothing gain_of n (run ∷ others) =
-    ap (λ before. record { offset = run.offset; items = moved_items gain_of before run.items } ∷ map (moved_run gain_of) others)
+    ap (λ before. record { offset = run.offset; items = moved_items gain_of before run.items }
+    ∷ map (moved_run gain_of) others)
     (none_either_way (run.offset == n))
 
 after_a_gap :
-    (gain_of : Target → ℕ) (before : Option SetByte) (n : ℕ) (runs : List (Run SetByte)) → Ordered (n + 1) runs
+    (gain_of : Target → ℕ) (before : Option SetByte) (n : ℕ) (runs : List (Run SetByte))
+    → Ordered (n + 1) runs
     → map (moved_run gain_of) runs ≡ runs_moved_after gain_of before n runs
 after_a_gap gain_of before n [] o = refl
 after_a_gap gain_of before n (run ∷ others) o =
@@ -112,7 +118,8 @@ before_moved gain_of before n here (next ∷ others) = go (next.offset == n + 1)
         ∷ map (moved_run gain_of) (next ∷ others)) (eq-eqb n n refl))
 
 runs_of_moved :
-    (gain_of : Target → ℕ) (kept : Target → Option Target) (before : Option SetByte) (n : ℕ) (places : List (Option SetByte))
+    (gain_of : Target → ℕ) (kept : Target → Option Target) (before : Option SetByte) (n : ℕ)
+    (places : List (Option SetByte))
     → runs_from n (map (option_map value_of) (moved_after gain_of kept before places))
     ≡ runs_moved_after gain_of before n (runs_from n places)
 runs_of_moved gain_of kept before n [] = refl
@@ -121,13 +128,15 @@ runs_of_moved gain_of kept before n (None ∷ others) =
     ∙ after_nothing gain_of (n + 1) (runs_from (n + 1) others)
     ∙ after_a_gap gain_of before n (runs_from (n + 1) others) (ordered (n + 1) others)
 runs_of_moved gain_of kept before n (Some here ∷ others) =
-    ap (before_runs n (value_moved gain_of before here)) (runs_of_moved gain_of kept (Some here) (n + 1) others)
+    ap (before_runs n (value_moved gain_of before here))
+    (runs_of_moved gain_of kept (Some here) (n + 1) others)
     ∙ before_moved gain_of before n here (runs_from (n + 1) others)
 
 -- the pieces of a segment are the runs of its places, moved
 pub segment_pieces_are :
     (gain_of : Target → ℕ) (kept : Target → Option Target) (base : ℕ) (places : List (Option SetByte))
-    → pieces_from gain_of base (map bytes_of_run (runs_from 0 places)) (flat_map fixes_of_run (runs_from 0 places))
+    → pieces_from gain_of base (map bytes_of_run (runs_from 0 places))
+    (flat_map fixes_of_run (runs_from 0 places))
     ≡ map (piece_at base) (runs_from 0 (map (option_map value_of) (moved_after gain_of kept None places)))
 segment_pieces_are gain_of kept base places =
     pieces_are gain_of base 0 (runs_from 0 places) (ordered 0 places)

@@ -58,7 +58,8 @@ first_some : (n : ℕ) (fix : Fix) (others : List Fix) → fix.offset ≡ n → 
 first_some n fix others same = ap (λ b. cond b (Some fix) None) (eq-eqb fix.offset n same)
 
 pub heads_items :
-    (n : ℕ) (items : List SetByte) (rest : List Fix) → Heads (n + length items) rest → Heads n (fixes_from n items ++ rest)
+    (n : ℕ) (items : List SetByte) (rest : List Fix) → Heads (n + length items) rest
+    → Heads n (fixes_from n items ++ rest)
 heads_items n [] rest heads = Heads-less n (n + 0) rest (omega arith) heads
 heads_items n (here ∷ others) rest heads =
     by here.fixup
@@ -72,7 +73,8 @@ heads_items n (here ∷ others) rest heads =
 
 -- what a walk does at its first byte, by the fix that begins there
 abbrev first_value :
-    (gain_of : Target → ℕ) → (n value : ℕ) → (word : Option Carry) → List Fix → (others : List ℕ) → Option Fix → List ℕ
+    (gain_of : Target → ℕ) → (n value : ℕ) → (word : Option Carry) → List Fix → (others : List ℕ)
+    → Option Fix → List ℕ
 first_value gain_of n value word fixes others fix =
     value_by gain_of value word fix
     ∷ values_from gain_of
@@ -105,18 +107,21 @@ values_are gain_of before n (here ∷ others) rest heads =
     by : (fixup : Option Fixup)
         → ((f : Option Fixup)
         → values_from gain_of
-        (walk_on gain_of (Some (record { value = here.value; fixup = f })) (n + 1) (fixes_from (n + 1) others ++ rest))
+        (walk_on gain_of (Some (record { value = here.value; fixup = f })) (n + 1)
+        (fixes_from (n + 1) others ++ rest))
         (map value_of others)
         ≡ moved_items gain_of (Some (record { value = here.value; fixup = f })) others)
         → values_from gain_of
-        (walk_on gain_of before n (fixes_from n (record { value = here.value; fixup = fixup } ∷ others) ++ rest))
+        (walk_on gain_of before n (fixes_from n (record { value = here.value; fixup = fixup } ∷ others)
+        ++ rest))
         (map value_of (here ∷ others))
         ≡ moved_items gain_of before (record { value = here.value; fixup = fixup } ∷ others)
     by None again =
         let fixes : List Fix = fixes_from (n + 1) others ++ rest in
         ap (first_value gain_of n here.value (carried gain_of before) fixes (map value_of others))
         (first_none n fixes (heads_items (n + 1) others rest later))
-        ∙ ap (λ v. v ∷ values_from gain_of (record { offset = n + 1; fixes = fixes; word = None }) (map value_of others))
+        ∙ ap (λ v. v ∷ values_from gain_of (record { offset = n + 1; fixes = fixes; word = None })
+        (map value_of others))
         (second_is gain_of before here.value)
         ∙ ap (λ vs. value_after gain_of before here.value ∷ vs) (again None)
     by (Some fixup) again =
@@ -124,7 +129,8 @@ values_are gain_of before n (here ∷ others) rest heads =
         let fix : Fix = record { kind = fixup.kind; target = fixup.target; offset = n } in
         ap (first_value gain_of n here.value (carried gain_of before) (fix ∷ fixes) (map value_of others))
         (first_some n fix fixes refl)
-        ∙ ap (λ vs. value_moved gain_of before (record { value = here.value; fixup = Some fixup }) ∷ vs) (again (Some fixup))
+        ∙ ap (λ vs. value_moved gain_of before (record { value = here.value; fixup = Some fixup }) ∷ vs)
+        (again (Some fixup))
 
 -- the fixes after them
 pub fixes_are :
@@ -143,11 +149,13 @@ fixes_are gain_of before n (here ∷ others) rest heads =
     by : (fixup : Option Fixup)
         → ((f : Option Fixup)
         → fixes_after gain_of
-        (walk_on gain_of (Some (record { value = here.value; fixup = f })) (n + 1) (fixes_from (n + 1) others ++ rest))
+        (walk_on gain_of (Some (record { value = here.value; fixup = f })) (n + 1)
+        (fixes_from (n + 1) others ++ rest))
         (map value_of others)
         ≡ rest)
         → fixes_after gain_of
-        (walk_on gain_of before n (fixes_from n (record { value = here.value; fixup = fixup } ∷ others) ++ rest))
+        (walk_on gain_of before n (fixes_from n (record { value = here.value; fixup = fixup } ∷ others)
+        ++ rest))
         (map value_of (here ∷ others))
         ≡ rest
     by None again =

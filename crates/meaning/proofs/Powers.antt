@@ -6,7 +6,8 @@ far_power : (k more : ℕ) → k ≡ more + 16 → 2 ^ k ≡ 2 ^ more * 65536
 far_power k more e = ap (λ n. 2 ^ n) e ∙ pow-add 2 more 16
 
 multiple : (product part whole : ℕ) → whole ≡ part * 65536 → (product * whole) % 65536 ≡ 0
-multiple product part whole e = rw e (of_product (product * part) (product * (part * 65536)) (regrouped product part))
+multiple product part whole e =
+    rw e (of_product (product * part) (product * (part * 65536)) (regrouped product part))
   where
     regrouped : (a b : ℕ) → a * (b * 65536) ≡ (a * b) * 65536
     regrouped a b = sym (mul_assoc a b 65536)

@@ -59,7 +59,8 @@ module _ (program : Program) (whole : IsWhole program) where
       ap (λ (entry : Option TypedModule).
       option_and_then
       (λ (one : TypedModule).
-      option_map (λ (procedure : TypedProcedure). (one, procedure)) (slice_get one.procedures at.number)) entry) is
+      option_map (λ (procedure : TypedProcedure). (one, procedure))
+      (slice_get one.procedures at.number)) entry) is
       ∙ ap (λ (entry : Option TypedProcedure).
       option_map (λ (procedure : TypedProcedure). (its, procedure)) entry) there in
       subst
@@ -74,10 +75,12 @@ module _ (program : Program) (whole : IsWhole program) where
         types = same.1;
         parameters = subst
             (λ (number : ℕ).
-            AreParameters its (home_of_parameters number found.is_reentrant found.visibility) found.parameter_types
+            AreParameters its (home_of_parameters number found.is_reentrant found.visibility)
+            found.parameter_types
             found.parameters) (zero-add at.number)
             (parameters_typed its 0 its.procedures
-            (recursion_from_All _ (enumerate_from 0 its.procedures) (sound.parameters).procedures) at.number found
+            (recursion_from_All _ (enumerate_from 0 its.procedures) (sound.parameters).procedures) at.number
+            found
             there);
       })
 
@@ -96,7 +99,8 @@ module _ (program : Program) (whole : IsWhole program) where
       by_procedure its None is there means = absurd means
       by_procedure its (Some public) is there means =
           let same = procedures_agree heading public means.1 in
-          heads at its public heading is there (not_external public.visibility means.0) (sym same.0, sym same.1)
+          heads at its public heading is there (not_external public.visibility means.0)
+          (sym same.0, sym same.1)
 
       by_module : (entry : Option TypedModule)
           → slice_get program.modules at.number_of_module ≡ entry
@@ -112,8 +116,8 @@ module _ (program : Program) (whole : IsWhole program) where
 abbrev own_place : Surroundings → (procedure : ℕ) → InProgram
 own_place around procedure = record { number_of_module = around.number_of_module; number = procedure }
 
--- What a call of a procedure stands for is there: its module, its body, the result and the types of parameters of the
--- heading that the call was typed by, and an object for each parameter.
+-- What a call of a procedure stands for is there: its module, its body, the result and the types of
+-- parameters of the heading that the call was typed by, and an object for each parameter.
 pub callee_is_meant : (around : Surroundings) → IsWhole around.program
     → (typed : TypedModule) (procedure : ℕ) (heading : TypedProcedure)
     → slice_get around.program.modules around.number_of_module ≡ Some typed
@@ -130,15 +134,19 @@ callee_is_meant around whole typed procedure heading here is =
         option_and_then
         (λ (its : TypedModule).
         option_and_then
-        (λ (found : TypedProcedure). procedure_meant around.program.modules (own_place around procedure) found found.visibility)
+        (λ (found : TypedProcedure). procedure_meant around.program.modules (own_place around procedure)
+        found found.visibility)
         (slice_get its.procedures procedure)) entry) here
         ∙ ap (λ (entry : Option TypedProcedure).
         option_and_then
-        (λ (found : TypedProcedure). procedure_meant around.program.modules (own_place around procedure) found found.visibility) entry) is
+        (λ (found : TypedProcedure). procedure_meant around.program.modules (own_place around procedure) found
+        found.visibility) entry) is
 
-    own : heading.visibility ≢ visibilities.External → HeadsAt around.program heading (own_place around procedure)
+    own : heading.visibility ≢ visibilities.External
+        → HeadsAt around.program heading (own_place around procedure)
     own not_external =
-        heads around.program whole (own_place around procedure) typed heading heading here is not_external (refl, refl)
+        heads around.program whole (own_place around procedure) typed heading heading here is
+        not_external (refl, refl)
 
     external : (entry : Option InProgram) → IsSomeAnd entry (MeansProcedure around.program.modules heading)
         → IsSomeAnd entry (HeadsAt around.program heading)
@@ -146,10 +154,12 @@ callee_is_meant around whole typed procedure heading here is =
     external (Some at) means = public_heads around.program whole at heading means
 
     by : (visibility : Visibility) → heading.visibility ≡ visibility
-        → IsSomeAnd (procedure_meant around.program.modules (own_place around procedure) heading heading.visibility)
+        → IsSomeAnd
+        (procedure_meant around.program.modules (own_place around procedure) heading heading.visibility)
         (HeadsAt around.program heading)
     by visibilities.External is_external =
-        external (procedure_meant around.program.modules (own_place around procedure) heading heading.visibility)
+        external
+        (procedure_meant around.program.modules (own_place around procedure) heading heading.visibility)
         (external_procedure_meant around.program.modules whole.joined (globals_listed around.program whole)
         around.number_of_module procedure typed heading here is is_external)
     by visibilities.Public is_public =
@@ -178,7 +188,8 @@ call_is_meant around whole typed procedure result arguments here takes =
         → IsSomeAnd entry
         (λ (found : TypedProcedure). (found.result ≡ result) × (found.parameter_types ≡ types_of arguments))
         → IsSomeAnd entry
-        (λ (heading : TypedProcedure). (heading.result ≡ result) × (heading.parameter_types ≡ types_of arguments)
+        (λ (heading : TypedProcedure). (heading.result ≡ result)
+        × (heading.parameter_types ≡ types_of arguments)
         × CalleeIsMeant around procedure heading)
     by None is takes = absurd takes
     by (Some heading) is takes =
@@ -227,7 +238,8 @@ pub location_is_in_memory : (later : Later) (around : Surroundings) (typed : Typ
     → slice_get around.program.modules around.number_of_module ≡ Some typed
     → RefersToLocation typed within reference
     → GivesInMemory (located later around reference s)
-location_is_in_memory later around typed within (PartOf object subscript member offset member_subscript) s here holds =
+location_is_in_memory later around typed within
+    (PartOf object subscript member offset member_subscript) s here holds =
     by (slice_get typed.objects object) refl holds
   where
     by : (entry : Option TypedObject)

@@ -6,7 +6,8 @@ differ_writable : (program : Program) (s t : State) → Follows program s t → 
 differ_writable program s t follows address differs =
     by (is_declared program address) (is_constant program address) refl refl
   where
-    by : (declared constant : Bool) → is_declared program address ≡ declared → is_constant program address ≡ constant
+    by : (declared constant : Bool) → is_declared program address ≡ declared
+        → is_constant program address ≡ constant
         → IsWritable program.modules program.placement address
     by false constant is told = absurd (differs (follows.undeclared address is))
     by true true is told = absurd (differs (follows.constants address told))
@@ -18,7 +19,8 @@ changes_writable program extra s (Gave found t) kept = differ_writable program s
 changes_writable program extra s (Stopped why t) kept = differ_writable program s t kept.0
 
 -- a call
-pub call_changes_writable : (number : ℕ) (at : InProgram) (arguments : List ℕ) (around : Surroundings) (s : State)
+pub call_changes_writable : (number : ℕ) (at : InProgram) (arguments : List ℕ)
+    (around : Surroundings) (s : State)
     → s.budget < number
     → ChangesWritable around.program s ((later_by number).call at arguments around s)
 call_changes_writable number at arguments around s below =

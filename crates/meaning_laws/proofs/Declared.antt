@@ -9,7 +9,8 @@ later_has address None rest is = is
 later_has address (Some piece) rest is =
     or_right (holds_byte address piece) (list_any (holds_byte address) rest) is
 
-object_has : (address : ℕ) (objects : List TypedObject) (addresses : List ℕ) (number : ℕ) (object : TypedObject)
+object_has : (address : ℕ) (objects : List TypedObject) (addresses : List ℕ) (number : ℕ)
+    (object : TypedObject)
     (kind : PieceKind)
     → slice_get objects number ≡ Some object
     → number < length addresses
@@ -17,7 +18,8 @@ object_has : (address : ℕ) (objects : List TypedObject) (addresses : List ℕ)
     → holds_byte address (piece_of (slice_index addresses number) object kind) ≡ true
     → list_any (holds_byte address) (filter_map object_piece (zip objects addresses)) ≡ true
 object_has address [] addresses number object kind there below is holds = absurd (none-some object there)
-object_has address (first ∷ objects) [] number object kind there below is holds = absurd (omega (arith, below))
+object_has address (first ∷ objects) [] number object kind there below is holds =
+    absurd (omega (arith, below))
 object_has address (first ∷ objects) (start ∷ addresses) zero object kind there below is holds =
     let same : first ≡ object = cc in
     let found : object_piece (first, start) ≡ Some (piece_of start object kind) =
@@ -25,7 +27,8 @@ object_has address (first ∷ objects) (start ∷ addresses) zero object kind th
     ∙ ap (λ (entry : Option PieceKind). option_map (piece_of start object) entry) is in
     subst
     (λ (entry : Option PlacedPiece).
-    list_any (holds_byte address) (cons_option entry (filter_map object_piece (zip objects addresses))) ≡ true)
+    list_any (holds_byte address) (cons_option entry (filter_map object_piece (zip objects addresses)))
+    ≡ true)
     (sym found)
     (ap (λ (test : Bool).
     test || list_any (holds_byte address) (filter_map object_piece (zip objects addresses))) holds)
@@ -59,7 +62,8 @@ program_has address (first ∷ modules) (start ∷ placements) zero typed placed
     ∙ ap (λ (test : Bool).
     test || list_any (holds_byte address) (flat_map pieces_of_module (zip modules placements)))
     (ap (λ (one : TypedModule). list_any (holds_byte address) (pieces_of_module (one, start))) same
-    ∙ ap (λ (one : ModulePlacement). list_any (holds_byte address) (pieces_of_module (typed, one))) same_placed
+    ∙ ap (λ (one : ModulePlacement). list_any (holds_byte address) (pieces_of_module (typed, one)))
+    same_placed
     ∙ has)
 program_has address (first ∷ modules) (start ∷ placements) (suc number) typed placed its is has =
     list_any-append (holds_byte address) (pieces_of_module (first, start))
@@ -92,14 +96,16 @@ pub bytes_declared : (modules : List TypedModule) (placement : Placement) (modul
     → (offset : ℕ)
     → offset < size_of_object object
     → IsDeclared modules placement (slice_index placed.objects number + offset)
-bytes_declared modules placement module_number number typed placed object its is there below place offset inside =
+bytes_declared modules placement module_number number typed placed object its is there below
+    place offset inside =
     let piece : IsPiece object.home = has_kind object.home place in
     let start : ℕ = slice_index placed.objects number in
     (Decides-declared modules placement (start + offset)).0
     (program_has (start + offset) modules placement.modules module_number typed placed its is
     (module_has (start + offset) typed placed
     (object_has (start + offset) typed.objects placed.objects number object piece.kind there below piece.is
-    ((Decides-holds (start + offset) (piece_of start object piece.kind)).1 (omega arith, omega (arith, inside))))))
+    ((Decides-holds (start + offset) (piece_of start object piece.kind)).1
+    (omega arith, omega (arith, inside))))))
 
 -- each byte that is declared is one of memory
 pub declared_in_memory :
@@ -110,6 +116,7 @@ pub declared_in_memory :
 declared_in_memory modules placement address lawful declared =
     let found = (Decides-declared modules placement address).0 declared in
     let ends : EndsInMemory (found.1).range =
-    subst (λ (piece : PlacedPiece). EndsInMemory piece.range) found.3 (lawful.in_memory found.0 found.1 found.2) in
+    subst (λ (piece : PlacedPiece). EndsInMemory piece.range) found.3
+    (lawful.in_memory found.0 found.1 found.2) in
     let inside = (found.4).1 in
     omega (arith, ends, inside)

@@ -79,21 +79,24 @@ begins_with_all program whole =
       complete = (whole.lawful).complete;
       in_memory = λ contents among address covers.
           declared_in_memory program.modules program.placement address whole.lawful
-          ((starts (replicate MEMORY_SIZE 0) (length-replicate {A = ℕ} MEMORY_SIZE 0)).declared contents among address
+          ((starts (replicate MEMORY_SIZE 0) (length-replicate {A = ℕ} MEMORY_SIZE 0)).declared
+          contents among address
           covers);
       starts = starts;
     }
 
--- in a program that is joined of soundly typed modules and lies lawfully, where PUBLIC objects of the modules and what
--- INITIAL and DATA locate may be placed
-pub takes_no_default : (program : Program) → IsWhole program → All IsPlaceable program.modules → TakesNoDefault program
+-- in a program that is joined of soundly typed modules and lies lawfully, where PUBLIC objects of the modules
+-- and what INITIAL and DATA locate may be placed
+pub takes_no_default : (program : Program) → IsWhole program → All IsPlaceable program.modules
+    → TakesNoDefault program
 takes_no_default program whole placeable = record {
   main = main_is_there program whole;
   begins = begins_with_all program whole;
   later = later_is_meant;
   labels = begins_with;
   modules = λ number room typed is.
-      in_module (record { program = program; number_of_module = number; room = room }) typed is whole placeable;
+      in_module (record { program = program; number_of_module = number; room = room })
+      typed is whole placeable;
 }
 
 -- worked: a program without modules takes one

@@ -12,7 +12,8 @@ frame_if frame true one other first second = first
 frame_if frame false one other first second = second
 
 -- a call gives the frame back
-pub call_gives_frame_back : (later : Later) (at : InProgram) (arguments : List ℕ) (around : Surroundings) (s : State)
+pub call_gives_frame_back : (later : Later) (at : InProgram) (arguments : List ℕ)
+    (around : Surroundings) (s : State)
     → LeavesFrame s.frame (called later at arguments around s)
 call_gives_frame_back later at arguments around s =
     frame_if s.frame (s.budget == 0) _ _ tt (by (procedure_at around.program.modules at))
@@ -42,7 +43,8 @@ pub new_frame_is_zeros : (procedure : ℕ) (typed : TypedModule)
     → All (λ (bytes : List ℕ). All (λ (byte : ℕ). byte ≡ 0) bytes) (frame_of procedure typed)
 new_frame_is_zeros procedure typed =
     All-map (λ (bytes : List ℕ). All (λ (byte : ℕ). byte ≡ 0) bytes)
-    (λ (object : TypedObject). if is_frame_of procedure object.home then replicate (size_of_object object) 0 else [])
+    (λ (object : TypedObject). if is_frame_of procedure object.home then replicate
+    (size_of_object object) 0 else [])
     typed.objects (All-from_recursion _ typed.objects (each typed.objects))
   where
     one : (test : Bool) (object : TypedObject)

@@ -54,18 +54,21 @@ module _ (typed : TypedModule) where
   record LaterFits (later : Later) : Type 0 where
     again : (turn : Turn) (around : Surroundings) (s : State) → Fits (body_of_turn turn)
         → NotReturned (later.again turn around s)
-    onto : (first : ℕ) (places : List ℕ) (statements : TypedStatements) (count : ℕ) (around : Surroundings) (s : State)
+    onto : (first : ℕ) (places : List ℕ) (statements : TypedStatements) (count : ℕ)
+        (around : Surroundings) (s : State)
         → TypesHoldInStatements typed WithinMain statements
         → NotReturned (later.onto (ListOf first places statements) (dropped count statements) around s)
 
-  types_dropped : (count : ℕ) (statements : TypedStatements) → TypesHoldInStatements typed WithinMain statements
+  types_dropped : (count : ℕ) (statements : TypedStatements)
+      → TypesHoldInStatements typed WithinMain statements
       → TypesHoldInStatements typed WithinMain (dropped count statements)
   types_dropped zero statements fits = fits
   types_dropped (suc count) NoStatements fits = tt
   types_dropped (suc count) (MoreStatements first others) fits = types_dropped count others fits.1
 
   module _ (later : Later) (later_fits : LaterFits later) where
-    lands : (first label : ℕ) (places : List ℕ) (statements : TypedStatements) (found : Option TypedStatements)
+    lands : (first label : ℕ) (places : List ℕ) (statements : TypedStatements)
+        (found : Option TypedStatements)
         (around : Surroundings) (t : State)
         → rest_from label (ListOf first places statements) ≡ found
         → TypesHoldInStatements typed WithinMain statements
@@ -77,16 +80,19 @@ module _ (typed : TypedModule) where
         subst (λ one. NotReturned (later.onto (ListOf first places statements) one around t)) part.1
         (later_fits.onto first places statements part.0 around t fits)
 
-    catches : (first : ℕ) (places : List ℕ) (statements : TypedStatements) (flow : Flow) (around : Surroundings)
+    catches : (first : ℕ) (places : List ℕ) (statements : TypedStatements) (flow : Flow)
+        (around : Surroundings)
         (t : State)
         → TypesHoldInStatements typed WithinMain statements → StaysIn flow
         → NotReturned (caught_in later around (ListOf first places statements) flow t)
     catches first places statements Onward around t fits stays = tt
     catches first places statements (Returned found) around t fits stays = absurd stays
     catches first places statements (Jumped label) around t fits stays =
-        lands first label places statements (rest_from label (ListOf first places statements)) around t refl fits
+        lands first label places statements
+        (rest_from label (ListOf first places statements)) around t refl fits
 
-    turns : (turn : Turn) (flow : Flow) (around : Surroundings) (t : State) → Fits (body_of_turn turn) → StaysIn flow
+    turns : (turn : Turn) (flow : Flow) (around : Surroundings) (t : State)
+        → Fits (body_of_turn turn) → StaysIn flow
         → NotReturned (after_turn later around turn flow t)
     turns turn Onward around t fits stays = later_fits.again turn around t fits
     turns turn (Returned found) around t fits stays = absurd stays
@@ -156,7 +162,8 @@ module _ (typed : TypedModule) where
           (λ found t. then_not (stored_in_each later around targets found t) _ (λ done u. tt))
       statement_not (CallStatement procedure arguments) around s fits =
           then_not (values later around arguments s) _
-          (λ given t. then_not (called_for later (callee_in around procedure) given around t) _ (λ found u. tt))
+          (λ given t. then_not (called_for later (callee_in around procedure) given around t) _
+          (λ found u. tt))
       statement_not (MoveStatement count source destination) around s fits =
           then_not (value later around count s) _
           (λ bytes t. then_not (value later around source t) _
@@ -186,13 +193,15 @@ module _ (typed : TypedModule) where
       else_not (ElseStatement statement) around s fits = statement_not statement around s fits
 
       case_not : (statements : TypedStatements) (found : ℕ) (around : Surroundings) (s : State)
-          → TypesHoldInStatements typed WithinMain statements → NotReturned (done_case later around statements found s)
+          → TypesHoldInStatements typed WithinMain statements
+          → NotReturned (done_case later around statements found s)
       case_not NoStatements found around s fits = tt
       case_not (MoreStatements first others) zero around s fits = statement_not first around s fits.0
       case_not (MoreStatements first others) (suc found) around s fits = case_not others found around s fits.1
 
       statements_not : (statements : TypedStatements) (around : Surroundings) (s : State)
-          → TypesHoldInStatements typed WithinMain statements → NotReturned (done_all later around statements s)
+          → TypesHoldInStatements typed WithinMain statements
+          → NotReturned (done_all later around statements s)
       statements_not NoStatements around s fits = tt
       statements_not (MoreStatements statement others) around s fits =
           flow_not (done later around statement s) _ (statement_not statement around s fits.0)
@@ -202,7 +211,8 @@ module _ (typed : TypedModule) where
       list_not : (list : TypedList) (around : Surroundings) (s : State) → Fits list
           → NotReturned (done_list later around list s)
       list_not (ListOf first places statements) around s fits =
-          flow_not (done_all later around statements s) (caught_in later around (ListOf first places statements))
+          flow_not (done_all later around statements s)
+          (caught_in later around (ListOf first places statements))
           (statements_not statements around s fits)
           (λ flow t stays. catches first places statements flow around t fits stays)
 
@@ -213,7 +223,8 @@ module _ (typed : TypedModule) where
     turn_not (IterateTurn head body) around s fits =
         iterates head body around s fits (λ v. list_not body around v fits)
 
-    rest_not : (first : ℕ) (places : List ℕ) (statements : TypedStatements) (count : ℕ) (around : Surroundings)
+    rest_not : (first : ℕ) (places : List ℕ) (statements : TypedStatements) (count : ℕ)
+        (around : Surroundings)
         (s : State)
         → TypesHoldInStatements typed WithinMain statements
         → NotReturned (rest_of later (ListOf first places statements) (dropped count statements) around s)

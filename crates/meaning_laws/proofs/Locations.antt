@@ -24,7 +24,8 @@ bound_is known (Declared (Object number)) name =
     in_turn (is_found (slice_get known.objects number) NoVariable (place_of_word name)) λ object is.
     then_more (address_is object.home number (place_of_word name)) λ found has.
     subst (MayBeLocated known.objects) (sym has.0)
-    (subst (λ (entry : Option TypedObject). IsSomeAnd entry (λ (found : TypedObject). HasAddress found.home)) (sym is)
+    (subst (λ (entry : Option TypedObject). IsSomeAnd entry (λ (found : TypedObject). HasAddress found.home))
+    (sym is)
     has.1)
 bound_is known (Declared (Procedure number)) name = gives_fault
 bound_is known binding name = gives_fault
@@ -58,19 +59,22 @@ one_value : (objects : List TypedObject) (value : InitialValue) → LocatesObjec
 one_value objects value locates =
     All-cons (LocatesObject objects) value [] locates (All-nil (LocatesObject objects))
 
-scalar_locates : (objects : List TypedObject) (place : WordPlace) (scalars : List ScalarType) (value : RestrictedValue)
+scalar_locates : (objects : List TypedObject) (place : WordPlace) (scalars : List ScalarType)
+    (value : RestrictedValue)
     → ValueLocates objects value
     → Gives (FilledLocate objects) (fill_scalar place scalars value)
 scalar_locates objects place (Byte ∷ left) (ANumber number) is =
     gives_after (require (nat_le number 255) NotByte place) λ small.
     gives_ok (one_value objects (ByteValue number) tt)
-scalar_locates objects place (Address ∷ left) (ANumber number) is = gives_ok (one_value objects (WordValue number) tt)
+scalar_locates objects place (Address ∷ left) (ANumber number) is =
+    gives_ok (one_value objects (WordValue number) tt)
 scalar_locates objects place (Address ∷ left) (FromObject object offset) is =
     gives_ok (one_value objects (LocationValue object offset) is)
 scalar_locates objects place (Byte ∷ left) (FromObject object offset) is = gives_fault
 scalar_locates objects place [] value is = gives_fault
 
-characters_locate : (objects : List TypedObject) (place : WordPlace) (characters : List ℕ) (scalars : List ScalarType)
+characters_locate : (objects : List TypedObject) (place : WordPlace) (characters : List ℕ)
+    (scalars : List ScalarType)
     → Gives (FilledLocate objects) (fill_characters place characters scalars)
 characters_locate objects place [] scalars = gives_ok (All-nil (LocatesObject objects))
 characters_locate objects place (character ∷ others) (Byte ∷ left) =
@@ -97,7 +101,8 @@ origin_locates known scalars origin offsets =
 
 value_locates : (known : Known) (scalars : List ScalarType) (origin : OriginTree) (offsets : List OffsetTree)
     → Gives (FilledLocate known.objects) (fill_value known scalars origin offsets)
-value_locates known scalars (ConstantOrigin (StringConstant string)) [] = string_locates known.objects string scalars
+value_locates known scalars (ConstantOrigin (StringConstant string)) [] =
+    string_locates known.objects string scalars
 value_locates known scalars origin offsets = origin_locates known scalars origin offsets
 
 values_locate : (known : Known) (values : List RestrictedTree) (scalars : List ScalarType)
@@ -122,7 +127,8 @@ contents_locate known place object_type (Elements count) values =
     in_turn (values_locate known values (scalars_of_elements count object_type)) λ filled locate.
     gives_ok locate
 contents_locate known place object_type AsListed values =
-    in_turn (values_locate known values (scalars_of_elements (enough_elements values) object_type)) λ filled locate.
+    in_turn (values_locate known values (scalars_of_elements (enough_elements values) object_type))
+    λ filled locate.
     let used : ℕ =
     length (scalars_of_elements (enough_elements values) object_type) - length filled.left in
     in_turn (required (nat_lt 0 used) _ _) λ _ some.
@@ -166,7 +172,8 @@ home_locates objects owner item None at values locate =
 
     at_place : (outside : Bool) (at : Option AtAddress) (has_data : Bool)
         → All (LocatesObject objects)
-        (values_in (cond outside Elsewhere (option_map_or Placed at (home_with_values owner has_data values))))
+        (values_in (cond outside Elsewhere
+        (option_map_or Placed at (home_with_values owner has_data values))))
     at_place true at has_data = All-nil (LocatesObject objects)
     at_place false (Some address) has_data = All-nil (LocatesObject objects)
     at_place false None has_data = with_values has_data
@@ -191,14 +198,16 @@ value_later : (before after : List TypedObject) → Keeps before after → (valu
     → LocatesObject before value → LocatesObject after value
 value_later before after keeps (ByteValue byte) locates = tt
 value_later before after keeps (WordValue word) locates = tt
-value_later before after keeps (LocationValue object offset) locates = by (slice_get before object) refl locates
+value_later before after keeps (LocationValue object offset) locates =
+    by (slice_get before object) refl locates
   where
     by : (entry : Option TypedObject) → slice_get before object ≡ entry
         → IsSomeAnd entry (λ (found : TypedObject). HasAddress found.home)
         → IsSomeAnd (slice_get after object) (λ (found : TypedObject). HasAddress found.home)
     by None is has = absurd has
     by (Some found) is has =
-        subst (λ (entry : Option TypedObject). IsSomeAnd entry (λ (found : TypedObject). HasAddress found.home))
+        subst (λ (entry : Option TypedObject). IsSomeAnd entry
+        (λ (found : TypedObject). HasAddress found.home))
         (sym (keeps object found is)) has
 
 pub values_later : (before after : List TypedObject) → Keeps before after → (values : List InitialValue)

@@ -30,7 +30,8 @@ none_counted (first ∷ others) none =
 -- the first that is main, and its number
 found_at : {A : Type 0} (from : ℕ) (modules : List TypedModule) (main : TypedModule)
     → find is_main modules ≡ Some main
-    → ((at : ℕ) → position_from is_main from modules ≡ Some (from + at) → slice_get modules at ≡ Some main → A) → A
+    → ((at : ℕ) → position_from is_main from modules ≡ Some (from + at)
+    → slice_get modules at ≡ Some main → A) → A
 found_at from [] main found then_is = absurd (none-some main found)
 found_at {A} from (first ∷ others) main found then_is =
     by (is_main first) refl found (λ next then_later. found_at (from + 1) others main next then_later)

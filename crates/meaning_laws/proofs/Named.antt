@@ -13,10 +13,12 @@ module _ (around : Surroundings) (whole : IsWhole around.program) (typed : Typed
     in_expression (NumberNode scalar number origin) fits = tt
     in_expression (ValueNode scalar reference) (refers, parts) =
         in_reference reference
-        (scalar_is_meant around.program whole around.number_of_module typed within here scalar reference refers) parts
+        (scalar_is_meant around.program whole around.number_of_module typed within here scalar
+        reference refers) parts
     in_expression (LocationNode reference) (refers, parts) =
         in_reference reference
-        (location_is_meant around.program whole around.number_of_module typed within here reference refers) parts
+        (location_is_meant around.program whole around.number_of_module typed within here reference refers)
+        parts
     in_expression (ListNode list) below =
         list_is_placed around.program whole around.number_of_module list typed here below
     in_expression (ConversionNode scalar inner) fits = in_expression inner fits
@@ -47,25 +49,30 @@ module _ (around : Surroundings) (whole : IsWhole around.program) (typed : Typed
         → AreNamedInTarget around typed within target
     in_target scalar (StoredIn from to reference) (same, refers, parts) =
         in_reference reference
-        (scalar_is_meant around.program whole around.number_of_module typed within here to reference refers) parts
+        (scalar_is_meant around.program whole around.number_of_module typed within here to reference refers)
+        parts
     in_target scalar (SentTo from port) same = tt
 
     in_arguments : (arguments : TypedArguments) → TypesHoldInArguments typed within arguments
         → AreNamedInArguments around typed within arguments
     in_arguments NoArguments fits = tt
-    in_arguments (MoreArguments first others) (fits, rest) = (in_expression first fits, in_arguments others rest)
+    in_arguments (MoreArguments first others) (fits, rest) =
+        (in_expression first fits, in_arguments others rest)
 
-  in_targets : (scalar : ScalarType) (targets : List TypedTarget) → TypesHoldInTargets typed within scalar targets
+  in_targets : (scalar : ScalarType) (targets : List TypedTarget)
+      → TypesHoldInTargets typed within scalar targets
       → AreNamedInTargets around typed within targets
   in_targets scalar [] fits = tt
-  in_targets scalar (first ∷ others) (fits, rest) = (in_target scalar first fits, in_targets scalar others rest)
+  in_targets scalar (first ∷ others) (fits, rest) =
+      (in_target scalar first fits, in_targets scalar others rest)
 
   in_some : (expression : Option TypedExpression) → IfSome expression (TypesHold typed within)
       → IfSome expression (AreNamed around typed within)
   in_some None fits = tt
   in_some (Some expression) fits = in_expression expression fits
 
-  in_head : (head : TypedIteration) → TypesHoldInHead typed within head → AreNamedInHead around typed within head
+  in_head : (head : TypedIteration) → TypesHoldInHead typed within head
+      → AreNamedInHead around typed within head
   in_head head (counts, first, last, step) = (
     counter_is_meant around.program whole around.number_of_module typed within here head counts,
     in_expression head.first first,
@@ -126,9 +133,11 @@ module _ (around : Surroundings) (whole : IsWhole around.program) (typed : Typed
       in_statements : (statements : TypedStatements) → TypesHoldInStatements typed within statements
           → AreNamedInStatements around typed within statements
       in_statements NoStatements fits = tt
-      in_statements (MoreStatements first others) (fits, rest) = (in_statement first fits, in_statements others rest)
+      in_statements (MoreStatements first others) (fits, rest) =
+          (in_statement first fits, in_statements others rest)
 
-      in_list : (list : TypedList) → TypesHoldInList typed within list → AreNamedInList around typed within list
+      in_list : (list : TypedList) → TypesHoldInList typed within list
+          → AreNamedInList around typed within list
       in_list (ListOf first places statements) fits = in_statements statements fits
 
   -- all that the bodies of a module of a whole program name

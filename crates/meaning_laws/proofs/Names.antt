@@ -12,11 +12,13 @@ pub home_there : (around : Surroundings) (typed : TypedModule) (object : ℕ) (f
     → slice_get typed.objects object ≡ Some found
     → home_of around object ≡ found.home
 home_there around typed object found here is =
-    ap (λ (entry : Option TypedModule). option_map_or (λ (one : TypedModule). home_in one object) entry Nowhere) here
+    ap (λ (entry : Option TypedModule). option_map_or
+    (λ (one : TypedModule). home_in one object) entry Nowhere) here
     ∙ ap (λ (entry : Option TypedObject). option_map_or (λ (one : TypedObject). one.home) entry Nowhere) is
 
 -- the module of a number has a placement, with an address for each object and list
-placed_at : (modules : List TypedModule) (placements : List ModulePlacement) (number : ℕ) (typed : TypedModule)
+placed_at : (modules : List TypedModule) (placements : List ModulePlacement) (number : ℕ)
+    (typed : TypedModule)
     → length placements ≡ length modules
     → AllByRecursion HasAddresses (zip modules placements)
     → slice_get modules number ≡ Some typed
@@ -35,7 +37,8 @@ module _ (program : Program) (whole : IsWhole program) where
       (λ (placed : ModulePlacement). HasAddresses (typed, placed))
   module_placed number typed is =
       placed_at program.modules program.placement.modules number typed (whole.lawful).for_each_module
-      (recursion_from_All HasAddresses (zip program.modules program.placement.modules) (whole.lawful).complete) is
+      (recursion_from_All HasAddresses (zip program.modules program.placement.modules)
+      (whole.lawful).complete) is
 
   -- an object of a program has an address
   object_placed : (at : InProgram) (typed : TypedModule) (object : TypedObject)
@@ -43,7 +46,8 @@ module _ (program : Program) (whole : IsWhole program) where
       → slice_get typed.objects at.number ≡ Some object
       → IsPlaced program.placement at
   object_placed at typed object is there =
-      by (slice_get program.placement.modules at.number_of_module) (module_placed at.number_of_module typed is)
+      by (slice_get program.placement.modules at.number_of_module)
+      (module_placed at.number_of_module typed is)
     where
       by : (entry : Option ModulePlacement)
           → IsSomeAnd entry (λ (placed : ModulePlacement). HasAddresses (typed, placed))
@@ -80,7 +84,8 @@ module _ (program : Program) (whole : IsWhole program) where
       by_module (Some its) is means = by_object its (slice_get its.objects at.number) is refl means
 
   module _ (number object : ℕ) (typed : TypedModule) (found : TypedObject)
-      (is : slice_get program.modules number ≡ Some typed) (there : slice_get typed.objects object ≡ Some found) where
+      (is : slice_get program.modules number ≡ Some typed)
+      (there : slice_get typed.objects object ≡ Some found) where
     abbrev its_place : InProgram
     its_place = record { number_of_module = number; number = object }
 
@@ -88,7 +93,8 @@ module _ (program : Program) (whole : IsWhole program) where
         ≡ object_meant program.modules its_place found found.home
     meant_is =
         ap (λ (entry : Option TypedObject).
-        option_and_then (λ (one : TypedObject). object_meant program.modules its_place one one.home) entry) there
+        option_and_then (λ (one : TypedObject). object_meant program.modules its_place one one.home) entry)
+        there
 
     own_meant : IsSomeAnd (Some its_place) (IsPlaced program.placement)
     own_meant = object_placed its_place typed found is there
@@ -107,8 +113,10 @@ module _ (program : Program) (whole : IsWhole program) where
         external_placed (object_meant program.modules its_place found Elsewhere)
         (subst
         (λ (home : Home).
-        IsSomeAnd (object_meant program.modules its_place found home) (MeansObject program.modules found)) home_is
-        (external_object_meant program.modules whole.joined (globals_listed program whole) number object typed found is
+        IsSomeAnd (object_meant program.modules its_place found home)
+        (MeansObject program.modules found)) home_is
+        (external_object_meant program.modules whole.joined (globals_listed program whole) number
+        object typed found is
         there home_is))
     by_home (BasedOn base) home_is has = absurd has
     by_home Nowhere home_is has = absurd has

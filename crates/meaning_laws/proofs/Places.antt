@@ -1,5 +1,5 @@
--- What each object of a program stands for that is not BASED, in a frame or nowhere lies somewhere, and so does what
--- INITIAL and DATA locate.
+-- What each object of a program stands for that is not BASED, in a frame or nowhere lies somewhere, and so
+-- does what INITIAL and DATA locate.
 use Rattle.meaning_laws.proofs.Prelude.{◌≡◌, ℕ, ◌+◌, ◌<◌, true, length, Option, Some, None, IsSomeAnd, slice_get, refl, sym, ap, subst, ◌∙◌, arith, All, slice_index, option_and_then, option_map_or, All-weaker, recursion_from_All, slice_get_within, ByteValue, WordValue, LocationValue, InitialValue, HasPlace, Home, InData, InConstants, Placed, BasedOn, Elsewhere, Nowhere, InFrame, TypedObject, TypedModule, DeclaredObject, InProgram, agree, object_meant, HasAddresses, IsDeclared, ModulePlacement, values_in, MeansObject, external_object_meant, Program, HasAddress, IsWhole, HasDeclaredBytes, IsPlaceable, LiesIfPublic, LocatesObject, LocatesObjects, LocationLies, LocationsLie, ObjectsLie, PublicsLie, StandsForBytes, at_place}
 use Rattle.meaning_laws.proofs.Declared.{bytes_declared}
 use Rattle.meaning_laws.proofs.Names.{globals_listed, module_placed}
@@ -33,7 +33,8 @@ module _ (program : Program) (whole : IsWhole program) where
             subst (λ (start : ℕ). IsDeclared program.modules program.placement (start + offset))
             (sym (ap (λ (entry : Option ModulePlacement).
             option_map_or (λ (one : ModulePlacement). slice_index one.objects at.number) entry 0) is))
-            (bytes_declared program.modules program.placement at.number_of_module at.number typed placed object its is
+            (bytes_declared program.modules program.placement at.number_of_module at.number typed
+            placed object its is
             there below place offset inside);
       }
         where
@@ -63,7 +64,8 @@ module _ (program : Program) (whole : IsWhole program) where
             at_place PublicsLie program.modules at.number_of_module its
             (recursion_from_All PublicsLie program.modules lie) is in
             has_bytes at its public is there
-            (at_place LiesIfPublic its.objects at.number public (recursion_from_All LiesIfPublic its.objects all) there
+            (at_place LiesIfPublic its.objects at.number public
+            (recursion_from_All LiesIfPublic its.objects all) there
             means.0)
 
         by_module : (entry : Option TypedModule)
@@ -78,7 +80,8 @@ module _ (program : Program) (whole : IsWhole program) where
 
     module _
         (number object : ℕ) (typed : TypedModule) (found : TypedObject)
-        (its : slice_get program.modules number ≡ Some typed) (there : slice_get typed.objects object ≡ Some found)
+        (its : slice_get program.modules number ≡ Some typed)
+        (there : slice_get typed.objects object ≡ Some found)
       where
         abbrev at_object : InProgram
         at_object = record { number_of_module = number; number = object }
@@ -93,15 +96,20 @@ module _ (program : Program) (whole : IsWhole program) where
             → found.home ≡ home
             → HasAddress home
             → IsSomeAnd (object_meant program.modules at_object found home) (HasDeclaredBytes program)
-        by_home (InData values) is has = has_bytes at_object typed found its there (subst HasPlace (sym is) tt)
-        by_home (InConstants values) is has = has_bytes at_object typed found its there (subst HasPlace (sym is) tt)
-        by_home (Placed address) is has = has_bytes at_object typed found its there (subst HasPlace (sym is) tt)
+        by_home (InData values) is has =
+            has_bytes at_object typed found its there (subst HasPlace (sym is) tt)
+        by_home (InConstants values) is has =
+            has_bytes at_object typed found its there (subst HasPlace (sym is) tt)
+        by_home (Placed address) is has =
+            has_bytes at_object typed found its there (subst HasPlace (sym is) tt)
         by_home Elsewhere is has =
             external_address (object_meant program.modules at_object found Elsewhere)
             (subst
             (λ (home : Home).
-            IsSomeAnd (object_meant program.modules at_object found home) (MeansObject program.modules found)) is
-            (external_object_meant program.modules whole.joined (globals_listed program whole) number object typed found
+            IsSomeAnd (object_meant program.modules at_object found home)
+            (MeansObject program.modules found)) is
+            (external_object_meant program.modules whole.joined (globals_listed program whole)
+            number object typed found
             its there is))
         by_home (BasedOn base) is has = absurd has
         by_home Nowhere is has = absurd has
@@ -112,7 +120,8 @@ module _ (program : Program) (whole : IsWhole program) where
         meant_address has =
             subst (λ (entry : Option InProgram). IsSomeAnd entry (HasDeclaredBytes program))
             (sym (ap (λ (entry : Option TypedObject).
-            option_and_then (λ (one : TypedObject). object_meant program.modules at_object one one.home) entry) there))
+            option_and_then (λ (one : TypedObject). object_meant program.modules at_object one one.home)
+            entry) there))
             (by_home found.home refl has)
 
 -- In a program whose PUBLIC objects lie somewhere so does what such an object stands for.
@@ -126,7 +135,8 @@ pub object_lies :
 object_lies program whole lie number object typed found its there has =
     meant_address program whole lie number object typed found its there has
 
-pub publics_of_placeable : (program : Program) → All IsPlaceable program.modules → All PublicsLie program.modules
+pub publics_of_placeable : (program : Program) → All IsPlaceable program.modules
+    → All PublicsLie program.modules
 publics_of_placeable program placeable =
     All-weaker IsPlaceable PublicsLie (λ typed is. is.publics) program.modules placeable
 
@@ -134,9 +144,11 @@ module _ (program : Program) (whole : IsWhole program) (placeable : All IsPlacea
     (number : ℕ) (typed : TypedModule) (its : slice_get program.modules number ≡ Some typed) where
   pub objects_lie : ObjectsLie program number typed
   objects_lie object found there has =
-      object_lies program whole (publics_of_placeable program placeable) number object typed found its there has
+      object_lies program whole (publics_of_placeable program placeable) number object
+      typed found its there has
 
-  location_lies : (value : InitialValue) → LocatesObject typed.objects value → LocationLies program number typed value
+  location_lies : (value : InitialValue) → LocatesObject typed.objects value
+      → LocationLies program number typed value
   location_lies (ByteValue byte) locates = tt
   location_lies (WordValue word) locates = tt
   location_lies (LocationValue object offset) locates = by (slice_get typed.objects object) refl locates
@@ -176,7 +188,8 @@ based_lies_nowhere program number object base typed found its there home stands 
     IsSomeAnd (option_and_then (λ (one : TypedObject). object_meant program.modules at one one.home) entry)
     (HasDeclaredBytes program)) there stands in
     let lies : HasDeclaredBytes program at =
-    subst (λ (one : Home). IsSomeAnd (object_meant program.modules at found one) (HasDeclaredBytes program)) home
+    subst (λ (one : Home). IsSomeAnd (object_meant program.modules at found one) (HasDeclaredBytes program))
+    home
     by_object in
     let same_module : Some lies.typed ≡ Some typed = sym lies.its_module ∙ its in
     let its_typed : lies.typed ≡ typed = cc in

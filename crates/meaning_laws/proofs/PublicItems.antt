@@ -30,7 +30,8 @@ home_has_place :
     → base ≡ None
     → HasPlace
     (option_map_or BasedOn base
-    (cond (is_external_linkage linkage) Elsewhere (option_map_or Placed at (home_with_values owner has_data values))))
+    (cond (is_external_linkage linkage) Elsewhere
+    (option_map_or Placed at (home_with_values owner has_data values))))
 home_has_place TheModule (Some (Public place)) None (Some address) has_data values public inside free = tt
 home_has_place TheModule (Some (Public place)) None None true values public inside free = tt
 home_has_place TheModule (Some (Public place)) None None false values public inside free = tt
@@ -43,7 +44,8 @@ home_has_place TheModule linkage (Some base) at has_data values public inside fr
 abbrev pub ItemLies : TypedItem → Type 0
 ItemLies item = is_public_linkage item.linkage ≡ true → HasPlace item.home
 
-pub typed_item_lies : (known : Known) (block : Block) (item : ItemTree) → Gives ItemLies (typed_item known block item)
+pub typed_item_lies : (known : Known) (block : Block) (item : ItemTree)
+    → Gives ItemLies (typed_item known block item)
 typed_item_lies known block item =
     in_turn (base_is known block item.subject (base_of item.subject)) λ base free.
     gives_after (extents_of block item item.dimension) λ extents.

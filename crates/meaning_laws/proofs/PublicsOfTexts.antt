@@ -1,5 +1,5 @@
--- In each part of a text the PUBLIC objects that are declared so far have a place, and INITIAL and DATA locate objects
--- that have one or are of another module.
+-- In each part of a text the PUBLIC objects that are declared so far have a place, and INITIAL and DATA
+-- locate objects that have one or are of another module.
 use Rattle.meaning_laws.proofs.Prelude.{ℕ, ◌+◌, List, [], ◌∷◌, ◌++◌, length, nat_le, subst, sym, All, not, All-append, All-cons, All-nil, All-weaker, Identifier, DeclarationTree, DeclarationTrees, DeclareTree, ElementTree, ElseTree, ItemElement, ItemTree, LiterallyElement, ModuleTree, MoreDeclarations, NoDeclarations, ProcedureTree, StatementKindTree, StatementTree, StatementTrees, is_declared_again, into_list, labels_of, declared_by, FRAME_LIMIT, OBJECT_LIMIT, TypedObject, TypedStatements, DeclaredTwice, ExternalContents, TooLarge, Block, Progress, is_external, Checked, require, TypedItem, declare_element, declare_elements, declare_item, declare_names, place_of_item, object_named, size_of_item, typed_item, with_objects, with_typed_object, arguments, check_body, own_block, parameter_objects, Known, place_of_word, declare_labels, labels_before, list_of, with_here, without_label, alone, at_the_beginning, cases, declaration, declarations, else_part, inner_block, kind, labelled, module_block, statements, typing_of, values_in, Gives, gives_after, gives_ok, in_turn, then_more, keeps_append, opens_procedure, Same, assignment_same, call_same, goto_same, iteration_same, return_same, value_same, ArePlaceable, IsPlaceable, LiesIfPublic, LocatesObjects}
 use Rattle.trees.specs.Trees as trees
 use Rattle.typing.specs.Modules.{entered}
@@ -25,7 +25,8 @@ one_more objects object lie lies locates =
     let old : All (LocatesObjects after) objects =
     All-weaker (LocatesObjects objects) (LocatesObjects after)
     (λ each. values_later objects after keeps (values_in each.home)) objects lie.locations in
-    let new : LocatesObjects after object = values_later objects after keeps (values_in object.home) locates in
+    let new : LocatesObjects after object =
+    values_later objects after keeps (values_in object.home) locates in
     record {
       publics = All-append LiesIfPublic objects (object ∷ []) lie.publics
           (All-cons LiesIfPublic object [] lies (All-nil LiesIfPublic));
@@ -44,12 +45,14 @@ objects_lie block item (name ∷ others) progress lies locates lie =
     let after : Progress = with_typed_object item.linkage object progress in
     gives_after (require (nat_le after.frame FRAME_LIMIT) TooLarge (place_of_word name)) λ small.
     objects_lie block item others after lies
-    (values_later objects (objects ++ object ∷ []) (keeps_append objects (object ∷ [])) (values_in item.home) locates)
+    (values_later objects (objects ++ object ∷ []) (keeps_append objects (object ∷ []))
+    (values_in item.home) locates)
     (one_more objects object lie lies locates)
 
 -- an item, with both
 both_give : (known : Known) (block : Block) (item : ItemTree)
-    → Gives (λ (typed : TypedItem). ItemLies typed × ItemLocates known.objects typed) (typed_item known block item)
+    → Gives (λ (typed : TypedItem). ItemLies typed × ItemLocates known.objects typed)
+    (typed_item known block item)
 both_give known block item = record {
   holds = λ typed is.
       ((typed_item_lies known block item).holds typed is, (typed_item_locates known block item).holds typed is);
@@ -68,7 +71,9 @@ item_lies block item progress lie =
 element_lies : (block : Block) (element : ElementTree) (progress : Progress) → Lie progress
     → Gives Lie (declare_element block element progress)
 element_lies block (LiterallyElement name text) progress lie =
-    gives_after (require (not (is_declared_again progress.known.here name.name)) DeclaredTwice (place_of_word name)) λ once.
+    gives_after
+    (require (not (is_declared_again progress.known.here name.name)) DeclaredTwice (place_of_word name))
+    λ once.
     gives_after (require (not (is_external block.owner)) ExternalContents (place_of_word name)) λ placed.
     gives_ok lie
 element_lies block (ItemElement item) progress lie = item_lies block item progress lie
@@ -97,7 +102,8 @@ list_lies : (trees : StatementTrees) (typed_from : ℕ → Progress → Checked 
     → LeavesLying (list_of trees typed_from progress)
 list_lies trees typed_from progress lie each =
     in_turn
-    (each progress.known.here.labels (with_here (into_list (labels_of trees) progress.known.here) progress) lie)
+    (each progress.known.here.labels (with_here (into_list (labels_of trees) progress.known.here) progress)
+    lie)
     λ done all.
     gives_ok all
 
@@ -108,11 +114,13 @@ mutual
   kind_lies block (trees.AssignmentStatement targets source) progress lie =
       from_same progress lie (assignment_same targets source progress)
   kind_lies block (trees.CallStatement place name values) progress lie =
-      from_same progress lie (call_same name (record { trees = values; typed = arguments progress.known values }) progress)
+      from_same progress lie
+      (call_same name (record { trees = values; typed = arguments progress.known values }) progress)
   kind_lies block (trees.ReturnStatement place result) progress lie =
       from_same progress lie (return_same place block.owner result progress)
   kind_lies block (trees.HaltStatement place) progress lie = gives_ok lie
-  kind_lies block (trees.GotoStatement place label) progress lie = from_same progress lie (goto_same label progress)
+  kind_lies block (trees.GotoStatement place label) progress lie =
+      from_same progress lie (goto_same label progress)
   kind_lies block (trees.IfStatement place condition body otherwise) progress lie =
       in_turn (from_same progress lie (value_same condition progress)) λ tested one.
       in_turn (alone_lies block body tested.1 one) λ chosen two.

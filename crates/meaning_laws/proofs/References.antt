@@ -12,7 +12,8 @@ module _ (program : Program) (whole : IsWhole program) (number : ℕ) (typed : T
 
   lies_there : (object : ℕ) (found : TypedObject) (home : Home) → slice_get typed.objects object ≡ Some found
       → found.home ≡ home → LiesFor within home → LiesThere program number typed within object home
-  lies_there object found (InData values) is home_is lies = addressed object found (InData values) is home_is tt
+  lies_there object found (InData values) is home_is lies =
+      addressed object found (InData values) is home_is tt
   lies_there object found (InConstants values) is home_is lies =
       addressed object found (InConstants values) is home_is tt
   lies_there object found (Placed at) is home_is lies = addressed object found (Placed at) is home_is tt
@@ -33,7 +34,8 @@ module _ (program : Program) (whole : IsWhole program) (number : ℕ) (typed : T
       → found.home ≡ home → IsSeen typed within home → IsNamed program number typed within object home
   is_named object found (BasedOn base) is home_is seen =
       scalar_there Address base (slice_get typed.objects base) refl seen
-  is_named object found (InData values) is home_is seen = lies_there object found (InData values) is home_is seen
+  is_named object found (InData values) is home_is seen =
+      lies_there object found (InData values) is home_is seen
   is_named object found (InConstants values) is home_is seen =
       lies_there object found (InConstants values) is home_is seen
   is_named object found (Placed at) is home_is seen = lies_there object found (Placed at) is home_is seen
@@ -73,4 +75,5 @@ module _ (program : Program) (whole : IsWhole program) (number : ℕ) (typed : T
   -- the variable of an iterative DO
   pub counter_is_meant : (head : TypedIteration) → Counts typed within head
       → VariableIsMeant program number typed within head.variable
-  counter_is_meant head counts = scalar_there head.scalar head.variable (slice_get typed.objects head.variable) refl counts
+  counter_is_meant head counts =
+      scalar_there head.scalar head.variable (slice_get typed.objects head.variable) refl counts

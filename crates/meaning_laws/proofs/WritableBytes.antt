@@ -17,7 +17,8 @@ new_frame_has_bytes typed number result s size = record {
     new_bytes object = if is_frame_of number object.home then replicate (size_of_object object) 0 else []
 
     its_bytes : (object : ℕ) (found : TypedObject) → slice_get typed.objects object ≡ Some found
-        → found.home ≡ InFrame number → length (frame_bytes (frame_of number typed) object) ≡ size_of_object found
+        → found.home ≡ InFrame number → length (frame_bytes (frame_of number typed) object)
+        ≡ size_of_object found
     its_bytes object found is home_is =
         let here : slice_get (map new_bytes typed.objects) object ≡ Some (new_bytes found) =
         slice_get-map new_bytes typed.objects object
@@ -36,7 +37,8 @@ pub main_has_bytes : (program : Program) → IsWhole program → (given : List �
 main_has_bytes program whole given size typed s is = record {
   memory = ap (λ (memory : List ℕ). length memory) is
       ∙ (starts_as program.modules program.placement given whole.lawful
-      (All-weaker IsSoundlyTyped IsStorable (λ typed sound. sound.storable) program.modules whole.sound) size).size
+      (All-weaker IsSoundlyTyped IsStorable (λ typed sound. sound.storable) program.modules whole.sound)
+      size).size
       ∙ size;
   frame = λ object procedure found is home_is lies. absurd lies;
 }
@@ -58,8 +60,10 @@ bytes_kept program typed within s t kept has = record {
       ∙ sizes_at s.frame object ∙ has.frame object procedure found is home_is lies;
 }
 
-leaves_bytes : {A : Type 0} (program : Program) (extra : Extra A) (typed : TypedModule) (within : Within) (s : State)
-    (outcome : Outcome A) → Keeps program extra s outcome → HasBytes typed within s → LeavesBytes typed within s outcome
+leaves_bytes : {A : Type 0} (program : Program) (extra : Extra A) (typed : TypedModule)
+    (within : Within) (s : State)
+    (outcome : Outcome A) → Keeps program extra s outcome → HasBytes typed within s
+    → LeavesBytes typed within s outcome
 leaves_bytes program extra typed within s (Gave found t) kept has =
     (bytes_kept program typed within s t kept.0 has, ((kept.0).follows).budget)
 leaves_bytes program extra typed within s (Stopped why t) kept has = tt
@@ -116,7 +120,8 @@ module _ (number : ℕ) (around : Surroundings) (typed : TypedModule) (within : 
       (statement_keeps number (later_by number) (later_keeps number) statement around s below)
 
   -- after a list of statements
-  pub list_leaves_bytes : (list : TypedList) → LeavesBytes typed within s (done_list (later_by number) around list s)
+  pub list_leaves_bytes : (list : TypedList)
+      → LeavesBytes typed within s (done_list (later_by number) around list s)
   list_leaves_bytes list =
       leaves_bytes around.program jump_took typed within s (done_list (later_by number) around list s)
       (list_keeps number (later_by number) (later_keeps number) list around s below) has
@@ -124,9 +129,11 @@ module _ (number : ℕ) (around : Surroundings) (typed : TypedModule) (within : 
 -- after parameters are set
 pub parameters_leave_bytes : (around : Surroundings) (typed : TypedModule) (within : Within)
     (scalars : List ScalarType) (parameters arguments : List ℕ) (s : State)
-    → HasBytes typed within s → LeavesBytes typed within s (parameters_set around scalars parameters arguments s)
+    → HasBytes typed within s → LeavesBytes typed within s
+    (parameters_set around scalars parameters arguments s)
 parameters_leave_bytes around typed within scalars parameters arguments s has =
-    leaves_bytes around.program nothing_else typed within s (parameters_set around scalars parameters arguments s)
+    leaves_bytes around.program nothing_else typed within s
+    (parameters_set around scalars parameters arguments s)
     (sets_parameters scalars parameters arguments around s) has
 
 scalar_size : (scalar : ScalarType) (object : TypedObject) → IsScalar scalar object
@@ -146,7 +153,8 @@ module _ (around : Surroundings) (typed : TypedModule) (within : Within)
       subst (λ (home : Home). IsThere (size_of_scalar scalar) (place_in home around object 0 true) s)
       (sym (home_there around typed object found here is)) (by found.home refl lies)
     where
-      in_memory : ((address_of around object + 0) % MEMORY_SIZE < MEMORY_SIZE) × (length s.memory ≡ MEMORY_SIZE)
+      in_memory : ((address_of around object + 0) % MEMORY_SIZE < MEMORY_SIZE)
+          × (length s.memory ≡ MEMORY_SIZE)
       in_memory = (remainder_in_memory (address_of around object + 0), has.memory)
 
       by : (home : Home) → found.home ≡ home → LiesFor within home
@@ -164,33 +172,41 @@ module _ (around : Surroundings) (typed : TypedModule) (within : Within)
       by Nowhere home_is lies = absurd lies
 
   -- The bytes of the variable of an iterative DO are there.
-  pub counter_is_there : (head : TypedIteration) (s : State) → Counts typed within head → HasBytes typed within s
+  pub counter_is_there : (head : TypedIteration) (s : State) → Counts typed within head
+      → HasBytes typed within s
       → IsThere (size_of_scalar head.scalar) (place_of around head.variable) s
   counter_is_there head s counts has = by (slice_get typed.objects head.variable) refl counts
     where
       by : (entry : Option TypedObject) → slice_get typed.objects head.variable ≡ entry
-          → IsSomeAnd entry (λ (object : TypedObject). IsScalar head.scalar object × LiesFor within object.home)
+          → IsSomeAnd entry
+          (λ (object : TypedObject). IsScalar head.scalar object × LiesFor within object.home)
           → IsThere (size_of_scalar head.scalar) (place_of around head.variable) s
       by None is counts = absurd counts
       by (Some found) is counts = variable_is_there head.scalar head.variable found s is counts.0 counts.1 has
 
 -- The bytes of each parameter of a procedure with a body are there.
-pub parameters_are_there : (around : Surroundings) (typed : TypedModule) (number : ℕ) (result : Option ScalarType)
-    (is_reentrant : Bool) (visibility : Visibility) (scalars : List ScalarType) (parameters : List ℕ) (s : State)
+pub parameters_are_there : (around : Surroundings) (typed : TypedModule) (number : ℕ)
+    (result : Option ScalarType)
+    (is_reentrant : Bool) (visibility : Visibility) (scalars : List ScalarType)
+    (parameters : List ℕ) (s : State)
     → slice_get around.program.modules around.number_of_module ≡ Some typed
     → visibility ≢ visibilities.External
     → AreParameters typed (home_of_parameters number is_reentrant visibility) scalars parameters
     → HasBytes typed (WithinProcedure number result) s
     → ParametersAreThere around scalars parameters s
 parameters_are_there around typed number result is_reentrant visibility [] [] s here own are has = tt
-parameters_are_there around typed number result is_reentrant visibility (scalar ∷ scalars) [] s here own are has =
+parameters_are_there around typed number result is_reentrant visibility (scalar ∷ scalars) []
+    s here own are has =
     absurd are
-parameters_are_there around typed number result is_reentrant visibility [] (parameter ∷ parameters) s here own are has =
+parameters_are_there around typed number result is_reentrant visibility [] (parameter ∷ parameters)
+    s here own are has =
     absurd are
-parameters_are_there around typed number result is_reentrant visibility (scalar ∷ scalars) (parameter ∷ parameters) s
+parameters_are_there around typed number result is_reentrant visibility (scalar ∷ scalars)
+    (parameter ∷ parameters) s
     here own are has = (
       by (slice_get typed.objects parameter) refl are.0,
-      parameters_are_there around typed number result is_reentrant visibility scalars parameters s here own are.1 has,
+      parameters_are_there around typed number result is_reentrant visibility scalars parameters
+          s here own are.1 has,
     )
   where
     lies : (reentrant : Bool) (its : Visibility) → its ≢ visibilities.External
@@ -213,12 +229,14 @@ parameters_are_there around typed number result is_reentrant visibility (scalar 
         (lies is_reentrant visibility own)) has
 
 -- What is called begins with all bytes of its frame, those of its parameters among them.
-pub callee_has_bytes : (around : Surroundings) (heading : TypedProcedure) (at : InProgram) (typed : TypedModule)
+pub callee_has_bytes : (around : Surroundings) (heading : TypedProcedure) (at : InProgram)
+    (typed : TypedModule)
     (procedure : TypedProcedure) (s : State)
     → IsCallee around.program.modules heading at typed procedure
     → around.number_of_module ≡ at.number_of_module
     → length s.memory ≡ MEMORY_SIZE
-    → HasBytes typed (WithinProcedure at.number procedure.result) (record s { frame = frame_of at.number typed })
+    → HasBytes typed (WithinProcedure at.number procedure.result)
+    (record s { frame = frame_of at.number typed })
     × ParametersAreThere around procedure.parameter_types procedure.parameters
     (record s { frame = frame_of at.number typed })
 callee_has_bytes around heading at typed procedure s callee is_module size =
@@ -227,7 +245,8 @@ callee_has_bytes around heading at typed procedure s callee is_module size =
     ap (λ (number : ℕ). slice_get around.program.modules number) is_module ∙ callee.its_module in (
       has,
       parameters_are_there around typed at.number procedure.result procedure.is_reentrant procedure.visibility
-          procedure.parameter_types procedure.parameters (record s { frame = frame_of at.number typed }) here callee.own
+          procedure.parameter_types procedure.parameters
+          (record s { frame = frame_of at.number typed }) here callee.own
           callee.parameters has,
     )
 
@@ -245,7 +264,8 @@ displacement_inside later around NoSubscript s = λ inside. refl
 displacement_inside later around (At stride count index) s = by (value later around index s)
   where
     by : (outcome : Outcome ℕ)
-        → GivesInside (At stride count index) (then_do outcome (λ number t. Gave (displaced stride count number) t))
+        → GivesInside (At stride count index)
+        (then_do outcome (λ number t. Gave (displaced stride count number) t))
     by (Gave number t) = λ inside. (number, ltb-true number count inside, refl)
     by (Stopped why t) = tt
 
@@ -268,7 +288,8 @@ module _ (number : ℕ) (around : Surroundings) (typed : TypedModule) (within : 
       subst (λ (home : Home). GivesBytes size (based_place home around object bytes is_inside s))
       (sym (home_there around typed object found here is)) (by found.home refl seen)
     where
-      in_memory : ((address_of around object + bytes) % MEMORY_SIZE < MEMORY_SIZE) × (length s.memory ≡ MEMORY_SIZE)
+      in_memory : ((address_of around object + bytes) % MEMORY_SIZE < MEMORY_SIZE)
+          × (length s.memory ≡ MEMORY_SIZE)
       in_memory = (remainder_in_memory (address_of around object + bytes), has.memory)
 
       by : (home : Home) → found.home ≡ home → IsSeen typed within home
@@ -301,7 +322,8 @@ module _ (number : ℕ) (around : Surroundings) (typed : TypedModule) (within : 
     (its : IsScalarOf found scalar (PartOf object subscript member offset member_subscript)) where
   -- after the second subscript
   second_gives : (one : Displacement) (t : State) (outcome : Outcome Displacement) → LiesInside subscript one
-      → HasBytes typed within t → Keeps around.program nothing_else t outcome → GivesInside member_subscript outcome
+      → HasBytes typed within t → Keeps around.program nothing_else t outcome
+      → GivesInside member_subscript outcome
       → GivesBytes (size_of_scalar scalar) (then_do outcome (placed_at around object offset one))
   second_gives one t (Gave two u) lies has kept lies_too =
       place_gives number around typed within (size_of_scalar scalar) object found here is seen
@@ -319,7 +341,8 @@ module _ (number : ℕ) (around : Surroundings) (typed : TypedModule) (within : 
       → GivesBytes (size_of_scalar scalar)
       (then_do outcome
       (λ one t.
-      then_do (displacement (later_by number) around member_subscript t) (placed_at around object offset one)))
+      then_do (displacement (later_by number) around member_subscript t)
+      (placed_at around object offset one)))
   first_gives s (Gave one t) below has kept lies =
       second_gives one t (displacement (later_by number) around member_subscript t) lies
       (bytes_kept around.program typed within s t kept.0 has)
@@ -329,13 +352,15 @@ module _ (number : ℕ) (around : Surroundings) (typed : TypedModule) (within : 
   first_gives s (Stopped why t) below has kept lies = tt
 
 -- Where a scalar that a part refers to is located, its bytes are there.
-pub scalar_is_there : (number : ℕ) (around : Surroundings) (typed : TypedModule) (within : Within) (scalar : ScalarType)
+pub scalar_is_there : (number : ℕ) (around : Surroundings) (typed : TypedModule) (within : Within)
+    (scalar : ScalarType)
     (reference : TypedReference) (s : State)
     → slice_get around.program.modules around.number_of_module ≡ Some typed
     → RefersToScalar typed within scalar reference
     → s.budget < number → HasBytes typed within s
     → GivesBytes (size_of_scalar scalar) (located (later_by number) around reference s)
-scalar_is_there number around typed within scalar (PartOf object subscript member offset member_subscript) s here refers
+scalar_is_there number around typed within scalar
+    (PartOf object subscript member offset member_subscript) s here refers
     below has =
     by (slice_get typed.objects object) refl refers
   where
@@ -347,7 +372,8 @@ scalar_is_there number around typed within scalar (PartOf object subscript membe
         (located (later_by number) around (PartOf object subscript member offset member_subscript) s)
     by None is refers = absurd refers
     by (Some found) is refers =
-        first_gives number around typed within scalar object subscript member offset member_subscript found here is
+        first_gives number around typed within scalar object subscript member offset
+        member_subscript found here is
         refers.0 refers.1 s (displacement (later_by number) around subscript s) below has
         (displacement_keeps number (later_by number) (later_keeps number) subscript around s below)
         (displacement_inside (later_by number) around subscript s)

@@ -25,7 +25,8 @@ pub got_behind :
     → slice_get (before ++ after) (length before + number) ≡ slice_get after number
 got_behind [] after number = ap (slice_get after) (zero-add number)
 got_behind (first ∷ before) after number =
-    ap (slice_get (first ∷ (before ++ after))) (suc-add (length before) number) ∙ got_behind before after number
+    ap (slice_get (first ∷ (before ++ after))) (suc-add (length before) number)
+    ∙ got_behind before after number
 
 -- two lists at one place
 pub got_both :
@@ -87,7 +88,8 @@ pub all_append :
 all_append P [] ys h k = k
 all_append P (x ∷ xs) ys h k = (h.0, all_append P xs ys h.1 k)
 
-pub take_found : {A : Type 0} (items : List A) (place : ℕ) (item : A) → slice_get items place ≡ Some item → take (suc place) items ≡ take place items ++ item ∷ []
+pub take_found : {A : Type 0} (items : List A) (place : ℕ) (item : A) → slice_get items place ≡ Some item
+    → take (suc place) items ≡ take place items ++ item ∷ []
 take_found [] place item is = let bad : ⊥ = cc in absurd bad
 take_found (first ∷ others) zero item is = let same : first ≡ item = cc in ap (λ one. one ∷ []) same
 take_found (first ∷ others) (suc place) item is = ap (λ rest. first ∷ rest) (take_found others place item is)

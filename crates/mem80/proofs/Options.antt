@@ -10,7 +10,8 @@ option_map_some f None y h k = absurd (none-some y h)
 option_map_some f (Some x) y h k = k x refl (same_Some (f x) y h)
 
 -- where neither of two is given, each is missing
-pub both_are_none : {A : Type 0} (first second : Option A) → option_or first second ≡ None → (first ≡ None) × (second ≡ None)
+pub both_are_none : {A : Type 0} (first second : Option A) → option_or first second ≡ None
+    → (first ≡ None) × (second ≡ None)
 both_are_none None second none = (refl, none)
 both_are_none (Some value) second none = absurd (none-some value (sym none))
 

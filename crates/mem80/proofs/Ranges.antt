@@ -9,10 +9,12 @@ use Rattle.mem80.specs.Range.{Meets, ranges_meet}
 pub meets_decides : (left right : Range) → IsTrue (ranges_meet left right) ↔ Meets left right
 meets_decides left right = (
   (λ is.
-      let below = ltb-true (max left.start right.start) (min (left.start + left.len) (right.start + right.len)) is in
+      let below =
+      ltb-true (max left.start right.start) (min (left.start + left.len) (right.start + right.len)) is in
       (max left.start right.start, (omega arith, omega arith), (omega arith, omega arith))),
   (λ both.
       let first = both.1 in
       let second = both.2 in
-      lt-ltb (max left.start right.start) (min (left.start + left.len) (right.start + right.len)) (omega arith)),
+      lt-ltb (max left.start right.start)
+      (min (left.start + left.len) (right.start + right.len)) (omega arith)),
 )

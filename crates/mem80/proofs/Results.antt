@@ -16,6 +16,7 @@ same_Err {A} {E} x y h = ap fault h
     fault (Err e) = e
 
 -- what holds of a value that is given, and what follows
-pub if_ok_then : {A E : Type 0} (P Q : A → Type 0) (answer : Result A E) → ((found : A) → P found → Q found) → IfOk answer P → IfOk answer Q
+pub if_ok_then : {A E : Type 0} (P Q : A → Type 0) (answer : Result A E) → ((found : A) → P found → Q found)
+    → IfOk answer P → IfOk answer Q
 if_ok_then P Q (Ok found) go holds = go found holds
 if_ok_then P Q (Err fault) go holds = tt

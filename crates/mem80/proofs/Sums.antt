@@ -13,7 +13,8 @@ pub sum_with_last : (front : List ℕ) (last : ℕ) → sum (front ++ last ∷ [
 sum_with_last front last = fold_append front (last ∷ []) 0
 
 -- the last of bytes that add up is their checksum
-pub checksum_is : (front : List ℕ) (last : ℕ) → last < 256 → sum (front ++ last ∷ []) % 256 ≡ 0 → last ≡ checksum_of front
+pub checksum_is : (front : List ℕ) (last : ℕ) → last < 256 → sum (front ++ last ∷ []) % 256 ≡ 0
+    → last ≡ checksum_of front
 checksum_is front last byte h =
     let whole : sum (front ++ last ∷ []) ≡ sum front + last = sum_with_last front last in
     omega arith

@@ -8,26 +8,42 @@ member_names None = []
 member_names (Some member) = names_in_arguments (argument_trees member.value.arguments.items)
 
 pub reference_names : (reference : Reference) → names_in_reference (reference_tree reference)
-    ≡ (out-Reference reference).name ∷ names_in_arguments (argument_trees (out-Reference reference).arguments.items) ++ member_names (out-Reference reference).member
+    ≡ (out-Reference reference).name ∷ names_in_arguments
+    (argument_trees (out-Reference reference).arguments.items)
+    ++ member_names (out-Reference reference).member
 reference_names (Reference' name shape arguments None') = grind (arith, the_lemmas, row_trees_are)
-reference_names (Reference' name shape arguments (Some' p member count rows)) = grind (arith, the_lemmas, row_trees_are)
+reference_names (Reference' name shape arguments (Some' p member count rows)) =
+    grind (arith, the_lemmas, row_trees_are)
 
-module _ (here : Here) (reference : Reference) (items : List Expression) (bindings now : List Binding) (same : items ≡ (out-Reference reference).arguments.items) (named : bound_at here ((out-Reference reference).name ∷ []) bindings ≡ Ok now) where
+module _ (here : Here) (reference : Reference) (items : List Expression) (bindings now : List Binding)
+    (same : items ≡ (out-Reference reference).arguments.items)
+    (named : bound_at here ((out-Reference reference).name ∷ []) bindings ≡ Ok now) where
   reference_bound : bound_at here (names_in_reference (reference_tree reference)) bindings
-      ≡ bind_more (bound_at here (names_in_arguments (argument_trees items)) now) (bound_at here (member_names (out-Reference reference).member))
+      ≡ bind_more (bound_at here (names_in_arguments (argument_trees items)) now)
+      (bound_at here (member_names (out-Reference reference).member))
   reference_bound =
       ap (λ names. bound_at here names bindings) (reference_names reference)
-      ∙ bound_cons_ok here (out-Reference reference).name (names_in_arguments (argument_trees (out-Reference reference).arguments.items) ++ member_names (out-Reference reference).member) bindings now named
-      ∙ bind_more_append here (names_in_arguments (argument_trees (out-Reference reference).arguments.items)) (member_names (out-Reference reference).member) now
-      ∙ ap (λ arguments. bind_more (bound_at here (names_in_arguments (argument_trees arguments)) now) (bound_at here (member_names (out-Reference reference).member))) (sym same)
+      ∙ bound_cons_ok here (out-Reference reference).name
+      (names_in_arguments (argument_trees (out-Reference reference).arguments.items)
+      ++ member_names (out-Reference reference).member) bindings now named
+      ∙ bind_more_append here (names_in_arguments (argument_trees (out-Reference reference).arguments.items))
+      (member_names (out-Reference reference).member) now
+      ∙ ap (λ arguments. bind_more (bound_at here (names_in_arguments (argument_trees arguments)) now)
+      (bound_at here (member_names (out-Reference reference).member))) (sym same)
 
-  pub reference_fails : (fault : Option Fault) → FailsBy fault (bound_at here (names_in_arguments (argument_trees items)) now) → FailsBy fault (bound_at here (names_in_reference (reference_tree reference)) bindings)
+  pub reference_fails : (fault : Option Fault)
+      → FailsBy fault (bound_at here (names_in_arguments (argument_trees items)) now)
+      → FailsBy fault (bound_at here (names_in_reference (reference_tree reference)) bindings)
   reference_fails fault fails =
       subst (FailsBy fault) (sym reference_bound)
-      (fails_more fault (bound_at here (names_in_arguments (argument_trees items)) now) (bound_at here (member_names (out-Reference reference).member)) fails)
+      (fails_more fault (bound_at here (names_in_arguments (argument_trees items)) now)
+      (bound_at here (member_names (out-Reference reference).member)) fails)
 
-  pub member_bound : (after : List Binding) (member : Option (Box Selector Global)) → bound_at here (names_in_arguments (argument_trees items)) now ≡ Ok after → (out-Reference reference).member ≡ member
-      → bound_at here (names_in_reference (reference_tree reference)) bindings ≡ bound_at here (member_names member) after
+  pub member_bound : (after : List Binding) (member : Option (Box Selector Global))
+      → bound_at here (names_in_arguments (argument_trees items)) now ≡ Ok after
+      → (out-Reference reference).member ≡ member
+      → bound_at here (names_in_reference (reference_tree reference)) bindings
+      ≡ bound_at here (member_names member) after
   member_bound after member given is =
       reference_bound
       ∙ ap (λ result. bind_more result (bound_at here (member_names (out-Reference reference).member))) given

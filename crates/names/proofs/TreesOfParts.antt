@@ -9,8 +9,10 @@ pub if_tree_is : (p : _) (branch : IfThen) → kind_tree (kinds.If' p branch) �
 if_tree_is p (IfThen' place condition labels kind None') = grind (arith, ifs)
 if_tree_is p (IfThen' place condition labels kind (Some' others other)) = grind (arith, ifs)
 
-pub do_tree_is : (place : Place) (p : _) (block : Block) → kind_tree (kinds.Do' place p block) ≡ do_tree place block
-do_tree_is place p (Block' n declared m body) = grind (arith, blocks, statement_rows_are, declaration_rows_are)
+pub do_tree_is : (place : Place) (p : _) (block : Block)
+    → kind_tree (kinds.Do' place p block) ≡ do_tree place block
+do_tree_is place p (Block' n declared m body) =
+    grind (arith, blocks, statement_rows_are, declaration_rows_are)
 
 pub while_tree_is : (p : _) (turns : DoWhile) → kind_tree (kinds.While' p turns) ≡ while_tree turns
 while_tree_is p (DoWhile' place condition n body) = grind (arith, whiles, statement_rows_are)
@@ -21,5 +23,6 @@ iterate_tree_is p (IterativeDo' place iteration n body) = grind (arith, iteratio
 pub case_tree_is : (p : _) (choice : DoCase) → kind_tree (kinds.Case' p choice) ≡ case_tree choice
 case_tree_is p (DoCase' place choice n body) = grind (arith, cases, statement_rows_are)
 
-pub procedure_is : (p : _) (procedure : Procedure) → declaration_tree (declarations.Procedure' p procedure) ≡ procedure_parts procedure
+pub procedure_is : (p : _) (procedure : Procedure)
+    → declaration_tree (declarations.Procedure' p procedure) ≡ procedure_parts procedure
 procedure_is p (Procedure' heading (Block' n declared m body) end_name) = grind (arith, procedures, blocks, statement_rows_are, declaration_rows_are)

@@ -10,7 +10,8 @@ last_digit k n after small =
     let same : n % 16 ≡ n = omega arith in
     rw (none, same) refl
 
-next_digit : (k n : ℕ) (after : List ℕ) → 16 ≤ n → digits_onto (suc k) 16 true n after ≡ digits_onto k 16 true (n / 16) (glyph (n % 16) ∷ after)
+next_digit : (k n : ℕ) (after : List ℕ) → 16 ≤ n
+    → digits_onto (suc k) 16 true n after ≡ digits_onto k 16 true (n / 16) (glyph (n % 16) ∷ after)
 next_digit k n after large =
     let more : (n / 16 == 0) ≡ false = grind (arith, common_steps) in
     rw more refl
@@ -19,10 +20,12 @@ from_nothing : (n : ℕ) → digits 16 true n ≡ digits_onto 64 16 true n []
 unfolding digits
 from_nothing n = refl
 
-three_digits : (n : ℕ) → 256 ≤ n → n < 4096 → digits 16 true n ≡ glyph (n / 256) ∷ glyph (n / 16 % 16) ∷ glyph (n % 16) ∷ []
+three_digits : (n : ℕ) → 256 ≤ n → n < 4096
+    → digits 16 true n ≡ glyph (n / 256) ∷ glyph (n / 16 % 16) ∷ glyph (n % 16) ∷ []
 three_digits n large small =
     let once : n / 16 / 16 ≡ n / 256 = omega arith in
-    from_nothing n ∙ next_digit 63 n [] (omega arith) ∙ next_digit 62 (n / 16) (glyph (n % 16) ∷ []) (omega arith)
+    from_nothing n ∙ next_digit 63 n [] (omega arith)
+    ∙ next_digit 62 (n / 16) (glyph (n % 16) ∷ []) (omega arith)
     ∙ last_digit 61 (n / 16 / 16) (glyph (n / 16 % 16) ∷ glyph (n % 16) ∷ []) (omega arith)
     ∙ ap (λ d. glyph d ∷ glyph (n / 16 % 16) ∷ glyph (n % 16) ∷ []) once
 
@@ -31,9 +34,11 @@ four_digits : (n : ℕ) → 4096 ≤ n → n < 65536
 four_digits n large small =
     let second : n / 16 / 16 % 16 ≡ n / 256 % 16 = omega arith in
     let first : n / 16 / 16 / 16 ≡ n / 4096 = omega arith in
-    from_nothing n ∙ next_digit 63 n [] (omega arith) ∙ next_digit 62 (n / 16) (glyph (n % 16) ∷ []) (omega arith)
+    from_nothing n ∙ next_digit 63 n [] (omega arith)
+    ∙ next_digit 62 (n / 16) (glyph (n % 16) ∷ []) (omega arith)
     ∙ next_digit 61 (n / 16 / 16) (glyph (n / 16 % 16) ∷ glyph (n % 16) ∷ []) (omega arith)
-    ∙ last_digit 60 (n / 16 / 16 / 16) (glyph (n / 16 / 16 % 16) ∷ glyph (n / 16 % 16) ∷ glyph (n % 16) ∷ []) (omega arith)
+    ∙ last_digit 60 (n / 16 / 16 / 16) (glyph (n / 16 / 16 % 16) ∷ glyph (n / 16 % 16) ∷ glyph (n % 16) ∷ [])
+    (omega arith)
     ∙ ap (λ d. glyph d ∷ glyph (n / 16 / 16 % 16) ∷ glyph (n / 16 % 16) ∷ glyph (n % 16) ∷ []) first
     ∙ ap (λ d. glyph (n / 4096) ∷ glyph d ∷ glyph (n / 16 % 16) ∷ glyph (n % 16) ∷ []) second
 
@@ -41,15 +46,18 @@ abbrev padded_hex : ℕ → List ℕ
 padded_hex n = padded_integral (format_spec 32 0 4 4 (2 ^ 64 - 1)) false [] (digits 16 true n)
 
 -- what `{:04X}` writes of an address
-hex_glyphs : (n : ℕ) → n < 65536 → padded_hex n ≡ glyph (n / 4096) ∷ glyph (n / 256 % 16) ∷ glyph (n / 16 % 16) ∷ glyph (n % 16) ∷ []
+hex_glyphs : (n : ℕ) → n < 65536 → padded_hex n
+    ≡ glyph (n / 4096) ∷ glyph (n / 256 % 16) ∷ glyph (n / 16 % 16) ∷ glyph (n % 16) ∷ []
 unfolding padded_integral char_count
 hex_glyphs n small = ⊎_elim
     (λ one.
-    let a : n / 4096 ≡ 0 = omega arith in let b : n / 256 % 16 ≡ 0 = omega arith in let c : n / 16 % 16 ≡ 0 = omega arith in let d : n % 16 ≡ n = omega arith in
+    let a : n / 4096 ≡ 0 = omega arith in let b : n / 256 % 16 ≡ 0 = omega arith in
+    let c : n / 16 % 16 ≡ 0 = omega arith in let d : n % 16 ≡ n = omega arith in
     rw (hex_one_digit true n one, a, b, c, d))
     (λ more. ⊎_elim
     (λ two.
-    let a : n / 4096 ≡ 0 = omega arith in let b : n / 256 % 16 ≡ 0 = omega arith in let c : n / 16 % 16 ≡ n / 16 = omega arith in
+    let a : n / 4096 ≡ 0 = omega arith in let b : n / 256 % 16 ≡ 0 = omega arith in
+    let c : n / 16 % 16 ≡ n / 16 = omega arith in
     rw (hex_two_digits true n more two, a, b, c))
     (λ larger. ⊎_elim
     (λ three.
@@ -68,20 +76,28 @@ address_is n small =
     hex_glyphs n small ∙ rw (a, b, c) refl
 
 -- a hole `{:04X}`
-pub hole_is : (d : _) (spec : _) (n : ℕ) → digits_output d ≡ Some (digits 16 true n) → spec ≡ format_spec 32 0 4 4 (2 ^ 64 - 1) → n < 65536
+pub hole_is : (d : _) (spec : _) (n : ℕ) → digits_output d ≡ Some (digits 16 true n)
+    → spec ≡ format_spec 32 0 4 4 (2 ^ 64 - 1) → n < 65536
     → styled_digits_output d spec ≡ Some (address_digits n)
 hole_is d spec n shown is small = rw (is, shown) (ap Some (address_is n small))
 
 -- lines as they were appended
-pub range_written : {E : Type 0} (result : Result (Unit {0}) E) (d : _) (spec : _) (n size : ℕ) (old new word : List ℕ)
+pub range_written : {E : Type 0} (result : Result (Unit {0}) E) (d : _) (spec : _) (n size : ℕ)
+    (old new word : List ℕ)
     → digits_output d ≡ Some (digits 16 true n) → spec ≡ format_spec 32 0 4 4 (2 ^ 64 - 1) → n < 65536
-    → OnOk result (IfSome (Some word ++? Some (32 ∷ []) ++? styled_digits_output d spec ++? Some (32 ∷ (decimal size ++ 10 ∷ []))) (Appends (Some old) (Some new)))
+    → OnOk result
+    (IfSome (Some word ++? Some (32 ∷ []) ++? styled_digits_output d spec ++? Some
+    (32 ∷ (decimal size ++ 10 ∷ []))) (Appends (Some old) (Some new)))
     → OnOk result (new ≡ old ++ range_line word n size)
 range_written result d spec n size old new word shown is small wrote =
-    let grouped : word ++ (32 ∷ (address_digits n ++ (32 ∷ (decimal size ++ 10 ∷ [])))) ≡ range_line word n size =
-    sym (append_assoc (word ++ 32 ∷ address_digits n) (32 ∷ decimal size) (10 ∷ []) ∙ append_assoc word (32 ∷ address_digits n) (32 ∷ (decimal size ++ 10 ∷ []))) in
+    let grouped : word ++ (32 ∷ (address_digits n ++ (32 ∷ (decimal size ++ 10 ∷ []))))
+    ≡ range_line word n size =
+    sym (append_assoc (word ++ 32 ∷ address_digits n) (32 ∷ decimal size) (10 ∷ [])
+    ∙ append_assoc word (32 ∷ address_digits n) (32 ∷ (decimal size ++ 10 ∷ []))) in
     subst (λ (line : List ℕ). OnOk result (new ≡ old ++ line)) grouped
-    (subst (λ (o : Option (List ℕ)). OnOk result (IfSome (Some word ++? Some (32 ∷ []) ++? o ++? Some (32 ∷ (decimal size ++ 10 ∷ []))) (Appends (Some old) (Some new))))
+    (subst (λ (o : Option (List ℕ)). OnOk result
+    (IfSome (Some word ++? Some (32 ∷ []) ++? o ++? Some (32 ∷ (decimal size ++ 10 ∷ [])))
+    (Appends (Some old) (Some new))))
     (hole_is d spec n shown is small) wrote)
 
 pub start_written : {E : Type 0} (result : Result (Unit {0}) E) (d : _) (spec : _) (n : ℕ) (old new : List ℕ)
@@ -92,8 +108,10 @@ start_written result d spec n old new shown is small wrote =
     subst (λ (o : Option (List ℕ)). OnOk result (IfSome (Some (codes "START ") ++? o ++? Some (10 ∷ [])) (Appends (Some old) (Some new))))
     (hole_is d spec n shown is small) wrote
 
-pub symbol_written : {E : Type 0} (result : Result (Unit {0}) E) (d : _) (spec : _) (symbol : Symbol) (old new : List ℕ)
-    → digits_output d ≡ Some (digits 16 true symbol.address) → spec ≡ format_spec 32 0 4 4 (2 ^ 64 - 1) → symbol.address < 65536
+pub symbol_written : {E : Type 0} (result : Result (Unit {0}) E) (d : _) (spec : _)
+    (symbol : Symbol) (old new : List ℕ)
+    → digits_output d ≡ Some (digits 16 true symbol.address) → spec ≡ format_spec 32 0 4 4 (2 ^ 64 - 1)
+    → symbol.address < 65536
     → OnOk result (IfSome (Some (codes "PUBLIC ") ++? Some symbol.name ++? Some (32 ∷ []) ++? styled_digits_output d spec ++? Some (10 ∷ [])) (Appends (Some old) (Some new)))
     → OnOk result (new ≡ old ++ symbol_line symbol)
 symbol_written result d spec symbol old new shown is small wrote =

@@ -2,7 +2,8 @@
 use Rattle.object_commands.proofs.Prelude.{◌≡◌, ℕ, suc, zero, ◌+◌, ◌<◌, ◌≤◌, List, [], append-nil, arith, refl, ◌∷◌, ◌++◌, length, get_or, map, drop, sym, ap, ◌∙◌, add-one, flat_map, drop-cons, map-append, append_assoc}
 
 -- what is left of a list begins with this item
-pub left_is : {A : Type 0} (items : List A) (i : ℕ) (item : A) → i < length items → item ≡ get_or items i item → drop i items ≡ item ∷ drop (i + 1) items
+pub left_is : {A : Type 0} (items : List A) (i : ℕ) (item : A) → i < length items → item ≡ get_or items i item
+    → drop i items ≡ item ∷ drop (i + 1) items
 left_is items i item within is =
     drop-cons items i item within
     ∙ ap (λ first. first ∷ drop (suc i) items) (sym is)
@@ -10,8 +11,10 @@ left_is items i item within is =
 
 -- one item more, which is seen as the one that it is made of
 pub item_added :
-    {A B C : Type 0} (f : A → C) (g : B → C) (total : List C) (made new : List A) (x : A) (ys : List B) (i : ℕ) (y : B)
-    → map f made ++ map g (drop i ys) ≡ total → i < length ys → y ≡ get_or ys i y → f x ≡ g y → new ≡ made ++ x ∷ []
+    {A B C : Type 0} (f : A → C) (g : B → C) (total : List C) (made new : List A) (x : A)
+    (ys : List B) (i : ℕ) (y : B)
+    → map f made ++ map g (drop i ys) ≡ total → i < length ys → y ≡ get_or ys i y → f x ≡ g y
+    → new ≡ made ++ x ∷ []
     → map f new ++ map g (drop (i + 1) ys) ≡ total
 item_added f g total made new x ys i y rest within is same added =
     ap (λ n. map f n ++ map g (drop (i + 1) ys)) added
@@ -24,7 +27,8 @@ item_added f g total made new x ys i y rest within is same added =
 -- one list more, which the view of an item gives
 pub list_added :
     {A B C : Type 0} (f : B → List C) (g : A → B) (total made new : List C) (xs : List A) (i : ℕ) (x : A)
-    → made ++ flat_map f (map g (drop i xs)) ≡ total → i < length xs → x ≡ get_or xs i x → new ≡ made ++ f (g x)
+    → made ++ flat_map f (map g (drop i xs)) ≡ total → i < length xs → x ≡ get_or xs i x
+    → new ≡ made ++ f (g x)
     → new ++ flat_map f (map g (drop (i + 1) xs)) ≡ total
 list_added f g total made new xs i x rest within is added =
     ap (λ n. n ++ flat_map f (map g (drop (i + 1) xs))) added
@@ -34,7 +38,8 @@ list_added f g total made new xs i x rest within is added =
 
 -- the same item more
 pub same_added :
-    {A : Type 0} (total made new : List A) (x : A) (ys : List A) (i : ℕ) (y : A) → made ++ drop i ys ≡ total → i < length ys → y ≡ get_or ys i y → x ≡ y → new ≡ made ++ x ∷ []
+    {A : Type 0} (total made new : List A) (x : A) (ys : List A) (i : ℕ) (y : A) → made ++ drop i ys ≡ total
+    → i < length ys → y ≡ get_or ys i y → x ≡ y → new ≡ made ++ x ∷ []
     → new ++ drop (i + 1) ys ≡ total
 same_added total made new x ys i y rest within is same added =
     ap (λ n. n ++ drop (i + 1) ys) added
@@ -50,5 +55,6 @@ nothing_left (item ∷ others) zero past = absurd (omega arith)
 nothing_left (item ∷ others) (suc i) past = nothing_left others i (omega arith)
 
 -- once nothing is left, all was made
-pub all_made : {A : Type 0} (total made ys : List A) (i : ℕ) → made ++ drop i ys ≡ total → length ys ≤ i → made ≡ total
+pub all_made : {A : Type 0} (total made ys : List A) (i : ℕ) → made ++ drop i ys ≡ total
+    → length ys ≤ i → made ≡ total
 all_made total made ys i rest past = sym (append-nil made) ∙ ap (λ d. made ++ d) (sym (nothing_left ys i past)) ∙ rest

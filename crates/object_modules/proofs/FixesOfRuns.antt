@@ -35,7 +35,8 @@ before_runs_fixes offset here (next ∷ others) = go (next.offset == offset + 1)
         let at : next.offset ≡ offset + 1 = eqb-true next.offset (offset + 1) e in
         ap (λ f. f ++ flat_map fixes_of_run others) (fixes_step offset here.value here.fixup next.items)
         ∙ before_append offset here.fixup (fixes_from (offset + 1) next.items) (flat_map fixes_of_run others)
-        ∙ ap (λ n. before_fixes offset here.fixup (fixes_from n next.items ++ flat_map fixes_of_run others)) (sym at)
+        ∙ ap (λ n. before_fixes offset here.fixup (fixes_from n next.items ++ flat_map fixes_of_run others))
+        (sym at)
     go false e =
         ap (λ f. f ++ (fixes_from next.offset next.items ++ flat_map fixes_of_run others))
         (fixes_step offset here.value here.fixup [])

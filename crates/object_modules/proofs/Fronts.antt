@@ -18,11 +18,13 @@ back_by spell bytes y x others rest spelled all is =
     let p : (y ≡ x) × (others ≡ rest) = some_pair_parts y x others rest is in
     (spelled ∙ ap (λ z. spell z ++ others) p.0 ∙ ap (λ r. spell x ++ r) p.1, subst IsBytes p.1 all)
 
-pub segment_is : (number : ℕ) (segment : Segment) → segment_of number ≡ Some segment → segment_number segment ≡ number
+pub segment_is : (number : ℕ) (segment : Segment) → segment_of number ≡ Some segment
+    → segment_number segment ≡ number
 segment_is number segment h = eqb-true (segment_number segment) number
     (find_passes (λ s. segment_number s == number) (Absolute ∷ Code ∷ Data ∷ Stack ∷ []) segment h)
 
-pub fix_kind_is : (number : ℕ) (kind : FixKind) → fix_kind_of number ≡ Some kind → fix_kind_number kind ≡ number
+pub fix_kind_is : (number : ℕ) (kind : FixKind) → fix_kind_of number ≡ Some kind
+    → fix_kind_number kind ≡ number
 fix_kind_is number kind h = eqb-true (fix_kind_number kind) number
     (find_passes (λ k. fix_kind_number k == number) (Low ∷ High ∷ Both ∷ []) kind h)
 
@@ -61,7 +63,8 @@ ended_back name (last ∷ others) x rest all h =
 
 pub listed_name_back : ReadsBack listed_name_bytes listed_name_in_front
 listed_name_back bytes x rest all h =
-    option_and_then_some (λ (named : List ℕ × List ℕ). ended_name named.0 named.1) (name_in_front bytes) (x, rest) h
+    option_and_then_some (λ (named : List ℕ × List ℕ). ended_name named.0 named.1)
+    (name_in_front bytes) (x, rest) h
     (λ named first second.
     let n = name_back bytes named.0 named.1 all first in
     let e = ended_back named.0 named.1 x rest n.1 second in
@@ -80,7 +83,8 @@ definition_back bytes x rest all h =
     ∙ sym (append_assoc (word_bytes placed.0) (listed_name_bytes named.0) named.1))
     n.1 (ap Some is)))
 
-pub words_back : (bytes xs : List ℕ) → IsBytes bytes → words_in bytes ≡ Some xs → bytes ≡ flat_map word_bytes xs
+pub words_back : (bytes xs : List ℕ) → IsBytes bytes → words_in bytes ≡ Some xs
+    → bytes ≡ flat_map word_bytes xs
 words_back [] xs all h = ap (flat_map word_bytes) (same_Some [] xs h)
 words_back (a ∷ []) xs all h = absurd (none-some xs h)
 words_back (low ∷ high ∷ rest) xs all h =
@@ -117,7 +121,8 @@ segment_entries_back (a ∷ b ∷ c ∷ []) xs all h = absurd (none-some xs h)
 segment_entries_back (number ∷ low ∷ high ∷ alignment ∷ rest) xs all h =
     option_and_then_some _ (segment_of number) xs h
     (λ segment found second.
-    let first : SegmentEntry = record { segment = segment; length = low + 256 * high; alignment = alignment } in
+    let first : SegmentEntry =
+    record { segment = segment; length = low + 256 * high; alignment = alignment } in
     option_map_some (λ (later : List SegmentEntry). first ∷ later) (segment_entries_in rest) xs second
     (λ later third is.
     ap (λ n. n ∷ low ∷ high ∷ alignment ∷ rest) (sym (segment_is number segment found))
@@ -145,5 +150,6 @@ at_most_back {A} spell front back (suc count) (byte ∷ others) xs all h =
 
 pub all_back :
     {A : Type 0} (spell : A → List ℕ) (front : List ℕ → Front A) → ReadsBack spell front
-    → (bytes : List ℕ) (xs : List A) → IsBytes bytes → all_in front bytes ≡ Some xs → bytes ≡ flat_map spell xs
+    → (bytes : List ℕ) (xs : List A) → IsBytes bytes → all_in front bytes ≡ Some xs
+    → bytes ≡ flat_map spell xs
 all_back spell front back bytes xs all h = at_most_back spell front back (length bytes) bytes xs all h

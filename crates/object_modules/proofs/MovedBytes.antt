@@ -23,7 +23,8 @@ pub after_is_byte :
     (gain_of : Target → ℕ) (first value : ℕ) (fixup : Option Fixup) → value < 256
     → after_fixup gain_of first value fixup < 256
 after_is_byte gain_of first value None low = low
-after_is_byte gain_of first value (Some fixup) low = second_is_byte gain_of first value fixup.kind fixup.target low
+after_is_byte gain_of first value (Some fixup) low =
+    second_is_byte gain_of first value fixup.kind fixup.target low
 
 pub place_is_byte :
     (gain_of : Target → ℕ) (before : Option SetByte) (value : ℕ) → value < 256

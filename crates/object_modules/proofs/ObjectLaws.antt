@@ -11,13 +11,16 @@ code_length parts =
 
 pub data_length : (parts : ModuleParts) → (parts.data_bytes).size ≡ length_of (module_of_parts parts) Data
 data_length parts =
-    sym (length-map-range_with_len (set_in (contents_kept Data parts.data_bytes) Data) 0 (parts.data_bytes).size)
+    sym (length-map-range_with_len (set_in (contents_kept Data parts.data_bytes) Data) 0
+    (parts.data_bytes).size)
 
-pub code_runs : (parts : ModuleParts) → AreKept parts → (parts.code).runs ≡ runs_of (module_of_parts parts) Code
+pub code_runs : (parts : ModuleParts) → AreKept parts
+    → (parts.code).runs ≡ runs_of (module_of_parts parts) Code
 unfolding runs_of
 code_runs parts kept = sym (stored_bytes Code parts.code refl kept.code)
 
-pub data_runs : (parts : ModuleParts) → AreKept parts → (parts.data_bytes).runs ≡ runs_of (module_of_parts parts) Data
+pub data_runs : (parts : ModuleParts) → AreKept parts
+    → (parts.data_bytes).runs ≡ runs_of (module_of_parts parts) Data
 unfolding runs_of
 data_runs parts kept = sym (stored_bytes Data parts.data_bytes refl kept.data_places)
 
@@ -29,11 +32,13 @@ pub stack_runs : (object : ObjectModule) → runs_of object Stack ≡ []
 unfolding runs_of
 stack_runs object = refl
 
-pub code_fixes : (parts : ModuleParts) → AreKept parts → (parts.code).fixes ≡ fixes_in (module_of_parts parts) Code
+pub code_fixes : (parts : ModuleParts) → AreKept parts
+    → (parts.code).fixes ≡ fixes_in (module_of_parts parts) Code
 unfolding fixes_in
 code_fixes parts kept = sym (stored_fixes Code parts.code refl kept.code)
 
-pub data_fixes : (parts : ModuleParts) → AreKept parts → (parts.data_bytes).fixes ≡ fixes_in (module_of_parts parts) Data
+pub data_fixes : (parts : ModuleParts) → AreKept parts
+    → (parts.data_bytes).fixes ≡ fixes_in (module_of_parts parts) Data
 unfolding fixes_in
 data_fixes parts kept = sym (stored_fixes Data parts.data_bytes refl kept.data_places)
 
@@ -80,7 +85,8 @@ pub data_longest :
     (parts : ModuleParts) → AreKept parts
     → IsTrue (are_longest (length_of (module_of_parts parts) Data) (parts.data_bytes).runs)
 data_longest parts kept =
-    subst (λ size. IsTrue (are_longest size (parts.data_bytes).runs)) (data_length parts) (kept.data_places).runs
+    subst (λ size. IsTrue (are_longest size (parts.data_bytes).runs)) (data_length parts)
+    (kept.data_places).runs
 
 pub data_within :
     (parts : ModuleParts) → AreKept parts

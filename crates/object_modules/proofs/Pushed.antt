@@ -5,7 +5,8 @@ use Rattle.std.proofs.lemmas.List.{drop_more, map-append}
 
 -- one item more, where each view is made of the view of an item
 pub view_added :
-    {A B C D : Type 0} (f : A → D) (g : C → B) (h : B → D) (made : List A) (x : A) (ys : List C) (i : ℕ) (y : C)
+    {A B C D : Type 0} (f : A → D) (g : C → B) (h : B → D) (made : List A) (x : A)
+    (ys : List C) (i : ℕ) (y : C)
     → i < length ys → y ≡ get_or ys i y → f x ≡ h (g y)
     → map f (made ++ x ∷ []) ++ map h (map g (drop (i + 1) ys)) ≡ map f made ++ map h (map g (drop i ys))
 view_added f g h made x ys i y within is same =

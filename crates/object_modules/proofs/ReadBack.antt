@@ -8,7 +8,8 @@ use Rattle.object_modules.proofs.Fronts.{segment_is, fix_kind_is, name_back, lis
 abbrev pub IsPartOf : RecordKind → List ℕ → Part → Type 0
 IsPartOf kind body part = (kind_of_part part ≡ kind) × (body ≡ body_of part)
 
-part_is : (kind : RecordKind) (body : List ℕ) (made part : Part) → made ≡ part → IsPartOf kind body made → IsPartOf kind body part
+part_is : (kind : RecordKind) (body : List ℕ) (made part : Part) → made ≡ part → IsPartOf kind body made
+    → IsPartOf kind body part
 part_is kind body made part is made_is = subst (λ p. IsPartOf kind body p) is made_is
 
 header_back :
@@ -19,7 +20,8 @@ header_back front name (a ∷ []) part all h = absurd (none-some part h)
 header_back front name (translator ∷ version ∷ rest) part all h =
     option_map_some (HeaderPart name translator version) (segment_entries_in rest) part h
     (λ entries found is.
-    part_is kinds.Header (name_bytes name ++ translator ∷ version ∷ rest) (HeaderPart name translator version entries)
+    part_is kinds.Header (name_bytes name ++ translator ∷ version ∷ rest)
+    (HeaderPart name translator version entries)
     part is (
       refl,
       ap (λ r. name_bytes name ++ translator ∷ version ∷ r)
@@ -35,7 +37,8 @@ module_end_back flag segment low high part l h found =
   where
     go : (none : Bool) → (flag == 0 && segment == 0 && low + 256 * high == 0) ≡ none
         → (main : Bool) → (flag == 1 && segment == 1) ≡ main
-        → cond none (Some (ModuleEndPart None)) (cond main (Some (ModuleEndPart (Some (low + 256 * high)))) None) ≡ Some part
+        → cond none (Some (ModuleEndPart None))
+        (cond main (Some (ModuleEndPart (Some (low + 256 * high)))) None) ≡ Some part
         → IsPartOf kinds.ModuleEnd (flag ∷ segment ∷ low ∷ high ∷ []) part
     go true e main f is =
         let t = and_parts (flag == 0 && segment == 0) (low + 256 * high == 0) e in
@@ -55,7 +58,8 @@ module_end_back flag segment low high part l h found =
         let u = and_parts (flag == 1) (segment == 1) f in
         let flag_1 : flag ≡ 1 = eqb-true flag 1 u.0 in
         let segment_1 : segment ≡ 1 = eqb-true segment 1 u.1 in
-        part_is kinds.ModuleEnd (flag ∷ segment ∷ low ∷ high ∷ []) (ModuleEndPart (Some (low + 256 * high))) part
+        part_is kinds.ModuleEnd (flag ∷ segment ∷ low ∷ high ∷ [])
+        (ModuleEndPart (Some (low + 256 * high))) part
         (same_Some (ModuleEndPart (Some (low + 256 * high))) part is) (
           refl,
           ap (λ x. x ∷ segment ∷ low ∷ high ∷ []) flag_1 ∙ ap (λ x. 1 ∷ x ∷ low ∷ high ∷ []) segment_1
@@ -135,7 +139,8 @@ part_back kinds.IntersegmentReferences (target ∷ number ∷ rest) part all h =
     (λ kind first second.
     option_map_some (IntersegmentPart segment kind) (words_in rest) part second
     (λ offsets found is.
-    part_is kinds.IntersegmentReferences (target ∷ number ∷ rest) (IntersegmentPart segment kind offsets) part is (
+    part_is kinds.IntersegmentReferences (target ∷ number ∷ rest)
+    (IntersegmentPart segment kind offsets) part is (
       refl,
       ap (λ n. n ∷ number ∷ rest) (sym (segment_is target segment zeroth))
           ∙ ap (λ n. segment_number segment ∷ n ∷ rest) (sym (fix_kind_is number kind first))

@@ -70,7 +70,8 @@ longest size (run ∷ next ∷ others) h =
     let outer =
     and_parts (not (is_empty run.items) && nat_lt (run.offset + length run.items) next.offset)
     (are_longest size (next ∷ others)) h in
-    let inner = and_parts (not (is_empty run.items)) (nat_lt (run.offset + length run.items) next.offset) outer.0 in
+    let inner =
+    and_parts (not (is_empty run.items)) (nat_lt (run.offset + length run.items) next.offset) outer.0 in
     let before : run.offset + length run.items < next.offset =
     ltb-true (run.offset + length run.items) next.offset inner.1 in
     let later : Longest size (next ∷ others) = longest size (next ∷ others) outer.1 in
@@ -80,7 +81,8 @@ longest size (run ∷ next ∷ others) h =
       omega arith,
       (
         before,
-        beyond_less (run.offset + length run.items) (next.offset + length next.items) others (omega arith) later.2,
+        beyond_less (run.offset + length run.items) (next.offset + length next.items) others
+            (omega arith) later.2,
       ),
       later,
     )
@@ -90,7 +92,8 @@ found_none : (fixes : List Fix) (runs : List (Run ℕ)) (x : ℕ) → Beyond x r
 found_none fixes [] x beyond = refl
 found_none fixes (run ∷ others) x beyond =
     ap (λ b.
-    cond (b && nat_lt x (run.offset + length run.items)) (Some (byte_in_run fixes x run)) (found fixes others x))
+    cond (b && nat_lt x (run.offset + length run.items)) (Some (byte_in_run fixes x run))
+    (found fixes others x))
     (lt-leb run.offset x beyond.0)
     ∙ found_none fixes others x beyond.1
 
@@ -100,7 +103,8 @@ pub found_after :
     → found fixes (run ∷ others) x ≡ found fixes others x
 found_after fixes run others x h =
     let starts : run.offset ≤ x = omega arith in
-    ap (λ b. cond (b && nat_lt x (run.offset + length run.items)) (Some (byte_in_run fixes x run)) (found fixes others x))
+    ap (λ b. cond (b && nat_lt x (run.offset + length run.items)) (Some (byte_in_run fixes x run))
+    (found fixes others x))
     (le-leb run.offset x starts)
     ∙ ap (λ b. cond b (Some (byte_in_run fixes x run)) (found fixes others x))
     (le-ltb x (run.offset + length run.items) h)
@@ -112,7 +116,8 @@ run_at offset items = record { offset = offset; items = items }
 -- a place after the first of a run is one of the rest of the run
 pub found_shorter :
     (fixes : List Fix) (offset first : ℕ) (items : List ℕ) (others : List (Run ℕ)) (x : ℕ) → offset + 1 ≤ x
-    → found fixes (run_at offset (first ∷ items) ∷ others) x ≡ found fixes (run_at (offset + 1) items ∷ others) x
+    → found fixes (run_at offset (first ∷ items) ∷ others) x
+    ≡ found fixes (run_at (offset + 1) items ∷ others) x
 found_shorter fixes offset first items others x h =
     let starts : offset ≤ x = omega arith in
     let next : x - offset ≡ suc (x - (offset + 1)) = omega arith in
@@ -126,7 +131,8 @@ found_shorter fixes offset first items others x h =
     (found fixes others x)) ends
     ∙ ap (λ k.
     cond (nat_le (offset + 1) x && nat_lt x (offset + 1 + length items))
-    (Some (record { value = slice_index (first ∷ items) k; fixup = fixup_at fixes x })) (found fixes others x)) next
+    (Some (record { value = slice_index (first ∷ items) k; fixup = fixup_at fixes x }))
+    (found fixes others x)) next
 
 pub found_first :
     (fixes : List Fix) (offset first : ℕ) (items : List ℕ) (others : List (Run ℕ))
@@ -206,7 +212,8 @@ begins fixes size n offset (first ∷ []) others long is again =
     (same_over (found fixes runs) (found fixes others) (offset + 1) n
     (λ x le. found_after fixes (run_at offset (first ∷ [])) others x (omega arith)))
     ∙ ap (before_runs offset item)
-    (again (offset + 1) others long.3 (beyond_from offset others (beyond_less offset (offset + 1) others (omega arith) beyond))
+    (again (offset + 1) others long.3 (beyond_from offset others
+    (beyond_less offset (offset + 1) others (omega arith) beyond))
     (omega arith))
     ∙ alone fixes offset item others beyond
 begins fixes size n offset (first ∷ second ∷ items) others long is again =
@@ -214,11 +221,13 @@ begins fixes size n offset (first ∷ second ∷ items) others long is again =
     let shorter : List (Run ℕ) = run_at (offset + 1) (second ∷ items) ∷ others in
     let item : SetByte = record { value = first; fixup = fixup_at fixes offset } in
     let ends : offset + length (first ∷ second ∷ items) ≤ size = long.1 in
-    let same : offset + 1 + length (second ∷ items) ≤ offset + length (first ∷ second ∷ items) = omega arith in
+    let same : offset + 1 + length (second ∷ items) ≤ offset + length (first ∷ second ∷ items) =
+    omega arith in
     let long_still : Longest size shorter = (
       omega arith,
       omega arith,
-      beyond_less (offset + 1 + length (second ∷ items)) (offset + length (first ∷ second ∷ items)) others same
+      beyond_less (offset + 1 + length (second ∷ items))
+          (offset + length (first ∷ second ∷ items)) others same
           long.2,
       long.3,
     ) in
@@ -254,7 +263,8 @@ one_more fixes size n again p (run ∷ others) long from is = go (nat_lt p run.o
         let at_least : p ≤ run.offset = from in
         let here : run.offset ≡ p = omega arith in
         subst
-        (λ q. runs_from q (places_from fixes (run ∷ others) q (suc n)) ≡ map (fixed_run fixes) (run ∷ others)) here
+        (λ q. runs_from q (places_from fixes (run ∷ others) q (suc n)) ≡ map (fixed_run fixes) (run ∷ others))
+        here
         (begins fixes size n run.offset run.items others long (omega arith) again)
 
 runs_again : (fixes : List Fix) (size n : ℕ) → Again fixes size n
@@ -269,11 +279,13 @@ runs_again fixes size (suc n) p runs long from is =
 
 -- the longest runs of the places of a segment are its runs, each byte with its fix
 pub stored_runs :
-    (segment : Segment) (stored : StoredSegment) → same_segment segment segment ≡ true → IsStored segment stored
+    (segment : Segment) (stored : StoredSegment) → same_segment segment segment ≡ true
+    → IsStored segment stored
     → runs_from 0 (places_stored segment stored).places ≡ map (fixed_run stored.fixes) stored.runs
 stored_runs segment stored same is =
     ap (runs_from 0)
-    (same_over (set_in (map (content_with segment stored.fixes) stored.runs) segment) (found stored.fixes stored.runs) 0
+    (same_over (set_in (map (content_with segment stored.fixes) stored.runs) segment)
+    (found stored.fixes stored.runs) 0
     stored.size (λ x le. found_is segment stored.fixes stored.runs x same))
     ∙ runs_again stored.fixes stored.size stored.size 0 stored.runs (longest stored.size stored.runs is.runs)
     (from_zero stored.runs) (omega arith)
@@ -282,19 +294,22 @@ pub values_again :
     (fixes : List Fix) (offset : ℕ) (items : List ℕ)
     → map (λ (here : SetByte). here.value) (fixed_bytes fixes offset items) ≡ items
 values_again fixes offset [] = refl
-values_again fixes offset (first ∷ others) = ap (λ rest. first ∷ rest) (values_again fixes (offset + 1) others)
+values_again fixes offset (first ∷ others) =
+    ap (λ rest. first ∷ rest) (values_again fixes (offset + 1) others)
 
 -- without their fixes they are the runs
 pub bytes_again :
     (fixes : List Fix) (runs : List (Run ℕ)) → map bytes_of_run (map (fixed_run fixes) runs) ≡ runs
 bytes_again fixes [] = refl
 bytes_again fixes (run ∷ others) =
-    ap (λ items. record { offset = run.offset; items = items } ∷ map bytes_of_run (map (fixed_run fixes) others))
+    ap (λ items. record { offset = run.offset; items = items }
+    ∷ map bytes_of_run (map (fixed_run fixes) others))
     (values_again fixes run.offset run.items)
     ∙ ap (λ rest. run ∷ rest) (bytes_again fixes others)
 
 pub stored_bytes :
-    (segment : Segment) (stored : StoredSegment) → same_segment segment segment ≡ true → IsStored segment stored
+    (segment : Segment) (stored : StoredSegment) → same_segment segment segment ≡ true
+    → IsStored segment stored
     → map bytes_of_run (runs_from 0 (places_stored segment stored).places) ≡ stored.runs
 stored_bytes segment stored same is =
     ap (map bytes_of_run) (stored_runs segment stored same is) ∙ bytes_again stored.fixes stored.runs
@@ -355,7 +370,8 @@ fix_stands segment (run ∷ others) fix h =
   where
     go : (b : Bool) → is_within (content_of_run segment run) fix ≡ b
         → (b || is_in_a_run segment others fix) ≡ true
-        → (is_in_a_run segment others fix ≡ true → Stands fix.offset others) → Stands fix.offset (run ∷ others)
+        → (is_in_a_run segment others fix ≡ true → Stands fix.offset others)
+        → Stands fix.offset (run ∷ others)
     go true e any later =
         let parts =
         and_parts (nat_le run.offset fix.offset) (nat_le (fix_end fix) (run.offset + length run.items)) e in
@@ -425,7 +441,8 @@ one_byte :
     → HasLeft all others p (first ∷ items)
 one_byte all others p first items later [] asc stand sees =
     ap (λ fixup.
-    fixes_from p (record { value = first; fixup = fixup } ∷ fixed_bytes all (p + 1) items) ++ fixes_again all others)
+    fixes_from p (record { value = first; fixup = fixup } ∷ fixed_bytes all (p + 1) items)
+    ++ fixes_again all others)
     (sees p (omega arith))
     ∙ later [] tt tt (λ x le. sees x (omega arith))
 one_byte all others p first items later (fix ∷ fixes) asc stand sees = go (fix.offset == p) refl
@@ -472,7 +489,8 @@ one_run all others has [] p beyond fixes asc stand sees =
 one_run all others has (first ∷ items) p beyond fixes asc stand sees =
     one_byte all others p first items
     (one_run all others has items (p + 1)
-    (beyond_less (p + 1 + length items) (p + length (first ∷ items)) others (omega arith) beyond)) fixes asc stand sees
+    (beyond_less (p + 1 + length items) (p + length (first ∷ items)) others (omega arith) beyond))
+    fixes asc stand sees
 
 stands_beyond : (x end : ℕ) (runs : List (Run ℕ)) → Beyond end runs → Stands x runs → end < x
 stands_beyond x end [] beyond here = absurd here
@@ -507,7 +525,8 @@ has_fixes all size (run ∷ others) long p from fixes asc stand sees =
     (starts_later p fixes run others long.2 asc stand) stand (λ x le. sees x (omega arith))
 
 all_stand :
-    (segment : Segment) (runs : List (Run ℕ)) (fixes : List Fix) → list_all (is_in_a_run segment runs) fixes ≡ true
+    (segment : Segment) (runs : List (Run ℕ)) (fixes : List Fix)
+    → list_all (is_in_a_run segment runs) fixes ≡ true
     → AllStand fixes runs
 all_stand segment runs [] h = tt
 all_stand segment runs (fix ∷ fixes) h =
@@ -520,7 +539,8 @@ first_of_all (fix ∷ fixes) = omega arith
 
 -- the fixes of the longest runs of the places of a segment are its fixes
 pub stored_fixes :
-    (segment : Segment) (stored : StoredSegment) → same_segment segment segment ≡ true → IsStored segment stored
+    (segment : Segment) (stored : StoredSegment) → same_segment segment segment ≡ true
+    → IsStored segment stored
     → flat_map fixes_of_run (runs_from 0 (places_stored segment stored).places) ≡ stored.fixes
 stored_fixes segment stored same is =
     ap (flat_map fixes_of_run) (stored_runs segment stored same is)

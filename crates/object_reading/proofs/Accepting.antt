@@ -26,7 +26,8 @@ leading_more :
     → leading_fixes content.segment (part ∷ before)
     ≡ fixes_of content.segment part ++ leading_fixes content.segment before
 leading_more content before part is =
-    ap (flat_map (fixes_of content.segment)) (take_while-cons (λ p. is_fix_record (kind_of_part p)) part before)
+    ap (flat_map (fixes_of content.segment))
+    (take_while-cons (λ p. is_fix_record (kind_of_part p)) part before)
     ∙ ap (λ b. flat_map (fixes_of content.segment)
     (cond b (part ∷ take_while (λ p. is_fix_record (kind_of_part p)) before) [])) is
 
@@ -47,7 +48,8 @@ judged_as before part content None is placed =
 judged_as before part content (Some marks) is placed = (
   sym (placed_is content (fixes_of content.segment part) (leading_fixes content.segment before)) ∙ placed.0,
   subst (AreMarked marks content) (sym (leading_more content before part is))
-      (marks_of_all marks content (fixes_of content.segment part) (leading_fixes content.segment before) placed.1),
+      (marks_of_all marks content (fixes_of content.segment part)
+      (leading_fixes content.segment before) placed.1),
 )
 
 -- the fixes of a part fit the latest content where they can be placed by its marks

@@ -44,8 +44,10 @@ told_is :
 unfolding walk_over
 told_is bytes header j fixes none =
     let parts : parts_from bytes ≡ j.parts = parts_from_is bytes j.parts j.file in
-    let a : flat_map externals_of (parts_from bytes) ≡ flat_map externals_of j.parts = ap (flat_map externals_of) parts in
-    let b : flat_map publics_of (parts_from bytes) ≡ flat_map publics_of j.parts = ap (flat_map publics_of) parts in
+    let a : flat_map externals_of (parts_from bytes) ≡ flat_map externals_of j.parts =
+    ap (flat_map externals_of) parts in
+    let b : flat_map publics_of (parts_from bytes) ≡ flat_map publics_of j.parts =
+    ap (flat_map publics_of) parts in
     let c : fixed_contents (parts_from bytes) ≡ fixed_contents j.parts = ap fixed_contents parts in
     let name = j.name in
     let code_length = j.code_length in

@@ -54,10 +54,12 @@ data_fits before state offset bytes k =
 
 content_fault :
     (before : List Part) (content : Content) (body placed : Bool)
-    → (holds_bytes content.segment && not (is_empty content.bytes)) ≡ body → fits_segment before content ≡ placed
+    → (holds_bytes content.segment && not (is_empty content.bytes)) ≡ body
+    → fits_segment before content ≡ placed
     → part_fault before (ContentPart content) ≡ fault_by body true placed true
 content_fault before content body placed a b =
-    ap (λ t. fault_by (holds_bytes content.segment && not (is_empty content.bytes)) true (fits_segment before content) t)
+    ap (λ t. fault_by (holds_bytes content.segment && not (is_empty content.bytes)) true
+    (fits_segment before content) t)
     (fit_nothing before (ContentPart content) (latest_content before) (λ own. refl))
     ∙ ap (λ t. fault_by t true (fits_segment before content) true) a
     ∙ ap (λ t. fault_by body true t true) b
@@ -71,7 +73,8 @@ content_known before content short = record { latest = refl; marked = unmarked_a
 code_known :
     (before : List Part) (state : State) (offset : ℕ) (bytes : List ℕ) → Knows before state
     → is_early 3 before ≡ true → length bytes ≤ 1024
-    → Knows (ContentPart (content_at Code offset bytes) ∷ before) (with_content state (content_at Code offset bytes))
+    → Knows (ContentPart (content_at Code offset bytes) ∷ before)
+    (with_content state (content_at Code offset bytes))
 code_known before state offset bytes k early short =
     let part : Part = ContentPart (content_at Code offset bytes) in
     record {
@@ -89,7 +92,8 @@ code_known before state offset bytes k early short =
 data_known :
     (before : List Part) (state : State) (offset : ℕ) (bytes : List ℕ) → Knows before state
     → is_early 3 before ≡ true → length bytes ≤ 1024
-    → Knows (ContentPart (content_at Data offset bytes) ∷ before) (with_content state (content_at Data offset bytes))
+    → Knows (ContentPart (content_at Data offset bytes) ∷ before)
+    (with_content state (content_at Data offset bytes))
 data_known before state offset bytes k early short =
     let part : Part = ContentPart (content_at Data offset bytes) in
     record {
@@ -108,7 +112,8 @@ content_judged :
     (before : List Part) (state : State) (content : Content)
     → Knows (ContentPart content ∷ before) (with_content state content)
     → (body placed : Bool)
-    → (holds_bytes content.segment && not (is_empty content.bytes)) ≡ body → fits_segment before content ≡ placed
+    → (holds_bytes content.segment && not (is_empty content.bytes)) ≡ body
+    → fits_segment before content ≡ placed
     → Verdict before kinds.Content (Some (ContentPart content))
     (cond body (cond placed (Ok (with_content state content)) (Err ContentMisplaced)) (Err WrongBody))
 content_judged before state content known false placed a b = content_fault before content false placed a b
@@ -122,25 +127,34 @@ content_judged before state content known true true a b = record {
 }
 
 by_segment :
-    (before : List Part) (state : State) (segment : Segment) (offset : ℕ) (bytes : List ℕ) → Knows before state
+    (before : List Part) (state : State) (segment : Segment) (offset : ℕ) (bytes : List ℕ)
+    → Knows before state
     → is_early 3 before ≡ true → length bytes ≤ 1024
     → Verdict before kinds.Content (Some (ContentPart (content_at segment offset bytes)))
     (cond (holds_bytes segment && not (is_empty bytes))
-    (cond (fits state (content_at segment offset bytes)) (Ok (with_content state (content_at segment offset bytes)))
+    (cond (fits state (content_at segment offset bytes))
+    (Ok (with_content state (content_at segment offset bytes)))
     (Err ContentMisplaced)) (Err WrongBody))
 by_segment before state Absolute offset bytes k early short =
-    content_fault before (content_at Absolute offset bytes) false (fits_segment before (content_at Absolute offset bytes)) refl refl
+    content_fault before (content_at Absolute offset bytes) false
+    (fits_segment before (content_at Absolute offset bytes)) refl refl
 by_segment before state Code offset bytes k early short =
-    content_judged before state (content_at Code offset bytes) (code_known before state offset bytes k early short)
-    (not (is_empty bytes)) (fits state (content_at Code offset bytes)) refl (sym (code_fits before state offset bytes k))
+    content_judged before state (content_at Code offset bytes)
+    (code_known before state offset bytes k early short)
+    (not (is_empty bytes)) (fits state (content_at Code offset bytes)) refl
+    (sym (code_fits before state offset bytes k))
 by_segment before state Data offset bytes k early short =
-    content_judged before state (content_at Data offset bytes) (data_known before state offset bytes k early short)
-    (not (is_empty bytes)) (fits state (content_at Data offset bytes)) refl (sym (data_fits before state offset bytes k))
+    content_judged before state (content_at Data offset bytes)
+    (data_known before state offset bytes k early short)
+    (not (is_empty bytes)) (fits state (content_at Data offset bytes)) refl
+    (sym (data_fits before state offset bytes k))
 by_segment before state Stack offset bytes k early short =
-    content_fault before (content_at Stack offset bytes) false (fits_segment before (content_at Stack offset bytes)) refl refl
+    content_fault before (content_at Stack offset bytes) false
+    (fits_segment before (content_at Stack offset bytes)) refl refl
 
 in_segment :
-    (before : List Part) (state : State) (offset : ℕ) (bytes : List ℕ) (found : Option Segment) → Knows before state
+    (before : List Part) (state : State) (offset : ℕ) (bytes : List ℕ) (found : Option Segment)
+    → Knows before state
     → is_early 3 before ≡ true → length bytes ≤ 1024
     → Verdict before kinds.Content
     (option_map (λ (segment : Segment). ContentPart (content_at segment offset bytes)) found)
@@ -150,7 +164,8 @@ in_segment :
     (cond (fits state content) (Ok (with_content state content)) (Err ContentMisplaced)) (Err WrongBody))
     (option_map (λ (segment : Segment). content_at segment offset bytes) found) (Err WrongBody))
 in_segment before state offset bytes None k early short = refl
-in_segment before state offset bytes (Some segment) k early short = by_segment before state segment offset bytes k early short
+in_segment before state offset bytes (Some segment) k early short =
+    by_segment before state segment offset bytes k early short
 
 pub content_verdict :
     (before : List Part) (state : State) (body : List ℕ) → Knows before state

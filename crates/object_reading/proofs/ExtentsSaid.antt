@@ -34,7 +34,8 @@ pub code_length_said :
     → (extents_after entries nothing_said).code_length ≡ length_in entries Code
 code_length_said entries ascending =
     said_of (λ (extents : Extents). extents.code_length) (λ (entry : SegmentEntry). entry.length) Code
-    (λ entry extents. refl) (λ other entry extents e. (code_stays other entry extents e).0) entries 0 nothing_said
+    (λ entry extents. refl) (λ other entry extents e. (code_stays other entry extents e).0)
+    entries 0 nothing_said
     ascending
 
 pub code_alignment_said :
@@ -42,7 +43,8 @@ pub code_alignment_said :
     → (extents_after entries nothing_said).code_alignment ≡ alignment_in entries Code
 code_alignment_said entries ascending =
     said_of (λ (extents : Extents). extents.code_alignment) alignment_with Code
-    (λ entry extents. refl) (λ other entry extents e. (code_stays other entry extents e).1) entries 0 nothing_said
+    (λ entry extents. refl) (λ other entry extents e. (code_stays other entry extents e).1)
+    entries 0 nothing_said
     ascending
 
 pub data_length_said :
@@ -50,7 +52,8 @@ pub data_length_said :
     → (extents_after entries nothing_said).data_length ≡ length_in entries Data
 data_length_said entries ascending =
     said_of (λ (extents : Extents). extents.data_length) (λ (entry : SegmentEntry). entry.length) Data
-    (λ entry extents. refl) (λ other entry extents e. (data_stays other entry extents e).0) entries 0 nothing_said
+    (λ entry extents. refl) (λ other entry extents e. (data_stays other entry extents e).0)
+    entries 0 nothing_said
     ascending
 
 pub data_alignment_said :
@@ -58,7 +61,8 @@ pub data_alignment_said :
     → (extents_after entries nothing_said).data_alignment ≡ alignment_in entries Data
 data_alignment_said entries ascending =
     said_of (λ (extents : Extents). extents.data_alignment) alignment_with Data
-    (λ entry extents. refl) (λ other entry extents e. (data_stays other entry extents e).1) entries 0 nothing_said
+    (λ entry extents. refl) (λ other entry extents e. (data_stays other entry extents e).1)
+    entries 0 nothing_said
     ascending
 
 pub stack_length_said :

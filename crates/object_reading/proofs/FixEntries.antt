@@ -2,17 +2,22 @@
 use Rattle.object_reading.proofs.Prelude.{◌≡◌, ℕ, ◌+◌, ◌*◌, ◌<◌, true, false, List, [], ◌∷◌, length, Option, Some, None, IsTrue, is_some, option_map, unwrap_or, refl, ap, sym, subst, ◌∙◌, arith, none-some, some_pair_parts, Fix, FixKind, Segment, Absolute, fixes_of, Reference, ExternalReferencesPart, RelocationPart, references_in, words_in, AreFixEntries, fixes_in, external_fix, segment_fix, fix_in_front}
 
 -- the fix that entries begin with is handed out
-pub record NextFix (target : Option Segment) (kind : FixKind) (entries : List ℕ) (fix : Fix) (after : List ℕ) : Type 0 where
+pub record NextFix (target : Option Segment) (kind : FixKind) (entries : List ℕ) (fix : Fix)
+    (after : List ℕ) : Type 0 where
   pub left : fixes_in target kind entries ≡ fix ∷ fixes_in target kind after
   pub are : AreFixEntries target after
 
 reference_first :
     (kind : FixKind) (low high offset_low offset_high : ℕ) (rest : List ℕ) (others : Option (List Reference))
     → references_in rest ≡ others
-    → IsTrue (is_some (option_map (λ (later : List Reference). record { external = low + 256 * high; offset = offset_low + 256 * offset_high } ∷ later) others))
+    → IsTrue
+    (is_some
+    (option_map
+    (λ (later : List Reference). record { external = low + 256 * high; offset = offset_low + 256 * offset_high } ∷ later) others))
     → NextFix None kind (low ∷ high ∷ offset_low ∷ offset_high ∷ rest)
     (external_fix kind (low + 256 * high) (offset_low + 256 * offset_high)) rest
-reference_first kind low high offset_low offset_high rest None e are = absurd (let bad : false ≡ true = are in cc)
+reference_first kind low high offset_low offset_high rest None e are =
+    absurd (let bad : false ≡ true = are in cc)
 reference_first kind low high offset_low offset_high rest (Some others) e are =
     let first : Reference = record { external = low + 256 * high; offset = offset_low + 256 * offset_high } in
     record {
@@ -44,7 +49,8 @@ word_first target kind low high rest (Some others) e are = record {
 
 fix_first :
     (target : Option Segment) (kind : FixKind) (entries : List ℕ) (fix found : Fix) (after rest : List ℕ)
-    → NextFix target kind entries found rest → ◌≡◌ {A = Option (Fix × List ℕ)} (Some (found, rest)) (Some (fix, after))
+    → NextFix target kind entries found rest
+    → ◌≡◌ {A = Option (Fix × List ℕ)} (Some (found, rest)) (Some (fix, after))
     → NextFix target kind entries fix after
 fix_first target kind entries fix found after rest n e =
     let p : (found ≡ fix) × (rest ≡ after) = some_pair_parts found fix rest after e in
@@ -91,7 +97,8 @@ fixes_then target kind entries fix after are e = (next_fix_is target kind entrie
 
 pub entries_then :
     (target : Option Segment) (kind : FixKind) (entries : List ℕ) (fix : Fix) (after : List ℕ)
-    → AreFixEntries target entries → fix_in_front target kind entries ≡ Some (fix, after) → AreFixEntries target after
+    → AreFixEntries target entries → fix_in_front target kind entries ≡ Some (fix, after)
+    → AreFixEntries target after
 entries_then target kind entries fix after are e = (next_fix_is target kind entries fix after are e).are
 
 same_length : (kind : FixKind) (a b : List ℕ) (found fix : Fix)

@@ -16,8 +16,10 @@ pub placed_is :
     → are_placed content fixes others ≡ (list_all (is_within content) fixes && are_apart fixes others)
 placed_is content [] others = refl
 placed_is content (fix ∷ rest) others =
-    ap (λ b. (is_within content fix && not (list_any (share_a_byte fix) others)) && b) (placed_is content rest (fix ∷ others))
-    ∙ regrouped (is_within content fix) (list_any (share_a_byte fix) others) (list_all (is_within content) rest)
+    ap (λ b. (is_within content fix && not (list_any (share_a_byte fix) others)) && b)
+    (placed_is content rest (fix ∷ others))
+    ∙ regrouped (is_within content fix) (list_any (share_a_byte fix) others)
+    (list_all (is_within content) rest)
     (are_apart rest (fix ∷ others))
 
 -- an item passes a test where it passes one of two others
@@ -31,12 +33,14 @@ any_of_two p q r each (x ∷ xs) =
     ∙ or_exchanged (q x) (r x) (list_any q xs) (list_any r xs)
 
 -- for ranges of places: one of a byte, or of two, meets another that isn't empty where it has one of them
-one_byte : (o x e : ℕ) → (nat_lt o e && nat_lt x (o + 1)) ≡ ((nat_le x o && nat_lt o e) || (nat_le x o && nat_lt o e))
+one_byte : (o x e : ℕ) → (nat_lt o e && nat_lt x (o + 1))
+    ≡ ((nat_le x o && nat_lt o e) || (nat_le x o && nat_lt o e))
 one_byte o x e = grind (arith, nat_tests)
 
 two_bytes :
     (o x e : ℕ) → x < e
-    → (nat_lt o e && nat_lt x (o + 2)) ≡ ((nat_le x o && nat_lt o e) || (nat_le x (o + 1) && nat_lt (o + 1) e))
+    → (nat_lt o e && nat_lt x (o + 2))
+    ≡ ((nat_le x o && nat_lt o e) || (nat_le x (o + 1) && nat_lt (o + 1) e))
 two_bytes o x e some = grind (arith, nat_tests)
 
 -- the last byte of a fix
@@ -48,22 +52,27 @@ shares_by : (kind : FixKind) (o x e : ℕ) → x < e
     ≡ ((nat_le x o && nat_lt o e) || (nat_le x (o + width_of kind - 1) && nat_lt (o + width_of kind - 1) e))
 shares_by Low o x e some =
     one_byte o x e
-    ∙ ap (λ n. (nat_le x o && nat_lt o e) || (nat_le x n && nat_lt n e)) (let same : o ≡ o + 1 - 1 = omega arith in same)
+    ∙ ap (λ n. (nat_le x o && nat_lt o e) || (nat_le x n && nat_lt n e))
+    (let same : o ≡ o + 1 - 1 = omega arith in same)
 shares_by High o x e some =
     one_byte o x e
-    ∙ ap (λ n. (nat_le x o && nat_lt o e) || (nat_le x n && nat_lt n e)) (let same : o ≡ o + 1 - 1 = omega arith in same)
+    ∙ ap (λ n. (nat_le x o && nat_lt o e) || (nat_le x n && nat_lt n e))
+    (let same : o ≡ o + 1 - 1 = omega arith in same)
 shares_by Both o x e some =
     two_bytes o x e some
-    ∙ ap (λ n. (nat_le x o && nat_lt o e) || (nat_le x n && nat_lt n e)) (let same : o + 1 ≡ o + 2 - 1 = omega arith in same)
+    ∙ ap (λ n. (nat_le x o && nat_lt o e) || (nat_le x n && nat_lt n e))
+    (let same : o + 1 ≡ o + 2 - 1 = omega arith in same)
 
-shares_one : (fix other : Fix) → share_a_byte fix other ≡ (covers fix.offset other || covers (last_of fix) other)
+shares_one : (fix other : Fix) → share_a_byte fix other
+    ≡ (covers fix.offset other || covers (last_of fix) other)
 shares_one fix other =
     let some : 0 < width_of other.kind = has_width other.kind in
     shares_by fix.kind fix.offset other.offset (fix_end other) (omega arith)
 
 shares_any :
     (fix : Fix) (others : List Fix)
-    → list_any (share_a_byte fix) others ≡ (list_any (covers fix.offset) others || list_any (covers (last_of fix)) others)
+    → list_any (share_a_byte fix) others
+    ≡ (list_any (covers fix.offset) others || list_any (covers (last_of fix)) others)
 shares_any fix others =
     any_of_two (share_a_byte fix) (covers fix.offset) (covers (last_of fix)) (shares_one fix) others
 
@@ -74,7 +83,8 @@ record Lies (content : Content) (fix : Fix) : Type 0 where
 
 lies : (content : Content) (fix : Fix) → is_within content fix ≡ true → Lies content fix
 lies content fix within =
-    let t = and_parts (nat_le content.offset fix.offset) (nat_le (fix_end fix) (content_end content)) within in
+    let t = and_parts (nat_le content.offset fix.offset)
+    (nat_le (fix_end fix) (content_end content)) within in
     record {
       begins = leb-true content.offset fix.offset t.0;
       ends = leb-true (fix_end fix) (content_end content) t.1;
@@ -91,15 +101,18 @@ shares_is marks content fix others m within =
     let some : 0 < width_of fix.kind = has_width fix.kind in
     let begins : content.offset ≤ fix.offset = l.begins in
     let ends : fix.offset + width_of fix.kind ≤ content.offset + length content.bytes = l.ends in
-    let first : get_or marks (first_mark content fix) false ≡ list_any (covers (content.offset + first_mark content fix)) others =
+    let first : get_or marks (first_mark content fix) false
+    ≡ list_any (covers (content.offset + first_mark content fix)) others =
     m.marked (first_mark content fix) (omega arith) in
-    let last : get_or marks (last_mark content fix) false ≡ list_any (covers (content.offset + last_mark content fix)) others =
+    let last : get_or marks (last_mark content fix) false
+    ≡ list_any (covers (content.offset + last_mark content fix)) others =
     m.marked (last_mark content fix) (omega arith) in
     let first_at : content.offset + first_mark content fix ≡ fix.offset = omega arith in
     let last_at : content.offset + last_mark content fix ≡ last_of fix = omega arith in
     shares_any fix others
     ∙ ap (λ n. list_any (covers n) others || list_any (covers (last_of fix)) others) (sym first_at)
-    ∙ ap (λ n. list_any (covers (content.offset + first_mark content fix)) others || list_any (covers n) others) (sym last_at)
+    ∙ ap (λ n. list_any (covers (content.offset + first_mark content fix)) others
+    || list_any (covers n) others) (sym last_at)
     ∙ ap (λ b. b || list_any (covers (content.offset + last_mark content fix)) others) (sym first)
     ∙ ap (λ b. get_or marks (first_mark content fix) false || b) (sym last)
 
@@ -143,22 +156,27 @@ marked_more marks content fix others m within =
     let twice_long : length (set once last true) ≡ length once = length-set once last true in
     record {
       long = omega arith;
-      marked = λ k h. at marks content fix others m k h once_long begins ends some (k == last) refl (k == first) refl;
+      marked =
+          λ k h. at marks content fix others m k h once_long begins ends some (k == last)
+          refl (k == first) refl;
     }
   where
-    at : (marks : List Bool) (content : Content) (fix : Fix) (others : List Fix) → AreMarked marks content others
+    at : (marks : List Bool) (content : Content) (fix : Fix) (others : List Fix)
+        → AreMarked marks content others
         → (k : ℕ) → k < length content.bytes
         → length (set marks (first_mark content fix) true) ≡ length marks
         → content.offset ≤ fix.offset → fix.offset + width_of fix.kind ≤ content.offset + length content.bytes
         → 0 < width_of fix.kind
         → (is_last : Bool) → (k == last_mark content fix) ≡ is_last
         → (is_first : Bool) → (k == first_mark content fix) ≡ is_first
-        → get_or (with_marks marks content fix) k false ≡ list_any (covers (content.offset + k)) (fix ∷ others)
+        → get_or (with_marks marks content fix) k false
+        ≡ list_any (covers (content.offset + k)) (fix ∷ others)
     at marks content fix others m k h kept begins ends some true e f g =
         let same : k ≡ last_mark content fix = eqb-true k (last_mark content fix) e in
         let long : length content.bytes ≤ length marks = m.long in
         ap (λ n. get_or (with_marks marks content fix) n false) same
-        ∙ get_or-set_same (set marks (first_mark content fix) true) (last_mark content fix) true false (omega arith)
+        ∙ get_or-set_same (set marks (first_mark content fix) true) (last_mark content fix)
+        true false (omega arith)
         ∙ sym (ap (λ b. b || list_any (covers (content.offset + k)) others)
         (covers_at fix.offset (content.offset + k) (width_of fix.kind) (omega arith) (omega arith)))
     at marks content fix others m k h kept begins ends some false e true g =
@@ -173,7 +191,8 @@ marked_more marks content fix others m within =
     at marks content fix others m k h kept begins ends some false e false g =
         let not_first : k ≡ first_mark content fix → ⊥ = eqb-false k (first_mark content fix) g in
         let not_last : k ≡ last_mark content fix → ⊥ = eqb-false k (last_mark content fix) e in
-        get_or-set_other (set marks (first_mark content fix) true) (last_mark content fix) k true false not_last
+        get_or-set_other (set marks (first_mark content fix) true) (last_mark content fix)
+        k true false not_last
         ∙ get_or-set_other marks (first_mark content fix) k true false not_first
         ∙ m.marked k h
         ∙ sym (ap (λ b. b || list_any (covers (content.offset + k)) others)
@@ -190,12 +209,14 @@ placed_first :
     (content : Content) (fix : Fix) (rest others : List Fix) (found : Option (List Bool))
     → (is_within content fix && not (list_any (share_a_byte fix) others)) ≡ true
     → Placed content rest (fix ∷ others) found → Placed content (fix ∷ rest) others found
-placed_first content fix rest others None fits later = ap (λ b. b && are_placed content rest (fix ∷ others)) fits ∙ later
+placed_first content fix rest others None fits later =
+    ap (λ b. b && are_placed content rest (fix ∷ others)) fits ∙ later
 placed_first content fix rest others (Some marks) fits later =
     (ap (λ b. b && are_placed content rest (fix ∷ others)) fits ∙ later.0, later.1)
 
 placed_case :
-    (content : Content) (fix : Fix) (rest others : List Fix) (found : Option (List Bool)) → is_within content fix ≡ true
+    (content : Content) (fix : Fix) (rest others : List Fix) (found : Option (List Bool))
+    → is_within content fix ≡ true
     → Placed content rest (fix ∷ others) found
     → (marked : Bool) → list_any (share_a_byte fix) others ≡ marked
     → Placed content (fix ∷ rest) others (cond (not marked) found None)
@@ -211,36 +232,43 @@ pub placed_by :
     → Placed content fixes others (marks_after content fixes marks)
 placed_by content [] others marks m = (refl, m)
 placed_by content (fix ∷ rest) others marks m =
-    go (λ e. placed_by content rest (fix ∷ others) (with_marks marks content fix) (marked_more marks content fix others m e))
+    go (λ e. placed_by content rest (fix ∷ others) (with_marks marks content fix)
+    (marked_more marks content fix others m e))
     (is_within content fix) refl
   where
     go : (is_within content fix ≡ true
         → Placed content rest (fix ∷ others) (marks_after content rest (with_marks marks content fix)))
         → (within : Bool) → is_within content fix ≡ within
         → Placed content (fix ∷ rest) others
-        (cond (within && not (is_marked marks content fix)) (marks_after content rest (with_marks marks content fix)) None)
+        (cond (within && not (is_marked marks content fix))
+        (marks_after content rest (with_marks marks content fix)) None)
     go later false e =
         ap (λ b. (b && not (list_any (share_a_byte fix) others)) && are_placed content rest (fix ∷ others)) e
     go later true e =
-        placed_case content fix rest others (marks_after content rest (with_marks marks content fix)) e (later e)
+        placed_case content fix rest others
+        (marks_after content rest (with_marks marks content fix)) e (later e)
         (is_marked marks content fix) (shares_is marks content fix others m e)
 
 -- fixes that are read one after another
 after_first : (content : Content) (fix : Fix) (rest : List Fix) (marks : List Bool)
     → (is_within content fix && not (is_marked marks content fix)) ≡ true
     → marks_after content (fix ∷ rest) marks ≡ marks_after content rest (with_marks marks content fix)
-after_first content fix rest marks e = ap (λ b. cond b (marks_after content rest (with_marks marks content fix)) None) e
+after_first content fix rest marks e =
+    ap (λ b. cond b (marks_after content rest (with_marks marks content fix)) None) e
 
 at_first : (content : Content) (fix : Fix) (rest : List Fix) (marks : List Bool)
     → (is_within content fix && not (is_marked marks content fix)) ≡ false
     → marks_after content (fix ∷ rest) marks ≡ None
-at_first content fix rest marks e = ap (λ b. cond b (marks_after content rest (with_marks marks content fix)) None) e
+at_first content fix rest marks e =
+    ap (λ b. cond b (marks_after content rest (with_marks marks content fix)) None) e
 
 pub marks_more :
-    (content : Content) (target : Option Segment) (kind : FixKind) (entries after : List ℕ) (fix : Fix) (marks new : List Bool)
+    (content : Content) (target : Option Segment) (kind : FixKind) (entries after : List ℕ) (fix : Fix)
+    (marks new : List Bool)
     → AreFixEntries target entries → fix_in_front target kind entries ≡ Some (fix, after)
     → (is_within content fix && not (is_marked marks content fix)) ≡ true → new ≡ with_marks marks content fix
-    → marks_after content (fixes_in target kind entries) marks ≡ marks_after content (fixes_in target kind after) new
+    → marks_after content (fixes_in target kind entries) marks
+    ≡ marks_after content (fixes_in target kind after) new
 marks_more content target kind entries after fix marks new are found fits e =
     let n = next_fix_is target kind entries fix after are found in
     ap (λ fixes. marks_after content fixes marks) n.left
@@ -248,13 +276,15 @@ marks_more content target kind entries after fix marks new are found fits e =
     ∙ ap (marks_after content (fixes_in target kind after)) (sym e)
 
 pub marks_none :
-    (content : Content) (target : Option Segment) (kind : FixKind) (entries after : List ℕ) (fix : Fix) (marks : List Bool)
+    (content : Content) (target : Option Segment) (kind : FixKind) (entries after : List ℕ)
+    (fix : Fix) (marks : List Bool)
     → AreFixEntries target entries → fix_in_front target kind entries ≡ Some (fix, after)
     → (is_within content fix && not (is_marked marks content fix)) ≡ false
     → marks_after content (fixes_in target kind entries) marks ≡ None
 marks_none content target kind entries after fix marks are found fits =
     let n = next_fix_is target kind entries fix after are found in
-    ap (λ fixes. marks_after content fixes marks) n.left ∙ at_first content fix (fixes_in target kind after) marks fits
+    ap (λ fixes. marks_after content fixes marks) n.left
+    ∙ at_first content fix (fixes_in target kind after) marks fits
 
 nothing_in : (target : Option Segment) (kind : FixKind) → fixes_in target kind [] ≡ []
 nothing_in None kind = refl

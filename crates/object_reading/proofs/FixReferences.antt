@@ -31,7 +31,8 @@ word_fits :
     (external_count : ℕ) (target : Segment) (kind : FixKind) (first : ℕ) (read : Option (List ℕ))
     → (is_some (option_map (λ (others : List ℕ). first ∷ others) read)
     && list_all (λ (fix : Fix). is_known external_count fix.target)
-    (fixes_of target (RelocationPart kind (unwrap_or (option_map (λ (others : List ℕ). first ∷ others) read) []))))
+    (fixes_of target (RelocationPart kind
+    (unwrap_or (option_map (λ (others : List ℕ). first ∷ others) read) []))))
     ≡ (is_some read
     && list_all (λ (fix : Fix). is_known external_count fix.target)
     (fixes_of target (RelocationPart kind (unwrap_or read []))))

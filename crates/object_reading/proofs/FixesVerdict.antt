@@ -35,12 +35,14 @@ fixes_fault before part content body fixed lists latest a b =
 names_as_before :
     (before : List Part) (part : Part) (known : List (List ℕ)) → names_of part ≡ [] → KnowsNames before known
     → KnowsNames (part ∷ before) known
-names_as_before before part known none k name = ap (λ l. is_among name (l ++ flat_map names_of before)) none ∙ k name
+names_as_before before part known none k name =
+    ap (λ l. is_among name (l ++ flat_map names_of before)) none ∙ k name
 
 content_as_before :
     (before : List Part) (part : Part) (content : Content) → content_of part ≡ None
     → latest_content before ≡ Some content → latest_content (part ∷ before) ≡ Some content
-content_as_before before part content none latest = ap (λ o. option_or o (latest_content before)) none ∙ latest
+content_as_before before part content none latest =
+    ap (λ o. option_or o (latest_content before)) none ∙ latest
 
 -- a part whose body is right, as its fixes are placed
 placed_judged :
@@ -57,15 +59,18 @@ placed_judged before state part (Some marks) r lists body judged = record {
   read = refl;
   no_fault = fixes_fault before part (state.content).content true true lists (r.has).latest body judged.0;
   knows =
-      known_after before part state state.names state.external_count (marked_with (state.content).content marks)
+      known_after before part state state.names state.external_count
+      (marked_with (state.content).content marks)
       r.knows lists.plain r.early
       (record {
         names_known = names_as_before before part state.names lists.nameless (r.knows).names;
         externals =
-            (r.knows).externals ∙ sym (ap (λ l. length (l ++ flat_map externals_of before)) lists.no_externals);
+            (r.knows).externals
+            ∙ sym (ap (λ l. length (l ++ flat_map externals_of before)) lists.no_externals);
         counted = λ h. absurd (false≢true (sym lists.late ∙ h));
         content_known = λ _. record {
-          latest = content_as_before before part (state.content).content (lists.plain).no_content (r.has).latest;
+          latest =
+              content_as_before before part (state.content).content (lists.plain).no_content (r.has).latest;
           marked = judged.1;
         };
       });
@@ -79,11 +84,13 @@ part_judged :
     (with_fixes state (marked_after state.content (fixes_of ((state.content).content).segment part)))
     (Err WrongBody))
 part_judged before state part false r lists body =
-    fixes_fault before part (state.content).content false (fit_content before part (Some (state.content).content)) lists
+    fixes_fault before part (state.content).content false
+    (fit_content before part (Some (state.content).content)) lists
     (r.has).latest body refl
 part_judged before state part true r lists body =
     placed_judged before state part
-    (marks_after (state.content).content (fixes_of ((state.content).content).segment part) (state.content).marks) r lists
+    (marks_after (state.content).content (fixes_of ((state.content).content).segment part)
+    (state.content).marks) r lists
     body
     (fixes_judged before part (state.content).content (state.content).marks lists.of_fixes (r.has).marked)
 
@@ -100,16 +107,19 @@ and_true true = refl
 and_true false = refl
 
 -- some bytes are some references, or some words
-some_references : (entries : List ℕ) (items : List Reference) → references_in entries ≡ Some items → is_empty items ≡ is_empty entries
+some_references : (entries : List ℕ) (items : List Reference) → references_in entries ≡ Some items
+    → is_empty items ≡ is_empty entries
 some_references [] items e = sym (ap (λ o. option_map_or is_empty o true) e)
 some_references (a ∷ []) items e = absurd (let bad : None ≡ Some items = e in cc)
 some_references (a ∷ b ∷ []) items e = absurd (let bad : None ≡ Some items = e in cc)
 some_references (a ∷ b ∷ c ∷ []) items e = absurd (let bad : None ≡ Some items = e in cc)
 some_references (low ∷ high ∷ offset_low ∷ offset_high ∷ rest) items e =
-    some_items (record { external = low + 256 * high; offset = offset_low + 256 * offset_high }) (references_in rest)
+    some_items (record { external = low + 256 * high; offset = offset_low + 256 * offset_high })
+    (references_in rest)
     items e
 
-some_words : (entries : List ℕ) (items : List ℕ) → words_in entries ≡ Some items → is_empty items ≡ is_empty entries
+some_words : (entries : List ℕ) (items : List ℕ) → words_in entries ≡ Some items
+    → is_empty items ≡ is_empty entries
 some_words [] items e = sym (ap (λ o. option_map_or is_empty o true) e)
 some_words (a ∷ []) items e = absurd (let bad : None ≡ Some items = e in cc)
 some_words (low ∷ high ∷ rest) items e = some_items (low + 256 * high) (words_in rest) items e
@@ -117,18 +127,21 @@ some_words (low ∷ high ∷ rest) items e = some_items (low + 256 * high) (word
 -- external names that there are
 references_known :
     (count other : ℕ) (own : Segment) (kind : FixKind) (references : List Reference) → count ≡ other
-    → list_all (λ (fix : Fix). is_known count fix.target) (fixes_of own (ExternalReferencesPart kind references))
+    → list_all (λ (fix : Fix). is_known count fix.target)
+    (fixes_of own (ExternalReferencesPart kind references))
     ≡ list_all (λ (reference : Reference). nat_lt reference.external other) references
 references_known count other own kind [] same = refl
 references_known count other own kind (first ∷ others) same =
     ap (λ n. nat_lt first.external n
-    && list_all (λ (fix : Fix). is_known count fix.target) (fixes_of own (ExternalReferencesPart kind others))) same
+    && list_all (λ (fix : Fix). is_known count fix.target)
+    (fixes_of own (ExternalReferencesPart kind others))) same
     ∙ ap (λ b. nat_lt first.external other && b) (references_known count other own kind others same)
 
 -- segments are always known
 places_known :
     (count : ℕ) (target : Segment) (kind : FixKind) (offsets : List ℕ)
-    → list_all (λ (fix : Fix). is_known count fix.target) (fixes_of target (RelocationPart kind offsets)) ≡ true
+    → list_all (λ (fix : Fix). is_known count fix.target) (fixes_of target (RelocationPart kind offsets))
+    ≡ true
 places_known count target kind [] = refl
 places_known count target kind (offset ∷ others) = places_known count target kind others
 
@@ -159,13 +172,16 @@ references_judged before state kind entries (Some references) r alike =
       of_fixes = refl;
     })
     (ap (λ b. not b
-    && list_all (λ (reference : Reference). nat_lt reference.external (length (flat_map externals_of before))) references)
+    && list_all (λ (reference : Reference). nat_lt reference.external (length (flat_map externals_of before)))
+    references)
     (alike references refl)
     ∙ ap (λ b. b
-    && list_all (λ (reference : Reference). nat_lt reference.external (length (flat_map externals_of before))) references)
+    && list_all (λ (reference : Reference). nat_lt reference.external (length (flat_map externals_of before)))
+    references)
     (sym (and_true (not (is_empty entries))))
     ∙ ap (λ b. (not (is_empty entries) && true) && b)
-    (sym (references_known state.external_count (length (flat_map externals_of before)) Absolute kind references
+    (sym (references_known state.external_count (length (flat_map externals_of before))
+    Absolute kind references
     (r.knows).externals)))
 
 references_of_kind :
@@ -173,13 +189,15 @@ references_of_kind :
     → Verdict before kinds.ExternalReferences
     (option_and_then
     (λ (kind : FixKind). option_map (ExternalReferencesPart kind) (references_in entries)) found)
-    (option_map_or (fixes_placed state kinds.ExternalReferences) (option_map (fix_head None entries) found) (Err WrongBody))
+    (option_map_or (fixes_placed state kinds.ExternalReferences)
+    (option_map (fix_head None entries) found) (Err WrongBody))
 references_of_kind before state entries None r = refl
 references_of_kind before state entries (Some kind) r =
     references_judged before state kind entries (references_in entries) r (some_references entries)
 
 ready :
-    (before : List Part) (state : State) (kind : RecordKind) → Knows before state → may_follow before kind ≡ true
+    (before : List Part) (state : State) (kind : RecordKind) → Knows before state
+    → may_follow before kind ≡ true
     → is_fix_record kind ≡ true → is_header kind ≡ false → rank_of kind ≡ 3 → Ready before state
 ready before state kind k follows fixes other rank = record {
   knows = k;
@@ -234,7 +252,8 @@ places_judged before state kind entries (Some offsets) r alike =
       of_fixes = refl;
     })
     (ap not (alike offsets refl) ∙ sym (and_true (not (is_empty entries)))
-    ∙ all_known state.external_count ((state.content).content).segment kind offsets (not (is_empty entries)) true)
+    ∙ all_known state.external_count ((state.content).content).segment kind offsets
+    (not (is_empty entries)) true)
 
 places_of_kind :
     (before : List Part) (state : State) (entries : List ℕ) (found : Option FixKind) → Ready before state
@@ -267,7 +286,8 @@ others_judged :
     && (is_some read
     && list_all (λ (fix : Fix). is_known state.external_count fix.target)
     (fixes_of target (RelocationPart kind (unwrap_or read [])))))
-    (with_fixes state (marked_after state.content (fixes_of target (RelocationPart kind (unwrap_or read [])))))
+    (with_fixes state (marked_after state.content
+    (fixes_of target (RelocationPart kind (unwrap_or read [])))))
     (Err WrongBody))
 others_judged before state target kind entries None r alike =
     unread before state kinds.IntersegmentReferences (not (is_empty entries))
@@ -307,7 +327,8 @@ others_of_target :
     option_and_then (λ (kind : FixKind). option_map (IntersegmentPart segment kind) (words_in entries))
     (fix_kind_of number)) found)
     (option_map_or (fixes_placed state kinds.IntersegmentReferences)
-    (option_and_then (λ (segment : Segment). option_map (fix_head (Some segment) entries) (fix_kind_of number)) found)
+    (option_and_then (λ (segment : Segment). option_map (fix_head (Some segment) entries)
+    (fix_kind_of number)) found)
     (Err WrongBody))
 others_of_target before state number entries None r = refl
 others_of_target before state number entries (Some target) r =

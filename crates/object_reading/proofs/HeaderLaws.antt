@@ -2,7 +2,8 @@
 use Rattle.object_reading.proofs.Prelude.{◌≡◌, ℕ, ◌+◌, ◌*◌, ◌<◌, ◌≤◌, ◌==◌, Bool, true, false, ◌&&◌, nat_lt, cond, List, [], ◌∷◌, Option, Some, None, option_map, option_and_then, Result, Ok, Err, refl, ap, ◌∙◌, arith, length, get_or, take, drop, ◌-◌, list_all, option_map_or, and_parts, ne_eqb, ltb-true, lt-ltb, take-length, Fault, WrongBody, WrongAlignment, Segment, same_segment, entry_in, SegmentEntry, segment_number, segment_of, segment_entries_in, ascend_from, is_served, Extents, entry_at, extents_with, extents_after, extents_in, same_is}
 
 -- the verdict on entries that were read
-abbrev pub verdict_on : (number : ℕ) → Extents → (served : Bool) → Option (List SegmentEntry) → Result Extents Fault
+abbrev pub verdict_on : (number : ℕ) → Extents → (served : Bool) → Option (List SegmentEntry)
+    → Result Extents Fault
 verdict_on number extents served None = Err WrongBody
 verdict_on number extents served (Some entries) =
     cond (ascend_from number entries)
@@ -20,15 +21,18 @@ same_either_way false x = refl
 
 -- a condition within another
 within_cond :
-    {A : Type 0} (above ascending : Bool) (x y : A) → cond above (cond ascending x y) y ≡ cond (above && ascending) x y
+    {A : Type 0} (above ascending : Bool) (x y : A)
+    → cond above (cond ascending x y) y ≡ cond (above && ascending) x y
 within_cond true ascending x y = refl
 within_cond false ascending x y = refl
 
 -- the verdict on one entry more
 verdict_more :
-    (number : ℕ) (extents : Extents) (served : Bool) (entry : SegmentEntry) (read : Option (List SegmentEntry))
+    (number : ℕ) (extents : Extents) (served : Bool) (entry : SegmentEntry)
+    (read : Option (List SegmentEntry))
     → cond (nat_lt number (segment_number entry.segment))
-    (verdict_on (segment_number entry.segment) (extents_with entry.segment entry extents) (served && is_served entry) read)
+    (verdict_on (segment_number entry.segment) (extents_with entry.segment entry extents)
+    (served && is_served entry) read)
     (Err WrongBody)
     ≡ verdict_on number extents served (option_map (λ (others : List SegmentEntry). entry ∷ others) read)
 verdict_more number extents served entry None =
@@ -37,18 +41,23 @@ verdict_more number extents served entry (Some others) =
     let last : Extents = extents_after others (extents_with entry.segment entry extents) in
     ap (λ b.
     cond (nat_lt number (segment_number entry.segment))
-    (cond (ascend_from (segment_number entry.segment) others) (cond b (Ok last) (Err WrongAlignment)) (Err WrongBody))
+    (cond (ascend_from (segment_number entry.segment) others)
+    (cond b (Ok last) (Err WrongAlignment)) (Err WrongBody))
     (Err WrongBody)) (and_grouped served (is_served entry) (list_all is_served others))
     ∙ within_cond {A = Result Extents Fault} (nat_lt number (segment_number entry.segment))
     (ascend_from (segment_number entry.segment) others)
-    (cond (served && (is_served entry && list_all is_served others)) (Ok last) (Err WrongAlignment)) (Err WrongBody)
+    (cond (served && (is_served entry && list_all is_served others)) (Ok last) (Err WrongAlignment))
+    (Err WrongBody)
 
 one_more :
-    (number low high alignment : ℕ) (extents : Extents) (served : Bool) (rest : List ℕ) (found : Option Segment)
+    (number low high alignment : ℕ) (extents : Extents) (served : Bool) (rest : List ℕ)
+    (found : Option Segment)
     → ((segment : Segment)
-    → extents_in (segment_number segment) (extents_with segment (entry_at segment (low + 256 * high) alignment) extents)
+    → extents_in (segment_number segment)
+    (extents_with segment (entry_at segment (low + 256 * high) alignment) extents)
     (served && is_served (entry_at segment (low + 256 * high) alignment)) rest
-    ≡ verdict_on (segment_number segment) (extents_with segment (entry_at segment (low + 256 * high) alignment) extents)
+    ≡ verdict_on (segment_number segment)
+    (extents_with segment (entry_at segment (low + 256 * high) alignment) extents)
     (served && is_served (entry_at segment (low + 256 * high) alignment)) (segment_entries_in rest))
     → option_map_or
     (λ (segment : Segment).
@@ -66,7 +75,8 @@ one_more :
 one_more number low high alignment extents served rest None later = refl
 one_more number low high alignment extents served rest (Some segment) later =
     ap (λ r. cond (nat_lt number (segment_number segment)) r (Err WrongBody)) (later segment)
-    ∙ verdict_more number extents served (entry_at segment (low + 256 * high) alignment) (segment_entries_in rest)
+    ∙ verdict_more number extents served (entry_at segment (low + 256 * high) alignment)
+    (segment_entries_in rest)
 
 -- entries read one after another have the verdict on all of them
 pub extents_are :
@@ -90,7 +100,8 @@ no_entry_below :
     → segment_number segment ≤ number → entry_in entries segment ≡ None
 no_entry_below [] number segment ascending below = refl
 no_entry_below (entry ∷ others) number segment ascending below =
-    let t = and_parts (nat_lt number (segment_number entry.segment)) (ascend_from (segment_number entry.segment) others) ascending in
+    let t = and_parts (nat_lt number (segment_number entry.segment))
+    (ascend_from (segment_number entry.segment) others) ascending in
     let above : number < segment_number entry.segment = ltb-true number (segment_number entry.segment) t.0 in
     let other : (segment_number entry.segment == segment_number segment) ≡ false =
     ne_eqb (segment_number entry.segment) (segment_number segment) (λ e. omega arith) in
@@ -107,7 +118,8 @@ pub said_of :
     → field (extents_after entries extents) ≡ option_map_or value (entry_in entries segment) (field extents)
 said_of field value segment own others_stay [] number extents ascending = refl
 said_of {A} field value segment own others_stay (entry ∷ others) number extents ascending =
-    let t = and_parts (nat_lt number (segment_number entry.segment)) (ascend_from (segment_number entry.segment) others) ascending in
+    let t = and_parts (nat_lt number (segment_number entry.segment))
+    (ascend_from (segment_number entry.segment) others) ascending in
     go t.1
     (said_of field value segment own others_stay others (segment_number entry.segment)
     (extents_with entry.segment entry extents) t.1)
@@ -133,16 +145,23 @@ said_of {A} field value segment own others_stay (entry ∷ others) number extent
 -- a step over an entry whose number is greater
 pub entry_step :
     (number next word : ℕ) (extents after : Extents) (served still : Bool) (segment : Segment) (rest : List ℕ)
-    → 4 ≤ length rest → Some segment ≡ segment_of (get_or rest 0 0) → next ≡ segment_number segment → number < next
+    → 4 ≤ length rest → Some segment ≡ segment_of (get_or rest 0 0)
+    → next ≡ segment_number segment → number < next
     → word ≡ get_or rest 1 0 + 256 * get_or rest 2 0
     → still ≡ (served && is_served (entry_at segment word (get_or rest 3 0)))
     → after ≡ extents_with segment (entry_at segment word (get_or rest 3 0)) extents
-    → extents_in next after still (take (length rest - 4) (drop 4 rest)) ≡ extents_in number extents served rest
+    → extents_in next after still (take (length rest - 4) (drop 4 rest))
+    ≡ extents_in number extents served rest
 entry_step number next word extents after served still segment [] four e n above w s a = absurd (omega arith)
-entry_step number next word extents after served still segment (x ∷ []) four e n above w s a = absurd (omega arith)
-entry_step number next word extents after served still segment (x ∷ y ∷ []) four e n above w s a = absurd (omega arith)
-entry_step number next word extents after served still segment (x ∷ y ∷ z ∷ []) four e n above w s a = absurd (omega arith)
-entry_step number next word extents after served still segment (first ∷ low ∷ high ∷ alignment ∷ more) four e n above w s a =
+entry_step number next word extents after served still segment (x ∷ []) four e n above w s a =
+    absurd (omega arith)
+entry_step number next word extents after served still segment (x ∷ y ∷ []) four e n above w s a =
+    absurd (omega arith)
+entry_step number next word extents after served still segment (x ∷ y ∷ z ∷ []) four e n above w s a =
+    absurd (omega arith)
+entry_step number next word extents after served still segment (first ∷ low ∷ high ∷ alignment ∷ more)
+    four e n above w s a =
     let count : length (first ∷ low ∷ high ∷ alignment ∷ more) - 4 ≡ length more = omega arith in
-    let greater : nat_lt number (segment_number segment) ≡ true = lt-ltb number (segment_number segment) (omega arith) in
+    let greater : nat_lt number (segment_number segment) ≡ true =
+    lt-ltb number (segment_number segment) (omega arith) in
     rw (count, take-length more, a, s, w, n) (rw (← e) (rw greater refl))

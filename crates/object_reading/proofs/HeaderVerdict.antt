@@ -32,7 +32,8 @@ header_known state name translator version entries k ascending = record {
 header_fault :
     (name : List ℕ) (translator version : ℕ) (entries : List SegmentEntry) (named ascending served : Bool)
     → is_name name ≡ named → ascend_from 0 entries ≡ ascending → list_all is_served entries ≡ served
-    → part_fault [] (HeaderPart name translator version entries) ≡ fault_by (named && ascending) served true true
+    → part_fault [] (HeaderPart name translator version entries)
+    ≡ fault_by (named && ascending) served true true
 header_fault name translator version entries named ascending served a b c =
     ap (λ t. fault_by (t && ascend_from 0 entries) (list_all is_served entries) true true) a
     ∙ ap (λ t. fault_by (named && t) (list_all is_served entries) true true) b
@@ -45,7 +46,8 @@ entries_judged :
     → Verdict [] kinds.Header (Some (HeaderPart name translator version entries))
     (cond named
     (with_header state name
-    (cond ascending (cond served (Ok (extents_after entries nothing_said)) (Err WrongAlignment)) (Err WrongBody)))
+    (cond ascending (cond served (Ok (extents_after entries nothing_said)) (Err WrongAlignment))
+    (Err WrongBody)))
     (Err WrongBody))
 entries_judged state name translator version entries k false ascending served a b c =
     header_fault name translator version entries false ascending served a b c
@@ -62,7 +64,8 @@ entries_judged state name translator version entries k true true true a b c = re
 }
 
 read_judged :
-    (state : State) (name : List ℕ) (translator version : ℕ) (read : Option (List SegmentEntry)) → Knows [] state
+    (state : State) (name : List ℕ) (translator version : ℕ) (read : Option (List SegmentEntry))
+    → Knows [] state
     → Verdict [] kinds.Header (option_map (HeaderPart name translator version) read)
     (cond (is_name name) (with_header state name (verdict_on 0 nothing_said true read)) (Err WrongBody))
 read_judged state name translator version None k = wrong_either_way [] kinds.Header (is_name name)

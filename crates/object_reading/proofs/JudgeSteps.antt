@@ -6,20 +6,24 @@ open_fault :
     (before : List Part) (rest : List ℕ) → is_ended before ≡ false
     → fault_at before rest
     ≡ option_or (option_map fault_from_record (record_fault rest))
-    (option_and_then (λ kind. fault_of_record before kind (first_body rest)) (kind_of_type (slice_index rest 0)))
+    (option_and_then (λ kind. fault_of_record before kind (first_body rest))
+    (kind_of_type (slice_index rest 0)))
 unfolding fault_at
 open_fault before rest e =
     ap (λ ended.
     cond ended (cond (is_empty rest) None (Some OutOfOrder))
     (option_or (option_map fault_from_record (record_fault rest))
-    (option_and_then (λ kind. fault_of_record before kind (first_body rest)) (kind_of_type (slice_index rest 0))))) e
+    (option_and_then (λ kind. fault_of_record before kind (first_body rest))
+    (kind_of_type (slice_index rest 0))))) e
 
 judged_at :
     (count : ℕ) (before : List Part) (rest : List ℕ) (fault : Option Fault) → fault_at before rest ≡ fault
     → judged_after (suc count) before rest
-    ≡ judged_by (λ parts. judged_after count parts (drop (record_end rest) rest)) before fault (first_part rest)
+    ≡ judged_by (λ parts. judged_after count parts (drop (record_end rest) rest)) before
+    fault (first_part rest)
 judged_at count before rest fault e =
-    ap (λ f. judged_by (λ parts. judged_after count parts (drop (record_end rest) rest)) before f (first_part rest)) e
+    ap (λ f. judged_by (λ parts. judged_after count parts (drop (record_end rest) rest)) before f
+    (first_part rest)) e
 
 -- the record in front has a fault of its own
 pub no_record :
@@ -30,24 +34,28 @@ no_record count before rest fault not_ended found =
     open_fault before rest not_ended
     ∙ ap (λ f.
     option_or (option_map fault_from_record f)
-    (option_and_then (λ kind. fault_of_record before kind (first_body rest)) (kind_of_type (slice_index rest 0)))) found in
+    (option_and_then (λ kind. fault_of_record before kind (first_body rest))
+    (kind_of_type (slice_index rest 0)))) found in
     judged_at count before rest (Some (fault_from_record fault)) at
 
 -- the fault of a record that has none of its own
 in_record :
-    (before : List Part) (rest : List ℕ) (kind : RecordKind) → is_ended before ≡ false → record_fault rest ≡ None
+    (before : List Part) (rest : List ℕ) (kind : RecordKind) → is_ended before ≡ false
+    → record_fault rest ≡ None
     → kind_of_type (slice_index rest 0) ≡ Some kind
     → fault_at before rest ≡ fault_of_record before kind (first_body rest)
 in_record before rest kind not_ended none known =
     open_fault before rest not_ended
     ∙ ap (λ f.
     option_or (option_map fault_from_record f)
-    (option_and_then (λ k. fault_of_record before k (first_body rest)) (kind_of_type (slice_index rest 0)))) none
+    (option_and_then (λ k. fault_of_record before k (first_body rest)) (kind_of_type (slice_index rest 0))))
+    none
     ∙ ap (option_and_then (λ k. fault_of_record before k (first_body rest))) known
 
 -- the record in front breaks a rule
 pub broken_rule :
-    (count : ℕ) (before : List Part) (rest : List ℕ) (kind : RecordKind) (fault : Fault) → is_ended before ≡ false
+    (count : ℕ) (before : List Part) (rest : List ℕ) (kind : RecordKind) (fault : Fault)
+    → is_ended before ≡ false
     → record_fault rest ≡ None → kind_of_type (slice_index rest 0) ≡ Some kind
     → fault_of_record before kind (first_body rest) ≡ Some fault
     → judged_after (suc count) before rest ≡ Err fault
@@ -64,7 +72,8 @@ pub goes_on :
     ≡ judged_after (suc (length (drop (record_end rest) rest))) (part ∷ before) (drop (record_end rest) rest)
 goes_on before rest kind part not_ended none known allowed found shorter =
     let after : List ℕ = drop (record_end rest) rest in
-    let first : first_part rest ≡ Some part = ap (option_and_then (λ k. part_in k (first_body rest))) known ∙ found in
+    let first : first_part rest ≡ Some part =
+    ap (option_and_then (λ k. part_in k (first_body rest))) known ∙ found in
     judged_at (length rest) before rest None (in_record before rest kind not_ended none known ∙ allowed)
     ∙ ap (judged_by (λ parts. judged_after (length rest) parts after) before None) first
     ∙ any_judged (length rest) (suc (length after)) (part ∷ before) after shorter (omega arith)
@@ -78,10 +87,12 @@ ended_fault before rest e =
     ap (λ ended.
     cond ended (cond (is_empty rest) None (Some OutOfOrder))
     (option_or (option_map fault_from_record (record_fault rest))
-    (option_and_then (λ kind. fault_of_record before kind (first_body rest)) (kind_of_type (slice_index rest 0))))) e
+    (option_and_then (λ kind. fault_of_record before kind (first_body rest))
+    (kind_of_type (slice_index rest 0))))) e
 
 pub at_the_end :
-    (count : ℕ) (before : List Part) → is_ended before ≡ true → judged_after (suc count) before [] ≡ Ok (reverse before)
+    (count : ℕ) (before : List Part) → is_ended before ≡ true
+    → judged_after (suc count) before [] ≡ Ok (reverse before)
 at_the_end count before e = judged_at count before [] None (ended_fault before [] e)
 
 pub past_the_end :

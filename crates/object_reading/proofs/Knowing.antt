@@ -38,7 +38,8 @@ pub record Knows (before : List Part) (state : State) : Type 0 where
   pub no_start : is_early 3 before ≡ true → filter_map start_of_end (reverse before) ≡ []
 
 -- a part that was read and accepted, and is known now
-pub record Accepted (before : List Part) (kind : RecordKind) (found : Option Part) (state : State) : Type 0 where
+pub record Accepted (before : List Part) (kind : RecordKind) (found : Option Part)
+    (state : State) : Type 0 where
   pub part : Part
   pub of_kind : kind_of_part part ≡ kind
   pub read : found ≡ Some part
@@ -52,7 +53,8 @@ Verdict before kind found (Err fault) = option_map_or (part_fault before) found 
 
 -- a body that can't be read is wrong either way
 pub wrong_either_way :
-    (before : List Part) (kind : RecordKind) (b : Bool) → Verdict before kind None (cond b (Err WrongBody) (Err WrongBody))
+    (before : List Part) (kind : RecordKind) (b : Bool)
+    → Verdict before kind None (cond b (Err WrongBody) (Err WrongBody))
 wrong_either_way before kind true = refl
 wrong_either_way before kind false = refl
 
@@ -96,7 +98,8 @@ header_stays before part name extents h none unnamed = record {
       ∙ ap (λ l. flat_map entries_of (reverse before) ++ (l ++ [])) none
       ∙ append-nil (flat_map entries_of (reverse before)) ∙ h.in_order;
   named =
-      ap (λ l. option_map_or (λ (n : List ℕ). n) (first_in l) []) (filtered_as_before name_of_header part before unnamed)
+      ap (λ l. option_map_or (λ (n : List ℕ). n) (first_in l) [])
+      (filtered_as_before name_of_header part before unnamed)
       ∙ h.named;
 }
 
@@ -109,7 +112,8 @@ start_stays before part start h none = ap first_in (filtered_as_before start_of_
 abbrev pub fault_by : (body served placed fixed : Bool) → Option Fault
 fault_by body served placed fixed =
     first_that_holds
-    ((not body, WrongBody) ∷ (not served, WrongAlignment) ∷ (not placed, ContentMisplaced) ∷ (not fixed, FixMisplaced) ∷ [])
+    ((not body, WrongBody) ∷ (not served, WrongAlignment) ∷ (not placed, ContentMisplaced)
+    ∷ (not fixed, FixMisplaced) ∷ [])
 
 -- the fault of a part that has no entries and is no content
 pub fault_where :

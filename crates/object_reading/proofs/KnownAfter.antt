@@ -20,7 +20,8 @@ follows_early (latest ∷ others) kinds.ModuleEnd follows other low = absurd (fa
 follows_early (latest ∷ others) kinds.EndOfFile follows other low = absurd (false≢true low)
 
 pub early_below :
-    (before : List Part) (low high : ℕ) → low ≤ high → is_early low before ≡ true → is_early high before ≡ true
+    (before : List Part) (low high : ℕ) → low ≤ high → is_early low before ≡ true
+    → is_early high before ≡ true
 early_below [] low high h early = refl
 early_below (latest ∷ others) low high h early =
     let t = leb-true (rank_of (kind_of_part latest)) low early in
@@ -57,7 +58,8 @@ pub record Plain (part : Part) : Type 0 where
   pub no_start : start_of_end part ≡ None
 
 -- what is known after it, of names and of the content
-pub record KnowsParts (before : List Part) (names : List (List ℕ)) (count : ℕ) (content : Marked) : Type 0 where
+pub record KnowsParts (before : List Part) (names : List (List ℕ)) (count : ℕ)
+    (content : Marked) : Type 0 where
   pub names_known : KnowsNames before names
   pub externals : count ≡ length (flat_map externals_of before)
   pub counted : is_early 1 before ≡ true → length names ≡ count

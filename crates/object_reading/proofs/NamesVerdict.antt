@@ -14,7 +14,8 @@ some_items first (Some later) items e = sym (ap (λ o. option_map_or is_empty o 
 
 some_read :
     {A : Type 0} (count : ℕ) (front : List ℕ → Front A) (read : Front A) (items : List A)
-    → option_and_then (λ (r : A × List ℕ). option_map (λ (later : List A). r.0 ∷ later) (at_most count front r.1)) read
+    → option_and_then
+    (λ (r : A × List ℕ). option_map (λ (later : List A). r.0 ∷ later) (at_most count front r.1)) read
     ≡ Some items
     → is_empty items ≡ false
 some_read count front None items e = absurd (let bad : None ≡ Some items = e in cc)
@@ -65,15 +66,19 @@ externals_accepted before state names k early none =
     }
 
 externals_judged :
-    (before : List Part) (state : State) (names : List (List ℕ)) → Knows before state → is_early 1 before ≡ true
+    (before : List Part) (state : State) (names : List (List ℕ)) → Knows before state
+    → is_early 1 before ≡ true
     → (empty fit : Bool) → is_empty names ≡ empty
     → (list_all is_name names && are_new names state.names) ≡ fit
     → Verdict before kinds.ExternalNames (Some (ExternalNamesPart names))
     (cond empty (Err WrongBody) (with_externals state (cond fit (Some (state.names ++ names)) None)))
-externals_judged before state names k early true fit a b = externals_fault before state.names names state k true fit a b
-externals_judged before state names k early false false a b = externals_fault before state.names names state k false false a b
+externals_judged before state names k early true fit a b =
+    externals_fault before state.names names state k true fit a b
+externals_judged before state names k early false false a b =
+    externals_fault before state.names names state k false false a b
 externals_judged before state names k early false true a b =
-    externals_accepted before state names k early (externals_fault before state.names names state k false true a b)
+    externals_accepted before state names k early
+    (externals_fault before state.names names state k false true a b)
 
 externals_read :
     (before : List Part) (state : State) (body : List ℕ) (read : Option (List (List ℕ))) → Knows before state
@@ -81,9 +86,11 @@ externals_read :
     → ((names : List (List ℕ)) → read ≡ Some names → is_empty names ≡ is_empty body)
     → Verdict before kinds.ExternalNames (option_map ExternalNamesPart read)
     (cond (is_empty body) (Err WrongBody) (with_externals state (names_taken state.names read)))
-externals_read before state body None k early alike = wrong_either_way before kinds.ExternalNames (is_empty body)
+externals_read before state body None k early alike =
+    wrong_either_way before kinds.ExternalNames (is_empty body)
 externals_read before state body (Some names) k early alike =
-    externals_judged before state names k early (is_empty body) (list_all is_name names && are_new names state.names)
+    externals_judged before state names k early (is_empty body)
+    (list_all is_name names && are_new names state.names)
     (alike names refl) refl
 
 pub externals_verdict :
@@ -105,7 +112,8 @@ name_first first (Some later) = refl
 
 defined_names :
     (count : ℕ) (bytes : List ℕ)
-    → at_most count definition_name_in_front bytes ≡ option_map definition_names (at_most count definition_in_front bytes)
+    → at_most count definition_name_in_front bytes
+    ≡ option_map definition_names (at_most count definition_in_front bytes)
 defined_names zero [] = refl
 defined_names zero (byte ∷ others) = refl
 defined_names (suc count) [] = refl
@@ -113,7 +121,8 @@ defined_names (suc count) (byte ∷ others) =
     go (λ after. defined_names count after) (definition_in_front (byte ∷ others))
   where
     go : ((after : List ℕ)
-        → at_most count definition_name_in_front after ≡ option_map definition_names (at_most count definition_in_front after))
+        → at_most count definition_name_in_front after
+        ≡ option_map definition_names (at_most count definition_in_front after))
         → (read : Front Definition)
         → option_and_then
         (λ (r : List ℕ × List ℕ).
@@ -130,19 +139,23 @@ defined_names (suc count) (byte ∷ others) =
 
 -- public names
 publics_fault :
-    (before : List Part) (segment : Segment) (definitions : List Definition) (state : State) → Knows before state
+    (before : List Part) (segment : Segment) (definitions : List Definition) (state : State)
+    → Knows before state
     → (empty fit : Bool) → is_empty definitions ≡ empty
-    → (list_all is_name (definition_names definitions) && are_new (definition_names definitions) state.names) ≡ fit
+    → (list_all is_name (definition_names definitions) && are_new (definition_names definitions) state.names)
+    ≡ fit
     → part_fault before (PublicsPart segment definitions)
     ≡ fault_by ((may_have_publics segment && not empty) && fit) true true true
 publics_fault before segment definitions state k empty fit a b =
     plain_fault before (PublicsPart segment definitions) refl refl (λ own. refl)
-    ∙ ap (λ t. fault_by ((may_have_publics segment && not t) && are_names (definition_names definitions) before) true true true) a
+    ∙ ap (λ t. fault_by ((may_have_publics segment && not t)
+    && are_names (definition_names definitions) before) true true true) a
     ∙ ap (λ t. fault_by ((may_have_publics segment && not empty) && t) true true true)
     (names_judged before state.names (definition_names definitions) k.names ∙ b)
 
 publics_accepted :
-    (before : List Part) (state : State) (segment : Segment) (definitions : List Definition) → Knows before state
+    (before : List Part) (state : State) (segment : Segment) (definitions : List Definition)
+    → Knows before state
     → is_early 2 before ≡ true → part_fault before (PublicsPart segment definitions) ≡ None
     → Accepted before kinds.Publics (Some (PublicsPart segment definitions))
     (record state { names = state.names ++ definition_names definitions })
@@ -154,7 +167,8 @@ publics_accepted before state segment definitions k early none =
       read = refl;
       no_fault = none;
       knows =
-          known_after before part state (state.names ++ definition_names definitions) state.external_count state.content k
+          known_after before part state (state.names ++ definition_names definitions)
+          state.external_count state.content k
           (record { no_entries = refl; unnamed = refl; no_content = refl; no_start = refl })
           (early_below before 2 3 (omega arith) early)
           (record {
@@ -166,10 +180,12 @@ publics_accepted before state segment definitions k early none =
     }
 
 publics_judged :
-    (before : List Part) (state : State) (segment : Segment) (definitions : List Definition) → Knows before state
+    (before : List Part) (state : State) (segment : Segment) (definitions : List Definition)
+    → Knows before state
     → is_early 2 before ≡ true
     → (allowed fit : Bool)
-    → ((t : Bool) → t ≡ fit → part_fault before (PublicsPart segment definitions) ≡ fault_by (allowed && t) true true true)
+    → ((t : Bool) → t ≡ fit → part_fault before (PublicsPart segment definitions)
+    ≡ fault_by (allowed && t) true true true)
     → Verdict before kinds.Publics (Some (PublicsPart segment definitions))
     (cond allowed
     (with_publics state (cond fit (Some (state.names ++ definition_names definitions)) None)) (Err WrongBody))
@@ -179,7 +195,8 @@ publics_judged before state segment definitions k early true true fault =
     publics_accepted before state segment definitions k early (fault true refl)
 
 publics_read :
-    (before : List Part) (state : State) (segment : Segment) (entries : List ℕ) (read : Option (List Definition))
+    (before : List Part) (state : State) (segment : Segment) (entries : List ℕ)
+    (read : Option (List Definition))
     → Knows before state → is_early 2 before ≡ true
     → ((definitions : List Definition) → read ≡ Some definitions → is_empty definitions ≡ is_empty entries)
     → Verdict before kinds.Publics (option_map (PublicsPart segment) read)
@@ -189,9 +206,11 @@ publics_read before state segment entries None k early alike =
     wrong_either_way before kinds.Publics (may_have_publics segment && not (is_empty entries))
 publics_read before state segment entries (Some definitions) k early alike =
     let names : List (List ℕ) = definition_names definitions in
-    publics_judged before state segment definitions k early (may_have_publics segment && not (is_empty entries))
+    publics_judged before state segment definitions k early
+    (may_have_publics segment && not (is_empty entries))
     (list_all is_name names && are_new names state.names)
-    (λ t e. publics_fault before segment definitions state k (is_empty entries) t (alike definitions refl) (sym e))
+    (λ t e. publics_fault before segment definitions state k (is_empty entries) t
+    (alike definitions refl) (sym e))
 
 publics_in_segment :
     (before : List Part) (state : State) (entries : List ℕ) (found : Option Segment) → Knows before state

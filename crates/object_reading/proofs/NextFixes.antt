@@ -13,13 +13,16 @@ pub record FixesPassed (own : Segment) (rest : List ℕ) (kind : RecordKind) : T
 
 -- the same, by the head of the record
 record HeadIs (own : Segment) (rest : List ℕ) (part : Part) (head : Option FixHead) : Type 0 where
-  left : leading_fixes own (part ∷ parts_from (drop (record_end rest) rest)) ≡ fixes_after own head (drop (record_end rest) rest)
+  left : leading_fixes own (part ∷ parts_from (drop (record_end rest) rest))
+      ≡ fixes_after own head (drop (record_end rest) rest)
   entries : AreHeadEntries head
 
 head_of :
     (own : Segment) (rest : List ℕ) (part : Part)
-    → (head : Option FixHead) × (fix_where own (kind_of_part part) (body_of part) ≡ head) × HeadIs own rest part head
-head_of own rest (HeaderPart name translator version entries) = (None, refl, record { left = refl; entries = tt })
+    → (head : Option FixHead) × (fix_where own (kind_of_part part) (body_of part) ≡ head)
+    × HeadIs own rest part head
+head_of own rest (HeaderPart name translator version entries) =
+    (None, refl, record { left = refl; entries = tt })
 head_of own rest (ExternalNamesPart names) = (None, refl, record { left = refl; entries = tt })
 head_of own rest (PublicsPart segment definitions) = (None, refl, record { left = refl; entries = tt })
 head_of own rest (ContentPart content) = (None, refl, record { left = refl; entries = tt })
@@ -29,7 +32,8 @@ head_of own rest (ExternalReferencesPart kind references) =
       ap (option_map (fix_head None bytes)) (fix_kind_again kind),
       record {
         left =
-            leading_more own (ExternalReferencesPart kind references) (parts_from (drop (record_end rest) rest)) refl
+            leading_more own (ExternalReferencesPart kind references)
+            (parts_from (drop (record_end rest) rest)) refl
             ∙ ap (λ o.
             fixes_of Absolute (ExternalReferencesPart kind (unwrap_or o []))
             ++ leading_fixes own (parts_from (drop (record_end rest) rest)))
@@ -60,7 +64,8 @@ head_of own rest (IntersegmentPart target kind offsets) =
           ∙ ap (option_map (fix_head (Some target) bytes)) (fix_kind_again kind),
       record {
         left =
-            leading_more own (IntersegmentPart target kind offsets) (parts_from (drop (record_end rest) rest)) refl
+            leading_more own (IntersegmentPart target kind offsets)
+            (parts_from (drop (record_end rest) rest)) refl
             ∙ ap (λ o.
             fixes_of target (RelocationPart kind (unwrap_or o []))
             ++ leading_fixes own (parts_from (drop (record_end rest) rest)))
@@ -91,11 +96,14 @@ fixes_passed own rest kind are none known =
 
 -- the same facts one by one, as the code has them
 pub fixes_follow :
-    (own : Segment) (target : Option Segment) (kind : FixKind) (rest body entries after : List ℕ) (of : RecordKind)
-    → AreParts rest → record_fault rest ≡ None → kind_of_type (slice_index rest 0) ≡ Some of → body ≡ first_body rest
+    (own : Segment) (target : Option Segment) (kind : FixKind)
+    (rest body entries after : List ℕ) (of : RecordKind)
+    → AreParts rest → record_fault rest ≡ None → kind_of_type (slice_index rest 0) ≡ Some of
+    → body ≡ first_body rest
     → ◌≡◌ {A = Option FixHead} (Some (target, kind, entries)) (fix_where own of body)
     → after ≡ drop (record_end rest) rest
-    → leading_fixes own (parts_from rest) ≡ fixes_in target kind entries ++ leading_fixes own (parts_from after)
+    → leading_fixes own (parts_from rest)
+    ≡ fixes_in target kind entries ++ leading_fixes own (parts_from after)
 fixes_follow own target kind rest body entries after of are none known b e f =
     (fixes_passed own rest of are none known).left
     ∙ ap (λ h. fixes_after own h (drop (record_end rest) rest)) (sym (e ∙ ap (fix_where own of) b))
@@ -103,7 +111,8 @@ fixes_follow own target kind rest body entries after of are none known b e f =
 
 pub fix_entries :
     (own : Segment) (target : Option Segment) (kind : FixKind) (rest body entries : List ℕ) (of : RecordKind)
-    → AreParts rest → record_fault rest ≡ None → kind_of_type (slice_index rest 0) ≡ Some of → body ≡ first_body rest
+    → AreParts rest → record_fault rest ≡ None → kind_of_type (slice_index rest 0) ≡ Some of
+    → body ≡ first_body rest
     → ◌≡◌ {A = Option FixHead} (Some (target, kind, entries)) (fix_where own of body)
     → AreFixEntries target entries
 fix_entries own target kind rest body entries of are none known b e =
@@ -118,11 +127,13 @@ no_fixes_follow own rest body of are none known b e =
     ∙ ap (λ h. fixes_after own h (drop (record_end rest) rest)) (sym (e ∙ ap (fix_where own of) b))
 
 pub nothing_follows : (own : Segment) (rest : List ℕ) → rest ≡ [] → leading_fixes own (parts_from rest) ≡ []
-nothing_follows own rest e = ap (λ b. leading_fixes own (parts_from b)) e ∙ ap (leading_fixes own) nothing_from
+nothing_follows own rest e =
+    ap (λ b. leading_fixes own (parts_from b)) e ∙ ap (leading_fixes own) nothing_from
 
 -- a fix is handed out, or none is left
 pub fix_handed :
-    (own : Segment) (target : Option Segment) (kind : FixKind) (entries : List ℕ) (fix : Fix) (after rest : List ℕ)
+    (own : Segment) (target : Option Segment) (kind : FixKind) (entries : List ℕ) (fix : Fix)
+    (after rest : List ℕ)
     → AreFixEntries target entries → fix_in_front target kind entries ≡ Some (fix, after)
     → fixes_in target kind entries ++ leading_fixes own (parts_from rest)
     ≡ fix ∷ (fixes_in target kind after ++ leading_fixes own (parts_from rest))

@@ -12,10 +12,12 @@ nothing_truncated : (rest : List ℕ) → rest ≡ [] → record_fault rest ≡ 
 unfolding record_fault
 nothing_truncated rest e = ap record_fault e
 
-pub next_part : (rest : List ℕ) → AreParts rest → record_fault rest ≡ None → (part : Part) × NextPart rest part
+pub next_part : (rest : List ℕ) → AreParts rest → record_fault rest ≡ None
+    → (part : Part) × NextPart rest part
 next_part rest are none = go are.parts are.spelled are.limits
   where
-    go : (parts : List Part) → rest ≡ flat_map part_bytes parts → AllByRecursion (λ part. length (body_of part) ≤ 1027) parts → (part : Part) × NextPart rest part
+    go : (parts : List Part) → rest ≡ flat_map part_bytes parts
+        → AllByRecursion (λ part. length (body_of part) ≤ 1027) parts → (part : Part) × NextPart rest part
     go [] e limits = absurd (none-some Truncated (sym none ∙ nothing_truncated rest e))
     go (part ∷ more) e limits =
         let later : List ℕ = flat_map part_bytes more in
@@ -28,17 +30,20 @@ next_part rest are none = go are.parts are.spelled are.limits
         } in
         (part, subst (λ b. NextPart b part) (sym e) next)
 
-pub no_part : (rest : List ℕ) (fault : RecordFault) → AreParts rest → record_fault rest ≡ Some fault → rest ≡ []
+pub no_part : (rest : List ℕ) (fault : RecordFault) → AreParts rest
+    → record_fault rest ≡ Some fault → rest ≡ []
 no_part rest fault are some = go are.parts are.spelled are.limits
   where
-    go : (parts : List Part) → rest ≡ flat_map part_bytes parts → AllByRecursion (λ part. length (body_of part) ≤ 1027) parts → rest ≡ []
+    go : (parts : List Part) → rest ≡ flat_map part_bytes parts
+        → AllByRecursion (λ part. length (body_of part) ≤ 1027) parts → rest ≡ []
     go [] e limits = e
     go (part ∷ more) e limits =
         let r = read_again (kind_of_part part) (body_of part) (flat_map part_bytes more) limits.0 in
         absurd (none-some fault (sym r.no_fault ∙ ap record_fault (sym e) ∙ some))
 
 -- what is known of the entry that entries begin with
-pub record NextEntry {A : Type 0} (spell : A → List ℕ) (front : List ℕ → Front A) (entries : List ℕ) (item : A) (after : List ℕ) : Type 0 where
+pub record NextEntry {A : Type 0} (spell : A → List ℕ) (front : List ℕ → Front A) (entries : List ℕ)
+    (item : A) (after : List ℕ) : Type 0 where
   pub left : entries_left front entries ≡ item ∷ entries_left front after
   pub are : AreEntries spell after
 
@@ -50,7 +55,8 @@ entries_are spell front r bytes items e =
 
 pub next_entry :
     {A : Type 0} (spell : A → List ℕ) (front : List ℕ → Front A) → ReadsAgain spell front → front [] ≡ None
-    → (entries : List ℕ) (item : A) (after : List ℕ) → AreEntries spell entries → front entries ≡ Some (item, after)
+    → (entries : List ℕ) (item : A) (after : List ℕ) → AreEntries spell entries
+    → front entries ≡ Some (item, after)
     → NextEntry spell front entries item after
 next_entry {A} spell front r nothing entries item after are found = go are.items are.spelled
   where
@@ -81,7 +87,8 @@ no_entry {A} spell front r entries are none = go are.items are.spelled
 
 -- a record is passed: its entries are those to be handed out, if it has external names
 pub record ExternalsPassed (rest : List ℕ) (kind : RecordKind) : Type 0 where
-  pub left : externals_left [] rest ≡ externals_left (body_where (is_external_names kind) (first_body rest)) (drop (record_end rest) rest)
+  pub left : externals_left [] rest ≡ externals_left (body_where (is_external_names kind) (first_body rest))
+      (drop (record_end rest) rest)
   pub entries : AreEntries listed_name_bytes (body_where (is_external_names kind) (first_body rest))
   pub after : AreParts (drop (record_end rest) rest)
 
@@ -92,21 +99,26 @@ no_names = record { items = []; spelled = refl }
 externals_by :
     (rest : List ℕ) (part : Part) → NextPart rest part
     → (flat_map externals_of (parts_from rest)
-    ≡ externals_left (body_where (is_external_names (kind_of_part part)) (first_body rest)) (drop (record_end rest) rest))
+    ≡ externals_left (body_where (is_external_names (kind_of_part part)) (first_body rest))
+    (drop (record_end rest) rest))
     × AreEntries listed_name_bytes (body_where (is_external_names (kind_of_part part)) (first_body rest))
-externals_by rest (HeaderPart name translator version entries) n = (ap (flat_map externals_of) n.parts_are, no_names)
+externals_by rest (HeaderPart name translator version entries) n =
+    (ap (flat_map externals_of) n.parts_are, no_names)
 externals_by rest (ExternalNamesPart names) n =
     let after : List ℕ = drop (record_end rest) rest in (
       ap (flat_map externals_of) n.parts_are
           ∙ ap (λ l. l ++ flat_map externals_of (parts_from after))
-          (sym (entries_are listed_name_bytes listed_name_in_front listed_name_again (first_body rest) names n.body_is)),
+          (sym (entries_are listed_name_bytes listed_name_in_front listed_name_again
+          (first_body rest) names n.body_is)),
       record { items = names; spelled = n.body_is },
     )
 externals_by rest (PublicsPart segment definitions) n = (ap (flat_map externals_of) n.parts_are, no_names)
 externals_by rest (ContentPart content) n = (ap (flat_map externals_of) n.parts_are, no_names)
-externals_by rest (ExternalReferencesPart kind references) n = (ap (flat_map externals_of) n.parts_are, no_names)
+externals_by rest (ExternalReferencesPart kind references) n =
+    (ap (flat_map externals_of) n.parts_are, no_names)
 externals_by rest (RelocationPart kind offsets) n = (ap (flat_map externals_of) n.parts_are, no_names)
-externals_by rest (IntersegmentPart target kind offsets) n = (ap (flat_map externals_of) n.parts_are, no_names)
+externals_by rest (IntersegmentPart target kind offsets) n =
+    (ap (flat_map externals_of) n.parts_are, no_names)
 externals_by rest (ModuleEndPart start) n = (ap (flat_map externals_of) n.parts_are, no_names)
 externals_by rest EndOfFilePart n = (ap (flat_map externals_of) n.parts_are, no_names)
 
@@ -138,7 +150,8 @@ publics_by :
     ≡ publics_left (publics_where (is_publics (kind_of_part part)) (first_body rest)).0
     (publics_where (is_publics (kind_of_part part)) (first_body rest)).1 (drop (record_end rest) rest))
     × AreEntries definition_bytes (publics_where (is_publics (kind_of_part part)) (first_body rest)).1
-publics_by rest (HeaderPart name translator version entries) n = (ap (flat_map publics_of) n.parts_are, no_definitions)
+publics_by rest (HeaderPart name translator version entries) n =
+    (ap (flat_map publics_of) n.parts_are, no_definitions)
 publics_by rest (ExternalNamesPart names) n = (ap (flat_map publics_of) n.parts_are, no_definitions)
 publics_by rest (PublicsPart segment definitions) n =
     let after : List ℕ = drop (record_end rest) rest in
@@ -148,16 +161,19 @@ publics_by rest (PublicsPart segment definitions) n =
     let first : (publics_where true (first_body rest)).0 ≡ segment = ap (λ p. p.0) split in
     let second : (publics_where true (first_body rest)).1 ≡ entries = ap (λ p. p.1) split in (
       ap (flat_map publics_of) n.parts_are
-          ∙ ap (λ (d : List Definition). publics_of (PublicsPart segment d) ++ flat_map publics_of (parts_from after))
+          ∙ ap (λ (d : List Definition). publics_of (PublicsPart segment d)
+          ++ flat_map publics_of (parts_from after))
           (sym (entries_are definition_bytes definition_in_front definition_again
           (publics_where true (first_body rest)).1 definitions second))
           ∙ ap (λ s. publics_left s (publics_where true (first_body rest)).1 after) (sym first),
       record { items = definitions; spelled = second },
     )
 publics_by rest (ContentPart content) n = (ap (flat_map publics_of) n.parts_are, no_definitions)
-publics_by rest (ExternalReferencesPart kind references) n = (ap (flat_map publics_of) n.parts_are, no_definitions)
+publics_by rest (ExternalReferencesPart kind references) n =
+    (ap (flat_map publics_of) n.parts_are, no_definitions)
 publics_by rest (RelocationPart kind offsets) n = (ap (flat_map publics_of) n.parts_are, no_definitions)
-publics_by rest (IntersegmentPart target kind offsets) n = (ap (flat_map publics_of) n.parts_are, no_definitions)
+publics_by rest (IntersegmentPart target kind offsets) n =
+    (ap (flat_map publics_of) n.parts_are, no_definitions)
 publics_by rest (ModuleEndPart start) n = (ap (flat_map publics_of) n.parts_are, no_definitions)
 publics_by rest EndOfFilePart n = (ap (flat_map publics_of) n.parts_are, no_definitions)
 
@@ -180,7 +196,8 @@ pub record ContentPassed (rest : List ℕ) (kind : RecordKind) : Type 0 where
 contents_by :
     (rest : List ℕ) (part : Part) → NextPart rest part
     → contents_left rest
-    ≡ contents_after (content_where (is_content (kind_of_part part)) (first_body rest)) (drop (record_end rest) rest)
+    ≡ contents_after (content_where (is_content (kind_of_part part)) (first_body rest))
+    (drop (record_end rest) rest)
 contents_by rest (HeaderPart name translator version entries) n = ap fixed_contents n.parts_are
 contents_by rest (ExternalNamesPart names) n = ap fixed_contents n.parts_are
 contents_by rest (PublicsPart segment definitions) n = ap fixed_contents n.parts_are
@@ -213,7 +230,8 @@ nothing_from = refl
 
 -- the same facts one by one, as the code has them
 pub parts_after :
-    (rest after : List ℕ) → AreParts rest → record_fault rest ≡ None → after ≡ drop (record_end rest) rest → AreParts after
+    (rest after : List ℕ) → AreParts rest → record_fault rest ≡ None
+    → after ≡ drop (record_end rest) rest → AreParts after
 parts_after rest after are none e = subst AreParts (sym e) ((next_part rest are none).1).after
 
 pub fewer_after :
@@ -245,7 +263,8 @@ abbrev Split : Type 0
 Split = Segment × List ℕ
 
 pub publics_follow :
-    (segment next : Segment) (rest entries after : List ℕ) (kind : RecordKind) → AreParts rest → record_fault rest ≡ None
+    (segment next : Segment) (rest entries after : List ℕ) (kind : RecordKind) → AreParts rest
+    → record_fault rest ≡ None
     → kind_of_type (slice_index rest 0) ≡ Some kind
     → ◌≡◌ {A = Split} (next, entries) (publics_where (is_publics kind) (first_body rest))
     → after ≡ drop (record_end rest) rest
@@ -261,10 +280,12 @@ pub publics_entries :
     → ◌≡◌ {A = Split} (next, entries) (publics_where (is_publics kind) (first_body rest))
     → AreEntries definition_bytes entries
 publics_entries next rest entries kind are none known e =
-    subst (λ (p : Split). AreEntries definition_bytes p.1) (sym e) (publics_passed next rest kind are none known).entries
+    subst (λ (p : Split). AreEntries definition_bytes p.1) (sym e)
+    (publics_passed next rest kind are none known).entries
 
 pub contents_follow :
-    (rest after : List ℕ) (found : Option Content) (kind : RecordKind) → AreParts rest → record_fault rest ≡ None
+    (rest after : List ℕ) (found : Option Content) (kind : RecordKind) → AreParts rest
+    → record_fault rest ≡ None
     → kind_of_type (slice_index rest 0) ≡ Some kind
     → found ≡ content_where (is_content kind) (first_body rest) → after ≡ drop (record_end rest) rest
     → contents_left rest ≡ contents_after found after
@@ -278,22 +299,26 @@ no_contents rest e = ap contents_left e ∙ ap fixed_contents nothing_from
 -- a name is handed out, or none is left
 pub names_then :
     (entries name after rest : List ℕ) → AreEntries listed_name_bytes entries
-    → listed_name_in_front entries ≡ Some (name, after) → externals_left entries rest ≡ name ∷ externals_left after rest
+    → listed_name_in_front entries ≡ Some (name, after)
+    → externals_left entries rest ≡ name ∷ externals_left after rest
 names_then entries name after rest are found =
     ap (λ l. l ++ flat_map externals_of (parts_from rest))
-    (next_entry listed_name_bytes listed_name_in_front listed_name_again refl entries name after are found).left
+    (next_entry listed_name_bytes listed_name_in_front listed_name_again refl entries name
+    after are found).left
 
 pub names_are_after :
     (entries name after : List ℕ) → AreEntries listed_name_bytes entries
     → listed_name_in_front entries ≡ Some (name, after) → AreEntries listed_name_bytes after
 names_are_after entries name after are found =
-    (next_entry listed_name_bytes listed_name_in_front listed_name_again refl entries name after are found).are
+    (next_entry listed_name_bytes listed_name_in_front listed_name_again refl entries name
+    after are found).are
 
 pub names_over :
     (entries rest : List ℕ) → AreEntries listed_name_bytes entries → listed_name_in_front entries ≡ None
     → (entries ≡ [] → rest ≡ []) → externals_left entries rest ≡ []
 names_over entries rest are none end =
-    let empty : entries ≡ [] = no_entry listed_name_bytes listed_name_in_front listed_name_again entries are none in
+    let empty : entries ≡ [] =
+    no_entry listed_name_bytes listed_name_in_front listed_name_again entries are none in
     ap (λ e. externals_left e rest) empty
     ∙ ap (λ r. flat_map externals_of (parts_from r)) (end empty)
     ∙ ap (flat_map externals_of) nothing_from
@@ -301,7 +326,8 @@ names_over entries rest are none end =
 -- a public name is handed out, or none is left
 pub publics_then :
     (segment : Segment) (offset : ℕ) (entries name after rest : List ℕ) → AreEntries definition_bytes entries
-    → ◌≡◌ {A = Option (Definition × List ℕ)} (Some (definition_at offset name, after)) (definition_in_front entries)
+    → ◌≡◌ {A = Option (Definition × List ℕ)} (Some (definition_at offset name, after))
+    (definition_in_front entries)
     → publics_left segment entries rest
     ≡ record { segment = segment; offset = offset; name = name } ∷ publics_left segment after rest
 publics_then segment offset entries name after rest are found =
@@ -311,17 +337,20 @@ publics_then segment offset entries name after rest are found =
 
 pub definitions_are_after :
     (offset : ℕ) (entries name after : List ℕ) → AreEntries definition_bytes entries
-    → ◌≡◌ {A = Option (Definition × List ℕ)} (Some (definition_at offset name, after)) (definition_in_front entries)
+    → ◌≡◌ {A = Option (Definition × List ℕ)} (Some (definition_at offset name, after))
+    (definition_in_front entries)
     → AreEntries definition_bytes after
 definitions_are_after offset entries name after are found =
     (next_entry definition_bytes definition_in_front definition_again refl entries
     (definition_at offset name) after are (sym found)).are
 
 pub publics_over :
-    (segment : Segment) (entries rest : List ℕ) → AreEntries definition_bytes entries → definition_in_front entries ≡ None
+    (segment : Segment) (entries rest : List ℕ) → AreEntries definition_bytes entries
+    → definition_in_front entries ≡ None
     → (entries ≡ [] → rest ≡ []) → publics_left segment entries rest ≡ []
 publics_over segment entries rest are none end =
-    let empty : entries ≡ [] = no_entry definition_bytes definition_in_front definition_again entries are none in
+    let empty : entries ≡ [] =
+    no_entry definition_bytes definition_in_front definition_again entries are none in
     ap (λ e. publics_left segment e rest) empty
     ∙ ap (λ r. flat_map publics_of (parts_from r)) (end empty)
     ∙ ap (flat_map publics_of) nothing_from

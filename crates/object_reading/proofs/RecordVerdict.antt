@@ -14,12 +14,17 @@ body_verdict :
     → Verdict before kind (part_in kind body) (body_taken state kind body)
 unfolding part_in
 body_verdict before state kinds.Header body k follows short = header_verdict before state body k follows
-body_verdict before state kinds.ExternalNames body k follows short = externals_verdict before state body k follows
+body_verdict before state kinds.ExternalNames body k follows short =
+    externals_verdict before state body k follows
 body_verdict before state kinds.Publics body k follows short = publics_verdict before state body k follows
-body_verdict before state kinds.Content body k follows short = content_verdict before state body k follows short
-body_verdict before state kinds.ExternalReferences body k follows short = references_verdict before state body k follows
-body_verdict before state kinds.Relocation body k follows short = relocation_verdict before state body k follows
-body_verdict before state kinds.IntersegmentReferences body k follows short = intersegment_verdict before state body k follows
+body_verdict before state kinds.Content body k follows short =
+    content_verdict before state body k follows short
+body_verdict before state kinds.ExternalReferences body k follows short =
+    references_verdict before state body k follows
+body_verdict before state kinds.Relocation body k follows short =
+    relocation_verdict before state body k follows
+body_verdict before state kinds.IntersegmentReferences body k follows short =
+    intersegment_verdict before state body k follows
 body_verdict before state kinds.ModuleEnd body k follows short = end_verdict before state body k follows
 body_verdict before state kinds.EndOfFile body k follows short = last_verdict before state body k
 
@@ -36,7 +41,8 @@ pub record StateAfter (before : List Part) (state : State) : Type 0 where
 pub at_beginning : StateAfter [] beginning
 at_beginning = record {
   knows = record {
-    header = record { entries = []; ascending = refl; said = refl; stated = refl; in_order = refl; named = refl };
+    header =
+        record { entries = []; ascending = refl; said = refl; stated = refl; in_order = refl; named = refl };
     names = λ name. refl;
     externals = refl;
     counted = λ _. refl;
@@ -49,7 +55,8 @@ at_beginning = record {
   latest = refl;
 }
 
-order_alike : (before : List Part) (kind : RecordKind) → may_come (latest_kind before) kind ≡ may_follow before kind
+order_alike : (before : List Part) (kind : RecordKind)
+    → may_come (latest_kind before) kind ≡ may_follow before kind
 order_alike [] kind = refl
 order_alike (latest ∷ others) kind = refl
 
@@ -96,13 +103,15 @@ in_order before kind body (Ok state) follows v = record {
   part = v.part;
   read = v.read;
   no_fault =
-      ap (λ b. cond b (option_map_or (part_fault before) (part_in kind body) (Some WrongBody)) (Some OutOfOrder)) follows
+      ap (λ b. cond b (option_map_or (part_fault before) (part_in kind body) (Some WrongBody))
+      (Some OutOfOrder)) follows
       ∙ ap (λ found. option_map_or (part_fault before) found (Some WrongBody)) v.read
       ∙ v.no_fault;
   after = record { knows = latest_aside (v.part ∷ before) state (Some kind) v.knows; latest = ap Some (sym v.of_kind) };
 }
 in_order before kind body (Err fault) follows v =
-    ap (λ b. cond b (option_map_or (part_fault before) (part_in kind body) (Some WrongBody)) (Some OutOfOrder)) follows ∙ v
+    ap (λ b. cond b (option_map_or (part_fault before) (part_in kind body) (Some WrongBody))
+    (Some OutOfOrder)) follows ∙ v
 
 by_order :
     (before : List Part) (state : State) (kind : RecordKind) (body : List ℕ) → Knows before state
@@ -111,7 +120,8 @@ by_order :
 by_order before state kind body k short true e =
     in_order before kind body (body_taken state kind body) e (body_verdict before state kind body k e short)
 by_order before state kind body k short false e =
-    ap (λ b. cond b (option_map_or (part_fault before) (part_in kind body) (Some WrongBody)) (Some OutOfOrder)) e
+    ap (λ b. cond b (option_map_or (part_fault before) (part_in kind body) (Some WrongBody))
+    (Some OutOfOrder)) e
 
 pub record_verdict :
     (before : List Part) (state : State) (kind : RecordKind) (body : List ℕ) → StateAfter before state

@@ -44,7 +44,8 @@ pub record InFront (rest : List ℕ) (kind : RecordKind) (body after : List ℕ)
 
 -- it has bytes
 pub fewer_left :
-    (rest after : List ℕ) → record_fault rest ≡ None → after ≡ drop (record_end rest) rest → length after < length rest
+    (rest after : List ℕ) → record_fault rest ≡ None → after ≡ drop (record_end rest) rest
+    → length after < length rest
 fewer_left rest after sound e = subst (λ left. length left < length rest) (sym e) (shorter rest sound)
 
 pub in_front :
@@ -60,7 +61,8 @@ in_front rest after read begins sound of_type body_is after_is = record {
 }
 
 pub record_passed :
-    (bytes rest : List ℕ) (state new : State) (kind : RecordKind) (body after : List ℕ) → HasPassed bytes rest state
+    (bytes rest : List ℕ) (state new : State) (kind : RecordKind) (body after : List ℕ)
+    → HasPassed bytes rest state
     → is_over state.latest ≡ false → InFront rest kind body after → record_taken state kind body ≡ Ok new
     → HasPassed bytes after new
 record_passed bytes rest state new kind body after passed over front taken =
@@ -73,7 +75,8 @@ record_passed bytes rest state new kind body after passed over front taken =
       after = p.after;
       judged =
           passed.judged
-          ∙ goes_on passed.before rest kind p.part (not_ended bytes rest state passed over) front.sound front.of_type
+          ∙ goes_on passed.before rest kind p.part (not_ended bytes rest state passed over)
+          front.sound front.of_type
           (ap (fault_of_record passed.before kind) (sym front.body_is) ∙ p.no_fault)
           (ap (part_in kind) (sym front.body_is) ∙ p.read) (shorter rest front.sound);
     })
@@ -89,7 +92,8 @@ faulty bytes fault all e =
     record { first = first; spells_none = λ object spells. no_fault bytes object fault spells first }
 
 pub record_refused :
-    (bytes rest : List ℕ) (state : State) (kind : RecordKind) (body after : List ℕ) (fault : Fault) → IsBytes bytes
+    (bytes rest : List ℕ) (state : State) (kind : RecordKind) (body after : List ℕ) (fault : Fault)
+    → IsBytes bytes
     → HasPassed bytes rest state → is_over state.latest ≡ false → InFront rest kind body after
     → record_taken state kind body ≡ Err fault → IsFaulty bytes fault
 record_refused bytes rest state kind body after fault all passed over front refused =
@@ -98,7 +102,8 @@ record_refused bytes rest state kind body after fault all passed over front refu
     (record_verdict passed.before state kind body passed.after front.short) in
     faulty bytes fault all
     (passed.judged
-    ∙ broken_rule (length rest) passed.before rest kind fault (not_ended bytes rest state passed over) front.sound
+    ∙ broken_rule (length rest) passed.before rest kind fault
+    (not_ended bytes rest state passed over) front.sound
     front.of_type (ap (fault_of_record passed.before kind) (sym front.body_is) ∙ broken))
 
 pub no_record_left :
@@ -108,7 +113,8 @@ pub no_record_left :
 no_record_left bytes rest state own fault all passed over found is =
     subst (IsFaulty bytes) (sym is)
     (faulty bytes (fault_from_record own) all
-    (passed.judged ∙ no_record (length rest) passed.before rest own (not_ended bytes rest state passed over) found))
+    (passed.judged ∙ no_record (length rest) passed.before rest own
+    (not_ended bytes rest state passed over) found))
 
 -- the file has ended
 has_ended :
@@ -127,7 +133,8 @@ none_left (byte ∷ others) h =
     absurd (omega (arith, same))
 
 past_end :
-    (bytes rest : List ℕ) (state : State) → IsBytes bytes → HasPassed bytes rest state → is_over state.latest ≡ true
+    (bytes rest : List ℕ) (state : State) → IsBytes bytes → HasPassed bytes rest state
+    → is_over state.latest ≡ true
     → (rest ≡ [] → ⊥) → IsFaulty bytes OutOfOrder
 past_end bytes [] state all passed over more = absurd (more refl)
 past_end bytes (byte ∷ others) state all passed over more =
@@ -144,7 +151,8 @@ too_much bytes rest left state all passed over same some =
 
 header_told :
     (bytes : List ℕ) (before : List Part) (state : State) (header : Header) → IsFileOf bytes (reverse before)
-    → SaysHeader before state.name state.extents → start_in (reverse before) ≡ state.start → Tells header state
+    → SaysHeader before state.name state.extents → start_in (reverse before) ≡ state.start
+    → Tells header state
     → IsJudged bytes header
 header_told bytes before state header file h start tells = record {
   parts = reverse before;
@@ -163,7 +171,8 @@ header_told bytes before state header file h start tells = record {
       tells.data_alignment ∙ ap (λ (x : Extents). x.data_alignment) h.said
       ∙ data_alignment_said h.entries h.ascending ∙ ap (λ l. alignment_in l Data) (sym h.in_order);
   stack_length =
-      tells.stack_length ∙ ap (λ (x : Extents). x.stack_length) h.said ∙ stack_length_said h.entries h.ascending
+      tells.stack_length ∙ ap (λ (x : Extents). x.stack_length) h.said
+      ∙ stack_length_said h.entries h.ascending
       ∙ ap (λ l. length_in l Stack) (sym h.in_order);
   start = tells.start ∙ sym start;
 }
@@ -183,7 +192,8 @@ judged_whole bytes rest left state header all passed over same none tells =
 -- what is true of a failure's fault is true of the result that hands it on
 pub handed_on :
     {A : Type 0} (result : Result A (Failure Fault)) (failure : Failure Fault) (P Q : Fault → Type 0)
-    → result ≡ Err failure → IfFault {A = Unit {0}} (Err failure) P → ((fault : Fault) → P fault → Q fault) → IfFault result Q
+    → result ≡ Err failure → IfFault {A = Unit {0}} (Err failure) P
+    → ((fault : Fault) → P fault → Q fault) → IfFault result Q
 handed_on {A} result failure P Q is given each = subst (λ r. IfFault r Q) (sym is) (go failure given)
   where
     go : (failed : Failure Fault) → IfFault {A = Unit {0}} (Err failed) P → IfFault {A = A} (Err failed) Q

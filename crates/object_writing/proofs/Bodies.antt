@@ -16,10 +16,12 @@ whole_front front = take_all (length front) front (omega arith)
 pub halves : (count : ℕ) (body : List ℕ) → take count body ++ drop count body ≡ body
 halves count body = take-append-drop count body
 
-pub halves_long : (count : ℕ) (body : List ℕ) → count ≤ length body → length (take count body) + length (drop count body) ≡ length body
+pub halves_long : (count : ℕ) (body : List ℕ) → count ≤ length body
+    → length (take count body) + length (drop count body) ≡ length body
 halves_long count body within = omega (arith, length-take count body, length-drop count body)
 
-pub front_kept : (count : ℕ) (body : List ℕ) → count ≤ length body → take count (take count body) ≡ take count body
+pub front_kept : (count : ℕ) (body : List ℕ) → count ≤ length body
+    → take count (take count body) ≡ take count body
 front_kept count body within = take_all count (take count body) (omega (arith, length-take count body))
 
 pub none_begun : (count : ℕ) (body : List ℕ) → drop count (take count body) ≡ []
@@ -34,7 +36,8 @@ empty_none (x ∷ xs) = lt-ltb 0 (length (x ∷ xs)) (omega arith)
 
 pub has_begun : (count : ℕ) (body : List ℕ) → nat_lt count (length body) ≡ not (is_empty (drop count body))
 has_begun count body =
-    same (nat_lt count (length body)) (nat_lt 0 (length (drop count body))) refl refl ∙ empty_none (drop count body)
+    same (nat_lt count (length body)) (nat_lt 0 (length (drop count body))) refl refl
+    ∙ empty_none (drop count body)
   where
     long : length (drop count body) ≡ length body - count
     long = length-drop count body
@@ -53,5 +56,6 @@ has_begun count body =
         absurd (omega (arith, past, some, long))
 
 pub length_of_three :
-    (first middle last : List ℕ) → length first + length middle + length last ≡ length (first ++ (middle ++ last))
+    (first middle last : List ℕ) → length first + length middle + length last
+    ≡ length (first ++ (middle ++ last))
 length_of_three first middle last = omega (arith, length-append first (middle ++ last), length-append middle last)

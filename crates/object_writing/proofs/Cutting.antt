@@ -19,7 +19,8 @@ fits :
     (room : ℕ) (here : SetByte) (others : List SetByte) → bytes_wanted here ≤ room
     → fill room (here ∷ others) ≡ suc (fill (room - 1) others)
 fits room here others h =
-    cond-false (nat_lt room (bytes_wanted here)) 0 (suc (fill (room - 1) others)) (le-ltb room (bytes_wanted here) h)
+    cond-false (nat_lt room (bytes_wanted here)) 0 (suc (fill (room - 1) others))
+    (le-ltb room (bytes_wanted here) h)
 
 -- the first group is as long as that
 first_group :
@@ -40,10 +41,13 @@ first_group limit large room (here ∷ others) =
 
     go : (full : Bool)
         → groups_after bytes_wanted (λ one. 1) limit (room - 1) others
-        ≡ take (fill (room - 1) others) others ∷ groups_of bytes_wanted (λ one. 1) limit (drop (fill (room - 1) others) others)
-        → cond full ([] ∷ fresh) (onto_first here (groups_after bytes_wanted (λ one. 1) limit (room - 1) others))
+        ≡ take (fill (room - 1) others) others
+        ∷ groups_of bytes_wanted (λ one. 1) limit (drop (fill (room - 1) others) others)
+        → cond full ([] ∷ fresh)
+        (onto_first here (groups_after bytes_wanted (λ one. 1) limit (room - 1) others))
         ≡ take (cond full 0 (suc (fill (room - 1) others))) (here ∷ others)
-        ∷ groups_of bytes_wanted (λ one. 1) limit (drop (cond full 0 (suc (fill (room - 1) others))) (here ∷ others))
+        ∷ groups_of bytes_wanted (λ one. 1) limit
+        (drop (cond full 0 (suc (fill (room - 1) others))) (here ∷ others))
     go true later = ap (λ groups. [] ∷ groups) (sym whole)
     go false later = ap (onto_first here) later
 
@@ -64,7 +68,8 @@ fill_many zero (here ∷ others) h = go (begins_word (Some here))
     none : (items : List SetByte) → fill 0 items ≡ 0
     none [] = refl
     none (one ∷ more) =
-        cond-true (nat_lt 0 (bytes_wanted one)) 0 (suc (fill (0 - 1) more)) (lt-ltb 0 (bytes_wanted one) (wanted_some one))
+        cond-true (nat_lt 0 (bytes_wanted one)) 0 (suc (fill (0 - 1) more))
+        (lt-ltb 0 (bytes_wanted one) (wanted_some one))
 
     go : (b : Bool) → cond (nat_lt 1 (cond b 2 1)) 0 (suc (fill (1 - 1) others)) ≡ cond b 0 1
     go true = refl
@@ -98,7 +103,8 @@ cut_is place items =
     ∙ sym (fill_many 1023 items (omega (arith, enough))))
 
 pub cut_bounds :
-    (fixes : List Fix) (place left : ℕ) → 0 < left → (0 < cut_by fixes place left) × (cut_by fixes place left ≤ left)
+    (fixes : List Fix) (place left : ℕ) → 0 < left
+    → (0 < cut_by fixes place left) × (cut_by fixes place left ≤ left)
     × (cut_by fixes place left ≤ 1024)
 cut_bounds fixes place left some =
     cond_both (nat_lt left 1024) left (cond (word_at fixes (place + 1024 - 1)) 1023 1024)
@@ -107,7 +113,8 @@ cut_bounds fixes place left some =
     (λ many.
     let enough : 1024 ≤ left = ltb-false left 1024 many in
     cond_both (word_at fixes (place + 1024 - 1)) 1023 1024 (λ n. (0 < n) × (n ≤ left) × (n ≤ 1024))
-    (λ _. (omega arith, omega (arith, enough), omega arith)) (λ _. (omega arith, omega (arith, enough), omega arith)))
+    (λ _. (omega arith, omega (arith, enough), omega arith))
+    (λ _. (omega arith, omega (arith, enough), omega arith)))
 
 -- the first content of bytes in a row, and the others
 abbrev pub one_cut : (place : ℕ) → List SetByte → Run SetByte

@@ -8,13 +8,15 @@ use Rattle.object_writing.proofs.Grouping.{grouped, records_of_filtered, flat_ma
 pub name_short : (name : List ℕ) → IsTrue (is_name name) → length name ≤ 31
 name_short [] h = omega arith
 name_short (first ∷ rest) h =
-    let t = and_parts (is_ascii_uppercase first && list_all is_name_character rest) (nat_le (length rest) 30) h in
+    let t = and_parts (is_ascii_uppercase first && list_all is_name_character rest)
+    (nat_le (length rest) 30) h in
     let few : length rest ≤ 30 = leb-true (length rest) 30 t.1 in
     omega (arith, few)
 
 pub names_are :
     (names : List (List ℕ))
-    → records_of (empty_group kinds.ExternalNames []) (map name_entry names) ≡ flat_map part_bytes (external_parts names)
+    → records_of (empty_group kinds.ExternalNames []) (map name_entry names)
+    ≡ flat_map part_bytes (external_parts names)
 names_are names =
     sym
     (flat_map_of_map part_bytes ExternalNamesPart
@@ -23,10 +25,12 @@ names_are names =
 
 pub publics_are :
     (segment : Segment) (publics : List Public)
-    → records_of (empty_group kinds.Publics (segment_number segment ∷ [])) (map (public_entry segment) publics)
+    → records_of (empty_group kinds.Publics (segment_number segment ∷ []))
+    (map (public_entry segment) publics)
     ≡ flat_map part_bytes (public_parts publics segment)
 publics_are segment publics =
-    records_of_filtered definition_bytes definition_of (λ (public : Public). same_segment public.segment segment)
+    records_of_filtered definition_bytes definition_of
+    (λ (public : Public). same_segment public.segment segment)
     (empty_group kinds.Publics (segment_number segment ∷ [])) publics
     ∙ sym
     (flat_map_of_map part_bytes (PublicsPart segment)

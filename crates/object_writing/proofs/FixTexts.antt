@@ -56,7 +56,8 @@ other_is other kind of_kind (External number) offset =
 
 -- the records of fixes of a kind
 references_are :
-    (fixes : List Fix) (kind : FixKind) → kind_text Names fixes kind ≡ flat_map part_bytes (external_fix_parts fixes kind)
+    (fixes : List Fix) (kind : FixKind)
+    → kind_text Names fixes kind ≡ flat_map part_bytes (external_fix_parts fixes kind)
 references_are fixes kind =
     ap (records_of (group_for Names kind))
     (same_map (fix_entry Names kind) (λ fix. option_map reference_bytes (reference_for kind fix))
@@ -107,7 +108,8 @@ by_kinds parts text h =
     ∙ ap (λ r. flat_map part_bytes (parts Low) ++ (flat_map part_bytes (parts High) ++ r)) (h Both)
     ∙ ap (λ r. flat_map part_bytes (parts Low) ++ (flat_map part_bytes (parts High) ++ flat_map part_bytes r))
     (sym (append-nil (parts Both)))
-    ∙ ap (λ r. flat_map part_bytes (parts Low) ++ r) (sym (flat_map-append part_bytes (parts High) (parts Both ++ [])))
+    ∙ ap (λ r. flat_map part_bytes (parts Low) ++ r)
+    (sym (flat_map-append part_bytes (parts High) (parts Both ++ [])))
     ∙ sym (flat_map-append part_bytes (parts Low) (parts High ++ (parts Both ++ [])))
 
 -- of fixes to other segments
@@ -118,7 +120,8 @@ other_first :
     (own : Segment) (fixes : List Fix) (target : Segment) (targets : List Segment) (rest : List ℕ)
     → rest ≡ flat_map part_bytes (flat_map (parts_to fixes) (filter (λ t. not (same_segment t own)) targets))
     → other_text own fixes target ++ rest
-    ≡ flat_map part_bytes (flat_map (parts_to fixes) (filter (λ t. not (same_segment t own)) (target ∷ targets)))
+    ≡ flat_map part_bytes
+    (flat_map (parts_to fixes) (filter (λ t. not (same_segment t own)) (target ∷ targets)))
 other_first own fixes target targets rest e = go (same_segment target own)
   where
     others : List Segment
@@ -130,7 +133,8 @@ other_first own fixes target targets rest e = go (same_segment target own)
     go true = e
     go false =
         ap (λ r. r ++ rest)
-        (by_kinds (intersegment_parts fixes target) (kind_text (Other target) fixes) (intersegments_are target fixes))
+        (by_kinds (intersegment_parts fixes target) (kind_text (Other target) fixes)
+        (intersegments_are target fixes))
         ∙ ap (λ r. flat_map part_bytes (parts_to fixes target) ++ r) e
         ∙ sym (flat_map-append part_bytes (parts_to fixes target) (flat_map (parts_to fixes) others))
 
@@ -138,13 +142,16 @@ others_are :
     (own : Segment) (fixes : List Fix)
     → others_text own fixes ≡ flat_map part_bytes (flat_map (parts_to fixes) (other_segments own))
 others_are own fixes =
-    ap (λ r. other_text own fixes Code ++ (other_text own fixes Data ++ r)) (sym (append-nil (other_text own fixes Stack)))
-    ∙ other_first own fixes Code (Data ∷ Stack ∷ []) (other_text own fixes Data ++ (other_text own fixes Stack ++ []))
+    ap (λ r. other_text own fixes Code ++ (other_text own fixes Data ++ r))
+    (sym (append-nil (other_text own fixes Stack)))
+    ∙ other_first own fixes Code (Data ∷ Stack ∷ [])
+    (other_text own fixes Data ++ (other_text own fixes Stack ++ []))
     (other_first own fixes Data (Stack ∷ []) (other_text own fixes Stack ++ [])
     (other_first own fixes Stack [] [] refl))
 
 -- the records of all fixes of a content
-pub fixes_are : (own : Segment) (fixes : List Fix) → fixes_text own fixes ≡ flat_map part_bytes (fix_parts own fixes)
+pub fixes_are : (own : Segment) (fixes : List Fix)
+    → fixes_text own fixes ≡ flat_map part_bytes (fix_parts own fixes)
 fixes_are own fixes =
     let externals : List Part = flat_map (external_fix_parts fixes) fix_kinds in
     let relocations : List Part = flat_map (relocation_parts own fixes) fix_kinds in
@@ -154,7 +161,8 @@ fixes_are own fixes =
     ∙ ap (λ r. flat_map part_bytes externals ++ (r ++ others_text own fixes))
     (by_kinds (relocation_parts own fixes) (kind_text (Own own) fixes) (relocations_are own fixes))
     ∙ ap (λ r. flat_map part_bytes externals ++ (flat_map part_bytes relocations ++ r)) (others_are own fixes)
-    ∙ sym (append_assoc (flat_map part_bytes externals) (flat_map part_bytes relocations) (flat_map part_bytes others))
+    ∙ sym (append_assoc (flat_map part_bytes externals) (flat_map part_bytes relocations)
+    (flat_map part_bytes others))
     ∙ ap (λ r. r ++ flat_map part_bytes others) (sym (flat_map-append part_bytes externals relocations))
     ∙ sym (flat_map-append part_bytes (externals ++ relocations) others)
 

@@ -18,7 +18,8 @@ one_before fix others place h =
 
 -- the count from an index on
 pub count_more :
-    (fixes : List Fix) (index : ℕ) (fix d : Fix) (place : ℕ) → index < length fixes → fix ≡ get_or fixes index d
+    (fixes : List Fix) (index : ℕ) (fix d : Fix) (place : ℕ) → index < length fixes
+    → fix ≡ get_or fixes index d
     → fix.offset < place
     → count_before (drop index fixes) place ≡ suc (count_before (drop (index + 1) fixes) place)
 count_more fixes index fix d place within is less =
@@ -27,7 +28,8 @@ count_more fixes index fix d place within is less =
     ∙ one_before fix (drop (index + 1) fixes) place less
 
 pub count_stops :
-    (fixes : List Fix) (index : ℕ) (fix d : Fix) (place : ℕ) → index < length fixes → fix ≡ get_or fixes index d
+    (fixes : List Fix) (index : ℕ) (fix d : Fix) (place : ℕ) → index < length fixes
+    → fix ≡ get_or fixes index d
     → place ≤ fix.offset → count_before (drop index fixes) place ≡ 0
 count_stops fixes index fix d place within is more =
     ap (λ fs. count_before fs place)
@@ -40,7 +42,8 @@ count_ends fixes index place past = ap (λ fs. count_before fs place) (drop_all 
 
 -- no fix is before the bytes
 pub none_before :
-    (place offset : ℕ) (items : List SetByte) → place ≤ offset → count_before (fixes_from offset items) place ≡ 0
+    (place offset : ℕ) (items : List SetByte) → place ≤ offset
+    → count_before (fixes_from offset items) place ≡ 0
 none_before place offset [] h = refl
 none_before place offset (here ∷ others) h =
     go here.value here.fixup (none_before place (offset + 1) others (omega (arith, h)))
@@ -53,7 +56,8 @@ none_before place offset (here ∷ others) h =
 -- the fixes of bytes, and then those of others
 pub fixes_split :
     (count offset : ℕ) (items : List SetByte)
-    → fixes_from offset items ≡ fixes_from offset (take count items) ++ fixes_from (offset + count) (drop count items)
+    → fixes_from offset items ≡ fixes_from offset (take count items)
+    ++ fixes_from (offset + count) (drop count items)
 fixes_split zero offset items = ap (λ o. fixes_from o items) (let e : offset ≡ offset + 0 = omega arith in e)
 fixes_split (suc count) offset [] = refl
 fixes_split (suc count) offset (here ∷ others) =
@@ -74,34 +78,41 @@ fixes_split (suc count) offset (here ∷ others) =
 -- the fixes of bytes are those before the place where they end
 pub counted :
     (place offset : ℕ) (items : List SetByte) (later : List Fix) → offset + length items ≤ place
-    → count_before later place ≡ 0 → count_before (fixes_from offset items ++ later) place ≡ length (fixes_from offset items)
+    → count_before later place ≡ 0 → count_before (fixes_from offset items ++ later) place
+    ≡ length (fixes_from offset items)
 counted place offset [] later h none = none
 counted place offset (here ∷ others) later h none =
     go here.value here.fixup (counted place (offset + 1) others later (omega (arith, h)) none)
   where
     go : (value : ℕ) (fixup : Option Fixup)
-        → count_before (fixes_from (offset + 1) others ++ later) place ≡ length (fixes_from (offset + 1) others)
+        → count_before (fixes_from (offset + 1) others ++ later) place
+        ≡ length (fixes_from (offset + 1) others)
         → count_before (fixes_from offset (byte_with value fixup ∷ others) ++ later) place
         ≡ length (fixes_from offset (byte_with value fixup ∷ others))
     go value None same = same
     go value (Some fixup) same =
-        one_before (fix_at offset fixup) (fixes_from (offset + 1) others ++ later) place (omega (arith, h)) ∙ ap suc same
+        one_before (fix_at offset fixup) (fixes_from (offset + 1) others ++ later) place (omega (arith, h))
+        ∙ ap suc same
 
 -- a word that begins at a byte
 word_at_first :
     (fix : Fix) (others : List Fix) (place : ℕ) → place ≤ fix.offset
     → word_at (fix ∷ others) place ≡ (is_both fix.kind && fix.offset == place)
 word_at_first fix others place h =
-    ap (λ n. option_map_or (λ (f : Fix). is_both f.kind && f.offset == place) (slice_get (fix ∷ others) n) false)
+    ap (λ n. option_map_or (λ (f : Fix). is_both f.kind && f.offset == place)
+    (slice_get (fix ∷ others) n) false)
     (not_before fix others place h)
 
 word_later :
-    (fix : Fix) (others : List Fix) (place : ℕ) → fix.offset < place → word_at (fix ∷ others) place ≡ word_at others place
+    (fix : Fix) (others : List Fix) (place : ℕ) → fix.offset < place
+    → word_at (fix ∷ others) place ≡ word_at others place
 word_later fix others place h =
-    ap (λ n. option_map_or (λ (f : Fix). is_both f.kind && f.offset == place) (slice_get (fix ∷ others) n) false)
+    ap (λ n. option_map_or (λ (f : Fix). is_both f.kind && f.offset == place)
+    (slice_get (fix ∷ others) n) false)
     (one_before fix others place h)
 
-no_word_before : (place offset : ℕ) (items : List SetByte) → place < offset → word_at (fixes_from offset items) place ≡ false
+no_word_before : (place offset : ℕ) (items : List SetByte) → place < offset
+    → word_at (fixes_from offset items) place ≡ false
 no_word_before place offset [] h = refl
 no_word_before place offset (here ∷ others) h =
     go here.value here.fixup (no_word_before place (offset + 1) others (omega (arith, h)))
@@ -137,17 +148,20 @@ word_is offset (here ∷ others) (suc number) =
     ∙ word_is (offset + 1) others number)
   where
     go : (value : ℕ) (fixup : Option Fixup)
-        → word_at (fixes_from (offset + 1) others) (offset + suc number) ≡ begins_word (slice_get others number)
+        → word_at (fixes_from (offset + 1) others) (offset + suc number)
+        ≡ begins_word (slice_get others number)
         → word_at (fixes_from offset (byte_with value fixup ∷ others)) (offset + suc number)
         ≡ begins_word (slice_get others number)
     go value None later = later
     go value (Some fixup) later =
-        word_later (fix_at offset fixup) (fixes_from (offset + 1) others) (offset + suc number) (omega arith) ∙ later
+        word_later (fix_at offset fixup) (fixes_from (offset + 1) others) (offset + suc number) (omega arith)
+        ∙ later
 
 -- bytes with their fixes again
 fixed_by :
     (all : List Fix) (offset : ℕ) (items : List SetByte)
-    → ((number : ℕ) (here : SetByte) → slice_get items number ≡ Some here → fixup_at all (offset + number) ≡ here.fixup)
+    → ((number : ℕ) (here : SetByte) → slice_get items number ≡ Some here
+    → fixup_at all (offset + number) ≡ here.fixup)
     → fixed_bytes all offset (map (λ (here : SetByte). here.value) items) ≡ items
 fixed_by all offset [] h = refl
 fixed_by all offset (here ∷ others) h =
@@ -173,7 +187,8 @@ pub are_fixes_of :
     → bytes ≡ map (λ (here : SetByte). here.value) items → fixes ≡ fixes_from offset items
     → fixed_bytes fixes offset bytes ≡ items
 are_fixes_of offset items bytes fixes b f =
-    ap (λ fs. fixed_bytes fs offset bytes) f ∙ ap (fixed_bytes (fixes_from offset items) offset) b ∙ fixed_again offset items
+    ap (λ fs. fixed_bytes fs offset bytes) f ∙ ap (fixed_bytes (fixes_from offset items) offset) b
+    ∙ fixed_again offset items
 
 -- no fix of later runs is before a place
 append_none :
@@ -182,7 +197,8 @@ append_none :
 append_none [] ys place h k = k
 append_none (x ∷ xs) ys place h k = go (nat_lt x.offset place) h
   where
-    go : (b : Bool) → cond b (suc (count_before xs place)) 0 ≡ 0 → cond b (suc (count_before (xs ++ ys) place)) 0 ≡ 0
+    go : (b : Bool) → cond b (suc (count_before xs place)) 0 ≡ 0
+        → cond b (suc (count_before (xs ++ ys) place)) 0 ≡ 0
     go true e = absurd (omega (arith, e))
     go false e = refl
 

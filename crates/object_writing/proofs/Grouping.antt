@@ -1,7 +1,8 @@
 -- Entries that are put together one after another make the records of the groups that they are cut into.
 use Rattle.object_writing.proofs.Prelude.{◌≡◌, ℕ, ◌+◌, ◌-◌, ◌<◌, Bool, true, false, cond, nat_lt, List, [], ◌∷◌, ◌++◌, length, map, flat_map, filter_map, filter, Option, Some, None, option_map, refl, ap, sym, ◌∙◌, arith, onto_first, cons_option, append_assoc, append-nil, length-append, RecordKind, BODY_LIMIT, bytes_of, groups_after, packed, Group, empty_group, room_of, group_bytes, flushed, with_bytes, with_entry, last_record, records_of}
 
-module _ {A : Type 0} (kind : RecordKind) (front : List ℕ) (spell : A → List ℕ) (long : (x : A) → 0 < length (spell x)) where
+module _ {A : Type 0} (kind : RecordKind) (front : List ℕ) (spell : A → List ℕ)
+    (long : (x : A) → 0 < length (spell x)) where
   -- the record of a group
   abbrev pub record_for : List A → List ℕ
   record_for group = bytes_of (record { kind = kind; body = front ++ flat_map spell group })
@@ -23,7 +24,8 @@ module _ {A : Type 0} (kind : RecordKind) (front : List ℕ) (spell : A → List
       group_bytes (with (begun ++ flat_map spell group)) ++ flat_map record_for (next ∷ others)
 
   -- a record with an entry is written
-  last_some : (x : A) (bytes : List ℕ) → last_record (with (spell x ++ bytes)) ≡ group_bytes (with (spell x ++ bytes))
+  last_some : (x : A) (bytes : List ℕ)
+      → last_record (with (spell x ++ bytes)) ≡ group_bytes (with (spell x ++ bytes))
   last_some x bytes = go (spell x) (long x)
     where
       go : (first : List ℕ) → 0 < length first
@@ -32,7 +34,8 @@ module _ {A : Type 0} (kind : RecordKind) (front : List ℕ) (spell : A → List
       go (b ∷ first) h = refl
 
   -- all records, where the first group has an item
-  records_onto : (x : A) (groups : List (List A)) → flat_map record_for (onto_first x groups) ≡ rendered (spell x) groups
+  records_onto : (x : A) (groups : List (List A))
+      → flat_map record_for (onto_first x groups) ≡ rendered (spell x) groups
   records_onto x [] =
       append-nil (record_for (x ∷ [])) ∙ sym (last_some x [])
       ∙ ap (λ b. last_record (with b)) (append-nil (spell x))
@@ -42,7 +45,8 @@ module _ {A : Type 0} (kind : RecordKind) (front : List ℕ) (spell : A → List
 
   -- an item in front of groups is one more entry of what is begun
   rendered_onto :
-      (begun : List ℕ) (x : A) (groups : List (List A)) → rendered begun (onto_first x groups) ≡ rendered (begun ++ spell x) groups
+      (begun : List ℕ) (x : A) (groups : List (List A))
+      → rendered begun (onto_first x groups) ≡ rendered (begun ++ spell x) groups
   rendered_onto begun x [] = ap (λ b. last_record (with (begun ++ b))) (append-nil (spell x))
   rendered_onto begun x (group ∷ []) =
       ap (λ b. last_record (with b)) (sym (append_assoc begun (spell x) (flat_map spell group)))
@@ -53,8 +57,10 @@ module _ {A : Type 0} (kind : RecordKind) (front : List ℕ) (spell : A → List
   -- a group that is closed, and those after it
   rendered_closed :
       (begun : List ℕ) (x : A) (groups : List (List A))
-      → rendered begun ([] ∷ onto_first x groups) ≡ group_bytes (with begun) ++ flat_map record_for (onto_first x groups)
-  rendered_closed begun x [] = ap (λ b. group_bytes (with b) ++ flat_map record_for (onto_first x [])) (append-nil begun)
+      → rendered begun ([] ∷ onto_first x groups)
+      ≡ group_bytes (with begun) ++ flat_map record_for (onto_first x groups)
+  rendered_closed begun x [] =
+      ap (λ b. group_bytes (with b) ++ flat_map record_for (onto_first x [])) (append-nil begun)
   rendered_closed begun x (group ∷ others) =
       ap (λ b. group_bytes (with b) ++ flat_map record_for (onto_first x (group ∷ others))) (append-nil begun)
 
@@ -69,7 +75,8 @@ module _ {A : Type 0} (kind : RecordKind) (front : List ℕ) (spell : A → List
   abbrev written_by : (begun : List ℕ) → A → List A → Bool → List ℕ
   written_by begun x others full =
       cond full (group_bytes (with begun)) []
-      ++ records_of (with_bytes (cond full (empty_group kind front) (with begun)) (spell x)) (map item_of others)
+      ++ records_of (with_bytes (cond full (empty_group kind front) (with begun)) (spell x))
+      (map item_of others)
 
   one_more :
       (begun : List ℕ) (x : A) (others : List A) (r : ℕ) → r ≡ room begun
@@ -86,7 +93,8 @@ module _ {A : Type 0} (kind : RecordKind) (front : List ℕ) (spell : A → List
       (records_onto x (groups_after size size limit (limit - size x) others)
       ∙ later (spell x) (limit - size x) refl)
   one_more begun x others r e later false =
-      let longer : length (begun ++ spell x) ≡ length begun + length (spell x) = length-append begun (spell x) in
+      let longer : length (begun ++ spell x) ≡ length begun + length (spell x) =
+      length-append begun (spell x) in
       let left : r - size x ≡ room (begun ++ spell x) = omega (arith, e, longer) in
       rendered_onto begun x (groups_after size size limit (r - size x) others)
       ∙ later (begun ++ spell x) (r - size x) left
@@ -108,7 +116,8 @@ module _ {A : Type 0} (kind : RecordKind) (front : List ℕ) (spell : A → List
 
   pub grouped :
       (items : List A)
-      → flat_map record_for (packed size limit items) ≡ records_of (empty_group kind front) (map item_of items)
+      → flat_map record_for (packed size limit items)
+      ≡ records_of (empty_group kind front) (map item_of items)
   grouped [] = refl
   grouped (x ∷ others) =
       first_by x (groups_after size size limit (limit - size x) others)
@@ -118,12 +127,14 @@ module _ {A : Type 0} (kind : RecordKind) (front : List ℕ) (spell : A → List
 -- the items that have an entry
 pub mapped :
     {X A : Type 0} (spell : A → List ℕ) (f : X → Option A) (group : Group) (xs : List X)
-    → records_of group (map (λ x. option_map spell (f x)) xs) ≡ records_of group (map (λ a. Some (spell a)) (filter_map f xs))
+    → records_of group (map (λ x. option_map spell (f x)) xs)
+    ≡ records_of group (map (λ a. Some (spell a)) (filter_map f xs))
 mapped spell f group [] = refl
 mapped {X} {A} spell f group (x ∷ xs) = go (f x) (λ g. mapped spell f g xs)
   where
     go : (o : Option A)
-        → ((g : Group) → records_of g (map (λ y. option_map spell (f y)) xs) ≡ records_of g (map (λ a. Some (spell a)) (filter_map f xs)))
+        → ((g : Group) → records_of g (map (λ y. option_map spell (f y)) xs)
+        ≡ records_of g (map (λ a. Some (spell a)) (filter_map f xs)))
         → records_of group (option_map spell o ∷ map (λ y. option_map spell (f y)) xs)
         ≡ records_of group (map (λ a. Some (spell a)) (cons_option o (filter_map f xs)))
     go None later = later group
@@ -134,19 +145,23 @@ pub records_of_filtered :
     → records_of group (map (λ x. cond (test x) (Some (spell (f x))) None) xs)
     ≡ records_of group (map (λ a. Some (spell a)) (map f (filter test xs)))
 records_of_filtered spell f test group [] = refl
-records_of_filtered {X} {A} spell f test group (x ∷ xs) = go (test x) (λ g. records_of_filtered spell f test g xs)
+records_of_filtered {X} {A} spell f test group (x ∷ xs) =
+    go (test x) (λ g. records_of_filtered spell f test g xs)
   where
     go : (b : Bool)
         → ((g : Group) → records_of g (map (λ y. cond (test y) (Some (spell (f y))) None) xs)
         ≡ records_of g (map (λ a. Some (spell a)) (map f (filter test xs))))
-        → records_of group (cond b (Some (spell (f x))) None ∷ map (λ y. cond (test y) (Some (spell (f y))) None) xs)
+        → records_of group
+        (cond b (Some (spell (f x))) None ∷ map (λ y. cond (test y) (Some (spell (f y))) None) xs)
         ≡ records_of group (map (λ a. Some (spell a)) (map f (cond b (x ∷ filter test xs) (filter test xs))))
     go false later = later group
-    go true later = ap (λ r. flushed group (length (spell (f x))) ++ r) (later (with_entry group (spell (f x))))
+    go true later =
+        ap (λ r. flushed group (length (spell (f x))) ++ r) (later (with_entry group (spell (f x))))
 
 -- records of parts
 pub flat_map_of_map :
-    {A B C : Type 0} (f : B → List C) (g : A → B) (xs : List A) → flat_map f (map g xs) ≡ flat_map (λ x. f (g x)) xs
+    {A B C : Type 0} (f : B → List C) (g : A → B) (xs : List A)
+    → flat_map f (map g xs) ≡ flat_map (λ x. f (g x)) xs
 flat_map_of_map f g [] = refl
 flat_map_of_map f g (x ∷ xs) = ap (λ r. f (g x) ++ r) (flat_map_of_map f g xs)
 

@@ -8,7 +8,8 @@ abbrev pub value_of : SetByte → ℕ
 value_of here = here.value
 
 -- of all that is to be written, the contents of these bytes with these fixes are left
-pub record RunLeft (segment : Segment) (place : ℕ) (left : List ℕ) (rest : List Fix) (old new : Option (List ℕ)) (all : List ℕ) : Type 0 where
+pub record RunLeft (segment : Segment) (place : ℕ) (left : List ℕ) (rest : List Fix)
+    (old new : Option (List ℕ)) (all : List ℕ) : Type 0 where
   pub items : List SetByte
   pub bytes : left ≡ map value_of items
   pub fixes : rest ≡ fixes_from place items
@@ -16,7 +17,8 @@ pub record RunLeft (segment : Segment) (place : ℕ) (left : List ℕ) (rest : L
 
 pub run_start :
     (segment : Segment) (place : ℕ) (bytes : List ℕ) (fixes : List Fix) (old : Option (List ℕ))
-    → AreFixesOf place bytes fixes → RunLeft segment place bytes fixes old old (run_text segment place bytes fixes)
+    → AreFixesOf place bytes fixes → RunLeft segment place bytes fixes old old
+    (run_text segment place bytes fixes)
 run_start segment place bytes fixes old are = record {
   items = fixed_bytes fixes place bytes;
   bytes = sym (values_again fixes place bytes);
@@ -25,7 +27,8 @@ run_start segment place bytes fixes old are = record {
 }
 
 module _ (segment : Segment) (place size count : ℕ) (left : List ℕ) (rest : List Fix) (some : 0 < length left)
-    (size_is : size ≡ cut_by rest place (length left)) (count_is : count ≡ count_before rest (place + size)) where
+    (size_is : size ≡ cut_by rest place (length left))
+    (count_is : count ≡ count_before rest (place + size)) where
   -- what is known of the bytes
   record Cut (items : List SetByte) : Type 0 where
     long : length items ≡ length left
@@ -43,7 +46,8 @@ module _ (segment : Segment) (place size count : ℕ) (left : List ℕ) (rest : 
       let bounds = cut_bounds rest place (length left) some in
       let within : cut_by rest place (length left) ≤ length left = bounds.1 in
       let fits : size ≤ length items = omega (arith, within, size_is, long) in
-      let filled = ap (λ fs. cut_by fs place (length left)) f ∙ ap (cut_by (fixes_from place items) place) (sym long)
+      let filled =
+      ap (λ fs. cut_by fs place (length left)) f ∙ ap (cut_by (fixes_from place items) place) (sym long)
       ∙ cut_is place items in
       let first : List Fix = fixes_from place (take size items) in
       let later : List Fix = fixes_from (place + size) (drop size items) in
@@ -62,9 +66,11 @@ module _ (segment : Segment) (place size count : ℕ) (left : List ℕ) (rest : 
         bytes = ap (drop size) b ∙ drop-map value_of size items;
         split =
             row_more segment place size items (omega (arith, long, some)) fits (size_is ∙ filled)
-            ∙ ap (λ bs. content_text segment place bs first ++ row_text segment (place + size) (drop size items))
+            ∙ ap (λ bs. content_text segment place bs first
+            ++ row_text segment (place + size) (drop size items))
             (sym (ap (take size) b ∙ take-map value_of size items))
-            ∙ ap (λ fs. content_text segment place (take size left) fs ++ row_text segment (place + size) (drop size items))
+            ∙ ap (λ fs. content_text segment place (take size left) fs
+            ++ row_text segment (place + size) (drop size items))
             (sym front);
       }
 
@@ -79,17 +85,20 @@ module _ (segment : Segment) (place size count : ℕ) (left : List ℕ) (rest : 
         bytes = k.bytes;
         fixes = k.others;
         written = part_written a b c (content_text segment place (take size left) (take count rest))
-            (row_text segment place h.items) (row_text segment (place + size) (drop size h.items)) all h.written k.split
+            (row_text segment place h.items) (row_text segment (place + size) (drop size h.items))
+            all h.written k.split
             written;
       }
 
   pub run_begun :
       (a b c : Option (List ℕ)) (all : List ℕ) → RunLeft segment place left rest a b all
-      → AppendsBeginning b c (content_text segment place (take size left) (take count rest)) → AppendsBeginning a c all
+      → AppendsBeginning b c (content_text segment place (take size left) (take count rest))
+      → AppendsBeginning a c all
   run_begun a b c all h written =
       let k = cut h.items h.bytes h.fixes in
       part_begun a b c (content_text segment place (take size left) (take count rest))
-      (row_text segment place h.items) (row_text segment (place + size) (drop size h.items)) all h.written k.split written
+      (row_text segment place h.items) (row_text segment (place + size) (drop size h.items)) all
+      h.written k.split written
 
 no_items : (items : List SetByte) → length items ≡ 0 → items ≡ []
 no_items [] e = refl
@@ -105,12 +114,14 @@ run_ended segment place left rest a b all none h =
 
 -- Of a segment.
 abbrev pub runs_text : Segment → List (Run SetByte) → List ℕ
-runs_text segment runs = flat_map part_bytes (flat_map (content_parts segment) (flat_map contents_of_run runs))
+runs_text segment runs =
+    flat_map part_bytes (flat_map (content_parts segment) (flat_map contents_of_run runs))
 
 abbrev pub fixed_by : ObjectModule → Segment → List (Run ℕ) → List (Run SetByte)
 fixed_by object segment runs = map (fixed_run (fixes_in object segment)) runs
 
-pub record SegmentLeft (object : ObjectModule) (segment : Segment) (runs : List (Run ℕ)) (rest : List Fix) (old new : Option (List ℕ)) : Type 0 where
+pub record SegmentLeft (object : ObjectModule) (segment : Segment) (runs : List (Run ℕ)) (rest : List Fix)
+    (old new : Option (List ℕ)) : Type 0 where
   pub fixes : rest ≡ flat_map fixes_of_run (fixed_by object segment runs)
   pub order : InOrder 0 (length (places_of object segment)) (fixed_by object segment runs)
   pub written :
@@ -118,7 +129,8 @@ pub record SegmentLeft (object : ObjectModule) (segment : Segment) (runs : List 
       (flat_map part_bytes (segment_parts object segment))
 
 pub segment_start :
-    (object : ObjectModule) (segment : Segment) (runs : List (Run ℕ)) (rest : List Fix) (old : Option (List ℕ))
+    (object : ObjectModule) (segment : Segment) (runs : List (Run ℕ)) (rest : List Fix)
+    (old : Option (List ℕ))
     → runs_from 0 (places_of object segment) ≡ fixed_by object segment runs → rest ≡ fixes_in object segment
     → SegmentLeft object segment runs rest old old
 unfolding fixes_in
@@ -131,7 +143,8 @@ segment_start object segment runs rest old fixed is =
           (subst (λ to. InOrder 0 to (runs_from 0 (places_of object segment))) size
           (runs_in_order 0 (places_of object segment)));
       written =
-          subst (λ rs. HasWritten old old (runs_text segment rs) (flat_map part_bytes (segment_parts object segment)))
+          subst (λ rs. HasWritten old old (runs_text segment rs)
+          (flat_map part_bytes (segment_parts object segment)))
           fixed (none_yet old (flat_map part_bytes (segment_parts object segment)));
     }
 
@@ -145,7 +158,8 @@ runs_more segment run others =
     ∙ flat_map-append part_bytes (flat_map (content_parts segment) (contents_of_run run))
     (flat_map (content_parts segment) (flat_map contents_of_run others))
 
-module _ (object : ObjectModule) (segment : Segment) (run : Run ℕ) (others : List (Run ℕ)) (rest : List Fix) (count : ℕ)
+module _ (object : ObjectModule) (segment : Segment) (run : Run ℕ) (others : List (Run ℕ))
+    (rest : List Fix) (count : ℕ)
     (count_is : count ≡ count_before rest (run.offset + length run.items)) where
   abbrev items : List SetByte
   items = fixed_bytes (fixes_in object segment) run.offset run.items
@@ -159,13 +173,15 @@ module _ (object : ObjectModule) (segment : Segment) (run : Run ℕ) (others : L
       → InOrder 0 (length (places_of object segment)) (fixed_by object segment (run ∷ others)) → First
   first parts o =
       let long : length items ≡ length run.items =
-      sym (length-map items value_of) ∙ ap length (values_again (fixes_in object segment) run.offset run.items) in
+      sym (length-map items value_of) ∙ ap length
+      (values_again (fixes_in object segment) run.offset run.items) in
       let own : List Fix = fixes_from run.offset items in
       let later : List Fix = flat_map fixes_of_run (fixed_by object segment others) in
       let many : length own ≡ count =
       sym (count_is ∙ ap (λ fs. count_before fs (run.offset + length run.items)) parts
       ∙ counted (run.offset + length run.items) run.offset items later (omega (arith, long))
-      (none_in_runs (run.offset + length run.items) (run.offset + length items) (length (places_of object segment))
+      (none_in_runs (run.offset + length run.items) (run.offset + length items)
+      (length (places_of object segment))
       (fixed_by object segment others) o.2 (omega (arith, long)))) in
       record {
         front = ap (take count) parts ∙ take_at own later count many;
@@ -184,18 +200,22 @@ module _ (object : ObjectModule) (segment : Segment) (run : Run ℕ) (others : L
     pub first_within : run.offset + length run.items ≤ length (places_of object segment)
     first_within =
         let long : length items ≡ length run.items =
-        sym (length-map items value_of) ∙ ap length (values_again (fixes_in object segment) run.offset run.items) in
+        sym (length-map items value_of) ∙ ap length
+        (values_again (fixes_in object segment) run.offset run.items) in
         let ends : run.offset + length items ≤ length (places_of object segment) =
-        order_ends (run.offset + length items) (length (places_of object segment)) (fixed_by object segment others)
+        order_ends (run.offset + length items) (length (places_of object segment))
+        (fixed_by object segment others)
         h.order.2 in
         omega (arith, ends, long)
 
     split :
         runs_text segment (fixed_by object segment (run ∷ others))
-        ≡ run_text segment run.offset run.items (take count rest) ++ runs_text segment (fixed_by object segment others)
+        ≡ run_text segment run.offset run.items (take count rest)
+        ++ runs_text segment (fixed_by object segment others)
     split =
         runs_more segment (fixed_run (fixes_in object segment) run) (fixed_by object segment others)
-        ∙ ap (λ xs. row_text segment run.offset xs ++ runs_text segment (fixed_by object segment others)) (sym same_items)
+        ∙ ap (λ xs. row_text segment run.offset xs ++ runs_text segment (fixed_by object segment others))
+        (sym same_items)
 
     pub segment_more :
         (c : Option (List ℕ)) → Appends b c (run_text segment run.offset run.items (take count rest))
@@ -203,11 +223,13 @@ module _ (object : ObjectModule) (segment : Segment) (run : Run ℕ) (others : L
     segment_more c written = record {
       fixes = (first h.fixes h.order).left;
       order =
-          order_earlier 0 (run.offset + length items) (length (places_of object segment)) (fixed_by object segment others)
+          order_earlier 0 (run.offset + length items) (length (places_of object segment))
+          (fixed_by object segment others)
           (omega arith) h.order.2;
       written = part_written a b c (run_text segment run.offset run.items (take count rest))
           (runs_text segment (fixed_by object segment (run ∷ others)))
-          (runs_text segment (fixed_by object segment others)) (flat_map part_bytes (segment_parts object segment))
+          (runs_text segment (fixed_by object segment others))
+          (flat_map part_bytes (segment_parts object segment))
           h.written split written;
     }
 
@@ -217,12 +239,14 @@ module _ (object : ObjectModule) (segment : Segment) (run : Run ℕ) (others : L
     segment_begun c written =
         part_begun a b c (run_text segment run.offset run.items (take count rest))
         (runs_text segment (fixed_by object segment (run ∷ others)))
-        (runs_text segment (fixed_by object segment others)) (flat_map part_bytes (segment_parts object segment))
+        (runs_text segment (fixed_by object segment others))
+        (flat_map part_bytes (segment_parts object segment))
         h.written split written
 
 pub segment_ended :
     (object : ObjectModule) (segment : Segment) (rest : List Fix) (a b : Option (List ℕ))
-    → SegmentLeft object segment [] rest a b → Appends a b (flat_map part_bytes (segment_parts object segment))
+    → SegmentLeft object segment [] rest a b
+    → Appends a b (flat_map part_bytes (segment_parts object segment))
 segment_ended object segment rest a b h =
     whole_appended a b [] (flat_map part_bytes (segment_parts object segment)) h.written refl
 
@@ -233,7 +257,8 @@ all_from fixes first = take (length fixes - first) (drop first fixes)
 part_of : (n m : ℕ) → n + m - n ≡ m
 part_of n m = omega arith
 
-module _ (object : ObjectModule) (segment : Segment) (runs : List (Run ℕ)) (index offset first count : ℕ) (run d : Run ℕ)
+module _ (object : ObjectModule) (segment : Segment) (runs : List (Run ℕ))
+    (index offset first count : ℕ) (run d : Run ℕ)
     (bytes : List ℕ) (fixes : List Fix) (within : index < length runs) (is : run ≡ get_or runs index d)
     (offset_is : offset ≡ run.offset) (bytes_are : bytes ≡ run.items)
     (count_is : count ≡ count_before (all_from fixes first) (offset + length bytes)) (a b : Option (List ℕ))
@@ -286,7 +311,8 @@ module _ (object : ObjectModule) (segment : Segment) (runs : List (Run ℕ)) (in
       → SegmentLeft object segment later (drop (first + count) fixes) a c
   next_more c written =
       subst (λ fs. SegmentLeft object segment later fs a c) (drop-drop count first fixes)
-      (segment_more object segment run later rest count its_count a b here c (subst (Appends b c) its_text written))
+      (segment_more object segment run later rest count its_count a b here c
+      (subst (Appends b c) its_text written))
 
   pub next_begun :
       (c : Option (List ℕ)) → AppendsBeginning b c (run_text segment offset bytes cited)
@@ -307,7 +333,8 @@ all_runs object segment runs index rest a b past h =
 module _ (segment : Segment) (offset at first size count place : ℕ) (bytes : List ℕ) (fixes : List Fix)
     (within : at < length bytes) (place_is : place ≡ offset + at)
     (size_is : size ≡ cut_by (all_from fixes first) place (length bytes - at))
-    (count_is : count ≡ count_before (all_from fixes first) (place + size)) (a b : Option (List ℕ)) (all : List ℕ)
+    (count_is : count ≡ count_before (all_from fixes first) (place + size))
+    (a b : Option (List ℕ)) (all : List ℕ)
     (h : RunLeft segment (offset + at) (drop at bytes) (drop first fixes) a b all) where
   abbrev cited_fixes : List Fix
   cited_fixes = take (first + count - first) (drop first fixes)
@@ -346,19 +373,25 @@ module _ (segment : Segment) (offset at first size count place : ℕ) (bytes : L
   next_cut c written =
       let there : place + size ≡ offset + (at + size) = omega (arith, place_is) in
       subst (λ p. RunLeft segment p (drop (at + size) bytes) (drop (first + count) fixes) a c all) there
-      (subst (λ bs. RunLeft segment (place + size) bs (drop (first + count) fixes) a c all) (drop-drop size at bytes)
-      (subst (λ fs. RunLeft segment (place + size) (drop size (drop at bytes)) fs a c all) (drop-drop count first fixes)
-      (run_more segment place size count (drop at bytes) (drop first fixes) some its_size the_count a b c all at_place
+      (subst (λ bs. RunLeft segment (place + size) bs (drop (first + count) fixes) a c all)
+      (drop-drop size at bytes)
+      (subst (λ fs. RunLeft segment (place + size) (drop size (drop at bytes)) fs a c all)
+      (drop-drop count first fixes)
+      (run_more segment place size count (drop at bytes) (drop first fixes) some its_size
+      the_count a b c all at_place
       (subst (Appends b c) parts_are written))))
 
   pub next_cut_begun :
-      (c : Option (List ℕ)) → AppendsBeginning b c (content_text segment place shown cited_fixes) → AppendsBeginning a c all
+      (c : Option (List ℕ)) → AppendsBeginning b c (content_text segment place shown cited_fixes)
+      → AppendsBeginning a c all
   next_cut_begun c written =
-      run_begun segment place size count (drop at bytes) (drop first fixes) some its_size the_count a b c all at_place
+      run_begun segment place size count (drop at bytes) (drop first fixes) some its_size
+      the_count a b c all at_place
       (subst (AppendsBeginning b c) parts_are written)
 
 pub all_cuts :
-    (segment : Segment) (place at : ℕ) (bytes : List ℕ) (rest : List Fix) (a b : Option (List ℕ)) (all : List ℕ)
+    (segment : Segment) (place at : ℕ) (bytes : List ℕ) (rest : List Fix)
+    (a b : Option (List ℕ)) (all : List ℕ)
     → length bytes ≤ at → RunLeft segment place (drop at bytes) rest a b all → Appends a b all
 all_cuts segment place at bytes rest a b all past h =
     run_ended segment place (drop at bytes) rest a b all (omega (arith, length-drop at bytes, past)) h

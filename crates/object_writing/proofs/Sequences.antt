@@ -21,7 +21,8 @@ module _ (a b c : Option (List ℕ)) where
   }
 
   pub part_begun :
-      (part left rest all : List ℕ) → HasWritten a b left all → left ≡ part ++ rest → AppendsBeginning b c part
+      (part left rest all : List ℕ) → HasWritten a b left all → left ≡ part ++ rest
+      → AppendsBeginning b c part
       → AppendsBeginning a c all
   part_begun part left rest all h e next =
       beginning_after a b c h.done part all rest (h.split ∙ ap (λ r. h.done ++ r) e) h.appended next
@@ -34,12 +35,14 @@ module _ (a b c : Option (List ℕ)) where
       (left all : List ℕ) → HasWritten a b left all → AppendsBeginning b c left → AppendsBeginning a c all
   last_begun left all h next = part_begun left left [] all h (sym (append-nil left)) next
 
-pub whole_appended : (a b : Option (List ℕ)) (left all : List ℕ) → HasWritten a b left all → left ≡ [] → Appends a b all
+pub whole_appended : (a b : Option (List ℕ)) (left all : List ℕ) → HasWritten a b left all
+    → left ≡ [] → Appends a b all
 whole_appended a b left all h e =
     subst (Appends a b) (sym (h.split ∙ ap (λ r. h.done ++ r) e ∙ append-nil h.done)) h.appended
 
 -- Two writes one after another, and three.
-pub first_begun : (a b : Option (List ℕ)) (part rest : List ℕ) → AppendsBeginning a b part → AppendsBeginning a b (part ++ rest)
+pub first_begun : (a b : Option (List ℕ)) (part rest : List ℕ) → AppendsBeginning a b part
+    → AppendsBeginning a b (part ++ rest)
 first_begun a b part rest (sent, begins, appended) =
     (sent, (begins.0 ++ rest, ap (λ l. l ++ rest) begins.1 ∙ append_assoc sent begins.0 rest), appended)
 
@@ -50,7 +53,8 @@ module _ (a b c : Option (List ℕ)) where
   second_begun part next rest = beginning_after a b c part next (part ++ (next ++ rest)) rest refl
 
   pub last_of_two_begun :
-      (part next : List ℕ) → Appends a b part → AppendsBeginning b c next → AppendsBeginning a c (part ++ next)
+      (part next : List ℕ) → Appends a b part → AppendsBeginning b c next
+      → AppendsBeginning a c (part ++ next)
   last_of_two_begun part next =
       beginning_after a b c part next (part ++ next) [] (ap (λ r. part ++ r) (sym (append-nil next)))
 

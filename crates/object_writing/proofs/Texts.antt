@@ -62,14 +62,18 @@ few_places :
     (count : ℕ) (segment : Places) → is_valid_segment count segment ≡ true → length segment.places ≤ 65535
 few_places count segment h =
     let all : Bool = list_all (λ place. option_map_or (is_valid_byte count) place true) segment.places in
-    let first = and_parts (nat_le (length segment.places) SEGMENT_LIMIT && all && words_are_whole segment.places)
+    let first =
+    and_parts (nat_le (length segment.places) SEGMENT_LIMIT && all && words_are_whole segment.places)
     (not (is_page segment.alignment) || nat_lt 0 (length segment.places)) h in
-    let second = and_parts (nat_le (length segment.places) SEGMENT_LIMIT && all) (words_are_whole segment.places) first.0 in
+    let second =
+    and_parts (nat_le (length segment.places) SEGMENT_LIMIT && all)
+    (words_are_whole segment.places) first.0 in
     let third = and_parts (nat_le (length segment.places) SEGMENT_LIMIT) all second.0 in
     leb-true (length segment.places) SEGMENT_LIMIT third.0
 
 pub places_few :
-    (object : ObjectModule) (segment : Segment) → IsObjectModule object → length (places_of object segment) ≤ 65535
+    (object : ObjectModule) (segment : Segment) → IsObjectModule object
+    → length (places_of object segment) ≤ 65535
 places_few object Absolute valid = omega arith
 places_few object Code valid = few_places (length object.externals) object.code valid.code
 places_few object Data valid = few_places (length object.externals) object.data_places valid.data_places

@@ -1,5 +1,5 @@
--- The contents that a walk over a file hands out ascend within their segments, and their fixes are within them
--- and apart.
+-- The contents that a walk over a file hands out ascend within their segments, and their fixes are within
+-- them and apart.
 use Rattle.objmod.proofs.Prelude.{◌≡◌, ℕ, ◌+◌, Bool, true, false, cond, ◌&&◌, ◌||◌, ◌==◌, List, [], ◌∷◌, ◌++◌, length, filter, flat_map, reverse, Some, None, refl, ap, sym, subst, ◌∙◌, arith, list_any, AllByRecursion, append-nil, same_Some, IsBytes, Fix, Segment, Code, Data, is_both, SegmentEntry, Part, HeaderPart, ExternalNamesPart, PublicsPart, ContentPart, ExternalReferencesPart, RelocationPart, IntersegmentPart, ModuleEndPart, EndOfFilePart, content_end, end_by_content, entries_of, externals_of, is_ended, length_in, stated_length_of, are_accepted, FixedContent, fixed_contents, Walking, WalksOver, walk_over, both_fit, no_entries, InRange, parts_range, Ascend, Follow, contents_ascend, begins_at, word_at, clash, AllFit, Clear, ContentsFit, Placed, SegmentFits, fix_at, is_in, or_right}
 
 -- where no word begins right before a fix, the second bytes of words are clear
@@ -35,7 +35,8 @@ is_word (first ∷ others) offset fix h wide =
 clear_of : (fixes : List Fix) → ((offset : ℕ) → clash offset fixes ≡ false) → Clear fixes
 clear_of fixes none offset fix h wide =
     no_second fixes (offset + 1)
-    (ap (λ b. b && list_any (begins_at (offset + 1)) fixes) (sym (is_word fixes offset fix h wide)) ∙ none offset)
+    (ap (λ b. b && list_any (begins_at (offset + 1)) fixes) (sym (is_word fixes offset fix h wide))
+    ∙ none offset)
 
 -- contents that ascend
 abbrev Both_fit : (size end : ℕ) → List FixedContent → Type 0
@@ -80,7 +81,8 @@ header_fits name translator version entries others accepted range segment =
     let none = no_entries header [] others cut.1 in
     let lengths : flat_map entries_of (header ∷ others) ≡ entries =
     ap (λ e. entries ++ e) none ∙ append-nil entries in
-    let follow : Follow (length (flat_map externals_of (header ∷ others))) entries (header ∷ []) others = record {
+    let follow : Follow (length (flat_map externals_of (header ∷ others))) entries (header ∷ []) others =
+    record {
       header = append-nil entries;
       known = omega arith;
       range = range.1;
@@ -103,15 +105,19 @@ parts_fit (HeaderPart name translator version entries ∷ others) accepted ended
 parts_fit (ExternalNamesPart names ∷ others) accepted ended range segment =
     absurd (let bad : false ≡ true = (both_fit [] (ExternalNamesPart names) others accepted).0.follows in cc)
 parts_fit (PublicsPart place definitions ∷ others) accepted ended range segment =
-    absurd (let bad : false ≡ true = (both_fit [] (PublicsPart place definitions) others accepted).0.follows in cc)
+    absurd (let bad : false ≡ true = (both_fit [] (PublicsPart place definitions) others
+    accepted).0.follows in cc)
 parts_fit (ContentPart content ∷ others) accepted ended range segment =
     absurd (let bad : false ≡ true = (both_fit [] (ContentPart content) others accepted).0.follows in cc)
 parts_fit (ExternalReferencesPart kind references ∷ others) accepted ended range segment =
-    absurd (let bad : false ≡ true = (both_fit [] (ExternalReferencesPart kind references) others accepted).0.follows in cc)
+    absurd (let bad : false ≡ true = (both_fit [] (ExternalReferencesPart kind references) others
+    accepted).0.follows in cc)
 parts_fit (RelocationPart kind offsets ∷ others) accepted ended range segment =
-    absurd (let bad : false ≡ true = (both_fit [] (RelocationPart kind offsets) others accepted).0.follows in cc)
+    absurd (let bad : false ≡ true = (both_fit [] (RelocationPart kind offsets) others
+    accepted).0.follows in cc)
 parts_fit (IntersegmentPart target kind offsets ∷ others) accepted ended range segment =
-    absurd (let bad : false ≡ true = (both_fit [] (IntersegmentPart target kind offsets) others accepted).0.follows in cc)
+    absurd (let bad : false ≡ true = (both_fit [] (IntersegmentPart target kind offsets) others
+    accepted).0.follows in cc)
 parts_fit (ModuleEndPart start ∷ others) accepted ended range segment =
     absurd (let bad : false ≡ true = (both_fit [] (ModuleEndPart start) others accepted).0.follows in cc)
 parts_fit (EndOfFilePart ∷ others) accepted ended range segment =

@@ -29,21 +29,27 @@ look_is segment (fixed ∷ others) x = go (is_in segment fixed) refl (look_is se
   where
     go : (b : Bool) → is_in segment fixed ≡ b
         → option_map (set_at x) (find (holds_place segment x) others) ≡ look (filter (is_in segment) others) x
-        → option_map (set_at x) (cond (holds_place segment x fixed) (Some fixed) (find (holds_place segment x) others))
-        ≡ look (cond (is_in segment fixed) (fixed ∷ filter (is_in segment) others) (filter (is_in segment) others)) x
+        → option_map (set_at x)
+        (cond (holds_place segment x fixed) (Some fixed) (find (holds_place segment x) others))
+        ≡ look (cond (is_in segment fixed) (fixed ∷ filter (is_in segment) others)
+        (filter (is_in segment) others)) x
     go true e later =
         ap (λ b.
         option_map (set_at x)
-        (cond ((b && nat_le (fixed.content).offset x) && nat_lt x (content_end fixed.content)) (Some fixed) (find (holds_place segment x) others))) e
+        (cond ((b && nat_le (fixed.content).offset x) && nat_lt x (content_end fixed.content)) (Some fixed)
+        (find (holds_place segment x) others))) e
         ∙ map_cond (set_at x) (holds x fixed) fixed (find (holds_place segment x) others)
         ∙ ap (cond (holds x fixed) (Some (set_at x fixed))) later
-        ∙ ap (λ b. look (cond b (fixed ∷ filter (is_in segment) others) (filter (is_in segment) others)) x) (sym e)
+        ∙ ap (λ b. look (cond b (fixed ∷ filter (is_in segment) others) (filter (is_in segment) others)) x)
+        (sym e)
     go false e later =
         ap (λ b.
         option_map (set_at x)
-        (cond ((b && nat_le (fixed.content).offset x) && nat_lt x (content_end fixed.content)) (Some fixed) (find (holds_place segment x) others))) e
+        (cond ((b && nat_le (fixed.content).offset x) && nat_lt x (content_end fixed.content)) (Some fixed)
+        (find (holds_place segment x) others))) e
         ∙ later
-        ∙ ap (λ b. look (cond b (fixed ∷ filter (is_in segment) others) (filter (is_in segment) others)) x) (sym e)
+        ∙ ap (λ b. look (cond b (fixed ∷ filter (is_in segment) others) (filter (is_in segment) others)) x)
+        (sym e)
 
 -- bytes of lists one after the other
 index_first :
@@ -67,52 +73,66 @@ byte_here fixes offset x items = record { value = slice_index items (x - offset)
 joined_found :
     (fixes : List Fix) (offset : ℕ) (bytes : List ℕ) (next : Run ℕ) (others : List (Run ℕ)) (x : ℕ)
     → next.offset ≡ offset + length bytes
-    → found fixes (run_at offset (bytes ++ next.items) ∷ others) x ≡ found fixes (run_at offset bytes ∷ next ∷ others) x
-joined_found fixes offset bytes next others x is = go (nat_le offset x) refl (nat_lt x (offset + length bytes)) refl
+    → found fixes (run_at offset (bytes ++ next.items) ∷ others) x
+    ≡ found fixes (run_at offset bytes ∷ next ∷ others) x
+joined_found fixes offset bytes next others x is =
+    go (nat_le offset x) refl (nat_lt x (offset + length bytes)) refl
   where
     sized : length (bytes ++ next.items) ≡ length bytes + length next.items
     sized = length-append bytes next.items
 
     go : (b : Bool) → nat_le offset x ≡ b → (c : Bool) → nat_lt x (offset + length bytes) ≡ c
-        → cond (nat_le offset x && nat_lt x (offset + length (bytes ++ next.items))) (Some (byte_here fixes offset x (bytes ++ next.items))) (found fixes others x)
+        → cond (nat_le offset x && nat_lt x (offset + length (bytes ++ next.items)))
+        (Some (byte_here fixes offset x (bytes ++ next.items))) (found fixes others x)
         ≡ cond (nat_le offset x && nat_lt x (offset + length bytes)) (Some (byte_here fixes offset x bytes))
-        (cond (nat_le next.offset x && nat_lt x (next.offset + length next.items)) (Some (byte_in_run fixes x next)) (found fixes others x))
+        (cond (nat_le next.offset x && nat_lt x (next.offset + length next.items))
+        (Some (byte_in_run fixes x next)) (found fixes others x))
     go false e c f =
         let before : x < offset = leb-false offset x e in
         let after : x < next.offset = omega (arith, is) in
-        ap (λ b. cond (b && nat_lt x (offset + length (bytes ++ next.items))) (Some (byte_here fixes offset x (bytes ++ next.items))) (found fixes others x)) e
+        ap (λ b. cond (b && nat_lt x (offset + length (bytes ++ next.items)))
+        (Some (byte_here fixes offset x (bytes ++ next.items))) (found fixes others x)) e
         ∙ sym
         (ap (λ b.
         cond (b && nat_lt x (offset + length bytes)) (Some (byte_here fixes offset x bytes))
-        (cond (nat_le next.offset x && nat_lt x (next.offset + length next.items)) (Some (byte_in_run fixes x next)) (found fixes others x)))
+        (cond (nat_le next.offset x && nat_lt x (next.offset + length next.items))
+        (Some (byte_in_run fixes x next)) (found fixes others x)))
         e
-        ∙ ap (λ b. cond (b && nat_lt x (next.offset + length next.items)) (Some (byte_in_run fixes x next)) (found fixes others x))
+        ∙ ap (λ b. cond (b && nat_lt x (next.offset + length next.items)) (Some (byte_in_run fixes x next))
+        (found fixes others x))
         (lt-leb next.offset x after))
     go true e true f =
         let from : offset ≤ x = leb-true offset x e in
         let to : x < offset + length bytes = ltb-true x (offset + length bytes) f in
         let within : x < offset + length (bytes ++ next.items) = omega (arith, sized) in
-        ap (λ b. cond (b && nat_lt x (offset + length (bytes ++ next.items))) (Some (byte_here fixes offset x (bytes ++ next.items))) (found fixes others x)) e
-        ∙ ap (λ b. cond b (Some (byte_here fixes offset x (bytes ++ next.items))) (found fixes others x)) (lt-ltb x (offset + length (bytes ++ next.items)) within)
+        ap (λ b. cond (b && nat_lt x (offset + length (bytes ++ next.items)))
+        (Some (byte_here fixes offset x (bytes ++ next.items))) (found fixes others x)) e
+        ∙ ap (λ b. cond b (Some (byte_here fixes offset x (bytes ++ next.items))) (found fixes others x))
+        (lt-ltb x (offset + length (bytes ++ next.items)) within)
         ∙ ap (λ value. Some (record { value = value; fixup = fixup_at fixes x }))
         (index_first bytes next.items (x - offset) (omega arith))
         ∙ sym
         (ap (λ b.
         cond (b && nat_lt x (offset + length bytes)) (Some (byte_here fixes offset x bytes))
-        (cond (nat_le next.offset x && nat_lt x (next.offset + length next.items)) (Some (byte_in_run fixes x next)) (found fixes others x)))
+        (cond (nat_le next.offset x && nat_lt x (next.offset + length next.items))
+        (Some (byte_in_run fixes x next)) (found fixes others x)))
         e
         ∙ ap (λ b.
         cond b (Some (byte_here fixes offset x bytes))
-        (cond (nat_le next.offset x && nat_lt x (next.offset + length next.items)) (Some (byte_in_run fixes x next)) (found fixes others x)))
+        (cond (nat_le next.offset x && nat_lt x (next.offset + length next.items))
+        (Some (byte_in_run fixes x next)) (found fixes others x)))
         f)
     go true e false f =
         let from : offset ≤ x = leb-true offset x e in
         let past : offset + length bytes ≤ x = ltb-false x (offset + length bytes) f in
         let reach : next.offset ≤ x = omega (arith, is) in
-        let ends : offset + length (bytes ++ next.items) ≡ next.offset + length next.items = omega (arith, is, sized) in
+        let ends : offset + length (bytes ++ next.items) ≡ next.offset + length next.items =
+        omega (arith, is, sized) in
         let place : x - offset ≡ length bytes + (x - next.offset) = omega (arith, is) in
-        ap (λ b. cond (b && nat_lt x (offset + length (bytes ++ next.items))) (Some (byte_here fixes offset x (bytes ++ next.items))) (found fixes others x)) e
-        ∙ ap (λ end. cond (nat_lt x end) (Some (byte_here fixes offset x (bytes ++ next.items))) (found fixes others x)) ends
+        ap (λ b. cond (b && nat_lt x (offset + length (bytes ++ next.items)))
+        (Some (byte_here fixes offset x (bytes ++ next.items))) (found fixes others x)) e
+        ∙ ap (λ end. cond (nat_lt x end) (Some (byte_here fixes offset x (bytes ++ next.items)))
+        (found fixes others x)) ends
         ∙ ap (λ value.
         cond (nat_lt x (next.offset + length next.items))
         (Some (record { value = value; fixup = fixup_at fixes x })) (found fixes others x))
@@ -120,13 +140,16 @@ joined_found fixes offset bytes next others x is = go (nat_le offset x) refl (na
         ∙ sym
         (ap (λ b.
         cond (b && nat_lt x (offset + length bytes)) (Some (byte_here fixes offset x bytes))
-        (cond (nat_le next.offset x && nat_lt x (next.offset + length next.items)) (Some (byte_in_run fixes x next)) (found fixes others x)))
+        (cond (nat_le next.offset x && nat_lt x (next.offset + length next.items))
+        (Some (byte_in_run fixes x next)) (found fixes others x)))
         e
         ∙ ap (λ b.
         cond b (Some (byte_here fixes offset x bytes))
-        (cond (nat_le next.offset x && nat_lt x (next.offset + length next.items)) (Some (byte_in_run fixes x next)) (found fixes others x)))
+        (cond (nat_le next.offset x && nat_lt x (next.offset + length next.items))
+        (Some (byte_in_run fixes x next)) (found fixes others x)))
         f
-        ∙ ap (λ b. cond (b && nat_lt x (next.offset + length next.items)) (Some (byte_in_run fixes x next)) (found fixes others x))
+        ∙ ap (λ b. cond (b && nat_lt x (next.offset + length next.items)) (Some (byte_in_run fixes x next))
+        (found fixes others x))
         (le-leb next.offset x reach))
 
 before_found :
@@ -136,7 +159,8 @@ before_found fixes offset bytes [] x = refl
 before_found fixes offset bytes (next ∷ others) x = go (next.offset == offset + length bytes) refl
   where
     go : (b : Bool) → (next.offset == offset + length bytes) ≡ b
-        → found fixes (cond b (run_at offset (bytes ++ next.items) ∷ others) (run_at offset bytes ∷ next ∷ others)) x
+        → found fixes
+        (cond b (run_at offset (bytes ++ next.items) ∷ others) (run_at offset bytes ∷ next ∷ others)) x
         ≡ found fixes (run_at offset bytes ∷ next ∷ others) x
     go true e =
         joined_found fixes offset bytes next others x (eqb-true next.offset (offset + length bytes) e)
@@ -155,7 +179,8 @@ open_found :
     (fixes : List Fix) (offset : ℕ) (bytes : List ℕ) (runs : List (Run ℕ)) (x : ℕ)
     → found fixes (open_run offset bytes runs) x ≡ found fixes (run_at offset bytes ∷ runs) x
 open_found fixes offset [] runs x =
-    ap (λ b. cond b (Some (byte_in_run fixes x (run_at offset []))) (found fixes runs x)) (sym (none_within offset x))
+    ap (λ b. cond b (Some (byte_in_run fixes x (run_at offset []))) (found fixes runs x))
+    (sym (none_within offset x))
 open_found fixes offset (first ∷ others) runs x = before_found fixes offset (first ∷ others) runs x
 
 -- the runs that are kept have the bytes of the contents
@@ -173,7 +198,8 @@ runs_found fixes (fixed ∷ others) x =
     (runs_found fixes others x)
 
 -- The fixes that are kept of a content, by their places.
-pub found_there : (fixes : List Fix) (offset : ℕ) (fix : Fix) → fix_at fixes offset ≡ Some fix → fix.offset ≡ offset
+pub found_there : (fixes : List Fix) (offset : ℕ) (fix : Fix) → fix_at fixes offset ≡ Some fix
+    → fix.offset ≡ offset
 found_there fixes offset fix h =
     eqb-true fix.offset offset (find_passes (λ (f : Fix). f.offset == offset) fixes fix h)
 
@@ -199,7 +225,8 @@ table_none fixes offset (suc count) x h =
     apart (inl before) is = omega arith
     apart (inr after) is = omega arith
 
-    go : (slot : Option Fix) → fix_at fixes offset ≡ slot → fix_at (listed (fix_table fixes (offset + 1) count)) x ≡ None
+    go : (slot : Option Fix) → fix_at fixes offset ≡ slot
+        → fix_at (listed (fix_table fixes (offset + 1) count)) x ≡ None
         → fix_at (listed (fix_at fixes offset ∷ (fix_table fixes (offset + 1) count))) x ≡ None
     go None e later = ap (λ s. fix_at (listed (s ∷ (fix_table fixes (offset + 1) count))) x) e ∙ later
     go (Some fix) e later =
@@ -232,10 +259,12 @@ table_same fixes offset (suc count) x from to =
     there None e not later = ap (λ s. fix_at (listed (s ∷ (fix_table fixes (offset + 1) count))) x) e ∙ later
     there (Some fix) e not later =
         ap (λ s. fix_at (listed (s ∷ (fix_table fixes (offset + 1) count))) x) e
-        ∙ other_place fix (listed (fix_table fixes (offset + 1) count)) x (λ is. not (sym (found_there fixes offset fix e) ∙ is))
+        ∙ other_place fix (listed (fix_table fixes (offset + 1) count)) x
+        (λ is. not (sym (found_there fixes offset fix e) ∙ is))
         ∙ later
 
-    go : (b : Bool) → (offset == x) ≡ b → (offset + 1 ≤ x → fix_at (listed (fix_table fixes (offset + 1) count)) x ≡ fix_at fixes x)
+    go : (b : Bool) → (offset == x) ≡ b
+        → (offset + 1 ≤ x → fix_at (listed (fix_table fixes (offset + 1) count)) x ≡ fix_at fixes x)
         → fix_at (listed (fix_at fixes offset ∷ (fix_table fixes (offset + 1) count))) x ≡ fix_at fixes x
     go true e later = here (fix_at fixes offset) refl (eqb-true offset x e)
     go false e later =
@@ -277,7 +306,8 @@ kept_none size end (fixed ∷ others) x placed h =
     ∙ kept_none size (content_end fixed.content) others x placed.2 (omega (arith, ends))
 
 bytes_none :
-    (fixes : List Fix) (size end : ℕ) (contents : List FixedContent) (x : ℕ) → Placed size end contents → x < end
+    (fixes : List Fix) (size end : ℕ) (contents : List FixedContent) (x : ℕ)
+    → Placed size end contents → x < end
     → bytes_at fixes contents x ≡ None
 bytes_none fixes size end [] x placed h = refl
 bytes_none fixes size end (fixed ∷ others) x placed h =
@@ -320,9 +350,11 @@ fixes_found size end (fixed ∷ others) x placed =
     go (nat_le (fixed.content).offset x) refl (nat_lt x (content_end fixed.content)) refl
     (fixes_found size (content_end fixed.content) others x placed.2)
   where
-    go : (b : Bool) → nat_le (fixed.content).offset x ≡ b → (c : Bool) → nat_lt x (content_end fixed.content) ≡ c
+    go : (b : Bool) → nat_le (fixed.content).offset x ≡ b → (c : Bool)
+        → nat_lt x (content_end fixed.content) ≡ c
         → look others x ≡ bytes_at (flat_map fixes_by_place others) others x
-        → cond (nat_le (fixed.content).offset x && nat_lt x (content_end fixed.content)) (Some (set_at x fixed))
+        → cond (nat_le (fixed.content).offset x && nat_lt x (content_end fixed.content))
+        (Some (set_at x fixed))
         (look others x)
         ≡ cond (nat_le (fixed.content).offset x && nat_lt x (content_end fixed.content))
         (Some (record { value = slice_index (fixed.content).bytes (x - (fixed.content).offset); fixup = fixup_at (fixes_by_place fixed ++ (flat_map fixes_by_place others)) x })) (bytes_at (fixes_by_place fixed ++ (flat_map fixes_by_place others)) others x)
@@ -333,41 +365,49 @@ fixes_found size end (fixed ∷ others) x placed =
         ap (λ b. cond (b && nat_lt x (content_end fixed.content)) (Some (set_at x fixed)) (look others x)) e
         ∙ later
         ∙ bytes_none (flat_map fixes_by_place others) size (content_end fixed.content) others x placed.2 reach
-        ∙ sym (bytes_none (fixes_by_place fixed ++ (flat_map fixes_by_place others)) size (content_end fixed.content) others x placed.2 reach)
+        ∙ sym (bytes_none (fixes_by_place fixed ++ (flat_map fixes_by_place others)) size
+        (content_end fixed.content) others x placed.2 reach)
         ∙ sym
         (ap (λ b.
-        cond (b && nat_lt x (content_end fixed.content)) (Some (record { value = slice_index (fixed.content).bytes (x - (fixed.content).offset); fixup = fixup_at (fixes_by_place fixed ++ (flat_map fixes_by_place others)) x }))
+        cond (b && nat_lt x (content_end fixed.content))
+        (Some (record { value = slice_index (fixed.content).bytes (x - (fixed.content).offset); fixup = fixup_at (fixes_by_place fixed ++ (flat_map fixes_by_place others)) x }))
         (bytes_at (fixes_by_place fixed ++ (flat_map fixes_by_place others)) others x)) e)
     go true e true f later =
         let from : (fixed.content).offset ≤ x = leb-true (fixed.content).offset x e in
         let to : x < content_end fixed.content = ltb-true x (content_end fixed.content) f in
         ap (λ b. cond (b && nat_lt x (content_end fixed.content)) (Some (set_at x fixed)) (look others x)) e
         ∙ ap (λ b. cond b (Some (set_at x fixed)) (look others x)) f
-        ∙ ap (λ fix. Some (record { value = slice_index (fixed.content).bytes (x - (fixed.content).offset); fixup = option_map fixup_of fix }))
+        ∙ ap (λ fix. Some
+        (record { value = slice_index (fixed.content).bytes (x - (fixed.content).offset); fixup = option_map fixup_of fix }))
         (sym
         (fix_at_first (fixes_by_place fixed) (flat_map fixes_by_place others) x
         (kept_none size (content_end fixed.content) others x placed.2 to)
         ∙ table_same fixed.fixes (fixed.content).offset (length (fixed.content).bytes) x from to))
         ∙ sym
         (ap (λ b.
-        cond (b && nat_lt x (content_end fixed.content)) (Some (record { value = slice_index (fixed.content).bytes (x - (fixed.content).offset); fixup = fixup_at (fixes_by_place fixed ++ (flat_map fixes_by_place others)) x }))
+        cond (b && nat_lt x (content_end fixed.content))
+        (Some (record { value = slice_index (fixed.content).bytes (x - (fixed.content).offset); fixup = fixup_at (fixes_by_place fixed ++ (flat_map fixes_by_place others)) x }))
         (bytes_at (fixes_by_place fixed ++ (flat_map fixes_by_place others)) others x)) e
-        ∙ ap (λ b. cond b (Some (record { value = slice_index (fixed.content).bytes (x - (fixed.content).offset); fixup = fixup_at (fixes_by_place fixed ++ (flat_map fixes_by_place others)) x })) (bytes_at (fixes_by_place fixed ++ (flat_map fixes_by_place others)) others x)) f)
+        ∙ ap (λ b. cond b
+        (Some (record { value = slice_index (fixed.content).bytes (x - (fixed.content).offset); fixup = fixup_at (fixes_by_place fixed ++ (flat_map fixes_by_place others)) x })) (bytes_at (fixes_by_place fixed ++ (flat_map fixes_by_place others)) others x)) f)
     go true e false f later =
         let past : content_end fixed.content ≤ x = ltb-false x (content_end fixed.content) f in
         ap (λ b. cond (b && nat_lt x (content_end fixed.content)) (Some (set_at x fixed)) (look others x)) e
         ∙ ap (λ b. cond b (Some (set_at x fixed)) (look others x)) f
         ∙ later
-        ∙ bytes_same (flat_map fixes_by_place others) (fixes_by_place fixed ++ (flat_map fixes_by_place others)) others x
+        ∙ bytes_same (flat_map fixes_by_place others)
+        (fixes_by_place fixed ++ (flat_map fixes_by_place others)) others x
         (ap (option_map fixup_of)
         (sym
         (fix_at_append (fixes_by_place fixed) (flat_map fixes_by_place others) x
         (table_none fixed.fixes (fixed.content).offset (length (fixed.content).bytes) x (inr past)))))
         ∙ sym
         (ap (λ b.
-        cond (b && nat_lt x (content_end fixed.content)) (Some (record { value = slice_index (fixed.content).bytes (x - (fixed.content).offset); fixup = fixup_at (fixes_by_place fixed ++ (flat_map fixes_by_place others)) x }))
+        cond (b && nat_lt x (content_end fixed.content))
+        (Some (record { value = slice_index (fixed.content).bytes (x - (fixed.content).offset); fixup = fixup_at (fixes_by_place fixed ++ (flat_map fixes_by_place others)) x }))
         (bytes_at (fixes_by_place fixed ++ (flat_map fixes_by_place others)) others x)) e
-        ∙ ap (λ b. cond b (Some (record { value = slice_index (fixed.content).bytes (x - (fixed.content).offset); fixup = fixup_at (fixes_by_place fixed ++ (flat_map fixes_by_place others)) x })) (bytes_at (fixes_by_place fixed ++ (flat_map fixes_by_place others)) others x)) f)
+        ∙ ap (λ b. cond b
+        (Some (record { value = slice_index (fixed.content).bytes (x - (fixed.content).offset); fixup = fixup_at (fixes_by_place fixed ++ (flat_map fixes_by_place others)) x })) (bytes_at (fixes_by_place fixed ++ (flat_map fixes_by_place others)) others x)) f)
 
 -- the places of what is kept are those of the contents
 pub kept_places :

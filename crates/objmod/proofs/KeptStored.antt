@@ -30,9 +30,11 @@ before_lie size end offset first items (next ∷ others) begins ends lie =
 
     go : (b : Bool) → (next.offset == offset + length (first ∷ items)) ≡ b
         → Lie size end
-        (cond b (run_at offset ((first ∷ items) ++ next.items) ∷ others) (run_at offset (first ∷ items) ∷ next ∷ others))
+        (cond b (run_at offset ((first ∷ items) ++ next.items) ∷ others)
+        (run_at offset (first ∷ items) ∷ next ∷ others))
     go true e =
-        let is : next.offset ≡ offset + length (first ∷ items) = eqb-true next.offset (offset + length (first ∷ items)) e in
+        let is : next.offset ≡ offset + length (first ∷ items) =
+        eqb-true next.offset (offset + length (first ∷ items)) e in
         let long : Longest size (next ∷ others) = lie.long in
         let reach : next.offset + length next.items ≤ size = long.1 in
         let last : offset + length ((first ∷ items) ++ next.items) ≡ next.offset + length next.items =
@@ -42,7 +44,8 @@ before_lie size end offset first items (next ∷ others) begins ends lie =
           long = (
             omega (arith, sized),
             omega (arith, last, reach),
-            beyond_less (offset + length ((first ∷ items) ++ next.items)) (next.offset + length next.items) others
+            beyond_less (offset + length ((first ∷ items) ++ next.items))
+                (next.offset + length next.items) others
                 (omega (arith, last)) long.2,
             long.3,
           );
@@ -60,7 +63,8 @@ before_lie size end offset first items (next ∷ others) begins ends lie =
             ends,
             (
               after,
-              beyond_less (offset + length (first ∷ items)) (next.offset + length next.items) others (omega arith) long.2,
+              beyond_less (offset + length (first ∷ items)) (next.offset + length next.items) others
+                  (omega arith) long.2,
             ),
             long,
           );
@@ -78,7 +82,8 @@ open_lie size end offset (first ∷ items) runs begins ends lie =
     before_lie size end offset first items runs begins ends lie
 
 kept_lie :
-    (size end : ℕ) (contents : List FixedContent) → Placed size end contents → Lie size end (runs_kept contents)
+    (size end : ℕ) (contents : List FixedContent) → Placed size end contents
+    → Lie size end (runs_kept contents)
 kept_lie size end [] placed = record { from = tt; long = tt }
 kept_lie size end (fixed ∷ others) placed =
     open_lie size end (fixed.content).offset (fixed.content).bytes (runs_kept others) placed.0 placed.1
@@ -91,7 +96,8 @@ not_empty (first ∷ items) h = refl
 longest_again : (size : ℕ) (runs : List (Run ℕ)) → Longest size runs → are_longest size runs ≡ true
 longest_again size [] long = refl
 longest_again size (run ∷ []) long =
-    and_from (not (is_empty run.items)) (nat_le (run.offset + length run.items) size) (not_empty run.items long.0)
+    and_from (not (is_empty run.items)) (nat_le (run.offset + length run.items) size)
+    (not_empty run.items long.0)
     (le-leb (run.offset + length run.items) size long.1)
 longest_again size (run ∷ next ∷ others) long =
     and_from (not (is_empty run.items) && nat_lt (run.offset + length run.items) next.offset)
@@ -139,7 +145,8 @@ chain_after_word fixes (suc count) offset none chains =
     let rest : Chain (offset + 1 + 1) (listed (fix_table fixes (offset + 1 + 1) count)) =
     chains count refl (offset + 1 + 1) in
     subst (λ slot. Chain (offset + 2) (listed (slot ∷ fix_table fixes (offset + 1 + 1) count))) (sym none)
-    (chain_less (offset + 2) (offset + 1 + 1) (listed (fix_table fixes (offset + 1 + 1) count)) (omega arith) rest)
+    (chain_less (offset + 2) (offset + 1 + 1)
+    (listed (fix_table fixes (offset + 1 + 1) count)) (omega arith) rest)
 
 one_more_place :
     (fixes : List Fix) → Clear fixes → (count : ℕ) → Chains fixes count
@@ -154,11 +161,14 @@ one_more_place fixes clear count chains less offset = go (fix_at fixes offset) r
         (chain_after_word fixes count offset (clear offset fix e f) less)
     after fix e false f is =
         let end : fix_end fix ≤ offset + 1 = let w = narrow fix f in omega (arith, is, w) in
-        chain_less (fix_end fix) (offset + 1) (listed (fix_table fixes (offset + 1) count)) end (chains (offset + 1))
+        chain_less (fix_end fix) (offset + 1) (listed (fix_table fixes (offset + 1) count)) end
+        (chains (offset + 1))
 
     go : (slot : Option Fix) → fix_at fixes offset ≡ slot
         → Chain offset (listed (slot ∷ fix_table fixes (offset + 1) count))
-    go None e = chain_less offset (offset + 1) (listed (fix_table fixes (offset + 1) count)) (omega arith) (chains (offset + 1))
+    go None e =
+        chain_less offset (offset + 1) (listed (fix_table fixes (offset + 1) count)) (omega arith)
+        (chains (offset + 1))
     go (Some fix) e =
         let is : fix.offset ≡ offset = found_there fixes offset fix e in
         (omega (arith, is), after fix e (is_both fix.kind) refl is)
@@ -218,7 +228,8 @@ listed_all p fixes all (suc count) offset =
         → list_all p (listed (slot ∷ fix_table fixes (offset + 1) count)) ≡ true
     go None e later = later
     go (Some fix) e later =
-        and_from (p fix) (list_all p (listed (fix_table fixes (offset + 1) count))) (found_all p fixes offset fix all e)
+        and_from (p fix) (list_all p (listed (fix_table fixes (offset + 1) count)))
+        (found_all p fixes offset fix all e)
         later
 
 within_below :
@@ -227,7 +238,8 @@ within_below :
 within_below content [] all = tt
 within_below content (fix ∷ others) all =
     let parts = and_parts (is_within content fix) (list_all (is_within content) others) all in
-    let within = and_parts (nat_le content.offset fix.offset) (nat_le (fix_end fix) (content_end content)) parts.0 in
+    let within =
+    and_parts (nat_le content.offset fix.offset) (nat_le (fix_end fix) (content_end content)) parts.0 in
     (leb-true (fix_end fix) (content_end content) within.1, within_below content others parts.1)
 
 kept_chain :
@@ -284,7 +296,8 @@ within_open :
 within_open segment offset [] runs fix h =
     let parts = and_parts (nat_le offset fix.offset) (nat_le (fix_end fix) (offset + length {A = ℕ} [])) h in
     let starts : offset ≤ fix.offset = leb-true offset fix.offset parts.0 in
-    let ends : fix_end fix ≤ offset + length {A = ℕ} [] = leb-true (fix_end fix) (offset + length {A = ℕ} []) parts.1 in
+    let ends : fix_end fix ≤ offset + length {A = ℕ} [] =
+    leb-true (fix_end fix) (offset + length {A = ℕ} []) parts.1 in
     let some : fix.offset + 1 ≤ fix_end fix = some_width fix in
     absurd (omega (arith, starts, ends, some))
 within_open segment offset (first ∷ items) [] fix h =
@@ -294,7 +307,8 @@ within_open segment offset (first ∷ items) (next ∷ others) fix h =
   where
     go : (b : Bool)
         → is_in_a_run segment
-        (cond b (run_at offset ((first ∷ items) ++ next.items) ∷ others) (run_at offset (first ∷ items) ∷ next ∷ others))
+        (cond b (run_at offset ((first ∷ items) ++ next.items) ∷ others)
+        (run_at offset (first ∷ items) ∷ next ∷ others))
         fix ≡ true
     go true =
         or_left (is_within (content_of_run segment (run_at offset ((first ∷ items) ++ next.items))) fix)
@@ -315,18 +329,24 @@ later_open segment offset (first ∷ items) (next ∷ others) fix h =
         → is_within (content_of_run segment next) fix ≡ true
         → is_within (content_of_run segment (run_at offset ((first ∷ items) ++ next.items))) fix ≡ true
     joins is k =
-        let parts = and_parts (nat_le next.offset fix.offset) (nat_le (fix_end fix) (next.offset + length next.items)) k in
+        let parts =
+        and_parts (nat_le next.offset fix.offset)
+        (nat_le (fix_end fix) (next.offset + length next.items)) k in
         let starts : next.offset ≤ fix.offset = leb-true next.offset fix.offset parts.0 in
         let ends : fix_end fix ≤ next.offset + length next.items =
         leb-true (fix_end fix) (next.offset + length next.items) parts.1 in
-        let sized : length ((first ∷ items) ++ next.items) ≡ length (first ∷ items) + length next.items = length-append (first ∷ items) next.items in
-        and_from (nat_le offset fix.offset) (nat_le (fix_end fix) (offset + length ((first ∷ items) ++ next.items)))
+        let sized : length ((first ∷ items) ++ next.items) ≡ length (first ∷ items) + length next.items =
+        length-append (first ∷ items) next.items in
+        and_from (nat_le offset fix.offset)
+        (nat_le (fix_end fix) (offset + length ((first ∷ items) ++ next.items)))
         (le-leb offset fix.offset (omega (arith, is, starts)))
-        (le-leb (fix_end fix) (offset + length ((first ∷ items) ++ next.items)) (omega (arith, is, sized, ends)))
+        (le-leb (fix_end fix) (offset + length ((first ∷ items) ++ next.items))
+        (omega (arith, is, sized, ends)))
 
     go : (b : Bool) → (next.offset == offset + length (first ∷ items)) ≡ b
         → is_in_a_run segment
-        (cond b (run_at offset ((first ∷ items) ++ next.items) ∷ others) (run_at offset (first ∷ items) ∷ next ∷ others)) fix ≡ true
+        (cond b (run_at offset ((first ∷ items) ++ next.items) ∷ others)
+        (run_at offset (first ∷ items) ∷ next ∷ others)) fix ≡ true
     go true e =
         or_either (is_within (content_of_run segment next) fix) (is_in_a_run segment others fix)
         (is_within (content_of_run segment (run_at offset ((first ∷ items) ++ next.items))) fix) h
@@ -360,7 +380,8 @@ kept_within segment (fixed ∷ others) fit =
     let bytes : List ℕ = (fixed.content).bytes in
     all_append (is_in_a_run segment (runs_kept (fixed ∷ others))) (fixes_by_place fixed)
     (flat_map fixes_by_place others)
-    (all_less (is_within fixed.content) (is_in_a_run segment (runs_kept (fixed ∷ others))) (fixes_by_place fixed)
+    (all_less (is_within fixed.content) (is_in_a_run segment (runs_kept (fixed ∷ others)))
+    (fixes_by_place fixed)
     (λ fix h. within_open segment (fixed.content).offset (fixed.content).bytes (runs_kept others) fix h)
     (listed_all (is_within fixed.content) fixed.fixes fit.0 (length bytes) offset))
     (all_less (is_in_a_run segment (runs_kept others)) (is_in_a_run segment (runs_kept (fixed ∷ others)))

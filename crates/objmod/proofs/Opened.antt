@@ -40,28 +40,35 @@ before_joined offset xs next ys (third ∷ others) is = go (third.offset == next
         → before_kept offset xs
         (cond (third.offset == next + length ys) (run_at next (ys ++ third.items) ∷ others)
         (run_at next ys ∷ third ∷ others))
-        ≡ cond (third.offset == offset + length (xs ++ ys)) (run_at offset ((xs ++ ys) ++ third.items) ∷ others)
+        ≡ cond (third.offset == offset + length (xs ++ ys))
+        (run_at offset ((xs ++ ys) ++ third.items) ∷ others)
         (run_at offset (xs ++ ys) ∷ third ∷ others)
     go true e =
         ap (λ b.
-        before_kept offset xs (cond b (run_at next (ys ++ third.items) ∷ others) (run_at next ys ∷ third ∷ others))) e
+        before_kept offset xs
+        (cond b (run_at next (ys ++ third.items) ∷ others) (run_at next ys ∷ third ∷ others))) e
         ∙ ap (λ b.
         cond b (run_at offset (xs ++ (ys ++ third.items)) ∷ others)
-        (run_at offset xs ∷ run_at next (ys ++ third.items) ∷ others)) (eq-eqb next (offset + length xs) (sym is))
+        (run_at offset xs ∷ run_at next (ys ++ third.items) ∷ others))
+        (eq-eqb next (offset + length xs) (sym is))
         ∙ ap (λ items. run_at offset items ∷ others) (sym (append_assoc xs ys third.items))
         ∙ sym
         (ap (λ b.
-        cond b (run_at offset ((xs ++ ys) ++ third.items) ∷ others) (run_at offset (xs ++ ys) ∷ third ∷ others))
+        cond b (run_at offset ((xs ++ ys) ++ third.items) ∷ others)
+        (run_at offset (xs ++ ys) ∷ third ∷ others))
         (sym right ∙ e))
     go false e =
         ap (λ b.
-        before_kept offset xs (cond b (run_at next (ys ++ third.items) ∷ others) (run_at next ys ∷ third ∷ others))) e
+        before_kept offset xs
+        (cond b (run_at next (ys ++ third.items) ∷ others) (run_at next ys ∷ third ∷ others))) e
         ∙ ap (λ b.
-        cond b (run_at offset (xs ++ ys) ∷ third ∷ others) (run_at offset xs ∷ run_at next ys ∷ third ∷ others))
+        cond b (run_at offset (xs ++ ys) ∷ third ∷ others)
+        (run_at offset xs ∷ run_at next ys ∷ third ∷ others))
         (eq-eqb next (offset + length xs) (sym is))
         ∙ sym
         (ap (λ b.
-        cond b (run_at offset ((xs ++ ys) ++ third.items) ∷ others) (run_at offset (xs ++ ys) ∷ third ∷ others))
+        cond b (run_at offset ((xs ++ ys) ++ third.items) ∷ others)
+        (run_at offset (xs ++ ys) ∷ third ∷ others))
         (sym right ∙ e))
 
 -- bytes that come later
@@ -74,8 +81,10 @@ before_apart offset xs next ys [] apart =
 before_apart offset xs next ys (third ∷ others) apart = go (third.offset == next + length ys)
   where
     go : (b : Bool)
-        → before_kept offset xs (cond b (run_at next (ys ++ third.items) ∷ others) (run_at next ys ∷ third ∷ others))
-        ≡ run_at offset xs ∷ cond b (run_at next (ys ++ third.items) ∷ others) (run_at next ys ∷ third ∷ others)
+        → before_kept offset xs
+        (cond b (run_at next (ys ++ third.items) ∷ others) (run_at next ys ∷ third ∷ others))
+        ≡ run_at offset xs ∷ cond b (run_at next (ys ++ third.items) ∷ others)
+        (run_at next ys ∷ third ∷ others)
     go true =
         ap (λ b.
         cond b (run_at offset (xs ++ (ys ++ third.items)) ∷ others)
@@ -83,7 +92,8 @@ before_apart offset xs next ys (third ∷ others) apart = go (third.offset == ne
         (ne_eqb next (offset + length xs) (λ is. apart (sym is)))
     go false =
         ap (λ b.
-        cond b (run_at offset (xs ++ ys) ∷ third ∷ others) (run_at offset xs ∷ run_at next ys ∷ third ∷ others))
+        cond b (run_at offset (xs ++ ys) ∷ third ∷ others)
+        (run_at offset xs ∷ run_at next ys ∷ third ∷ others))
         (ne_eqb next (offset + length xs) (λ is. apart (sym is)))
 
 -- some bytes are added
@@ -93,19 +103,22 @@ some_made :
     → made (with_bytes (opened_with runs offset bytes fixes) next (first ∷ items)) rest
     ≡ made (opened_with runs offset bytes fixes) (before_kept next (first ∷ items) rest)
 some_made runs offset [] fixes next first items rest = refl
-some_made runs offset (here ∷ others) fixes next first items rest = go (offset + length (here ∷ others) == next) refl
+some_made runs offset (here ∷ others) fixes next first items rest =
+    go (offset + length (here ∷ others) == next) refl
   where
     go : (b : Bool) → (offset + length (here ∷ others) == next) ≡ b
         → made
         (cond (offset + length (here ∷ others) == next)
         (opened_with runs offset ((here ∷ others) ++ (first ∷ items)) fixes)
-        (opened_with (closed_runs (opened_with runs offset (here ∷ others) fixes)) next (first ∷ items) fixes)) rest
+        (opened_with (closed_runs (opened_with runs offset (here ∷ others) fixes)) next
+        (first ∷ items) fixes)) rest
         ≡ runs ++ before_kept offset (here ∷ others) (before_kept next (first ∷ items) rest)
     go true e =
         ap (λ b.
         made
         (cond b (opened_with runs offset ((here ∷ others) ++ (first ∷ items)) fixes)
-        (opened_with (closed_runs (opened_with runs offset (here ∷ others) fixes)) next (first ∷ items) fixes)) rest) e
+        (opened_with (closed_runs (opened_with runs offset (here ∷ others) fixes)) next
+        (first ∷ items) fixes)) rest) e
         ∙ ap (λ made. runs ++ made)
         (sym
         (before_joined offset (here ∷ others) next (first ∷ items) rest
@@ -114,7 +127,8 @@ some_made runs offset (here ∷ others) fixes next first items rest = go (offset
         ap (λ b.
         made
         (cond b (opened_with runs offset ((here ∷ others) ++ (first ∷ items)) fixes)
-        (opened_with (closed_runs (opened_with runs offset (here ∷ others) fixes)) next (first ∷ items) fixes)) rest) e
+        (opened_with (closed_runs (opened_with runs offset (here ∷ others) fixes)) next
+        (first ∷ items) fixes)) rest) e
         ∙ append_assoc runs (run_at offset (here ∷ others) ∷ []) (before_kept next (first ∷ items) rest)
         ∙ ap (λ made. runs ++ made)
         (sym
@@ -145,7 +159,8 @@ pub kept_made :
     (segment : Segment) (opened : Opened) (contents : List FixedContent)
     → made (kept_in segment opened contents) [] ≡ made opened (runs_kept (filter (is_in segment) contents))
 kept_made segment opened [] = refl
-kept_made segment opened (fixed ∷ others) = go (is_in segment fixed) refl (λ next. kept_made segment next others)
+kept_made segment opened (fixed ∷ others) =
+    go (is_in segment fixed) refl (λ next. kept_made segment next others)
   where
     go : (b : Bool) → is_in segment fixed ≡ b
         → ((next : Opened)
@@ -157,14 +172,19 @@ kept_made segment opened (fixed ∷ others) = go (is_in segment fixed) refl (λ 
     go true e later =
         ap (λ b. made (kept_in segment (cond b (with_content opened fixed) opened) others) []) e
         ∙ later (with_content opened fixed)
-        ∙ bytes_made opened (fixed.content).offset (fixed.content).bytes (runs_kept (filter (is_in segment) others))
+        ∙ bytes_made opened (fixed.content).offset (fixed.content).bytes
+        (runs_kept (filter (is_in segment) others))
         ∙ ap (λ b.
-        made opened (runs_kept (cond b (fixed ∷ filter (is_in segment) others) (filter (is_in segment) others)))) (sym e)
+        made opened
+        (runs_kept (cond b (fixed ∷ filter (is_in segment) others) (filter (is_in segment) others))))
+        (sym e)
     go false e later =
         ap (λ b. made (kept_in segment (cond b (with_content opened fixed) opened) others) []) e
         ∙ later opened
         ∙ ap (λ b.
-        made opened (runs_kept (cond b (fixed ∷ filter (is_in segment) others) (filter (is_in segment) others)))) (sym e)
+        made opened
+        (runs_kept (cond b (fixed ∷ filter (is_in segment) others) (filter (is_in segment) others))))
+        (sym e)
 
 pub kept_fixes :
     (segment : Segment) (opened : Opened) (contents : List FixedContent)
@@ -185,19 +205,23 @@ kept_fixes segment opened (fixed ∷ others) =
     go true e later =
         ap (λ b. (kept_in segment (cond b (with_content opened fixed) opened) others).fixes) e
         ∙ later (with_content opened fixed)
-        ∙ ap (λ fixes. (fixes ++ fixes_by_place fixed) ++ flat_map fixes_by_place (filter (is_in segment) others))
+        ∙ ap (λ fixes. (fixes ++ fixes_by_place fixed)
+        ++ flat_map fixes_by_place (filter (is_in segment) others))
         (bytes_fixes opened (fixed.content).offset (fixed.content).bytes)
-        ∙ append_assoc opened.fixes (fixes_by_place fixed) (flat_map fixes_by_place (filter (is_in segment) others))
+        ∙ append_assoc opened.fixes (fixes_by_place fixed)
+        (flat_map fixes_by_place (filter (is_in segment) others))
         ∙ ap (λ b.
         opened.fixes
-        ++ flat_map fixes_by_place (cond b (fixed ∷ filter (is_in segment) others) (filter (is_in segment) others)))
+        ++ flat_map fixes_by_place
+        (cond b (fixed ∷ filter (is_in segment) others) (filter (is_in segment) others)))
         (sym e)
     go false e later =
         ap (λ b. (kept_in segment (cond b (with_content opened fixed) opened) others).fixes) e
         ∙ later opened
         ∙ ap (λ b.
         opened.fixes
-        ++ flat_map fixes_by_place (cond b (fixed ∷ filter (is_in segment) others) (filter (is_in segment) others)))
+        ++ flat_map fixes_by_place
+        (cond b (fixed ∷ filter (is_in segment) others) (filter (is_in segment) others)))
         (sym e)
 
 -- the runs and the fixes that are put together are those that are kept
@@ -223,7 +247,8 @@ fix_at_more [] fix offset = go (fix.offset == offset)
     go : (b : Bool) → cond b (Some fix) None ≡ cond (b && true) (Some fix) None
     go true = refl
     go false = refl
-fix_at_more (first ∷ others) fix offset = go (first.offset == offset) (fix.offset == offset) (fix_at_more others fix offset)
+fix_at_more (first ∷ others) fix offset =
+    go (first.offset == offset) (fix.offset == offset) (fix_at_more others fix offset)
   where
     none : (c : Bool) → Some first ≡ cond (c && false) (Some fix) (Some first)
     none true = refl
@@ -246,7 +271,8 @@ put_one fixes fix offset (suc count) =
     ap (λ rest.
     cond (fix.offset == offset && is_none (fix_at fixes offset)) (Some fix) (fix_at fixes offset) ∷ rest)
     (put_one fixes fix (offset + 1) count)
-    ∙ ap (λ slot. slot ∷ fix_table (fixes ++ fix ∷ []) (offset + 1) count) (sym (fix_at_more fixes fix offset))
+    ∙ ap (λ slot. slot ∷ fix_table (fixes ++ fix ∷ []) (offset + 1) count)
+    (sym (fix_at_more fixes fix offset))
 
 put_more :
     (before fixes : List Fix) (offset count : ℕ)

@@ -9,7 +9,8 @@ all_bytes (byte ∷ others) fit =
     let here : byte < 2 ^ 8 = (fit 0).fits in
     (omega (arith, here), all_bytes others (λ i. fit (suc i)))
 
-walk_spells : (bytes : List ℕ) (walking : Walking) → WalksOver bytes walking → Spells bytes (module_by walking)
+walk_spells : (bytes : List ℕ) (walking : Walking) → WalksOver bytes walking
+    → Spells bytes (module_by walking)
 walk_spells bytes walking over = record {
   parts = over.parts;
   file = over.file;
@@ -36,7 +37,8 @@ told_spells bytes walking object over is = subst (Spells bytes) (sym is) (walk_s
 
 pub told_written :
     (bytes : List ℕ) (walking : Walking) (read object : ObjectModule) → WalksOver bytes walking
-    → read ≡ module_by walking → IsObjectModule object → bytes ≡ text_of object → read ≡ with_publics_in_order object
+    → read ≡ module_by walking → IsObjectModule object → bytes ≡ text_of object
+    → read ≡ with_publics_in_order object
 told_written bytes walking read object over is valid text =
     written_read bytes read object (told_spells bytes walking read over is) valid text
 

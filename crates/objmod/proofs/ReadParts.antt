@@ -31,7 +31,8 @@ put_together_is size alignment segment contents =
     (fixes_put_together segment contents)
 
 segment_kept :
-    (size : ℕ) (alignment : Alignment) (segment : Segment) (contents : List FixedContent) (stored : StoredSegment)
+    (size : ℕ) (alignment : Alignment) (segment : Segment) (contents : List FixedContent)
+    (stored : StoredSegment)
     → SegmentFits size segment contents → stored ≡ put_together size alignment segment contents
     → IsStored segment stored
 segment_kept size alignment segment contents stored fits is =
@@ -39,7 +40,8 @@ segment_kept size alignment segment contents stored fits is =
     (kept_stored size alignment segment contents fits.placed fits.fit)
 
 segment_places :
-    (size : ℕ) (alignment : Alignment) (segment : Segment) (contents : List FixedContent) (stored : StoredSegment)
+    (size : ℕ) (alignment : Alignment) (segment : Segment) (contents : List FixedContent)
+    (stored : StoredSegment)
     → SegmentFits size segment contents → stored ≡ put_together size alignment segment contents
     → places_stored segment stored ≡ places_by contents segment alignment size
 segment_places size alignment segment contents stored fits is =
@@ -52,7 +54,8 @@ is_told :
 unfolding module_by
 is_told walking parts fits is =
     let code =
-    segment_places walking.code_length walking.code_alignment Code walking.contents parts.code fits.code is.code in
+    segment_places walking.code_length walking.code_alignment Code walking.contents parts.code
+    fits.code is.code in
     let data_places =
     segment_places walking.data_length walking.data_alignment Data walking.contents parts.data_bytes
     fits.data_bytes is.data_bytes in
@@ -100,7 +103,8 @@ pub are_kept :
     → IsPutTogether walking parts → AreKept parts
 are_kept walking parts object fits is = record {
   code =
-      segment_kept walking.code_length walking.code_alignment Code walking.contents parts.code fits.code is.code;
+      segment_kept walking.code_length walking.code_alignment Code walking.contents
+      parts.code fits.code is.code;
   data_places =
       segment_kept walking.data_length walking.data_alignment Data walking.contents parts.data_bytes
       fits.data_bytes is.data_bytes;

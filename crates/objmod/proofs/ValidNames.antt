@@ -15,7 +15,8 @@ pub all_same : (text : List ℕ) → list_all is_name_character text ≡ true �
 all_same [] h = refl
 all_same (c ∷ text) h =
     let parts = and_parts (is_name_character c) (list_all is_name_character text) h in
-    ap (λ b. map to_ascii_uppercase (cond b (c ∷ filter (λ b. not (b == 36)) text) (filter (λ b. not (b == 36)) text)))
+    ap (λ b. map to_ascii_uppercase (cond b (c ∷ filter (λ b. not (b == 36)) text)
+    (filter (λ b. not (b == 36)) text)))
     (kept c parts.0)
     ∙ ap (λ first. first ∷ name_of text) (same c parts.0)
     ∙ ap (λ rest. c ∷ rest) (all_same text parts.1)
@@ -23,10 +24,12 @@ all_same (c ∷ text) h =
 pub valid_name : (text : List ℕ) → is_name text ≡ true → name_of text ≡ text
 valid_name [] h = refl
 valid_name (first ∷ rest) h =
-    let parts = and_parts (is_ascii_uppercase first && list_all is_name_character rest) (nat_le (length rest) 30) h in
+    let parts =
+    and_parts (is_ascii_uppercase first && list_all is_name_character rest) (nat_le (length rest) 30) h in
     let front = and_parts (is_ascii_uppercase first) (list_all is_name_character rest) parts.0 in
     ap (λ b.
-    map to_ascii_uppercase (cond b (first ∷ filter (λ b. not (b == 36)) rest) (filter (λ b. not (b == 36)) rest)))
+    map to_ascii_uppercase
+    (cond b (first ∷ filter (λ b. not (b == 36)) rest) (filter (λ b. not (b == 36)) rest)))
     (kept first (letter first front.0))
     ∙ ap (λ c. c ∷ name_of rest) (same first (letter first front.0))
     ∙ ap (λ others. first ∷ others) (all_same rest front.1)

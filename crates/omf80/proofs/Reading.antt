@@ -3,10 +3,12 @@ use Rattle.omf80.proofs.Prelude.{◌≡◌, ℕ, zero, suc, ◌-◌, ◌%◌, �
 use Rattle.omf80.proofs.Conditions.{IsBytes}
 use Rattle.omf80.proofs.RecordLaws.{begins}
 
-hit : {F : Type 0} (holds : Bool) (fault : F) (others : List (Bool × F)) → holds ≡ true → first_that_holds ((holds, fault) ∷ others) ≡ Some fault
+hit : {F : Type 0} (holds : Bool) (fault : F) (others : List (Bool × F)) → holds ≡ true
+    → first_that_holds ((holds, fault) ∷ others) ≡ Some fault
 hit holds fault others e = ap (λ b. first_that_holds ((b, fault) ∷ others)) e
 
-skip : {F : Type 0} (holds : Bool) (fault : F) (others : List (Bool × F)) → holds ≡ false → first_that_holds ((holds, fault) ∷ others) ≡ first_that_holds others
+skip : {F : Type 0} (holds : Bool) (fault : F) (others : List (Bool × F)) → holds ≡ false
+    → first_that_holds ((holds, fault) ∷ others) ≡ first_that_holds others
 skip holds fault others e = ap (λ b. first_that_holds ((b, fault) ∷ others)) e
 
 abbrev from_fifth : List ℕ → List (Bool × Fault)
@@ -19,7 +21,8 @@ abbrev from_third : List ℕ → List (Bool × Fault)
 from_third bytes = (nat_lt (length bytes) (record_end bytes), Truncated) ∷ from_fourth bytes
 
 abbrev from_second : List ℕ → List (Bool × Fault)
-from_second bytes = (stated_length bytes == 0 || nat_lt 1028 (stated_length bytes), WrongLength) ∷ from_third bytes
+from_second bytes =
+    (stated_length bytes == 0 || nat_lt 1028 (stated_length bytes), WrongLength) ∷ from_third bytes
 
 -- what the conditions after some that don't hold give
 after_first : (bytes : List ℕ) → 3 ≤ length bytes → record_fault bytes ≡ first_that_holds (from_second bytes)
@@ -40,7 +43,8 @@ after_third :
     → record_end bytes ≤ length bytes → record_fault bytes ≡ first_that_holds (from_fourth bytes)
 after_third bytes h some limit fits =
     after_second bytes h some limit
-    ∙ skip (nat_lt (length bytes) (record_end bytes)) Truncated (from_fourth bytes) (le-ltb (length bytes) (record_end bytes) fits)
+    ∙ skip (nat_lt (length bytes) (record_end bytes)) Truncated (from_fourth bytes)
+    (le-ltb (length bytes) (record_end bytes) fits)
 
 after_fourth :
     (bytes : List ℕ) → 3 ≤ length bytes → 0 < stated_length bytes → stated_length bytes ≤ 1028
@@ -55,13 +59,15 @@ pub too_short : (bytes : List ℕ) → length bytes < 3 → record_fault bytes �
 unfolding record_fault
 too_short bytes h = hit (nat_lt (length bytes) 3) Truncated (from_second bytes) (lt-ltb (length bytes) 3 h)
 
-pub no_length : (bytes : List ℕ) → 3 ≤ length bytes → stated_length bytes ≡ 0 → record_fault bytes ≡ Some WrongLength
+pub no_length : (bytes : List ℕ) → 3 ≤ length bytes → stated_length bytes ≡ 0
+    → record_fault bytes ≡ Some WrongLength
 no_length bytes h none =
     after_first bytes h
     ∙ hit (stated_length bytes == 0 || nat_lt 1028 (stated_length bytes)) WrongLength (from_third bytes)
     (ap (λ b. b || nat_lt 1028 (stated_length bytes)) (eq-eqb (stated_length bytes) 0 none))
 
-pub too_long : (bytes : List ℕ) → 3 ≤ length bytes → 1028 < stated_length bytes → record_fault bytes ≡ Some WrongLength
+pub too_long : (bytes : List ℕ) → 3 ≤ length bytes → 1028 < stated_length bytes
+    → record_fault bytes ≡ Some WrongLength
 too_long bytes h long =
     let not_0 : (stated_length bytes == 0) ≡ false = ne_eqb (stated_length bytes) 0 (λ e. omega arith) in
     after_first bytes h
@@ -73,7 +79,8 @@ pub cut_off :
     → length bytes < record_end bytes → record_fault bytes ≡ Some Truncated
 cut_off bytes h some limit cut =
     after_second bytes h some limit
-    ∙ hit (nat_lt (length bytes) (record_end bytes)) Truncated (from_fourth bytes) (lt-ltb (length bytes) (record_end bytes) cut)
+    ∙ hit (nat_lt (length bytes) (record_end bytes)) Truncated (from_fourth bytes)
+    (lt-ltb (length bytes) (record_end bytes) cut)
 
 pub wrong_sum :
     (bytes : List ℕ) → 3 ≤ length bytes → 0 < stated_length bytes → stated_length bytes ≤ 1028
@@ -93,7 +100,8 @@ unknown_type bytes h some limit fits adds unknown =
     ∙ hit (is_none (kind_of_type (slice_index bytes 0))) UnknownType [] (ap is_none unknown)
 
 pub no_record_fault :
-    (bytes : List ℕ) (kind : RecordKind) → 3 ≤ length bytes → 0 < stated_length bytes → stated_length bytes ≤ 1028
+    (bytes : List ℕ) (kind : RecordKind) → 3 ≤ length bytes → 0 < stated_length bytes
+    → stated_length bytes ≤ 1028
     → record_end bytes ≤ length bytes → sum (take (record_end bytes) bytes) % 256 ≡ 0
     → kind_of_type (slice_index bytes 0) ≡ Some kind → record_fault bytes ≡ None
 no_record_fault bytes kind h some limit fits adds known =
@@ -151,7 +159,8 @@ begins_as bytes body rest kind end each none known end_is within some body_is re
     ∙ sym (body_is ∙ ap (λ n. take n (drop 3 bytes)) inner) in
     let left : length (drop end bytes) ≤ length bytes - end = omega (arith, length-drop end bytes) in
     let after : drop (record_end bytes) bytes ≡ rest =
-    ap (λ n. drop n bytes) (sym end_is) ∙ sym (rest_is ∙ all_taken (length bytes - end) (drop end bytes) left) in
+    ap (λ n. drop n bytes) (sym end_is)
+    ∙ sym (rest_is ∙ all_taken (length bytes - end) (drop end bytes) left) in
     let b = begins_with bytes kind each none known in
     subst (λ r. BeginsWith bytes (record { kind = kind; body = body }) r) after
     (subst (λ f. BeginsWith bytes (record { kind = kind; body = f }) (drop (record_end bytes) bytes)) first b)

@@ -56,7 +56,8 @@ begins_at type low high m tail kind all stated limit fits adds found =
     let whole : sum (front ++ s.item ∷ []) % 256 ≡ 0 =
     ap (λ r. sum (type ∷ low ∷ high ∷ r) % 256) (sym s.before) ∙ adds in
     let sum_is : s.item ≡ checksum_of front = checksum_is front s.item (s.is_byte all.1.1.1) whole in
-    let type_is : type_byte kind ≡ type = eqb-true (type_byte kind) type (find_passes (λ k. type_byte k == type) kinds kind found) in
+    let type_is : type_byte kind ≡ type =
+    eqb-true (type_byte kind) type (find_passes (λ k. type_byte k == type) kinds kind found) in
     let word : word_bytes (length (take m tail) + 1) ≡ low ∷ high ∷ [] =
     ap word_bytes (let w : length (take m tail) + 1 ≡ low + 256 * high = omega arith in w)
     ∙ word_is low high all.1.0 all.1.1.0 in
@@ -90,7 +91,8 @@ begins (type ∷ low ∷ high ∷ tail) all h =
     let is_wrong : Bool = not (sum (take (record_end bytes) bytes) % 256 == 0) in
     let from_fifth : List (Bool × Fault) = (is_none (kind_of_type type), UnknownType) ∷ [] in
     let from_fourth : List (Bool × Fault) = (is_wrong, WrongSum) ∷ from_fifth in
-    let from_third : List (Bool × Fault) = (nat_lt (length bytes) (record_end bytes), Truncated) ∷ from_fourth in
+    let from_third : List (Bool × Fault) =
+    (nat_lt (length bytes) (record_end bytes), Truncated) ∷ from_fourth in
     let from_second : List (Bool × Fault) = (stated == 0 || nat_lt 1028 stated, WrongLength) ∷ from_third in
     let first = none_holds (nat_lt (length bytes) 3) Truncated from_second h in
     let second = none_holds (stated == 0 || nat_lt 1028 stated) WrongLength from_third first.1 in
@@ -102,7 +104,8 @@ begins (type ∷ low ∷ high ∷ tail) all h =
     let limit : stated ≤ 1028 = ltb-false 1028 stated limits.1 in
     let fits : record_end bytes ≤ length bytes = ltb-false (length bytes) (record_end bytes) third.0 in
     let adds : sum (take (record_end bytes) bytes) % 256 ≡ 0 =
-    eqb-true (sum (take (record_end bytes) bytes) % 256) 0 (not-false (sum (take (record_end bytes) bytes) % 256 == 0) fourth.0) in
+    eqb-true (sum (take (record_end bytes) bytes) % 256) 0
+    (not-false (sum (take (record_end bytes) bytes) % 256 == 0) fourth.0) in
     let kind = kind_there (kind_of_type type) fifth.0 in
     go stated refl positive limit fits adds kind
   where

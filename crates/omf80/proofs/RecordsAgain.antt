@@ -29,15 +29,20 @@ pub record ReadAgain (kind : RecordKind) (body rest bytes : List ℕ) : Type 0 w
 abbrev spelled : RecordKind → List ℕ → List ℕ → List ℕ
 spelled kind body rest =
     type_byte kind ∷ (length body + 1) % 256 ∷ (length body + 1) / 256 ∷
-    ((body ++ checksum_of (type_byte kind ∷ (length body + 1) % 256 ∷ (length body + 1) / 256 ∷ body) ∷ []) ++ rest)
+    ((body ++ checksum_of (type_byte kind ∷ (length body + 1) % 256 ∷ (length body + 1) / 256 ∷ body) ∷ [])
+    ++ rest)
 
-record_end_is : (kind : RecordKind) (body rest : List ℕ) → record_end (spelled kind body rest) ≡ suc (suc (suc (suc (length body))))
+record_end_is : (kind : RecordKind) (body rest : List ℕ)
+    → record_end (spelled kind body rest) ≡ suc (suc (suc (suc (length body))))
 record_end_is kind body rest = omega arith
 
 with_sum : (body : List ℕ) (last : ℕ) → length (body ++ last ∷ []) ≡ suc (length body)
-with_sum body last = let l : length (body ++ last ∷ []) ≡ length body + length (last ∷ []) = length-append body (last ∷ []) in omega arith
+with_sum body last =
+    let l : length (body ++ last ∷ []) ≡ length body + length (last ∷ []) = length-append body (last ∷ []) in
+    omega arith
 
-read_spelled : (kind : RecordKind) (body rest : List ℕ) → length body ≤ BODY_LIMIT → ReadAgain kind body rest (spelled kind body rest)
+read_spelled : (kind : RecordKind) (body rest : List ℕ) → length body ≤ BODY_LIMIT
+    → ReadAgain kind body rest (spelled kind body rest)
 unfolding record_fault
 read_spelled kind body rest limit =
     let low : ℕ = (length body + 1) % 256 in
@@ -50,7 +55,8 @@ read_spelled kind body rest limit =
     let stated_is : stated ≡ suc (length body) = omega arith in
     let end : record_end bytes ≡ suc (suc (suc (suc (length body)))) = record_end_is kind body rest in
     let before_last : record_end bytes - 1 ≡ suc (suc (suc (length body))) = omega arith in
-    let longer : length tail ≡ length (body ++ last ∷ []) + length rest = length-append (body ++ last ∷ []) rest in
+    let longer : length tail ≡ length (body ++ last ∷ []) + length rest =
+    length-append (body ++ last ∷ []) rest in
     let with_last : length (body ++ last ∷ []) ≡ suc (length body) = with_sum body last in
     let cut : take (suc (length body)) tail ≡ body ++ last ∷ [] =
     take_at (body ++ last ∷ []) rest (suc (length body)) with_last in
@@ -62,21 +68,25 @@ read_spelled kind body rest limit =
     let is_wrong : Bool = not (sum (take (record_end bytes) bytes) % 256 == 0) in
     let from_fifth : List (Bool × Fault) = (is_none (kind_of_type (type_byte kind)), UnknownType) ∷ [] in
     let from_fourth : List (Bool × Fault) = (is_wrong, WrongSum) ∷ from_fifth in
-    let from_third : List (Bool × Fault) = (nat_lt (length bytes) (record_end bytes), Truncated) ∷ from_fourth in
+    let from_third : List (Bool × Fault) =
+    (nat_lt (length bytes) (record_end bytes), Truncated) ∷ from_fourth in
     let from_second : List (Bool × Fault) = (stated == 0 || nat_lt 1028 stated, WrongLength) ∷ from_third in
     let fifth : first_that_holds from_fifth ≡ None =
     none_of (is_none (kind_of_type (type_byte kind))) UnknownType [] (ap is_none (kind_again kind)) refl in
     let fourth : first_that_holds from_fourth ≡ None =
-    none_of is_wrong WrongSum from_fifth (ap not (eq-eqb (sum (take (record_end bytes) bytes) % 256) 0 adds)) fifth in
+    none_of is_wrong WrongSum from_fifth
+    (ap not (eq-eqb (sum (take (record_end bytes) bytes) % 256) 0 adds)) fifth in
     let third : first_that_holds from_third ≡ None =
     none_of (nat_lt (length bytes) (record_end bytes)) Truncated from_fourth
     (le-ltb (length bytes) (record_end bytes) (omega arith)) fourth in
     let second : first_that_holds from_second ≡ None =
     none_of (stated == 0 || nat_lt 1028 stated) WrongLength from_third
-    (ap (λ b. b || nat_lt 1028 stated) (ne_eqb stated 0 (λ e. omega arith)) ∙ le-ltb 1028 stated (omega arith)) third in
+    (ap (λ b. b || nat_lt 1028 stated) (ne_eqb stated 0 (λ e. omega arith))
+    ∙ le-ltb 1028 stated (omega arith)) third in
     record {
       no_fault =
-          none_of (nat_lt (length bytes) 3) Truncated from_second (le-ltb (length bytes) 3 (omega arith)) second;
+          none_of (nat_lt (length bytes) 3) Truncated from_second
+          (le-ltb (length bytes) 3 (omega arith)) second;
       of_type = kind_again kind;
       body_is =
           ap (λ n. drop 3 (take n bytes)) before_last

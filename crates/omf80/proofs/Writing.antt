@@ -66,7 +66,8 @@ module _ (a b c d : Option (List ℕ)) where
     sent,
     (
       begins.0 ++ (body ++ last),
-      e ∙ append_assoc heading body last ∙ ap (λ h. h ++ (body ++ last)) begins.1 ∙ append_assoc sent begins.0 (body ++ last),
+      e ∙ append_assoc heading body last ∙ ap (λ h. h ++ (body ++ last)) begins.1
+          ∙ append_assoc sent begins.0 (body ++ last),
     ),
     appended,
   )

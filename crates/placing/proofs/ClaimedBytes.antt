@@ -38,7 +38,8 @@ first_claim start end before after within some free rest =
           (λ (apart : a ≡ start → ⊥). sym (other a apart) ∙ rest.free a (omega (arith, apart)) high)
           (cases_eq a start);
       marked = λ a low high. ⊎_elim
-          (λ (at : a ≡ start). ap (λ n. get_or after n false) at ∙ rest.below start (omega arith) ∙ get_or-set_same before start true false within)
+          (λ (at : a ≡ start). ap (λ n. get_or after n false) at ∙ rest.below start (omega arith)
+          ∙ get_or-set_same before start true false within)
           (λ (apart : a ≡ start → ⊥). rest.marked a (omega (arith, apart)) high)
           (cases_eq a start);
       below = λ a low. rest.below a (omega arith) ∙ other a (λ at. omega (arith, at));
@@ -71,7 +72,8 @@ bytes_claimed zero start before after within is =
     rw none (no_claim start before after (same_table before after is))
 bytes_claimed (suc count) start before after within is =
     bytes_first count start before after within
-    (bytes_claimed count (suc start) (set before start true) after (omega (arith, length-set before start true)))
+    (bytes_claimed count (suc start) (set before start true) after
+    (omega (arith, length-set before start true)))
     (get_or before start false) refl is
 
 -- free bytes can be claimed
@@ -85,7 +87,8 @@ bytes_can (suc count) start before within free =
     let here : get_or before start false ≡ false = free start (omega arith) (omega arith) in
     let rest = bytes_can count (suc start) (set before start true)
     (omega (arith, length-set before start true))
-    (λ a low high. get_or-set_other before start a true false (λ at. omega (arith, at)) ∙ free a (omega arith) (omega arith)) in
+    (λ a low high. get_or-set_other before start a true false (λ at. omega (arith, at))
+    ∙ free a (omega arith) (omega arith)) in
     (rest.0, ap (λ (taken : Bool). if taken then None else claim_bytes count (suc start) (set before start true)) here ∙ rest.1)
 
 pub between_claimed :
@@ -145,7 +148,8 @@ each_claimed :
     → are_claimed count start table ≡ true
 each_claimed zero start table each = refl
 each_claimed (suc count) start table each =
-    ap (λ (taken : Bool). taken && are_claimed count (suc start) table) (each start (omega arith) (omega arith))
+    ap (λ (taken : Bool). taken && are_claimed count (suc start) table)
+    (each start (omega arith) (omega arith))
     ∙ each_claimed count (suc start) table (λ a low high. each a (omega arith) (omega arith))
 
 pub between_all :

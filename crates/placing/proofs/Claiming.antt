@@ -9,11 +9,13 @@ module _ (address end : ℕ) (table : List Bool) (all : Option (List Bool)) wher
       (taken : Bool)
       → get_or table address false ≡ taken
       → address < end
-      → claim_between address end table ≡ (if taken then None else claim_between (suc address) end (set table address true))
+      → claim_between address end table
+      ≡ (if taken then None else claim_between (suc address) end (set table address true))
   unfolding claim_between
   step taken is below =
       ap (λ n. claim_bytes n address table) (one_more address end below)
-      ∙ ap (λ (b : Bool). if b then None else claim_bytes (end - suc address) (suc address) (set table address true)) is
+      ∙ ap (λ (b : Bool). if b then None else claim_bytes (end - suc address) (suc address)
+      (set table address true)) is
 
   pub claim_next :
       claim_between address end table ≡ all
@@ -84,17 +86,21 @@ pub meets_decides : (left right : Range) → Decides (ranges_meet left right) (M
 unfolding ranges_meet
 meets_decides left right = (
   (λ is.
-      let below = ltb-true (max left.start right.start) (min (left.start + left.len) (right.start + right.len)) is in
+      let below =
+      ltb-true (max left.start right.start) (min (left.start + left.len) (right.start + right.len)) is in
       (max left.start right.start, (omega arith, omega arith), (omega arith, omega arith))),
   (λ both.
       let first = both.1 in
       let second = both.2 in
-      lt-ltb (max left.start right.start) (min (left.start + left.len) (right.start + right.len)) (omega arith)),
+      lt-ltb (max left.start right.start)
+      (min (left.start + left.len) (right.start + right.len)) (omega arith)),
 )
 
 pub meets_same :
-    (result : Bool) (left right : Range) → (IsTrue result ↔ Meets left right) → result ≡ ranges_meet left right
-meets_same result left right decides = same_from_decides result (ranges_meet left right) decides (meets_decides left right)
+    (result : Bool) (left right : Range) → (IsTrue result ↔ Meets left right)
+    → result ≡ ranges_meet left right
+meets_same result left right decides =
+    same_from_decides result (ranges_meet left right) decides (meets_decides left right)
 
 -- what has more bytes than memory
 pub long_list :
@@ -107,7 +113,8 @@ long_variables :
     (code stack : Range) (start size : ℕ) (table : List Bool)
     → 65536 < size
     → claim_by_kind code stack StaticPiece (range_of start size) table ≡ None
-long_variables code stack start size table long = rw (ends_past_memory (range_of start size) (omega arith)) refl
+long_variables code stack start size table long =
+    rw (ends_past_memory (range_of start size) (omega arith)) refl
 
 -- a size that stops at the greatest number of 32 bits
 pub capped_variables :
@@ -116,7 +123,8 @@ pub capped_variables :
     ≡ claim_by_kind code stack StaticPiece (range_of start size) table
 capped_variables code stack start size table =
     elim (dec_le size 4294967295) [
-      | yes small ↦ ap (λ n. claim_by_kind code stack StaticPiece (range_of start n) table) (let e : min size 4294967295 ≡ size = omega (arith, small) in e)
+      | yes small ↦ ap (λ n. claim_by_kind code stack StaticPiece (range_of start n) table)
+          (let e : min size 4294967295 ≡ size = omega (arith, small) in e)
       | no large ↦
           long_variables code stack start (min size 4294967295) table (omega (arith, large))
           ∙ sym (long_variables code stack start size table (omega (arith, large)))
@@ -128,7 +136,8 @@ pub capped_constants :
     ≡ claim_by_kind code stack ConstantPiece (range_of start size) table
 capped_constants code stack start size table =
     elim (dec_le size 4294967295) [
-      | yes small ↦ ap (λ n. claim_by_kind code stack ConstantPiece (range_of start n) table) (let e : min size 4294967295 ≡ size = omega (arith, small) in e)
+      | yes small ↦ ap (λ n. claim_by_kind code stack ConstantPiece (range_of start n) table)
+          (let e : min size 4294967295 ≡ size = omega (arith, small) in e)
       | no large ↦
           long_list code stack start (min size 4294967295) table (omega (arith, large))
           ∙ sym (long_list code stack start size table (omega (arith, large)))
@@ -147,7 +156,8 @@ pub capped_at :
     ≡ may_lie_at code stack table (range_of start size)
 capped_at code stack start size table =
     elim (dec_le size 4294967295) [
-      | yes small ↦ ap (λ n. may_lie_at code stack table (range_of start n)) (let e : min size 4294967295 ≡ size = omega (arith, small) in e)
+      | yes small ↦ ap (λ n. may_lie_at code stack table (range_of start n))
+          (let e : min size 4294967295 ≡ size = omega (arith, small) in e)
       | no large ↦
           past_at code stack start (min size 4294967295) table (omega (arith, large))
           ∙ sym (past_at code stack start size table (omega (arith, large)))

@@ -26,7 +26,9 @@ module _ (a : ℕ) where
   constants_have pieces = some_weaker (ConstantByte a) (HasByte a) constant_has pieces
 
   statics_have : (pieces : List PlacedPiece) → Some_of (StaticByte a) pieces → HaveByte a pieces
-  statics_have pieces = some_weaker (StaticByte a) (HasByte a) (λ (piece : PlacedPiece) (static : StaticByte a piece). (static.own, static.inside)) pieces
+  statics_have pieces =
+      some_weaker (StaticByte a) (HasByte a)
+      (λ (piece : PlacedPiece) (static : StaticByte a piece). (static.own, static.inside)) pieces
 
   -- a byte of a variable is no constant
   static_apart :
@@ -41,8 +43,10 @@ module _ (a : ℕ) where
   static_apart (piece ∷ pieces) pairs (inl static) (inr constant) =
       no_byte_of piece pieces (pairs.0 static.own) a static.inside (constants_have pieces constant)
   static_apart (piece ∷ pieces) pairs (inr static) (inl constant) =
-      no_byte_of piece pieces (pairs.0 (constant_own piece constant.0)) a constant.1 (statics_have pieces static)
-  static_apart (piece ∷ pieces) pairs (inr static) (inr constant) = static_apart pieces pairs.1 static constant
+      no_byte_of piece pieces (pairs.0 (constant_own piece constant.0)) a constant.1
+      (statics_have pieces static)
+  static_apart (piece ∷ pieces) pairs (inr static) (inr constant) =
+      static_apart pieces pairs.1 static constant
 
 module _ (code stack : Range) (code_apart : ¬ Meets code stack) where
   one_own_in_stack :
@@ -54,10 +58,12 @@ module _ (code stack : Range) (code_apart : ¬ Meets code stack) where
       → ⊥
   one_own_in_stack StaticPiece range may a has in_stack =
       ranges_apart range stack
-      (each_of_three (ends_in_memory range) (not (ranges_meet range code)) (not (ranges_meet range stack)) may).2
+      (each_of_three (ends_in_memory range) (not (ranges_meet range code))
+      (not (ranges_meet range stack)) may).2
       a has.1 in_stack
   one_own_in_stack ConstantPiece range may a has in_stack =
-      code_apart (a, within code range (and_parts (ends_in_memory range) (is_within code range) may).1 a has.1, in_stack)
+      code_apart
+      (a, within code range (and_parts (ends_in_memory range) (is_within code range) may).1 a has.1, in_stack)
   one_own_in_stack AtPiece range may a has in_stack = true≢false (sym has.0)
 
   own_in_stack :
@@ -67,7 +73,8 @@ module _ (code stack : Range) (code_apart : ¬ Meets code stack) where
       → IsIn a stack
       → ⊥
   own_in_stack a [] may have in_stack = absurd have
-  own_in_stack a (piece ∷ pieces) may (inl has) in_stack = one_own_in_stack piece.kind piece.range may.0 a has in_stack
+  own_in_stack a (piece ∷ pieces) may (inl has) in_stack =
+      one_own_in_stack piece.kind piece.range may.0 a has in_stack
   own_in_stack a (piece ∷ pieces) may (inr have) in_stack = own_in_stack a pieces may.1 have in_stack
 
   module _ (pieces : List PlacedPiece) (lawful : LieLawfully code stack pieces) where
@@ -84,12 +91,14 @@ module _ (code stack : Range) (code_apart : ¬ Meets code stack) where
     stands : (k : ℕ) (d : PlacedPiece) → k < length pieces → Stands (get_or pieces k d)
     unfolding Stands
     stands k d below P holds =
-        some_at P pieces k (get_or pieces k d) below (get_or_default pieces k (get_or pieces k d) d below) holds
+        some_at P pieces k (get_or pieces k d) below
+        (get_or_default pieces k (get_or pieces k d) d below) holds
 
     one_of : (piece : PlacedPiece) (a : ℕ) → Stands piece → IsIn a piece.range → IsOneOf pieces a
     unfolding Stands
     one_of piece a stands inside =
-        any_from_some (λ (piece : PlacedPiece). IsIn a piece.range) pieces (stands (λ (piece : PlacedPiece). IsIn a piece.range) inside)
+        any_from_some (λ (piece : PlacedPiece). IsIn a piece.range) pieces
+        (stands (λ (piece : PlacedPiece). IsIn a piece.range) inside)
 
     no_constant :
         (range : Range) (a : ℕ)
@@ -106,15 +115,18 @@ module _ (code stack : Range) (code_apart : ¬ Meets code stack) where
         (kind : PieceKind) (range : Range)
         → Stands (record { kind = kind; range = range })
         → EndsInMemory range
-        → (is_constant_piece (record { kind = kind; range = range }) ≡ true → (a : ℕ) → IsIn a range → IsIn a code)
+        → (is_constant_piece (record { kind = kind; range = range }) ≡ true → (a : ℕ)
+        → IsIn a range → IsIn a code)
         → allowed code stack kind range ≡ true
     one_may StaticPiece range stands ends constant =
         all_three (ends_in_memory range) (not (ranges_meet range code)) (not (ranges_meet range stack))
         (ends_true range ends)
         (apart_true range code (λ a inside in_code.
-        lawful.not_in_code a (one_of (record { kind = StaticPiece; range = range }) a stands inside) (no_constant range a stands inside) in_code))
+        lawful.not_in_code a (one_of (record { kind = StaticPiece; range = range }) a stands inside)
+        (no_constant range a stands inside) in_code))
         (apart_true range stack (λ a inside in_stack.
-        lawful.not_in_stack a (one_of (record { kind = StaticPiece; range = range }) a stands inside) (no_constant range a stands inside) in_stack))
+        lawful.not_in_stack a (one_of (record { kind = StaticPiece; range = range }) a stands inside)
+        (no_constant range a stands inside) in_stack))
     one_may ConstantPiece range stands ends constant =
         and_from (ends_in_memory range) (is_within code range) (ends_true range ends)
         (within_true code range (constant refl))
@@ -122,7 +134,8 @@ module _ (code stack : Range) (code_apart : ¬ Meets code stack) where
 
     constants : All (λ (piece : PlacedPiece). is_constant_piece piece ≡ true → LiesIn code piece) pieces
     constants =
-        All-from_recursion (λ (piece : PlacedPiece). is_constant_piece piece ≡ true → LiesIn code piece) pieces
+        All-from_recursion (λ (piece : PlacedPiece). is_constant_piece piece ≡ true → LiesIn code piece)
+        pieces
         (all_of_filter is_constant_piece (LiesIn code) pieces lawful.constants_in_code)
 
     may_lie : AllByRecursion (MayLie code stack) pieces
@@ -147,7 +160,8 @@ module _ (code stack : Range) (code_apart : ¬ Meets code stack) where
       taken_not_in_stack : (a : ℕ) → get_or table a false ≡ true → IsIn a stack → ⊥
       taken_not_in_stack a taken in_stack =
           ⊎_elim
-          (λ (before : get_or unclaimed a false ≡ true). false_true (get_or unclaimed a false) (unclaimed_free a) before)
+          (λ (before : get_or unclaimed a false ≡ true). false_true (get_or unclaimed a false)
+          (unclaimed_free a) before)
           (λ (have : HaveByte a pieces). own_in_stack a pieces may_lie have in_stack)
           (claimed.came a taken)
 
@@ -182,12 +196,14 @@ module _ (code stack : Range) (code_apart : ¬ Meets code stack) where
       one_at ConstantPiece range stands ends = tt
       one_at AtPiece range stands ends =
           all_three (ends_in_memory range) (not (ranges_meet range stack))
-          (claimed_between (max range.start code.start) (min (range.start + range.len) (code.start + code.len)) table)
+          (claimed_between (max range.start code.start)
+          (min (range.start + range.len) (code.start + code.len)) table)
           (ends_true range ends)
           (apart_true range stack (λ a inside in_stack.
           one_not_in_stack a (one_of (record { kind = AtPiece; range = range }) a stands inside) in_stack
           (get_or table a false) refl))
-          (between_each (max range.start code.start) (min (range.start + range.len) (code.start + code.len)) table
+          (between_each (max range.start code.start)
+          (min (range.start + range.len) (code.start + code.len)) table
           (λ a low high.
           let inside : IsIn a range = (omega arith, omega arith) in
           let in_code : IsIn a code = (omega arith, omega arith) in

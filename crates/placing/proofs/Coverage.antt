@@ -97,7 +97,8 @@ covered_with tables (piece ∷ others) address within in_memory =
     (subst (λ n. address < n) (sym (length-set tables.all piece.range.start _)) within) in_memory
     ∙ ap (λ is. is || list_any (holds_byte address) others)
     (covered_raised tables.all piece address within in_memory)
-    ∙ or_assoc (is_covered tables.all address) (holds_byte address piece) (list_any (holds_byte address) others)
+    ∙ or_assoc (is_covered tables.all address) (holds_byte address piece)
+    (list_any (holds_byte address) others)
 
 constant_with :
     (tables : ReachTables) (pieces : List PlacedPiece) (address : ℕ)
@@ -120,7 +121,8 @@ constant_with tables (piece ∷ others) address within in_memory =
         ≡ (is_covered (with_end tables piece.range.start (end_of piece.range) taken).constants address
         || list_any (holds_byte address) (filter is_constant_piece others)))
         → is_covered
-        (with_pieces (with_end tables piece.range.start (end_of piece.range) is_constant) others).constants address
+        (with_pieces (with_end tables piece.range.start (end_of piece.range) is_constant) others).constants
+        address
         ≡ (is_covered tables.constants address
         || list_any (holds_byte address)
         (cond is_constant (piece ∷ filter is_constant_piece others) (filter is_constant_piece others)))

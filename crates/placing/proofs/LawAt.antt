@@ -20,7 +20,8 @@ may_lie :
     → may_not_lie code stack range ≡ false
     → InPlace code_part data_part code stack (record { kind = AtPiece; range = range })
 may_lie code_part data_part code stack range fine =
-    let each : (passes_memory range ≡ false) × (overlaps range code ≡ false) × (overlaps range stack ≡ false) =
+    let each : (passes_memory range ≡ false) × (overlaps range code ≡ false)
+    × (overlaps range stack ≡ false) =
     three_false (passes_memory range) (overlaps range code) (overlaps range stack) fine in
     record {
       ends = range_in_memory range each.0;
@@ -37,30 +38,40 @@ in_place_by_home :
     (object : TypedObject) (home : Home) (pieces : List PlacedPiece) (slots : List Slot)
     → ((at : AtAddress)
     → home ≡ Placed at
-    → may_not_lie code stack (range_of (address_at_here bases before in_data in_code object home) (size_of_object object)) ≡ false)
+    → may_not_lie code stack
+    (range_of (address_at_here bases before in_data in_code object home) (size_of_object object)) ≡ false)
     → (AllByRecursion (λ slot. InPlace code_part data_part code stack (slot_piece bases slot)) slots
     → AllByRecursion (InPlace code_part data_part code stack) pieces)
     → AllByRecursion (λ slot. InPlace code_part data_part code stack (slot_piece bases slot))
     (cons_option (slot_at in_data in_code object home) slots)
     → AllByRecursion (InPlace code_part data_part code stack)
-    (cons_option (option_map (piece_of (address_at_here bases before in_data in_code object home) object) (kind_of home)) pieces)
-in_place_by_home code_part data_part code stack bases before in_data in_code object (InData values) pieces slots at rest all =
+    (cons_option (option_map (piece_of (address_at_here bases before in_data in_code object home) object)
+    (kind_of home)) pieces)
+in_place_by_home code_part data_part code stack bases before in_data in_code object (InData values)
+    pieces slots at rest all =
     (all.0, rest all.1)
-in_place_by_home code_part data_part code stack bases before in_data in_code object (InConstants values) pieces slots at rest all =
+in_place_by_home code_part data_part code stack bases before in_data in_code object (InConstants values)
+    pieces slots at rest all =
     (all.0, rest all.1)
-in_place_by_home code_part data_part code stack bases before in_data in_code object (Placed where_at) pieces slots at rest all = (
-  may_lie code_part data_part code stack
-      (range_of (address_at_here bases before in_data in_code object (Placed where_at)) (size_of_object object))
-      (at where_at refl),
-  rest all,
-)
-in_place_by_home code_part data_part code stack bases before in_data in_code object (BasedOn base) pieces slots at rest all =
+in_place_by_home code_part data_part code stack bases before in_data in_code object (Placed where_at) pieces
+    slots at rest all = (
+      may_lie code_part data_part code stack
+          (range_of (address_at_here bases before in_data in_code object (Placed where_at))
+          (size_of_object object))
+          (at where_at refl),
+      rest all,
+    )
+in_place_by_home code_part data_part code stack bases before in_data in_code object (BasedOn base)
+    pieces slots at rest all =
     rest all
-in_place_by_home code_part data_part code stack bases before in_data in_code object Elsewhere pieces slots at rest all =
+in_place_by_home code_part data_part code stack bases before in_data in_code object Elsewhere
+    pieces slots at rest all =
     rest all
-in_place_by_home code_part data_part code stack bases before in_data in_code object Nowhere pieces slots at rest all =
+in_place_by_home code_part data_part code stack bases before in_data in_code object Nowhere
+    pieces slots at rest all =
     rest all
-in_place_by_home code_part data_part code stack bases before in_data in_code object (InFrame procedure) pieces slots at rest all =
+in_place_by_home code_part data_part code stack bases before in_data in_code object (InFrame procedure)
+    pieces slots at rest all =
     rest all
 
 -- what is not misplaced and has AT may lie where it does
@@ -91,7 +102,8 @@ objects_in_place code_part data_part code stack typed bases before number in_dat
     (placed_from typed bases after (number + 1) (in_data + bytes_in_data object.home object) others))
     (all_slots (slots_of typed (number + 1) (in_data + bytes_in_data object.home object) others))
     (not_misplaced code stack object object.home
-    (range_of (address_here typed bases before number in_data object object.home) (size_of_object object)) fine.0)
+    (range_of (address_here typed bases before number in_data object object.home) (size_of_object object))
+    fine.0)
     (λ rest.
     objects_in_place code_part data_part code stack typed bases after (number + 1)
     (in_data + bytes_in_data object.home object) others fine.1 rest)
@@ -105,18 +117,22 @@ at_by_home :
     → number ≡ length before
     → LooksBack number home
     → LiesByHome placed (address_at_here bases before in_data in_code object home) home
-at_by_home placed bases before rest number in_data in_code object (Placed (AtNumber address)) whole number_is looks =
+at_by_home placed bases before rest number in_data in_code object (Placed (AtNumber address))
+    whole number_is looks =
     refl
-at_by_home placed bases before rest number in_data in_code object (Placed (AtObject other offset)) whole number_is looks =
+at_by_home placed bases before rest number in_data in_code object (Placed (AtObject other offset))
+    whole number_is looks =
     ap (λ address. (address + offset) % 65536)
     (sym (ap (λ addresses. slice_index addresses other) (sym whole)
     ∙ get_or_append_left before rest 0 other (subst (λ n. other < n) number_is looks)))
 at_by_home placed bases before rest number in_data in_code object (InData values) whole number_is looks = tt
-at_by_home placed bases before rest number in_data in_code object (InConstants values) whole number_is looks = tt
+at_by_home placed bases before rest number in_data in_code object (InConstants values) whole number_is looks =
+    tt
 at_by_home placed bases before rest number in_data in_code object (BasedOn base) whole number_is looks = tt
 at_by_home placed bases before rest number in_data in_code object Elsewhere whole number_is looks = tt
 at_by_home placed bases before rest number in_data in_code object Nowhere whole number_is looks = tt
-at_by_home placed bases before rest number in_data in_code object (InFrame procedure) whole number_is looks = tt
+at_by_home placed bases before rest number in_data in_code object (InFrame procedure) whole number_is looks =
+    tt
 
 pub objects_where_at_says :
     (placed : ModulePlacement) (typed : TypedModule) (bases : Bases) (before : List ℕ) (number in_data : ℕ)
@@ -131,9 +147,11 @@ objects_where_at_says placed typed bases before number in_data [] whole number_i
 objects_where_at_says placed typed bases before number in_data (object ∷ others) whole number_is looks =
     let address : ℕ = address_here typed bases before number in_data object object.home in
     let rest : List ℕ =
-    addresses_from typed bases (before ++ address ∷ []) (number + 1) (in_data + bytes_in_data object.home object)
+    addresses_from typed bases (before ++ address ∷ []) (number + 1)
+    (in_data + bytes_in_data object.home object)
     others in (
-      at_by_home placed bases before (address ∷ rest) number in_data (constants_before typed (is_object number))
+      at_by_home placed bases before (address ∷ rest) number in_data
+          (constants_before typed (is_object number))
           object object.home whole number_is looks.0,
       objects_where_at_says placed typed bases (before ++ address ∷ []) (number + 1)
           (in_data + bytes_in_data object.home object) others
@@ -149,7 +167,8 @@ length_addresses typed bases before number in_data [] = refl
 length_addresses typed bases before number in_data (object ∷ others) =
     one_more
     (length
-    (addresses_from typed bases (before ++ address_here typed bases before number in_data object object.home ∷ [])
+    (addresses_from typed bases (before
+    ++ address_here typed bases before number in_data object object.home ∷ [])
     (number + 1) (in_data + bytes_in_data object.home object) others))
     (length others)
     (length_addresses typed bases

@@ -15,9 +15,11 @@ placed_from typed bases before number in_data objects =
     zip objects (addresses_from typed bases before number in_data objects)
 
 -- the address of the object that stands first
-abbrev pub address_here : TypedModule → Bases → (before : List ℕ) → (number in_data : ℕ) → TypedObject → Home → ℕ
+abbrev pub address_here : TypedModule → Bases → (before : List ℕ) → (number in_data : ℕ)
+    → TypedObject → Home → ℕ
 address_here typed bases before number in_data object home =
-    address_by_home bases before (slot_at in_data (constants_before typed (is_object number)) object home) home
+    address_by_home bases before (slot_at in_data (constants_before typed (is_object number)) object home)
+    home
 
 -- the pieces with a place of their own are those of the slots
 own_by_home :
@@ -27,7 +29,8 @@ own_by_home :
     → filter has_own_place
     (cons_option
     (option_map
-    (piece_of (address_by_home bases before (slot_at in_data in_code object home) home) object) (kind_of home))
+    (piece_of (address_by_home bases before (slot_at in_data in_code object home) home) object)
+    (kind_of home))
     pieces)
     ≡ map (slot_piece bases) (cons_option (slot_at in_data in_code object home) slots)
 own_by_home bases before in_data in_code object (InData values) pieces slots same =
@@ -50,10 +53,12 @@ own_objects typed bases before number in_data [] = refl
 own_objects typed bases before number in_data (object ∷ others) =
     own_by_home bases before in_data (constants_before typed (is_object number)) object object.home
     (filter_map object_piece
-    (placed_from typed bases (before ++ address_here typed bases before number in_data object object.home ∷ [])
+    (placed_from typed bases (before ++ address_here typed bases before number in_data object object.home
+    ∷ [])
     (number + 1) (in_data + bytes_in_data object.home object) others))
     (all_slots (slots_of typed (number + 1) (in_data + bytes_in_data object.home object) others))
-    (own_objects typed bases (before ++ address_here typed bases before number in_data object object.home ∷ [])
+    (own_objects typed bases (before ++ address_here typed bases before number in_data object object.home
+    ∷ [])
     (number + 1) (in_data + bytes_in_data object.home object) others)
 
 pub list_pieces :

@@ -7,8 +7,8 @@ use Rattle.placing.proofs.LawSlots.{ApartIn, SlotsApart}
 abbrev pub LiesWithin : (outer inner : Range) → Type 0
 LiesWithin outer inner = (address : ℕ) → IsIn address inner → IsIn address outer
 
--- Static objects lie in a part of DATA, constants in a part of CODE, and what has AT lies neither in CODE nor in
--- STACK.
+-- Static objects lie in a part of DATA, constants in a part of CODE, and what has AT lies neither in CODE nor
+-- in STACK.
 abbrev pub LiesByKind : (code_part data_part code stack : Range) → Range → PieceKind → Type 0
 LiesByKind code_part data_part code stack range StaticPiece = LiesWithin data_part range
 LiesByKind code_part data_part code stack range ConstantPiece = LiesWithin code_part range
@@ -43,7 +43,8 @@ not_wrapped :
 not_wrapped start size x within after before =
     mod-eq_of_lt {n = start} {m = 65536} (starts_below start (start % 65536) size x within after before)
 
-slot_ends : (base offset size length : ℕ) → offset + size ≤ length → base + length ≤ 65536 → base + offset + size ≤ 65536
+slot_ends : (base offset size length : ℕ) → offset + size ≤ length → base + length ≤ 65536
+    → base + offset + size ≤ 65536
 slot_ends base offset size length fits within = omega arith
 
 pub place_ends :
@@ -71,7 +72,8 @@ pub place_within :
     → LiesWithin (range_of base length) (range_of ((base + offset) % 65536) size)
 place_within base offset size length fits within = λ x is_in.
     in_part base offset size length ((base + offset) % 65536) x fits
-    (not_wrapped (base + offset) size x (slot_ends base offset size length fits within) is_in.0 is_in.1) is_in.0
+    (not_wrapped (base + offset) size x (slot_ends base offset size length fits within) is_in.0 is_in.1)
+    is_in.0
     is_in.1
 
 longer : (offset size one all : ℕ) → offset + size ≤ one → one ≤ all → offset + size ≤ all
@@ -84,10 +86,12 @@ in_place_by_segment :
     → bases.code_base + code_length ≤ 65536
     → bases.data_base + data_bytes typed.objects ≤ 65536
     → FitsIn typed segment offset size
-    → InPlace (range_of bases.code_base code_length) (range_of bases.data_base (data_bytes typed.objects)) code
+    → InPlace (range_of bases.code_base code_length)
+    (range_of bases.data_base (data_bytes typed.objects)) code
     stack (slot_piece bases (record { segment = segment; offset = offset; size = size }))
 in_place_by_segment bases typed code_length code stack Code offset size holds code_within data_within fits =
-    let long : offset + size ≤ code_length = longer offset size (constant_bytes typed) code_length fits holds in
+    let long : offset + size ≤ code_length =
+    longer offset size (constant_bytes typed) code_length fits holds in
     record {
       ends = place_ends bases.code_base offset size code_length long code_within;
       lies = place_within bases.code_base offset size code_length long code_within;
@@ -105,10 +109,12 @@ pub slot_in_place :
     → bases.data_base + data_bytes typed.objects ≤ 65536
     → (slot : Slot)
     → Fits typed slot
-    → InPlace (range_of bases.code_base code_length) (range_of bases.data_base (data_bytes typed.objects)) code
+    → InPlace (range_of bases.code_base code_length)
+    (range_of bases.data_base (data_bytes typed.objects)) code
     stack (slot_piece bases slot)
 slot_in_place bases typed code_length code stack holds code_within data_within slot fits =
-    in_place_by_segment bases typed code_length code stack slot.segment slot.offset slot.size holds code_within
+    in_place_by_segment bases typed code_length code stack slot.segment slot.offset
+    slot.size holds code_within
     data_within fits
 
 -- slots that are apart
@@ -160,22 +166,29 @@ apart_by_segment :
     → ApartIn segment segment' a m b n
     → AreDisjoint (slot_piece bases (record { segment = segment; offset = a; size = m }))
     (slot_piece bases (record { segment = segment'; offset = b; size = n }))
-apart_by_segment bases code_length typed Code Code a m b n holds code_within data_within apart fits fits' differ =
-    same_segment bases.code_base code_length a m b n code_within (longer a m (constant_bytes typed) code_length fits holds)
+apart_by_segment bases code_length typed Code Code a m b n holds code_within data_within
+    apart fits fits' differ =
+    same_segment bases.code_base code_length a m b n code_within
+    (longer a m (constant_bytes typed) code_length fits holds)
     (longer b n (constant_bytes typed) code_length fits' holds) differ
-apart_by_segment bases code_length typed Data Data a m b n holds code_within data_within apart fits fits' differ =
+apart_by_segment bases code_length typed Data Data a m b n holds code_within data_within
+    apart fits fits' differ =
     same_segment bases.data_base (data_bytes typed.objects) a m b n data_within fits fits' differ
-apart_by_segment bases code_length typed Code Data a m b n holds code_within data_within apart fits fits' differ =
+apart_by_segment bases code_length typed Code Data a m b n holds code_within data_within
+    apart fits fits' differ =
     never_meet (range_of bases.code_base code_length) (range_of bases.data_base (data_bytes typed.objects))
     (range_of ((bases.code_base + a) % 65536) m) (range_of ((bases.data_base + b) % 65536) n) apart
-    (place_within bases.code_base a m code_length (longer a m (constant_bytes typed) code_length fits holds) code_within)
+    (place_within bases.code_base a m code_length
+    (longer a m (constant_bytes typed) code_length fits holds) code_within)
     (place_within bases.data_base b n (data_bytes typed.objects) fits' data_within)
-apart_by_segment bases code_length typed Data Code a m b n holds code_within data_within apart fits fits' differ =
+apart_by_segment bases code_length typed Data Code a m b n holds code_within data_within
+    apart fits fits' differ =
     never_meet (range_of bases.data_base (data_bytes typed.objects)) (range_of bases.code_base code_length)
     (range_of ((bases.data_base + a) % 65536) m) (range_of ((bases.code_base + b) % 65536) n)
     (apart_swap bases.code_base code_length bases.data_base (data_bytes typed.objects) apart)
     (place_within bases.data_base a m (data_bytes typed.objects) fits data_within)
-    (place_within bases.code_base b n code_length (longer b n (constant_bytes typed) code_length fits' holds) code_within)
+    (place_within bases.code_base b n code_length
+    (longer b n (constant_bytes typed) code_length fits' holds) code_within)
 
 pub slots_disjoint :
     (bases : Bases) (code_length : ℕ) (typed : TypedModule)
@@ -189,5 +202,6 @@ pub slots_disjoint :
     → SlotsApart one other
     → AreDisjoint (slot_piece bases one) (slot_piece bases other)
 slots_disjoint bases code_length typed holds code_within data_within apart one other fits fits' differ =
-    apart_by_segment bases code_length typed one.segment other.segment one.offset one.size other.offset other.size
+    apart_by_segment bases code_length typed one.segment other.segment one.offset one.size
+    other.offset other.size
     holds code_within data_within apart fits fits' differ

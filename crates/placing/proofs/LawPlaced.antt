@@ -35,30 +35,38 @@ not_refused plan modules code_lengths none =
     let stack : Range = stack_range plan in
     let after_size :
     option_or (past_memory code variables stack)
-    (option_or (overlapping code variables stack) (first_misplaced modules (placement_by plan modules code_lengths)))
+    (option_or (overlapping code variables stack)
+    (first_misplaced modules (placement_by plan modules code_lengths)))
     ≡ None =
     (both_are_none (segment_too_large code variables)
     (option_or (past_memory code variables stack)
-    (option_or (overlapping code variables stack) (first_misplaced modules (placement_by plan modules code_lengths))))
+    (option_or (overlapping code variables stack)
+    (first_misplaced modules (placement_by plan modules code_lengths))))
     none).1 in
     let past :
     (past_memory code variables stack ≡ None)
-    × (option_or (overlapping code variables stack) (first_misplaced modules (placement_by plan modules code_lengths))
+    × (option_or (overlapping code variables stack)
+    (first_misplaced modules (placement_by plan modules code_lengths))
     ≡ None) =
     both_are_none (past_memory code variables stack)
-    (option_or (overlapping code variables stack) (first_misplaced modules (placement_by plan modules code_lengths)))
+    (option_or (overlapping code variables stack)
+    (first_misplaced modules (placement_by plan modules code_lengths)))
     after_size in
     let last :
     (overlapping code variables stack ≡ None)
     × (first_misplaced modules (placement_by plan modules code_lengths) ≡ None) =
-    both_are_none (overlapping code variables stack) (first_misplaced modules (placement_by plan modules code_lengths))
+    both_are_none (overlapping code variables stack)
+    (first_misplaced modules (placement_by plan modules code_lengths))
     past.1 in
-    let passes : (passes_memory code ≡ false) × (passes_memory variables ≡ false) × (passes_memory stack ≡ false) =
+    let passes : (passes_memory code ≡ false) × (passes_memory variables ≡ false)
+    × (passes_memory stack ≡ false) =
     three_false (passes_memory code) (passes_memory variables) (passes_memory stack)
     (no_answer PassesMemory (passes_memory code || passes_memory variables || passes_memory stack) past.0) in
-    let overlap : (overlaps code variables ≡ false) × (overlaps code stack ≡ false) × (overlaps variables stack ≡ false) =
+    let overlap : (overlaps code variables ≡ false) × (overlaps code stack ≡ false)
+    × (overlaps variables stack ≡ false) =
     three_false (overlaps code variables) (overlaps code stack) (overlaps variables stack)
-    (no_answer RangesOverlap (overlaps code variables || overlaps code stack || overlaps variables stack) last.0) in
+    (no_answer RangesOverlap (overlaps code variables || overlaps code stack || overlaps variables stack)
+    last.0) in
     record {
       code_ends = range_in_memory code passes.0;
       data_ends = range_in_memory variables passes.1;
@@ -84,9 +92,11 @@ all_lie :
     → NotRefused plan modules code_lengths
     → AllLie (code_range plan code_lengths) (data_range plan modules) (code_range plan code_lengths)
     (stack_range plan)
-    (zip modules (map module_by (zip modules (bases_from plan.code_base plan.data_base modules code_lengths))))
+    (zip modules (map module_by (zip modules
+    (bases_from plan.code_base plan.data_base modules code_lengths))))
 all_lie plan modules code_lengths storable hold fine =
-    modules_lie (code_range plan code_lengths) (stack_range plan) plan.code_base plan.data_base modules code_lengths
+    modules_lie (code_range plan code_lengths) (stack_range plan) plan.code_base plan.data_base
+    modules code_lengths
     (recursion_from_All IsStorable modules storable)
     (recursion_from_All HoldsConstants (zip modules code_lengths) hold) fine.code_ends fine.data_ends
     (λ x after before after' before'. fine.code_data (x, (after, before), (after', before'))) fine.objects
@@ -95,11 +105,13 @@ all_lie plan modules code_lengths storable hold fine =
 same_count :
     (code_base data_base : ℕ) (modules : List TypedModule) (code_lengths : List ℕ)
     → length code_lengths ≡ length modules
-    → length (map module_by (zip modules (bases_from code_base data_base modules code_lengths))) ≡ length modules
+    → length (map module_by (zip modules (bases_from code_base data_base modules code_lengths)))
+    ≡ length modules
 same_count code_base data_base [] code_lengths same = refl
 same_count code_base data_base (typed ∷ others) [] same = absurd (omega arith)
 same_count code_base data_base (typed ∷ others) (length ∷ lengths) same =
-    ap suc (same_count (code_base + length) (data_base + data_bytes typed.objects) others lengths (omega arith))
+    ap suc (same_count (code_base + length) (data_base + data_bytes typed.objects) others
+    lengths (omega arith))
 
 -- a constant lies in CODE
 constant_by_kind :
@@ -126,7 +138,8 @@ kept_at P test (first ∷ others) zero x within is holds passes =
 kept_at P test (first ∷ others) (suc k) x within is holds passes =
     by_test (test first) (kept_at P test others k x (omega arith) is holds passes)
   where
-    by_test : (kept : Bool) → Any P (filter test others) → Any P (cond kept (first ∷ filter test others) (filter test others))
+    by_test : (kept : Bool) → Any P (filter test others)
+        → Any P (cond kept (first ∷ filter test others) (filter test others))
     by_test true found = (suc found.0, found.1, omega arith, found.3, found.4)
     by_test false found = found
 
@@ -160,10 +173,12 @@ writable_apart code variables stack pieces address code_data data_stack lie foun
     apart_by_kind code variables stack piece.range address piece.kind code_data data_stack lies.lies found.4
     (λ constant.
     variable
-    (kept_at (λ (piece : PlacedPiece). IsIn address piece.range) is_constant_piece pieces found.0 piece found.2
+    (kept_at (λ (piece : PlacedPiece). IsIn address piece.range) is_constant_piece pieces
+    found.0 piece found.2
     found.3 found.4 constant))
 
--- Where the plan is not refused, and each code segment holds the constants of its module, the placement is lawful.
+-- Where the plan is not refused, and each code segment holds the constants of its module, the placement is
+-- lawful.
 pub placed_is_lawful :
     (plan : Plan) (modules : List TypedModule) (code_lengths : List ℕ)
     → length code_lengths ≡ length modules
@@ -177,10 +192,12 @@ placed_is_lawful plan modules code_lengths same storable hold none =
     let variables : Range = data_range plan modules in
     let stack : Range = stack_range plan in
     let placed : List (TypedModule × ModulePlacement) =
-    zip modules (map module_by (zip modules (bases_from plan.code_base plan.data_base modules code_lengths))) in
+    zip modules
+    (map module_by (zip modules (bases_from plan.code_base plan.data_base modules code_lengths))) in
     let pieces : List PlacedPiece = flat_map pieces_of_module placed in
     let fine : NotRefused plan modules code_lengths = not_refused plan modules code_lengths none in
-    let lie : AllLie code variables code stack placed = all_lie plan modules code_lengths storable hold fine in
+    let lie : AllLie code variables code stack placed =
+    all_lie plan modules code_lengths storable hold fine in
     let all : All (InPlace code variables code stack) pieces =
     All-from_recursion (InPlace code variables code stack) pieces lie.in_place in
     record {
@@ -195,13 +212,16 @@ placed_is_lawful plan modules code_lengths same storable hold none =
           All-from_recursion (LiesIn code) (filter is_constant_piece pieces)
           (each_filter (InPlace code variables code stack) (LiesIn code) is_constant_piece
           (λ piece constant lies.
-          constant_by_kind code variables stack piece.range piece.kind constant lies.lies) pieces lie.in_place);
+          constant_by_kind code variables stack piece.range piece.kind constant lies.lies)
+          pieces lie.in_place);
       code_apart_from_stack = fine.code_stack;
       not_in_code = λ address writable.
-          (writable_apart code variables stack pieces address fine.code_data fine.data_stack all writable.declared
+          (writable_apart code variables stack pieces address fine.code_data fine.data_stack
+          all writable.declared
           writable.variable).0;
       not_in_stack = λ address writable.
-          (writable_apart code variables stack pieces address fine.code_data fine.data_stack all writable.declared
+          (writable_apart code variables stack pieces address fine.code_data fine.data_stack
+          all writable.declared
           writable.variable).1;
     }
 

@@ -8,7 +8,8 @@ use Rattle.placing.proofs.LawModule.{placed_from, placed_by_slots, list_pieces, 
 use Rattle.placing.proofs.LawAt.{objects_in_place, objects_where_at_says, length_addresses, length_lists}
 
 -- what holds of modules with their placements, in parts of CODE and of DATA
-pub record Lies (code_part data_part code stack : Range) (placed : TypedModule × ModulePlacement) : Type 0 where
+pub record Lies (code_part data_part code stack : Range)
+    (placed : TypedModule × ModulePlacement) : Type 0 where
   pub complete : HasAddresses placed
   pub where_at_says : LiesWhereAtSays placed
   pub in_place : AllByRecursion (InPlace code_part data_part code stack) (pieces_of_module placed)
@@ -26,7 +27,8 @@ lies_by_slots :
     → bases.data_base + data_bytes typed.objects ≤ 65536
     → Apart bases.code_base code_length bases.data_base (data_bytes typed.objects)
     → AllByRecursion (NotMisplaced code stack) (zip typed.objects (placed_by_slots bases typed).objects)
-    → Lies (range_of bases.code_base code_length) (range_of bases.data_base (data_bytes typed.objects)) code stack
+    → Lies (range_of bases.code_base code_length)
+    (range_of bases.data_base (data_bytes typed.objects)) code stack
     (typed, placed_by_slots bases typed)
 lies_by_slots code_length code stack bases typed storable holds code_within data_within apart fine =
     let code_part : Range = range_of bases.code_base code_length in
@@ -53,10 +55,12 @@ lies_by_slots code_length code stack bases typed storable holds code_within data
           all_append (InPlace code_part data_part code stack)
           (filter_map object_piece (placed_from typed bases [] 0 0 typed.objects))
           (map list_piece
-          (zip typed.constants.lists (map (address_of_slot bases) (list_slots_of typed 0 typed.constants.lists))))
+          (zip typed.constants.lists (map (address_of_slot bases)
+          (list_slots_of typed 0 typed.constants.lists))))
           (objects_in_place code_part data_part code stack typed bases [] 0 0 typed.objects fine
           (each_first (λ slot. InPlace code_part data_part code stack (slot_piece bases slot))
-          (all_slots (slots_of typed 0 0 typed.objects)) (list_slots_of typed 0 typed.constants.lists) in_slots))
+          (all_slots (slots_of typed 0 0 typed.objects))
+          (list_slots_of typed 0 typed.constants.lists) in_slots))
           (subst (AllByRecursion (InPlace code_part data_part code stack))
           (sym (list_pieces typed bases 0 typed.constants.lists))
           (all_mapped (λ slot. InPlace code_part data_part code stack (slot_piece bases slot))
@@ -101,14 +105,17 @@ pub module_lies :
     → Apart bases.code_base code_length bases.data_base (data_bytes typed.objects)
     → AllByRecursion (NotMisplaced code stack)
     (zip typed.objects (module_placement_by bases typed (storage_with typed)).objects)
-    → Lies (range_of bases.code_base code_length) (range_of bases.data_base (data_bytes typed.objects)) code stack
+    → Lies (range_of bases.code_base code_length)
+    (range_of bases.data_base (data_bytes typed.objects)) code stack
     (typed, module_placement_by bases typed (storage_with typed))
 module_lies code_length code stack bases typed storable holds code_within data_within apart fine =
     subst
     (λ (placed : ModulePlacement).
-    Lies (range_of bases.code_base code_length) (range_of bases.data_base (data_bytes typed.objects)) code stack
+    Lies (range_of bases.code_base code_length)
+    (range_of bases.data_base (data_bytes typed.objects)) code stack
     (typed, placed))
     (placed_is bases typed)
     (lies_by_slots code_length code stack bases typed storable holds code_within data_within apart
-    (subst (λ (placed : ModulePlacement). AllByRecursion (NotMisplaced code stack) (zip typed.objects placed.objects))
+    (subst (λ (placed : ModulePlacement). AllByRecursion (NotMisplaced code stack)
+    (zip typed.objects placed.objects))
     (sym (placed_is bases typed)) fine))

@@ -6,7 +6,8 @@ use Rattle.placing.proofs.LawPieces.{LiesWithin, LiesByKind, InPlace, never_meet
 use Rattle.placing.proofs.LawPlacement.{Lies, NotMisplaced, module_lies}
 
 -- what holds of all modules with their placements, in parts of CODE and of DATA
-pub record AllLie (code_part data_part code stack : Range) (placed : List (TypedModule × ModulePlacement)) : Type 0 where
+pub record AllLie (code_part data_part code stack : Range)
+    (placed : List (TypedModule × ModulePlacement)) : Type 0 where
   pub complete : AllByRecursion HasAddresses placed
   pub where_at_says : AllByRecursion LiesWhereAtSays placed
   pub in_place : AllByRecursion (InPlace code_part data_part code stack) (flat_map pieces_of_module placed)
@@ -36,7 +37,8 @@ own_pieces_lie :
     → AllByRecursion (Own code_part data_part) (filter has_own_place pieces)
 own_pieces_lie code_part data_part code stack pieces lie =
     each_filter (InPlace code_part data_part code stack) (Own code_part data_part) has_own_place
-    (λ piece own lies. own_by_kind code_part data_part code stack piece.range piece.kind own lies.lies) pieces lie
+    (λ piece own lies. own_by_kind code_part data_part code stack piece.range piece.kind own lies.lies) pieces
+    lie
 
 -- two pieces that lie in parts that are apart
 apart_by_kind :
@@ -48,19 +50,26 @@ apart_by_kind :
     → OwnByKind code_part data_part range kind
     → OwnByKind code_part' data_part' range' kind'
     → ¬ Meets range range'
-apart_by_kind code_part data_part code_part' data_part' range range' ConstantPiece ConstantPiece codes datas code_data data_code one other =
+apart_by_kind code_part data_part code_part' data_part' range range' ConstantPiece ConstantPiece codes datas
+    code_data data_code one other =
     never_meet code_part code_part' range range' codes one other
-apart_by_kind code_part data_part code_part' data_part' range range' StaticPiece StaticPiece codes datas code_data data_code one other =
+apart_by_kind code_part data_part code_part' data_part' range range' StaticPiece StaticPiece codes datas
+    code_data data_code one other =
     never_meet data_part data_part' range range' datas one other
-apart_by_kind code_part data_part code_part' data_part' range range' ConstantPiece StaticPiece codes datas code_data data_code one other =
+apart_by_kind code_part data_part code_part' data_part' range range' ConstantPiece StaticPiece codes datas
+    code_data data_code one other =
     never_meet code_part data_part' range range' code_data one other
-apart_by_kind code_part data_part code_part' data_part' range range' StaticPiece ConstantPiece codes datas code_data data_code one other =
+apart_by_kind code_part data_part code_part' data_part' range range' StaticPiece ConstantPiece codes datas
+    code_data data_code one other =
     never_meet data_part code_part' range range' data_code one other
-apart_by_kind code_part data_part code_part' data_part' range range' AtPiece kind' codes datas code_data data_code one other =
+apart_by_kind code_part data_part code_part' data_part' range range' AtPiece kind' codes datas code_data
+    data_code one other =
     absurd one
-apart_by_kind code_part data_part code_part' data_part' range range' ConstantPiece AtPiece codes datas code_data data_code one other =
+apart_by_kind code_part data_part code_part' data_part' range range' ConstantPiece AtPiece codes datas
+    code_data data_code one other =
     absurd other
-apart_by_kind code_part data_part code_part' data_part' range range' StaticPiece AtPiece codes datas code_data data_code one other =
+apart_by_kind code_part data_part code_part' data_part' range range' StaticPiece AtPiece codes datas code_data
+    data_code one other =
     absurd other
 
 -- a part of a greater part
@@ -70,7 +79,8 @@ first_part base one rest all is = λ x is_in. (is_in.0, below base one rest all 
     below : (base one rest all x : ℕ) → one + rest ≡ all → x < base + one → x < base + all
     below base one rest all x is before = omega arith
 
-later_part : (base one rest all : ℕ) → one + rest ≡ all → LiesWithin (range_of base all) (range_of (base + one) rest)
+later_part : (base one rest all : ℕ) → one + rest ≡ all
+    → LiesWithin (range_of base all) (range_of (base + one) rest)
 later_part base one rest all is = λ x is_in.
     (first_below base one x is_in.0, below base one rest all x is is_in.1)
   where
@@ -127,10 +137,12 @@ one_more :
     → one_data + data_rest ≡ all_data
     → Apart code_base all_code data_base all_data
     → Lies (range_of code_base one_code) (range_of data_base one_data) code stack first
-    → AllLie (range_of (code_base + one_code) code_rest) (range_of (data_base + one_data) data_rest) code stack
+    → AllLie (range_of (code_base + one_code) code_rest)
+    (range_of (data_base + one_data) data_rest) code stack
     others
     → AllLie (range_of code_base all_code) (range_of data_base all_data) code stack (first ∷ others)
-one_more code_base data_base one_code code_rest one_data data_rest all_code all_data code stack first others code_is data_is apart lies rest =
+one_more code_base data_base one_code code_rest one_data data_rest all_code all_data code stack first others
+    code_is data_is apart lies rest =
     let c : Range = range_of code_base one_code in
     let cs : Range = range_of (code_base + one_code) code_rest in
     let d : Range = range_of data_base one_data in
@@ -145,7 +157,8 @@ one_more code_base data_base one_code code_rest one_data data_rest all_code all_
       complete = (lies.complete, rest.complete);
       where_at_says = (lies.where_at_says, rest.where_at_says);
       in_place =
-          all_append (InPlace all_c all_d code stack) (pieces_of_module first) (flat_map pieces_of_module others)
+          all_append (InPlace all_c all_d code stack) (pieces_of_module first)
+          (flat_map pieces_of_module others)
           (wider c d all_c all_d code stack c_in d_in (pieces_of_module first) lies.in_place)
           (wider cs ds all_c all_d code stack cs_in ds_in (flat_map pieces_of_module others) rest.in_place);
       disjoint =
@@ -158,7 +171,8 @@ one_more code_base data_base one_code code_rest one_data data_rest all_code all_
           apart_by_kind c d cs ds one.range other.range one.kind other.kind
           (follow_apart code_base one_code code_rest) (follow_apart data_base one_data data_rest)
           (parts_apart all_c all_d c ds apart c_in ds_in)
-          (parts_apart all_d all_c d cs (apart_swap code_base all_code data_base all_data apart) d_in cs_in) own
+          (parts_apart all_d all_c d cs (apart_swap code_base all_code data_base all_data apart) d_in cs_in)
+          own
           own')
           (filter has_own_place (pieces_of_module first))
           (filter has_own_place (flat_map pieces_of_module others))
@@ -192,9 +206,11 @@ pub modules_lie :
     (zip modules (map module_by (zip modules (bases_from code_base data_base modules lengths))))
 modules_lie code stack code_base data_base [] lengths storable hold code_within data_within apart fine =
     record { complete = tt; where_at_says = tt; in_place = tt; disjoint = tt }
-modules_lie code stack code_base data_base (typed ∷ others) [] storable hold code_within data_within apart fine =
+modules_lie code stack code_base data_base (typed ∷ others) [] storable hold code_within
+    data_within apart fine =
     record { complete = tt; where_at_says = tt; in_place = tt; disjoint = tt }
-modules_lie code stack code_base data_base (typed ∷ others) (length ∷ lengths) storable hold code_within data_within apart fine =
+modules_lie code stack code_base data_base (typed ∷ others) (length ∷ lengths) storable hold code_within
+    data_within apart fine =
     let bases : Bases = record { code_base = code_base; data_base = data_base } in
     let bytes : ℕ = data_bytes typed.objects in
     let code_is : length + sum lengths ≡ sum (length ∷ lengths) =

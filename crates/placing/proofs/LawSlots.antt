@@ -41,7 +41,8 @@ first_apart typed slot number in_data object (Placed at) slots with_data with_co
 first_apart typed slot number in_data object (BasedOn base) slots with_data with_code stands others = others
 first_apart typed slot number in_data object Elsewhere slots with_data with_code stands others = others
 first_apart typed slot number in_data object Nowhere slots with_data with_code stands others = others
-first_apart typed slot number in_data object (InFrame procedure) slots with_data with_code stands others = others
+first_apart typed slot number in_data object (InFrame procedure) slots with_data with_code stands others =
+    others
 
 objects_apart :
     (typed : TypedModule) (slot : Slot) (low low_data : ℕ)
@@ -57,7 +58,8 @@ objects_apart typed slot low low_data with_data with_code number in_data [] abov
 objects_apart typed slot low low_data with_data with_code number in_data (object ∷ others) above after stand =
     first_apart typed slot number in_data object object.home
     (all_slots (slots_of typed (number + 1) (in_data + bytes_in_data object.home object) others))
-    (λ offset size past. with_data offset size (omega arith)) (λ bytes stands. with_code number bytes above stands)
+    (λ offset size past. with_data offset size (omega arith))
+    (λ bytes stands. with_code number bytes above stands)
     stand.0
     (objects_apart typed slot low low_data with_data with_code (number + 1)
     (in_data + bytes_in_data object.home object) others (at_least_more low number above)
@@ -117,10 +119,12 @@ after_data : (a m b n : ℕ) → a + m ≤ b → Apart a m b n
 after_data a m b n past = λ x after before after' before'. omega arith
 
 pairs_by_home :
-    (typed : TypedModule) (number in_data : ℕ) (object : TypedObject) (home : Home) (others : List TypedObject)
+    (typed : TypedModule) (number in_data : ℕ) (object : TypedObject) (home : Home)
+    (others : List TypedObject)
     → StandsByHome typed number object home
     → ObjectsStand typed (number + 1) others
-    → EachPair SlotsApart (all_slots (slots_of typed (number + 1) (in_data + bytes_in_data home object) others))
+    → EachPair SlotsApart
+    (all_slots (slots_of typed (number + 1) (in_data + bytes_in_data home object) others))
     → EachPair SlotsApart
     (cons_option (slot_at in_data (constants_before typed (is_object number)) object home)
     (all_slots (slots_of typed (number + 1) (in_data + bytes_in_data home object) others)))
@@ -208,7 +212,8 @@ between :
 between typed number in_data [] lists stand lists_known = tt
 between typed number in_data (object ∷ others) lists stand lists_known =
     between_by_home typed number in_data object object.home
-    (all_slots (slots_of typed (number + 1) (in_data + bytes_in_data object.home object) others)) lists stand.0
+    (all_slots (slots_of typed (number + 1) (in_data + bytes_in_data object.home object) others)) lists
+    stand.0
     lists_known
     (between typed (number + 1) (in_data + bytes_in_data object.home object) others lists stand.1 lists_known)
 

@@ -255,7 +255,8 @@ objects_stand_after typed before (object ∷ others) number whole number_is met 
     (get_first before object others typed.objects number whole number_is) met in (
       first.0,
       objects_stand_after typed (before ++ object ∷ []) others (number + 1)
-          (append_assoc before (object ∷ []) others ∙ whole) (one_more before object number number_is) first.1,
+          (append_assoc before (object ∷ []) others ∙ whole)
+          (one_more before object number number_is) first.1,
     )
 
 pub objects_stand : (typed : TypedModule) → IsStorable typed → ObjectsStand typed 0 typed.objects
@@ -316,10 +317,12 @@ slots_after typed before (object ∷ others) number in_data whole number_is data
     (enumerate_from (number + 1) others))
     (sym (slot_is typed number in_data object object.home
     (data_is
-    ∙ ap data_bytes (sym (ap (take number) (sym whole) ∙ ap (λ n. take n (before ++ object ∷ others)) number_is
+    ∙ ap data_bytes
+    (sym (ap (take number) (sym whole) ∙ ap (λ n. take n (before ++ object ∷ others)) number_is
     ∙ take-append_seam before (object ∷ others))))))
     ∙ ap (λ rest. slot_at in_data (constants_before typed (is_object number)) object object.home ∷ rest)
-    (slots_after typed (before ++ object ∷ []) others (number + 1) (in_data + bytes_in_data object.home object)
+    (slots_after typed (before ++ object ∷ []) others (number + 1)
+    (in_data + bytes_in_data object.home object)
     (append_assoc before (object ∷ []) others ∙ whole)
     (one_more before object number number_is)
     (ap (λ n. n + bytes_in_data object.home object) data_is ∙ sym (data_push before object)))

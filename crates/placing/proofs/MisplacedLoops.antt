@@ -6,7 +6,8 @@ abbrev name_of : TypedObject × ℕ → List ℕ
 name_of placed = (placed.0).name
 
 -- of objects and others, the first of the objects if there is one
-map_or : {A B : Type 0} (f : A → B) (left right : Option A) → option_map f (option_or left right) ≡ option_or (option_map f left) (option_map f right)
+map_or : {A B : Type 0} (f : A → B) (left right : Option A)
+    → option_map f (option_or left right) ≡ option_or (option_map f left) (option_map f right)
 map_or f None right = refl
 map_or f (Some value) right = refl
 
@@ -21,12 +22,15 @@ named_append code stack left right =
 abbrev objects_of : TypedModule × ModulePlacement → List (TypedObject × ℕ)
 objects_of placed = zip (placed.0).objects (placed.1).objects
 
-abbrev pub first_left : (code stack : Range) → List Typed → List CodeModulePlacement → (index number : ℕ) → Option (List ℕ)
+abbrev pub first_left : (code stack : Range) → List Typed → List CodeModulePlacement
+    → (index number : ℕ) → Option (List ℕ)
 first_left code stack modules placements index number =
     name_of_misplaced code stack
-    (placed_objects (map module_view (drop index modules)) (map module_placement_view (drop number placements)))
+    (placed_objects (map module_view (drop index modules))
+    (map module_placement_view (drop number placements)))
 
-module _ (code stack : Range) (modules : List Typed) (placements : List CodeModulePlacement) (index number : ℕ) (total : Option (List ℕ))
+module _ (code stack : Range) (modules : List Typed) (placements : List CodeModulePlacement)
+    (index number : ℕ) (total : Option (List ℕ))
     (rest : first_left code stack modules placements index number ≡ total) where
   module_step :
       (found : Option (List ℕ)) (typed : Typed) (placed : CodeModulePlacement)
@@ -38,10 +42,15 @@ module _ (code stack : Range) (modules : List Typed) (placements : List CodeModu
   module_step found typed placed within is there given =
       ap (λ one. option_or one (first_left code stack modules placements (index + 1) (number + 1))) given
       ∙ sym (named_append code stack (zip (map object_view typed.objects.items) placed.objects.items)
-      (placed_objects (map module_view (drop (index + 1) modules)) (map module_placement_view (drop (number + 1) placements))))
-      ∙ sym (ap (name_of_misplaced code stack) (flat_map-cons objects_of (module_view typed, module_placement_view placed)
-      (zip (map module_view (drop (index + 1) modules)) (map module_placement_view (drop (number + 1) placements)))))
-      ∙ sym (λ i. name_of_misplaced code stack (placed_objects (view_first module_view modules index typed within is i) (ap (map module_placement_view) (found_first placements number placed there) i)))
+      (placed_objects (map module_view (drop (index + 1) modules))
+      (map module_placement_view (drop (number + 1) placements))))
+      ∙ sym (ap (name_of_misplaced code stack)
+      (flat_map-cons objects_of (module_view typed, module_placement_view placed)
+      (zip (map module_view (drop (index + 1) modules))
+      (map module_placement_view (drop (number + 1) placements)))))
+      ∙ sym (λ i. name_of_misplaced code stack
+      (placed_objects (view_first module_view modules index typed within is i)
+      (ap (map module_placement_view) (found_first placements number placed there) i)))
       ∙ rest
 
   pub module_found :
@@ -68,12 +77,15 @@ module _ (code stack : Range) (modules : List Typed) (placements : List CodeModu
 
   pub modules_ended : length modules ≤ index → None ≡ total
   modules_ended past =
-      sym (ap (λ left. name_of_misplaced code stack (placed_objects (map module_view left) (map module_placement_view (drop number placements)))) (drop_of_length-le modules past))
+      sym (ap (λ left. name_of_misplaced code stack
+      (placed_objects (map module_view left) (map module_placement_view (drop number placements))))
+      (drop_of_length-le modules past))
       ∙ rest
 
   pub placements_ended : slice_get placements number ≡ None → None ≡ total
   placements_ended none =
       sym (ap (λ left. name_of_misplaced code stack (flat_map objects_of left))
-      (ap (λ left. zip (map module_view (drop index modules)) (map module_placement_view left)) (drop_past placements number none)
+      (ap (λ left. zip (map module_view (drop index modules)) (map module_placement_view left))
+      (drop_past placements number none)
       ∙ zip_nothing (map module_view (drop index modules))))
       ∙ rest

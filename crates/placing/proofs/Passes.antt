@@ -23,7 +23,8 @@ zip_nothing (item ∷ others) = refl
 abbrev others_of : {A : Type 0} → List A → List A
 others_of items = take (length items - 1) (drop 1 items)
 
-first_is : {A : Type 0} (items : List A) (first : A) → 1 ≤ length items → first ≡ get_or items 0 first → items ≡ first ∷ others_of items
+first_is : {A : Type 0} (items : List A) (first : A) → 1 ≤ length items → first ≡ get_or items 0 first
+    → items ≡ first ∷ others_of items
 first_is [] first some is = absurd (omega arith)
 first_is (item ∷ others) first some is =
     ap (λ front. front ∷ others) (sym is)
@@ -38,7 +39,8 @@ pub module_placed :
     (bases after : Bases) (made new : List CodeModulePlacement) (total : List ModulePlacement)
     (modules : List Typed) (layouts : List Layout) (lengths : List ℕ)
     (typed : Typed) (layout : Layout) (placed : CodeModulePlacement)
-    → map module_placement_view made ++ placements_from bases (map module_view modules) (map layout_view layouts) lengths ≡ total
+    → map module_placement_view made ++ placements_from bases (map module_view modules)
+    (map layout_view layouts) lengths ≡ total
     → 1 ≤ length modules → typed ≡ get_or modules 0 typed
     → 1 ≤ length layouts → layout ≡ get_or layouts 0 layout
     → 1 ≤ length lengths
@@ -46,32 +48,41 @@ pub module_placed :
     → new ≡ made ++ placed ∷ []
     → after ≡ bases_after bases (layout_view layout) (get_or lengths 0 0)
     → map module_placement_view new
-    ++ placements_from after (map module_view (others_of modules)) (map layout_view (others_of layouts)) (others_of lengths)
+    ++ placements_from after (map module_view (others_of modules))
+    (map layout_view (others_of layouts)) (others_of lengths)
     ≡ total
-module_placed bases after made new total modules layouts lengths typed layout placed rest some is found there counted given pushed next =
+module_placed bases after made new total modules layouts lengths typed layout placed rest some is found there
+    counted given pushed next =
     ap (λ items. map module_placement_view items
-    ++ placements_from after (map module_view (others_of modules)) (map layout_view (others_of layouts)) (others_of lengths)) pushed
+    ++ placements_from after (map module_view (others_of modules)) (map layout_view (others_of layouts))
+    (others_of lengths)) pushed
     ∙ ap (λ items. items
-    ++ placements_from after (map module_view (others_of modules)) (map layout_view (others_of layouts)) (others_of lengths))
+    ++ placements_from after (map module_view (others_of modules)) (map layout_view (others_of layouts))
+    (others_of lengths))
     (map-append module_placement_view made (placed ∷ []))
     ∙ append_assoc (map module_placement_view made) (module_placement_view placed ∷ [])
-    (placements_from after (map module_view (others_of modules)) (map layout_view (others_of layouts)) (others_of lengths))
+    (placements_from after (map module_view (others_of modules)) (map layout_view (others_of layouts))
+    (others_of lengths))
     ∙ (λ i. map module_placement_view made
     ++ given i
-    ∷ placements_from (next i) (map module_view (others_of modules)) (map layout_view (others_of layouts)) (others_of lengths))
+    ∷ placements_from (next i) (map module_view (others_of modules)) (map layout_view (others_of layouts))
+    (others_of lengths))
     ∙ sym (λ i. map module_placement_view made
-    ++ placements_from bases (map module_view (first_is modules typed some is i)) (map layout_view (first_is layouts layout found there i))
+    ++ placements_from bases (map module_view (first_is modules typed some is i))
+    (map layout_view (first_is layouts layout found there i))
     (first_is lengths (get_or lengths 0 0) counted (first_number lengths) i))
     ∙ rest
 
 -- the segments of the next module end in memory, and so do those that are left
-code_split : (lengths : List ℕ) → 1 ≤ length lengths → sum lengths ≡ get_or lengths 0 0 + sum (others_of lengths)
+code_split : (lengths : List ℕ) → 1 ≤ length lengths
+    → sum lengths ≡ get_or lengths 0 0 + sum (others_of lengths)
 code_split lengths some =
     ap sum (first_is lengths (get_or lengths 0 0) some (first_number lengths))
     ∙ sum_by-cons (λ (n : ℕ). n) (get_or lengths 0 0) (others_of lengths)
 
 pub code_within :
-    (lengths : List ℕ) (base : ℕ) → 1 ≤ length lengths → base + sum lengths ≤ 65536 → base + get_or lengths 0 0 ≤ 65536
+    (lengths : List ℕ) (base : ℕ) → 1 ≤ length lengths → base + sum lengths ≤ 65536
+    → base + get_or lengths 0 0 ≤ 65536
 code_within lengths base some within = omega (arith, code_split lengths some, within)
 
 pub code_left :
@@ -85,7 +96,8 @@ data_split :
     → layout_sizes layouts ≡ first.data_size + layout_sizes (others_of layouts)
 data_split layouts first some there =
     ap layout_sizes (first_is layouts first some there)
-    ∙ sum_by-cons (λ (storage : Storage). storage.data_size) (layout_view first) (map layout_view (others_of layouts))
+    ∙ sum_by-cons (λ (storage : Storage). storage.data_size) (layout_view first)
+    (map layout_view (others_of layouts))
 
 pub data_within :
     (layouts : List Layout) (first : Layout) (base : ℕ) → 1 ≤ length layouts → first ≡ get_or layouts 0 first
@@ -94,7 +106,8 @@ pub data_within :
 data_within layouts first base some there within = omega (arith, data_split layouts first some there, within)
 
 pub data_left :
-    (layouts : List Layout) (first : Layout) (base next : ℕ) → 1 ≤ length layouts → first ≡ get_or layouts 0 first
+    (layouts : List Layout) (first : Layout) (base next : ℕ) → 1 ≤ length layouts
+    → first ≡ get_or layouts 0 first
     → base + layout_sizes layouts ≤ 65536
     → next ≡ base + first.data_size
     → next + layout_sizes (others_of layouts) ≤ 65536

@@ -37,8 +37,11 @@ from_bytes :
 from_bytes code stack piece before after own may claimed = record {
   same_length = claimed.same_length;
   may = may;
-  free = λ a (has : HasByte a piece). let inside : IsIn a piece.range = has.1 in claimed.free a inside.0 inside.1;
-  marked = λ a (has : HasByte a piece). let inside : IsIn a piece.range = has.1 in claimed.marked a inside.0 inside.1;
+  free = λ a (has : HasByte a piece). let inside : IsIn a piece.range =
+      has.1 in claimed.free a inside.0 inside.1;
+  marked =
+      λ a (has : HasByte a piece). let inside : IsIn a piece.range =
+      has.1 in claimed.marked a inside.0 inside.1;
   came = λ a marked. ⊎_elim
       (λ (low : a < piece.range.start). inl (sym (claimed.below a low) ∙ marked))
       (λ (high : piece.range.start ≤ a). ⊎_elim
@@ -80,10 +83,14 @@ pub variables_end :
     (code stack range : Range)
     → may_hold_variables code stack range ≡ true
     → EndsInMemory range
-variables_end code stack range may = ends_in_memory_holds range (each_of_three (ends_in_memory range) (not (ranges_meet range code)) (not (ranges_meet range stack)) may).0
+variables_end code stack range may =
+    ends_in_memory_holds range
+    (each_of_three (ends_in_memory range) (not (ranges_meet range code))
+    (not (ranges_meet range stack)) may).0
 
 pub constants_end : (code range : Range) → may_hold_constants code range ≡ true → EndsInMemory range
-constants_end code range may = ends_in_memory_holds range (and_parts (ends_in_memory range) (is_within code range) may).0
+constants_end code range may =
+    ends_in_memory_holds range (and_parts (ends_in_memory range) (is_within code range) may).0
 
 by_kind :
     (code stack : Range) (kind : PieceKind) (range : Range) (before after : List Bool)
@@ -91,16 +98,20 @@ by_kind :
     → claim_by_kind code stack kind range before ≡ Some after
     → PieceClaimed code stack (record { kind = kind; range = range }) before after
 by_kind code stack StaticPiece range before after long is =
-    own_claimed code stack (record { kind = StaticPiece; range = range }) before after long refl (variables_end code stack range) is
+    own_claimed code stack (record { kind = StaticPiece; range = range }) before after long refl
+    (variables_end code stack range) is
 by_kind code stack ConstantPiece range before after long is =
-    own_claimed code stack (record { kind = ConstantPiece; range = range }) before after long refl (constants_end code range) is
+    own_claimed code stack (record { kind = ConstantPiece; range = range }) before after long refl
+    (constants_end code range) is
 by_kind code stack AtPiece range before after long is =
     let same : before ≡ after = cc in
     record {
       same_length = sym (ap length same);
       may = refl;
-      free = λ a (has : HasByte a (record { kind = AtPiece; range = range })). absurd (true≢false (sym has.0));
-      marked = λ a (has : HasByte a (record { kind = AtPiece; range = range })). absurd (true≢false (sym has.0));
+      free = λ a (has : HasByte a (record { kind = AtPiece; range = range })). absurd
+          (true≢false (sym has.0));
+      marked =
+          λ a (has : HasByte a (record { kind = AtPiece; range = range })). absurd (true≢false (sym has.0));
       came = λ a marked. inl (ap (λ table. get_or table a false) same ∙ marked);
       still = λ a marked. sym (ap (λ table. get_or table a false) same) ∙ marked;
     }
@@ -111,7 +122,8 @@ pub piece_claimed :
     → claim_piece code stack piece before ≡ Some after
     → PieceClaimed code stack piece before after
 unfolding claim_piece
-piece_claimed code stack piece before after long is = by_kind code stack piece.kind piece.range before after long is
+piece_claimed code stack piece before after long is =
+    by_kind code stack piece.kind piece.range before after long is
 
 own_can :
     (test : Bool) (range : Range) (before : List Bool)
@@ -121,7 +133,8 @@ own_can :
     → ((a : ℕ) → IsIn a range → get_or before a false ≡ false)
     → (after : List Bool) × (claim_if test range before ≡ Some after)
 own_can true range before long test within free =
-    between_can range.start (range.start + range.len) before (omega arith) (omega arith) (λ a low high. free a (low, high))
+    between_can range.start (range.start + range.len) before (omega arith) (omega arith)
+    (λ a low high. free a (low, high))
 own_can false range before long test within free = absurd (cc)
 
 kind_can :
@@ -131,9 +144,11 @@ kind_can :
     → ((a : ℕ) → HasByte a (record { kind = kind; range = range }) → get_or before a false ≡ false)
     → (after : List Bool) × (claim_by_kind code stack kind range before ≡ Some after)
 kind_can code stack StaticPiece range before long may free =
-    own_can (may_hold_variables code stack range) range before long may (variables_end code stack range may) (λ a inside. free a (refl, inside))
+    own_can (may_hold_variables code stack range) range before long may (variables_end code stack range may)
+    (λ a inside. free a (refl, inside))
 kind_can code stack ConstantPiece range before long may free =
-    own_can (may_hold_constants code range) range before long may (constants_end code range may) (λ a inside. free a (refl, inside))
+    own_can (may_hold_constants code range) range before long may (constants_end code range may)
+    (λ a inside. free a (refl, inside))
 kind_can code stack AtPiece range before long may free = (before, refl)
 
 pub piece_can :
@@ -143,10 +158,12 @@ pub piece_can :
     → ((a : ℕ) → HasByte a piece → get_or before a false ≡ false)
     → (after : List Bool) × (claim_piece code stack piece before ≡ Some after)
 unfolding claim_piece
-piece_can code stack piece before long may free = kind_can code stack piece.kind piece.range before long may free
+piece_can code stack piece before long may free =
+    kind_can code stack piece.kind piece.range before long may free
 
 -- pieces one after another
-pub record PiecesClaimed (code stack : Range) (pieces : List PlacedPiece) (before after : List Bool) : Type 0 where
+pub record PiecesClaimed (code stack : Range) (pieces : List PlacedPiece)
+    (before after : List Bool) : Type 0 where
   pub may : AllByRecursion (MayLie code stack) pieces
   pub apart : Pairs_of has_own_place AreDisjoint pieces
   pub free : (a : ℕ) → HaveByte a pieces → get_or before a false ≡ false
@@ -186,13 +203,18 @@ claimed_first code stack piece others before between after one rest = record {
   may = (one.may, rest.may);
   apart = (
     (λ own. apart_from piece others
-        (λ a inside have. false_true (get_or between a false) (rest.free a have) (one.marked a (own, inside)))),
+        (λ a inside have. false_true (get_or between a false) (rest.free a have)
+        (one.marked a (own, inside)))),
     rest.apart,
   );
   free = λ a (have : HaveByte a (piece ∷ others)). ⊎_elim (one.free a)
-      (λ (have : HaveByte a others). was_free (get_or before a false) refl (one.still a) (rest.free a have)) have;
-  marked = λ a (have : HaveByte a (piece ∷ others)). ⊎_elim (λ has. rest.still a (one.marked a has)) (rest.marked a) have;
-  came = λ a marked. ⊎_elim (λ earlier. ⊎_elim inl (λ has. inr (inl has)) (one.came a earlier)) (λ have. inr (inr have)) (rest.came a marked);
+      (λ (have : HaveByte a others). was_free (get_or before a false) refl (one.still a) (rest.free a have))
+      have;
+  marked =
+      λ a (have : HaveByte a (piece ∷ others)). ⊎_elim (λ has. rest.still a (one.marked a has))
+      (rest.marked a) have;
+  came = λ a marked. ⊎_elim (λ earlier. ⊎_elim inl (λ has. inr (inl has)) (one.came a earlier))
+      (λ have. inr (inr have)) (rest.came a marked);
   still = λ a marked. rest.still a (one.still a marked);
 }
   where
@@ -242,7 +264,8 @@ pieces_can code stack (piece ∷ others) before long may apart free =
     let rest = pieces_can code stack others first.0 (one.same_length ∙ long) may.1 apart.1
     (λ a have. false_from_ne_true (get_or first.0 a false)
     (λ marked. ⊎_elim
-    (λ (earlier : get_or before a false ≡ true). false_true (get_or before a false) (free a (inr have)) earlier)
+    (λ (earlier : get_or before a false ≡ true). false_true (get_or before a false)
+    (free a (inr have)) earlier)
     (λ (has : HasByte a piece). no_byte_of piece others (apart.0 has.0) a has.1 have)
     (one.came a marked))) in
     (rest.0, ap (option_and_then (claim_pieces code stack others)) first.1 ∙ rest.1)

@@ -18,7 +18,8 @@ module _ (code stack : Range) where
 
   onto_others :
       (found : Option PlacedPiece) (others : List PlacedPiece) (table : List Bool)
-      → option_and_then (claims others) (claim_found code stack found table) ≡ claims (cons_option found others) table
+      → option_and_then (claims others) (claim_found code stack found table)
+      ≡ claims (cons_option found others) table
   onto_others None others table = refl
   onto_others (Some piece) others table = refl
 
@@ -50,7 +51,8 @@ module _ (code stack : Range) where
 
   in_turn :
       (f g : List Bool → Option (List Bool)) (first : Option (List Bool))
-      → option_and_then (λ table. option_and_then g (f table)) first ≡ option_and_then g (option_and_then f first)
+      → option_and_then (λ table. option_and_then g (f table)) first
+      ≡ option_and_then g (option_and_then f first)
   in_turn f g None = refl
   in_turn f g (Some table) = refl
 
@@ -70,7 +72,8 @@ module _ (code stack : Range) where
   module_order typed placed table =
       same_after (claim_lists code stack typed.constants.lists placed.lists)
       (claims (placed_lists typed.constants.lists placed.lists))
-      (lists_order typed.constants.lists placed.lists) (claim_objects code stack typed.objects placed.objects table)
+      (lists_order typed.constants.lists placed.lists)
+      (claim_objects code stack typed.objects placed.objects table)
       ∙ ap (option_and_then (claims (placed_lists typed.constants.lists placed.lists)))
       (objects_order typed.objects placed.objects table)
       ∙ sym (joined_claims (placed_objects typed.objects placed.objects)
@@ -88,7 +91,8 @@ module _ (code stack : Range) where
       (modules_order modules placements) (claim_module code stack typed placed table)
       ∙ ap (option_and_then (claims (flat_map pieces_of_module (zip modules placements))))
       (module_order typed placed table)
-      ∙ sym (joined_claims (pieces_of_module (typed, placed)) (flat_map pieces_of_module (zip modules placements)) table)
+      ∙ sym (joined_claims (pieces_of_module (typed, placed))
+      (flat_map pieces_of_module (zip modules placements)) table)
 
   -- objects with AT
   module _ (table : List Bool) where
@@ -265,7 +269,8 @@ module _ (code stack : Range) where
     module_may typed placed parts =
         all_join AtMayLie (placed_objects typed.objects placed.objects)
         (placed_lists typed.constants.lists placed.lists)
-        (objects_may placed typed.objects placed.objects parts.2) (lists_may typed.constants.lists placed.lists)
+        (objects_may placed typed.objects placed.objects parts.2)
+        (lists_may typed.constants.lists placed.lists)
 
     module_from :
         (typed : TypedModule) (placed : ModulePlacement)

@@ -34,7 +34,8 @@ pub ranges_apart :
     → IsIn a right
     → ⊥
 ranges_apart left right is a first second =
-    false_true (ranges_meet left right) (not-true (ranges_meet left right) is) ((meets_decides left right).1 (a, first, second))
+    false_true (ranges_meet left right) (not-true (ranges_meet left right) is)
+    ((meets_decides left right).1 (a, first, second))
 
 never : (b : Bool) → (b ≡ true → ⊥) → not b ≡ true
 never true none = absurd (none refl)
@@ -51,7 +52,8 @@ apart_true left right none =
 within_either :
     (code range : Range) (empty : Bool)
     → nat_eq range.len 0 ≡ empty
-    → (empty || (nat_le code.start range.start && nat_le (range.start + range.len) (code.start + code.len))) ≡ true
+    → (empty || (nat_le code.start range.start && nat_le (range.start + range.len) (code.start + code.len)))
+    ≡ true
     → (a : ℕ)
     → IsIn a range
     → IsIn a code
@@ -61,7 +63,9 @@ within_either code range true empty is a inside =
     let high : a < range.start + range.len = inside.1 in
     absurd (omega arith)
 within_either code range false empty is a inside =
-    let both = and_parts (nat_le code.start range.start) (nat_le (range.start + range.len) (code.start + code.len)) is in
+    let both =
+    and_parts (nat_le code.start range.start)
+    (nat_le (range.start + range.len) (code.start + code.len)) is in
     let first : code.start ≤ range.start = leb-true code.start range.start both.0 in
     let last : range.start + range.len ≤ code.start + code.len =
     leb-true (range.start + range.len) (code.start + code.len) both.1 in
@@ -77,7 +81,8 @@ within_from :
     (code range : Range) (empty : Bool)
     → (empty ≡ false → 0 < range.len)
     → ((a : ℕ) → IsIn a range → IsIn a code)
-    → (empty || (nat_le code.start range.start && nat_le (range.start + range.len) (code.start + code.len))) ≡ true
+    → (empty || (nat_le code.start range.start && nat_le (range.start + range.len) (code.start + code.len)))
+    ≡ true
 within_from code range true some lies = refl
 within_from code range false some lies =
     let any : 0 < range.len = some refl in
@@ -109,7 +114,8 @@ module _ (code stack : Range) (table : List Bool) where
   one_ends ConstantPiece range may at = constants_end code range may
   one_ends AtPiece range may at =
       ends_in_memory_holds range (each_of_three (ends_in_memory range) (not (ranges_meet range stack))
-      (claimed_between (max range.start code.start) (min (range.start + range.len) (code.start + code.len)) table) at).0
+      (claimed_between (max range.start code.start)
+      (min (range.start + range.len) (code.start + code.len)) table) at).0
 
   one_in_code :
       (kind : PieceKind) (range : Range)
@@ -132,7 +138,8 @@ module _ (code stack : Range) (table : List Bool) where
       → ⊥
   static_apart_code range may =
       ranges_apart range code
-      (each_of_three (ends_in_memory range) (not (ranges_meet range code)) (not (ranges_meet range stack)) may).1
+      (each_of_three (ends_in_memory range) (not (ranges_meet range code))
+      (not (ranges_meet range stack)) may).1
 
   static_apart_stack :
       (range : Range)
@@ -143,7 +150,8 @@ module _ (code stack : Range) (table : List Bool) where
       → ⊥
   static_apart_stack range may =
       ranges_apart range stack
-      (each_of_three (ends_in_memory range) (not (ranges_meet range code)) (not (ranges_meet range stack)) may).2
+      (each_of_three (ends_in_memory range) (not (ranges_meet range code))
+      (not (ranges_meet range stack)) may).2
 
   module _ (a : ℕ) where
     one_constant_or_claimed :
@@ -162,9 +170,11 @@ module _ (code stack : Range) (table : List Bool) where
         let high : a < range.start + range.len = inside.1 in
         let code_low : code.start ≤ a = in_code.0 in
         let code_high : a < code.start + code.len = in_code.1 in
-        inr (between_all (max range.start code.start) (min (range.start + range.len) (code.start + code.len)) table
+        inr (between_all (max range.start code.start)
+        (min (range.start + range.len) (code.start + code.len)) table
         (each_of_three (ends_in_memory range) (not (ranges_meet range stack))
-        (claimed_between (max range.start code.start) (min (range.start + range.len) (code.start + code.len)) table) at).2
+        (claimed_between (max range.start code.start)
+        (min (range.start + range.len) (code.start + code.len)) table) at).2
         a (omega arith) (omega arith))
 
     constant_or_claimed :
@@ -215,7 +225,8 @@ module _ (code stack : Range) (table : List Bool) where
     one_in_stack ConstantPiece range may at inside in_stack = (refl, inside)
     one_in_stack AtPiece range may at inside in_stack =
         absurd (ranges_apart range stack (each_of_three (ends_in_memory range) (not (ranges_meet range stack))
-        (claimed_between (max range.start code.start) (min (range.start + range.len) (code.start + code.len)) table) at).1
+        (claimed_between (max range.start code.start)
+        (min (range.start + range.len) (code.start + code.len)) table) at).1
         a inside in_stack)
 
     in_stack_constant :
@@ -258,7 +269,8 @@ pub lie_lawfully :
     → AllByRecursion (AtMayLie code stack table) pieces
     → LieLawfully code stack pieces
 lie_lawfully code stack pieces table is at =
-    let claimed : PiecesClaimed code stack pieces unclaimed table = pieces_claimed code stack pieces unclaimed table unclaimed_long is in
+    let claimed : PiecesClaimed code stack pieces unclaimed table =
+    pieces_claimed code stack pieces unclaimed table unclaimed_long is in
     record {
       in_memory = All-from_recursion (λ (piece : PlacedPiece). EndsInMemory piece.range) pieces
           (all_weaker (λ (piece : PlacedPiece). MayLie code stack piece × AtMayLie code stack table piece)
@@ -271,11 +283,15 @@ lie_lawfully code stack pieces table is at =
           (λ piece may. one_in_code code stack table piece.kind piece.range may) pieces claimed.may);
       not_in_code = λ a one variable in_code.
           let known : Some_of (ConstantByte a) pieces → ⊥ =
-          λ (constant : Some_of (ConstantByte a) pieces). variable (any_in_filter is_constant_piece (λ (piece : PlacedPiece). IsIn a piece.range) pieces constant) in
+          λ (constant : Some_of (ConstantByte a) pieces). variable
+          (any_in_filter is_constant_piece
+          (λ (piece : PlacedPiece). IsIn a piece.range) pieces constant) in
           ⊎_elim known
           (λ (taken : get_or table a false ≡ true). ⊎_elim
-          (λ (before : get_or unclaimed a false ≡ true). false_true (get_or unclaimed a false) (unclaimed_free a) before)
-          (λ (have : HaveByte a pieces). known (own_in_code code stack table a pieces claimed.may have in_code))
+          (λ (before : get_or unclaimed a false ≡ true). false_true (get_or unclaimed a false)
+          (unclaimed_free a) before)
+          (λ (have : HaveByte a pieces). known
+          (own_in_code code stack table a pieces claimed.may have in_code))
           (claimed.came a taken))
           (constant_or_claimed code stack table a pieces claimed.may at
           (some_from_any (λ (piece : PlacedPiece). IsIn a piece.range) pieces one) in_code);

@@ -22,7 +22,9 @@ module _ {X : Type 0} where
   pub any_from_some : (P : X → Type 0) (xs : List X) → Some_of P xs → Any P xs
   any_from_some P [] h = absurd h
   any_from_some P (x ∷ xs) (inl holds) = (0, x, omega arith, refl, holds)
-  any_from_some P (x ∷ xs) (inr h) = let found = any_from_some P xs h in let lt = found.2 in (suc found.0, found.1, omega arith, found.3, found.4)
+  any_from_some P (x ∷ xs) (inr h) =
+      let found = any_from_some P xs h in let lt = found.2 in
+      (suc found.0, found.1, omega arith, found.3, found.4)
 
   pub some_weaker : (P Q : X → Type 0) → ((x : X) → P x → Q x) → (xs : List X) → Some_of P xs → Some_of Q xs
   some_weaker P Q f [] h = absurd h

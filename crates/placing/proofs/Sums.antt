@@ -45,7 +45,8 @@ pub data_more :
     → min (total + layout_sizes (drop i layouts)) 4294967295 ≡ all
     → min (min (total + first.data_size) 4294967295 + layout_sizes (drop (i + 1) layouts)) 4294967295 ≡ all
 data_more layouts i first total all within is left =
-    capped_more total first.data_size (layout_sizes (drop (i + 1) layouts)) (layout_sizes (drop i layouts)) all
+    capped_more total first.data_size (layout_sizes (drop (i + 1) layouts))
+    (layout_sizes (drop i layouts)) all
     (data_first layouts i first within is) left
 
 pub code_end :
@@ -64,4 +65,5 @@ pub data_end :
     → min (total + layout_sizes (drop i layouts)) 4294967295 ≡ all
     → total ≡ all
 data_end layouts i total all past capped left =
-    capped_end total (layout_sizes (drop i layouts)) all (ap layout_sizes (drop_of_length-le layouts past)) capped left
+    capped_end total (layout_sizes (drop i layouts)) all
+    (ap layout_sizes (drop_of_length-le layouts past)) capped left

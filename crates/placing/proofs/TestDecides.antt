@@ -55,7 +55,8 @@ module _ (modules : List TypedModule) (placement : Placement) where
       modules_parts placement.code placement.stack found.0 modules placement.modules found.2 in
       let lie : LieLawfully placement.code placement.stack (pieces_of modules placement) =
       lie_lawfully placement.code placement.stack (pieces_of modules placement) found.0
-      (sym (modules_order placement.code placement.stack modules placement.modules unclaimed) ∙ found.1) fit.may in
+      (sym (modules_order placement.code placement.stack modules placement.modules unclaimed) ∙ found.1)
+      fit.may in
       record {
         for_each_module = eqb-true (length placement.modules) (length modules) all.0;
         complete = All-from_recursion HasAddresses (zip modules placement.modules) fit.has;
@@ -65,7 +66,8 @@ module _ (modules : List TypedModule) (placement : Placement) where
         disjoint = lie.disjoint;
         where_at_says = All-from_recursion LiesWhereAtSays (zip modules placement.modules) fit.lie;
         constants_in_code = lie.constants_in_code;
-        code_apart_from_stack = λ meets. ranges_apart placement.code placement.stack ranges.2 meets.0 meets.1 meets.2;
+        code_apart_from_stack =
+            λ meets. ranges_apart placement.code placement.stack ranges.2 meets.0 meets.1 meets.2;
         not_in_code = λ a writable. lie.not_in_code a writable.declared writable.variable;
         not_in_stack = λ a writable. lie.not_in_stack a writable.declared writable.variable;
       }
@@ -77,7 +79,8 @@ module _ (modules : List TypedModule) (placement : Placement) where
       → all_fit placement.code placement.stack modules placement.modules ≡ true
   unfolding all_fit
   fits_from table is fit =
-      ap (λ found. option_map_or (λ table. modules_fit placement.code placement.stack table modules placement.modules) found false) is
+      ap (λ found. option_map_or (λ table. modules_fit placement.code placement.stack table modules
+      placement.modules) found false) is
       ∙ fit
 
   ranges_from : IsLawful modules placement → ranges_fit placement.code placement.stack ≡ true
@@ -104,7 +107,8 @@ module _ (modules : List TypedModule) (placement : Placement) where
       → all_fit placement.code placement.stack modules placement.modules ≡ true
   all_from lawful =
       let found : Succeed placement.code placement.stack (pieces_of modules placement) =
-      succeed placement.code placement.stack (pieces_of modules placement) lawful.code_apart_from_stack (lies lawful) in
+      succeed placement.code placement.stack (pieces_of modules placement)
+      lawful.code_apart_from_stack (lies lawful) in
       let fit : ModulesFit placement.code placement.stack found.table modules placement.modules = record {
         has = recursion_from_All HasAddresses (zip modules placement.modules) lawful.complete;
         lie = recursion_from_All LiesWhereAtSays (zip modules placement.modules) lawful.where_at_says;

@@ -15,7 +15,8 @@ pub counts_read :
     → port < length reads
     → ((other : ℕ) → other < 256 → get_or reads other 0 ≡ reads_of events other)
     → (other : ℕ) → other < 256
-    → get_or (set reads port (get_or reads port 0 + 1)) other 0 ≡ reads_of (events ++ read_event port value ∷ []) other
+    → get_or (set reads port (get_or reads port 0 + 1)) other 0
+    ≡ reads_of (events ++ read_event port value ∷ []) other
 counts_read reads events port value within counted other below = grind (arith, common_steps)
 
 -- one queue of a script with a byte more at its end
@@ -23,7 +24,8 @@ script_adds_byte :
     (script : List (List ℕ)) (port byte : ℕ)
     → port < length script
     → AddsByte script (set script port (queue_of script port ++ byte ∷ [])) port byte
-script_adds_byte script port byte within other = grind (arith, common_steps, get_or-set_same, get_or-set_other)
+script_adds_byte script port byte within other =
+    grind (arith, common_steps, get_or-set_same, get_or-set_other)
 
 -- the queue at a port with a byte more at its end
 pub adds_byte_at :
@@ -36,7 +38,8 @@ adds_byte_at queues old new port byte within is longer =
     let items : Vec ℕ Global → List ℕ = λ queue. queue.items in
     let before : queue_of (bytes_of queues) port ≡ old.items =
     get_or-map items queues port old [] within ∙ ap items (sym is) in
-    let after : bytes_of (set queues port new) ≡ set (bytes_of queues) port (queue_of (bytes_of queues) port ++ byte ∷ []) =
+    let after : bytes_of (set queues port new)
+    ≡ set (bytes_of queues) port (queue_of (bytes_of queues) port ++ byte ∷ []) =
     rw before (map-set items queues port new ∙ ap (set (bytes_of queues) port) longer) in
     let inside : port < length (bytes_of queues) = rw length-map within in
     rw after (script_adds_byte (bytes_of queues) port byte inside)

@@ -32,7 +32,8 @@ arguments_kept (scalar ∷ []) (value ∷ []) top r now memory ended a h l stays
 arguments_kept (scalar ∷ []) (value ∷ next ∷ values) top r now memory ended a h l stays lie = absurd lie
 arguments_kept (scalar ∷ next ∷ scalars) [] top r now memory ended a h l stays lie = absurd lie
 arguments_kept (scalar ∷ next ∷ scalars) (value ∷ values) top r now memory ended a h l stays lie = (
-  word_kept scalar value (top + 2 * length scalars) memory ended (stays (top + 2 * length scalars) (omega arith))
+  word_kept scalar value (top + 2 * length scalars) memory ended
+      (stays (top + 2 * length scalars) (omega arith))
       (stays (top + 2 * length scalars + 1) (omega arith)) lie.0,
   arguments_kept (next ∷ scalars) values top r now memory ended a h l stays lie.1,
 )
@@ -45,7 +46,8 @@ lower top limit room = omega arith
 
 -- what CALL does at a logical stack pointer
 call_does :
-    (script : List (List ℕ)) (word entry place top : ℕ) (r : Registers) (memory : List ℕ) (events : List Event)
+    (script : List (List ℕ)) (word entry place top : ℕ) (r : Registers) (memory : List ℕ)
+    (events : List Event)
     → word ≡ wrap entry
     → r.sp ≡ wrap top
     → top ≤ MEMORY_SIZE
@@ -60,7 +62,8 @@ call_does script word entry place top r memory events same pointer limit room =
     ∙ (ap (λ n. running (record r { sp = n; pc = word })
     (slice_set (slice_set memory (top - 1) (high_byte back)) n (low_byte back)) events)
     (two_below r.sp top pointer limit room)
-    ∙ (ap (λ n. running (record r { sp = n; pc = word }) (pushed top back memory) events) (lower top limit room)
+    ∙ (ap (λ n. running (record r { sp = n; pc = word }) (pushed top back memory) events)
+    (lower top limit room)
     ∙ ap (λ n. running (record r { sp = wrap (top - 2); pc = n }) (pushed top back memory) events) same))
 
 -- a part that takes one of the budget: what follows may be paid by a step
@@ -96,16 +99,19 @@ taking_does {A = A} {script = script} {Good = Good} from r memory s go rest =
 
 -- where a charge finds room
 pub charged_does :
-    {A : Type 0} {script : List (List ℕ)} {budget : ℕ} {from : State} {Good : A → SourceState → State → Type 0}
+    {A : Type 0} {script : List (List ℕ)} {budget : ℕ} {from : State}
+    {Good : A → SourceState → State → Type 0}
     (charge : ℕ) (around : Surroundings) (s : SourceState) (go : Surroundings → SourceState → Outcome A)
-    → (charge ≤ around.room → Does script budget 0 from (go (record around { room = around.room - charge }) s) Good)
+    → (charge ≤ around.room → Does script budget 0 from
+    (go (record around { room = around.room - charge }) s) Good)
     → Does script budget 0 from (charged charge around s go) Good
 charged_does {A = A} {script = script} {budget = budget} {from = from} {Good = Good} charge around s go rest =
     by_test (nat_lt around.room charge) refl
   where
     by_test : (test : Bool) → nat_lt around.room charge ≡ test
         → Does script budget 0 from
-        (if test then Stopped (Outside Stack) s else go (record around { room = around.room - charge }) s) Good
+        (if test then Stopped (Outside Stack) s else go (record around { room = around.room - charge }) s)
+        Good
     by_test true less = record { told = tt }
     by_test false less =
         let enough = ltb-false around.room charge less in
@@ -152,7 +158,8 @@ frame_stays activation floor above frame memory ended lies below kept frame_lies
 }
   where
     not_mine : (object offset : ℕ) → offset < activation.size object
-        → IsOfCall activation.around.program floor above (activation.level + activation.distance object + offset)
+        → IsOfCall activation.around.program floor above
+        (activation.level + activation.distance object + offset)
         → ⊥
     not_mine object offset within (inl variable) =
         let inside = lies.inside object offset within in
@@ -173,7 +180,8 @@ pub calls_do :
     → suc number ≤ bound
     → LiesWell (activation_in code room shape)
     → CallsDo (context_in code within frame bound (suc number) room shape)
-calls_do code entries within frame bound number room shape lies known bounded well procedure from top bytes heading values base s r memory is below there has few ready lie =
+calls_do code entries within frame bound number room shape lies known bounded well procedure from top bytes
+    heading values base s r memory is below there has few ready lie =
     does_same (called (later_by bound) callee.at values (surroundings_in code room) s) meant
     (taking_does from r memory s
     (λ t.
@@ -185,11 +193,13 @@ calls_do code entries within frame bound number room shape lies known bounded we
     (procedure_at code.program.modules callee.at) (Gave 0 t))
     (λ b paid.
     does_same (charged (charge_of callee.found)
-    (record (surroundings_in code room) { number_of_module = (callee.at).number_of_module }) (record s { budget = b })
+    (record (surroundings_in code room) { number_of_module = (callee.at).number_of_module })
+    (record s { budget = b })
     (λ around u. entered (later_by bound) callee.typed (callee.at).number callee.found values around u))
     (found_is (record s { budget = b }))
     (charged_does (charge_of callee.found)
-    (record (surroundings_in code room) { number_of_module = (callee.at).number_of_module }) (record s { budget = b })
+    (record (surroundings_in code room) { number_of_module = (callee.at).number_of_module })
+    (record s { budget = b })
     (λ around u. entered (later_by bound) callee.typed (callee.at).number callee.found values around u)
     (λ fits.
     after_paid_step (step fits)
@@ -202,10 +212,12 @@ calls_do code entries within frame bound number room shape lies known bounded we
     activation : Activation
     activation = activation_in code room shape
 
-    meant : called_for (later_by bound) (callee_in (surroundings_in code room) procedure) values (surroundings_in code room) s
+    meant : called_for (later_by bound) (callee_in (surroundings_in code room) procedure) values
+        (surroundings_in code room) s
         ≡ called (later_by bound) callee.at values (surroundings_in code room) s
     meant =
-        ap (λ (at : Option InProgram). called_for (later_by bound) at values (surroundings_in code room) s) callee.meant
+        ap (λ (at : Option InProgram). called_for (later_by bound) at values (surroundings_in code room) s)
+        callee.meant
         ∙ call_is bound callee.at values (surroundings_in code room) s (omega (arith, below, bounded))
 
     found_is : (t : SourceState)
@@ -250,12 +262,15 @@ calls_do code entries within frame bound number room shape lies known bounded we
 
     step : charge_of callee.found ≤ room
         → step_of code.program.script (at_place from r memory s.events)
-        ≡ at_place (entries callee.at) (record r { sp = wrap (top - 2) }) (pushed top (wrap (from + 3)) memory) s.events
+        ≡ at_place (entries callee.at) (record r { sp = wrap (top - 2) })
+        (pushed top (wrap (from + 3)) memory) s.events
     step fits =
         let low = top_low fits in
-        word_step code.program.script activation CallTo callee.reference [] from (from + 3) r memory s.events well
+        word_step code.program.script activation CallTo callee.reference [] from (from + 3) r
+        memory s.events well
         ready.shares.code there_call
-        ∙ call_does code.program.script (word_of code.layout callee.reference) (entries callee.at) (from + 3) top r memory
+        ∙ call_does code.program.script (word_of code.layout callee.reference) (entries callee.at)
+        (from + 3) top r memory
         s.events callee.word ready.pointer limit (omega (arith, low))
 
     small : wrap (from + 3) < MEMORY_SIZE
@@ -266,7 +281,8 @@ calls_do code entries within frame bound number room shape lies known bounded we
         (record r { sp = wrap (top - 2) }) (pushed top (wrap (from + 3)) memory)
     after_push fits =
         let low = top_low fits in
-        ready_after_push activation top (wrap (from + 3)) base s.memory s.frame r memory well (omega (arith, low)) top_high
+        ready_after_push activation top (wrap (from + 3)) base s.memory s.frame r memory well
+        (omega (arith, low)) top_high
         small ready
 
     same_top : charge_of callee.found ≤ room → top - 2 + 2 ≡ top
@@ -274,26 +290,31 @@ calls_do code entries within frame bound number room shape lies known bounded we
 
     entry : (b : ℕ) → b < number → charge_of callee.found ≤ room
         → Does code.program.script b 0
-        (at_place (entries callee.at) (record r { sp = wrap (top - 2) }) (pushed top (wrap (from + 3)) memory) s.events)
+        (at_place (entries callee.at) (record r { sp = wrap (top - 2) })
+        (pushed top (wrap (from + 3)) memory) s.events)
         (entered (later_by bound) callee.typed (callee.at).number callee.found values
         (record { program = code.program; number_of_module = (callee.at).number_of_module; room = room - charge_of callee.found })
         (record s { budget = b }))
-        (ComesBack code.program code.image (callee.found).result (top - 2 + 2 - room) (top - 2 + 2 + bytes_pushed values) (from + 3)
+        (ComesBack code.program code.image (callee.found).result (top - 2 + 2 - room)
+        (top - 2 + 2 + bytes_pushed values) (from + 3)
         (record s { budget = b }) (pushed top (wrap (from + 3)) memory))
     entry b less fits =
         known callee.at callee.typed callee.found callee.there callee.here room (top - 2) (from + 3) values
-        (record s { budget = b }) (record r { sp = wrap (top - 2) }) (pushed top (wrap (from + 3)) memory) less fits
+        (record s { budget = b }) (record r { sp = wrap (top - 2) })
+        (pushed top (wrap (from + 3)) memory) less fits
         (record {
           shares = (after_push fits).shares;
           registers = (after_push fits).registers;
           pointer = refl;
-          return_lies = return_pushed top (from + 3) memory (omega (arith, low)) limit ready.shares.is_memory.size;
+          return_lies =
+              return_pushed top (from + 3) memory (omega (arith, low)) limit ready.shares.is_memory.size;
           arguments =
               subst (λ (at : ℕ).
               ArgumentsLie (callee.found).parameter_types values at (record r { sp = wrap (top - 2) })
               (pushed top (wrap (from + 3)) memory)) (sym (same_top fits))
               (subst (λ (types : List ScalarType).
-              ArgumentsLie types values top (record r { sp = wrap (top - 2) }) (pushed top (wrap (from + 3)) memory))
+              ArgumentsLie types values top (record r { sp = wrap (top - 2) })
+              (pushed top (wrap (from + 3)) memory))
               (sym callee.types)
               (arguments_kept heading.parameter_types values top r (record r { sp = wrap (top - 2) }) memory
               (pushed top (wrap (from + 3)) memory) refl refl refl
@@ -314,14 +335,17 @@ calls_do code entries within frame bound number room shape lies known bounded we
         depth : top + bytes ≡ shape.level
         depth = has.depth
 
-        high : shape.level + shape.whole ≤ code.program.placement.stack.start + code.program.placement.stack.len
+        high : shape.level + shape.whole ≤ code.program.placement.stack.start
+            + code.program.placement.stack.len
         high = well.above
 
     arrives : (b found : ℕ) (t : SourceState) (end : State)
         → charge_of callee.found ≤ room
-        → ComesBack code.program code.image (callee.found).result (top - 2 + 2 - room) (top - 2 + 2 + bytes_pushed values) (from + 3)
+        → ComesBack code.program code.image (callee.found).result (top - 2 + 2 - room)
+        (top - 2 + 2 + bytes_pushed values) (from + 3)
         (record s { budget = b }) (pushed top (wrap (from + 3)) memory) found t end
-        → Arrives activation (top + bytes_pushed values) base (from + 3) (ResultLies heading.result) found t end
+        → Arrives activation (top + bytes_pushed values) base (from + 3)
+        (ResultLies heading.result) found t end
     arrives b found t end fits comes = record {
       r = comes.r;
       memory = comes.memory;
@@ -332,13 +356,15 @@ calls_do code entries within frame bound number room shape lies known bounded we
         shares = comes.shares;
         frame_lies =
             subst (λ (frame : List (List ℕ)). FrameLies activation frame comes.memory) (sym comes.frame)
-            (frame_stays activation (top - 2 + 2 - room) (top + bytes_pushed values) s.frame (pushed top (wrap (from + 3)) memory) comes.memory
+            (frame_stays activation (top - 2 + 2 - room) (top + bytes_pushed values) s.frame
+            (pushed top (wrap (from + 3)) memory) comes.memory
             well (omega (arith, depth, few)) kept (after_push fits).frame_lies);
         kept =
             keeps_both (Owns activation (top + bytes_pushed values)) base memory comes.memory
             (keeps_wider (Owns activation top) (Owns activation (top + bytes_pushed values)) base memory
             (owns_more activation top (top + bytes_pushed values) (omega arith)) ready.kept)
-            (keeps_both (Owns activation (top + bytes_pushed values)) memory (pushed top (wrap (from + 3)) memory)
+            (keeps_both (Owns activation (top + bytes_pushed values)) memory
+            (pushed top (wrap (from + 3)) memory)
             comes.memory
             (keeps_wider (Owns activation top) (Owns activation (top + bytes_pushed values)) memory
             (pushed top (wrap (from + 3)) memory)
@@ -346,9 +372,11 @@ calls_do code entries within frame bound number room shape lies known bounded we
             (push_keeps activation top (wrap (from + 3)) memory (omega (arith, low))))
             (keeps_wider (IsOfCall code.program (top - 2 + 2 - room) (top + bytes_pushed values))
             (Owns activation (top + bytes_pushed values)) (pushed top (wrap (from + 3)) memory) comes.memory
-            (λ address. call_owned activation (top - 2 + 2 - room) (top + bytes_pushed values) address (omega (arith, enough, low))) kept));
+            (λ address. call_owned activation (top - 2 + 2 - room) (top + bytes_pushed values) address
+            (omega (arith, enough, low))) kept));
       };
-      holds = subst (λ (result : Option ScalarType). ResultLies result found comes.r comes.memory) callee.result comes.lies;
+      holds = subst (λ (result : Option ScalarType). ResultLies result found comes.r comes.memory)
+          callee.result comes.lies;
     }
       where
         low : shape.floor + 10 ≤ top
@@ -363,7 +391,9 @@ calls_do code entries within frame bound number room shape lies known bounded we
         enough : shape.floor + room + 0 ≤ top
         enough = has.enough
 
-        kept : Keeps (IsOfCall code.program (top - 2 + 2 - room) (top + bytes_pushed values)) (pushed top (wrap (from + 3)) memory) comes.memory
+        kept : Keeps (IsOfCall code.program (top - 2 + 2 - room) (top + bytes_pushed values))
+            (pushed top (wrap (from + 3)) memory) comes.memory
         kept =
             subst (λ (above : ℕ).
-            Keeps (IsOfCall code.program (top - 2 + 2 - room) above) (pushed top (wrap (from + 3)) memory) comes.memory) above_is comes.kept
+            Keeps (IsOfCall code.program (top - 2 + 2 - room) above) (pushed top (wrap (from + 3)) memory)
+            comes.memory) above_is comes.kept

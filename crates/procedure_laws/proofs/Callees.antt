@@ -6,7 +6,8 @@ use Rattle.asm8080.specs.declared.item.Item.TheVariants as items
 use Rattle.treecode.specs.declared.procedure.ProcedureKind.TheVariants as kinds
 
 -- what a call of a procedure calls
-pub record IsCallee (code : ModuleCode) (entries : Entries) (procedure : ℕ) (heading : TypedProcedure) : Type 0 where
+pub record IsCallee (code : ModuleCode) (entries : Entries) (procedure : ℕ)
+    (heading : TypedProcedure) : Type 0 where
   pub at : InProgram
   pub meant : callee_in (surroundings_in code 0) procedure ≡ Some at
   pub typed : TypedModule
@@ -80,7 +81,8 @@ meant_there code heading at means =
           ap (λ (module_found : Option TypedModule).
           option_and_then
           (λ (typed : TypedModule).
-          option_map (λ (procedure : TypedProcedure). (typed, procedure)) (slice_get typed.procedures at.number))
+          option_map (λ (procedure : TypedProcedure). (typed, procedure))
+          (slice_get typed.procedures at.number))
           module_found) is
           ∙ ap (λ (entry : Option TypedProcedure).
           option_map (λ (procedure : TypedProcedure). (typed, procedure)) entry) there;
@@ -112,7 +114,8 @@ callee_of code entries number heading lies is =
     by_visibility heading.visibility refl (tree_of code entries number heading lies is)
   where
     callee_is : callee_in (surroundings_in code 0) number
-        ≡ procedure_meant code.program.modules (record { number_of_module = code.number; number = number }) heading
+        ≡ procedure_meant code.program.modules
+        (record { number_of_module = code.number; number = number }) heading
         heading.visibility
     callee_is =
         ap (λ (entry : Option TypedModule).
@@ -120,16 +123,19 @@ callee_of code entries number heading lies is =
         (λ (typed : TypedModule).
         option_and_then
         (λ (found : TypedProcedure).
-        procedure_meant code.program.modules (record { number_of_module = code.number; number = number }) found
+        procedure_meant code.program.modules
+        (record { number_of_module = code.number; number = number }) found
         found.visibility)
         (slice_get typed.procedures number)) entry) lies.is_module
         ∙ ap (λ (entry : Option TypedProcedure).
         option_and_then
         (λ (found : TypedProcedure).
-        procedure_meant code.program.modules (record { number_of_module = code.number; number = number }) found
+        procedure_meant code.program.modules
+        (record { number_of_module = code.number; number = number }) found
         found.visibility) entry) is
 
-    here_there : procedure_at code.program.modules (record { number_of_module = code.number; number = number })
+    here_there : procedure_at code.program.modules
+        (record { number_of_module = code.number; number = number })
         ≡ Some (code.typed, heading)
     here_there =
         ap (λ (module_found : Option TypedModule).
@@ -154,7 +160,8 @@ callee_of code entries number heading lies is =
         → ((name : ℕ) → kind ≢ kinds.External name)
         → items_of_call number kind ≡ items.WithWord CallTo (AtLabel number) ∷ []
         → heading.visibility ≢ visibilities.External
-        → procedure_meant code.program.modules (record { number_of_module = code.number; number = number }) heading
+        → procedure_meant code.program.modules
+        (record { number_of_module = code.number; number = number }) heading
         heading.visibility
         ≡ Some (record { number_of_module = code.number; number = number })
         → IsCallee code entries number heading
@@ -181,7 +188,8 @@ callee_of code entries number heading lies is =
     foreign : (tree : IsTree code number heading) (name : ℕ)
         → kind_of code.typed number heading ≡ kinds.External name
         → (meant : Option InProgram)
-        → procedure_meant code.program.modules (record { number_of_module = code.number; number = number }) heading
+        → procedure_meant code.program.modules
+        (record { number_of_module = code.number; number = number }) heading
         heading.visibility ≡ meant
         → IsSomeAnd meant (MeansProcedure code.program.modules heading)
         → IsCallee code entries number heading
@@ -203,7 +211,8 @@ callee_of code entries number heading lies is =
               ∙ ap (λ (kind : ProcedureKind). items_of_call number kind) (tree.kind ∙ kind_is);
           word =
               from_zero (code.layout.address_of (ExternalTarget name))
-              ∙ sym (lies.externals number name tree.procedure at tree.there (tree.kind ∙ kind_is) (callee_is ∙ meant));
+              ∙ sym (lies.externals number name tree.procedure at tree.there (tree.kind ∙ kind_is)
+              (callee_is ∙ meant));
         }
 
     by_visibility : (visibility : Visibility) → heading.visibility ≡ visibility → IsTree code number heading
@@ -211,42 +220,64 @@ callee_of code entries number heading lies is =
     by_visibility visibilities.External is_external tree =
         foreign tree (unwrap_or (external_number code.typed (is_global_procedure number)) 0)
         (kind_outside is_external)
-        (procedure_meant code.program.modules (record { number_of_module = code.number; number = number }) heading
+        (procedure_meant code.program.modules
+        (record { number_of_module = code.number; number = number }) heading
         heading.visibility) refl
-        (external_procedure_meant code.program.modules lies.joined lies.globals code.number number code.typed heading
+        (external_procedure_meant code.program.modules lies.joined lies.globals code.number
+        number code.typed heading
         lies.is_module is is_external)
       where
         kind_outside : heading.visibility ≡ visibilities.External
             → kind_of code.typed number heading
             ≡ kinds.External (unwrap_or (external_number code.typed (is_global_procedure number)) 0)
-        kind_outside same = ap (λ (visibility : Visibility). kind_of code.typed number (record heading { visibility = visibility })) same
+        kind_outside same =
+            ap (λ (visibility : Visibility). kind_of code.typed number
+            (record heading { visibility = visibility })) same
     by_visibility visibilities.Public is_public tree = by_kind heading.is_reentrant refl
       where
-        by_kind : (is_reentrant : Bool) → heading.is_reentrant ≡ is_reentrant → IsCallee code entries number heading
+        by_kind : (is_reentrant : Bool) → heading.is_reentrant ≡ is_reentrant
+            → IsCallee code entries number heading
         by_kind true same =
             own tree kinds.Reentrant
-            (ap (λ (visibility : Visibility). kind_of code.typed number (record heading { visibility = visibility })) is_public
-            ∙ ap (λ (test : Bool). kind_of code.typed number (record heading { visibility = visibilities.Public; is_reentrant = test })) same)
-            (λ name same. cc) refl (λ outside. let bad : visibilities.Public ≡ visibilities.External = sym is_public ∙ outside in cc)
-            (ap (λ (visibility : Visibility). procedure_meant code.program.modules (record { number_of_module = code.number; number = number }) heading visibility) is_public)
+            (ap (λ (visibility : Visibility). kind_of code.typed number
+            (record heading { visibility = visibility })) is_public
+            ∙ ap (λ (test : Bool). kind_of code.typed number
+            (record heading { visibility = visibilities.Public; is_reentrant = test })) same)
+            (λ name same. cc) refl
+            (λ outside. let bad : visibilities.Public ≡ visibilities.External = sym is_public ∙ outside in cc)
+            (ap (λ (visibility : Visibility). procedure_meant code.program.modules
+            (record { number_of_module = code.number; number = number }) heading visibility) is_public)
         by_kind false same =
             own tree kinds.Static
-            (ap (λ (visibility : Visibility). kind_of code.typed number (record heading { visibility = visibility })) is_public
-            ∙ ap (λ (test : Bool). kind_of code.typed number (record heading { visibility = visibilities.Public; is_reentrant = test })) same)
-            (λ name same. cc) refl (λ outside. let bad : visibilities.Public ≡ visibilities.External = sym is_public ∙ outside in cc)
-            (ap (λ (visibility : Visibility). procedure_meant code.program.modules (record { number_of_module = code.number; number = number }) heading visibility) is_public)
+            (ap (λ (visibility : Visibility). kind_of code.typed number
+            (record heading { visibility = visibility })) is_public
+            ∙ ap (λ (test : Bool). kind_of code.typed number
+            (record heading { visibility = visibilities.Public; is_reentrant = test })) same)
+            (λ name same. cc) refl
+            (λ outside. let bad : visibilities.Public ≡ visibilities.External = sym is_public ∙ outside in cc)
+            (ap (λ (visibility : Visibility). procedure_meant code.program.modules
+            (record { number_of_module = code.number; number = number }) heading visibility) is_public)
     by_visibility visibilities.Private is_private tree = by_kind heading.is_reentrant refl
       where
-        by_kind : (is_reentrant : Bool) → heading.is_reentrant ≡ is_reentrant → IsCallee code entries number heading
+        by_kind : (is_reentrant : Bool) → heading.is_reentrant ≡ is_reentrant
+            → IsCallee code entries number heading
         by_kind true same =
             own tree kinds.Reentrant
-            (ap (λ (visibility : Visibility). kind_of code.typed number (record heading { visibility = visibility })) is_private
-            ∙ ap (λ (test : Bool). kind_of code.typed number (record heading { visibility = visibilities.Private; is_reentrant = test })) same)
-            (λ name same. cc) refl (λ outside. let bad : visibilities.Private ≡ visibilities.External = sym is_private ∙ outside in cc)
-            (ap (λ (visibility : Visibility). procedure_meant code.program.modules (record { number_of_module = code.number; number = number }) heading visibility) is_private)
+            (ap (λ (visibility : Visibility). kind_of code.typed number
+            (record heading { visibility = visibility })) is_private
+            ∙ ap (λ (test : Bool). kind_of code.typed number
+            (record heading { visibility = visibilities.Private; is_reentrant = test })) same)
+            (λ name same. cc) refl
+            (λ outside. let bad : visibilities.Private ≡ visibilities.External = sym is_private ∙ outside in cc)
+            (ap (λ (visibility : Visibility). procedure_meant code.program.modules
+            (record { number_of_module = code.number; number = number }) heading visibility) is_private)
         by_kind false same =
             own tree kinds.Static
-            (ap (λ (visibility : Visibility). kind_of code.typed number (record heading { visibility = visibility })) is_private
-            ∙ ap (λ (test : Bool). kind_of code.typed number (record heading { visibility = visibilities.Private; is_reentrant = test })) same)
-            (λ name same. cc) refl (λ outside. let bad : visibilities.Private ≡ visibilities.External = sym is_private ∙ outside in cc)
-            (ap (λ (visibility : Visibility). procedure_meant code.program.modules (record { number_of_module = code.number; number = number }) heading visibility) is_private)
+            (ap (λ (visibility : Visibility). kind_of code.typed number
+            (record heading { visibility = visibility })) is_private
+            ∙ ap (λ (test : Bool). kind_of code.typed number
+            (record heading { visibility = visibilities.Private; is_reentrant = test })) same)
+            (λ name same. cc) refl
+            (λ outside. let bad : visibilities.Private ≡ visibilities.External = sym is_private ∙ outside in cc)
+            (ap (λ (visibility : Visibility). procedure_meant code.program.modules
+            (record { number_of_module = code.number; number = number }) heading visibility) is_private)

@@ -23,6 +23,7 @@ calls_of_module_fit code entries bound lies program within frame number room sha
 pub program_has_types :
     (code : ModuleCode) (entries : Entries)
     → ModuleLies code entries
-    → ((number : ℕ) (typed : TypedModule) → slice_get code.program.modules number ≡ Some typed → IsTypedCode typed)
+    → ((number : ℕ) (typed : TypedModule) → slice_get code.program.modules number ≡ Some typed
+    → IsTypedCode typed)
     → HasTypes code.program
 program_has_types code entries lies each = has_types code.program lies.joined lies.globals lies.script each

@@ -38,22 +38,27 @@ not_owned activation top address lies within low is (inl variable) = by_place is
         ≤ activation.around.program.placement.stack.start + activation.around.program.placement.stack.len
     above = lies.above
 
-    by_place : (address ≡ activation.level + activation.back) ⊎ (address ≡ activation.level + activation.back + 1) → ⊥
+    by_place : (address ≡ activation.level + activation.back)
+        ⊎ (address ≡ activation.level + activation.back + 1) → ⊥
     by_place (inl same) =
-        lies.placed.stack_free address variable.0 (omega (arith, same, start)) (omega (arith, same, within, above))
+        lies.placed.stack_free address variable.0 (omega (arith, same, start))
+        (omega (arith, same, within, above))
     by_place (inr same) =
-        lies.placed.stack_free address variable.0 (omega (arith, same, start)) (omega (arith, same, within, above))
+        lies.placed.stack_free address variable.0 (omega (arith, same, start))
+        (omega (arith, same, within, above))
 not_owned activation top address lies within low is (inr (inl mine)) = by_place is
   where
     less : address < top
     less = mine.1
 
-    by_place : (address ≡ activation.level + activation.back) ⊎ (address ≡ activation.level + activation.back + 1) → ⊥
+    by_place : (address ≡ activation.level + activation.back)
+        ⊎ (address ≡ activation.level + activation.back + 1) → ⊥
     by_place (inl same) = omega (arith, same, less, low)
     by_place (inr same) = omega (arith, same, less, low)
 not_owned activation top address lies within low is (inr (inr mine)) = by_place is
   where
-    by_place : (address ≡ activation.level + activation.back) ⊎ (address ≡ activation.level + activation.back + 1) → ⊥
+    by_place : (address ≡ activation.level + activation.back)
+        ⊎ (address ≡ activation.level + activation.back + 1) → ⊥
     by_place (inl same) = mine.2 same
     by_place (inr same) = mine.3 same
 
@@ -67,22 +72,26 @@ return_stays :
 return_stays activation back before memory lies within kept return_lies = record {
   low =
       kept.bytes (activation.level + activation.back)
-      (not_owned activation activation.level (activation.level + activation.back) lies within (omega arith) (inl refl))
+      (not_owned activation activation.level (activation.level + activation.back) lies within
+      (omega arith) (inl refl))
       ∙ return_lies.low;
   high =
       kept.bytes (activation.level + activation.back + 1)
-      (not_owned activation activation.level (activation.level + activation.back + 1) lies within (omega arith) (inr refl))
+      (not_owned activation activation.level (activation.level + activation.back + 1) lies within
+      (omega arith) (inr refl))
       ∙ return_lies.high;
 }
 
--- Where a procedure begins, its list does what it says and its return returns, its code from the entry on does what the
--- call means.
+-- Where a procedure begins, its list does what it says and its return returns, its code from the entry on
+-- does what the call means.
 pub entered_does :
     (at : BodyContext) (number : ℕ) (found : TypedProcedure) (range : Range)
-    (room entry middle end_place to top bound : ℕ) (facts : Facts) (last : Here) (reaches : Bool) (ends : List Item)
+    (room entry middle end_place to top bound : ℕ) (facts : Facts) (last : Here)
+    (reaches : Bool) (ends : List Item)
     → LiesWell at.context.activation
     → at.context.activation.back + 2 ≤ at.context.activation.whole
-    → at.context.activation.level + at.context.activation.whole ≡ top + 2 + 2 * (length found.parameter_types - 1)
+    → at.context.activation.level + at.context.activation.whole
+    ≡ top + 2 + 2 * (length found.parameter_types - 1)
     → at.context.activation.floor + at.context.activation.around.room
     + (2 + 2 * height_of_list found.body) ≤ at.context.activation.level
     → at.body.procedure.now.result ≡ found.result
@@ -99,13 +108,17 @@ pub entered_does :
     → (back : ℕ) (values : List ℕ) (s : SourceState) (r : Registers) (memory : List ℕ)
     → s.budget < at.context.number
     → bytes_pushed values ≡ 2 * (length found.parameter_types - 1)
-    → IsEntered at.context.activation.around.program at.context.activation.image room found.parameter_types values
+    → IsEntered at.context.activation.around.program at.context.activation.image room
+    found.parameter_types values
     top back s r memory
     → Does at.context.activation.around.program.script s.budget 0 (at_place entry r memory s.events)
     (entered at.context.later at.context.typed number found values at.context.activation.around s)
-    (ComesBack at.context.activation.around.program at.context.activation.image found.result at.context.activation.floor
+    (ComesBack at.context.activation.around.program at.context.activation.image found.result
+    at.context.activation.floor
     (top + 2 + bytes_pushed values) back s memory)
-entered_does at number found range room entry middle end_place to top bound facts last reaches ends lies within_whole ends_above has_room result_is begins does is types stands left end_is there returns back values s r memory below as_many enters =
+entered_does at number found range room entry middle end_place to top bound facts last reaches ends lies
+    within_whole ends_above has_room result_is begins does is types stands left end_is there returns back
+    values s r memory below as_many enters =
     then_does (begins back values s r memory enters)
     (λ given t end begun spent.
     subst (λ (state : State).
@@ -128,14 +141,17 @@ entered_does at number found range room entry middle end_place to top bound fact
 
     Good : ℕ → SourceState → State → Type 0
     Good =
-        ComesBack activation.around.program activation.image found.result activation.floor (top + 2 + bytes_pushed values) back s memory
+        ComesBack activation.around.program activation.image found.result activation.floor
+        (top + 2 + bytes_pushed values) back s memory
 
     above_is : activation.level + activation.whole ≡ top + 2 + bytes_pushed values
     above_is = omega (arith, ends_above, as_many)
 
     -- the return comes back to the caller
-    comes_back : (before : List ℕ) (value : ℕ) (u : SourceState) (place : ℕ) (now : Registers) (ended : List ℕ)
-        → Keeps (IsOfCall activation.around.program activation.floor (top + 2 + bytes_pushed values)) memory before
+    comes_back : (before : List ℕ) (value : ℕ) (u : SourceState) (place : ℕ)
+        (now : Registers) (ended : List ℕ)
+        → Keeps (IsOfCall activation.around.program activation.floor (top + 2 + bytes_pushed values)) memory
+        before
         → ReturnStands at place
         → ReturnLies (activation.level + activation.back) back before
         → IsReady activation activation.level before u.memory u.frame now ended
@@ -158,11 +174,14 @@ entered_does at number found range room entry middle end_place to top bound fact
         }
       where
         good : (before : List ℕ) (value : ℕ) (u : SourceState) (now : Registers) (ended : List ℕ)
-            → Keeps (IsOfCall activation.around.program activation.floor (top + 2 + bytes_pushed values)) memory before
+            → Keeps (IsOfCall activation.around.program activation.floor (top + 2 + bytes_pushed values))
+            memory before
             → Keeps (Owns activation activation.level) before ended
             → (end : State)
-            → HasReturned at at.body.procedure.now.result (activation.level + activation.whole) back ended value u end
-            → ComesBack activation.around.program activation.image found.result activation.floor (top + 2 + bytes_pushed values) back s
+            → HasReturned at at.body.procedure.now.result (activation.level + activation.whole)
+            back ended value u end
+            → ComesBack activation.around.program activation.image found.result activation.floor
+            (top + 2 + bytes_pushed values) back s
             memory value (record u { frame = s.frame }) end
         good before value u now ended kept own end has = record {
           r = has.r;
@@ -173,21 +192,28 @@ entered_does at number found range room entry middle end_place to top bound fact
           registers = has.registers;
           pointer = has.pointer ∙ ap wrap above_is;
           kept =
-              keeps_both (IsOfCall activation.around.program activation.floor (top + 2 + bytes_pushed values)) memory before has.memory kept
-              (keeps_both (IsOfCall activation.around.program activation.floor (top + 2 + bytes_pushed values)) before ended has.memory
-              (subst (λ (above : ℕ). Keeps (IsOfCall activation.around.program activation.floor above) before ended) above_is
+              keeps_both (IsOfCall activation.around.program activation.floor (top + 2 + bytes_pushed values))
+              memory before has.memory kept
+              (keeps_both (IsOfCall activation.around.program activation.floor
+              (top + 2 + bytes_pushed values)) before ended has.memory
+              (subst (λ (above : ℕ). Keeps (IsOfCall activation.around.program activation.floor above)
+              before ended) above_is
               (keeps_wider (Owns activation activation.level)
-              (IsOfCall activation.around.program activation.floor (activation.level + activation.whole)) before ended
+              (IsOfCall activation.around.program activation.floor (activation.level + activation.whole))
+              before ended
               (λ address own. owned_by_call activation address lies own) own))
-              (subst (λ (above : ℕ). Keeps (IsOfCall activation.around.program activation.floor above) ended has.memory) above_is has.kept));
+              (subst (λ (above : ℕ). Keeps (IsOfCall activation.around.program activation.floor above) ended
+              has.memory) above_is has.kept));
           lies =
-              subst (λ (result : Option ScalarType). ResultLies result value has.r has.memory) result_is has.lies;
+              subst (λ (result : Option ScalarType). ResultLies result value has.r has.memory) result_is
+              has.lies;
         }
 
     by_reaches : (reaches_end : Bool) (before : List ℕ) (u : SourceState) (state : State)
         → reaches_end ≡ true
         → IsEndCode at.body at.context.called last reaches_end ends
-        → Keeps (IsOfCall activation.around.program activation.floor (top + 2 + bytes_pushed values)) memory before
+        → Keeps (IsOfCall activation.around.program activation.floor (top + 2 + bytes_pushed values)) memory
+        before
         → ReturnLies (activation.level + activation.back) back before
         → GoesOn at before end_place last u state
         → Does activation.around.program.script u.budget 0 state (Gave 0 (record u { frame = s.frame })) Good
@@ -204,7 +230,8 @@ entered_does at number found range room entry middle end_place to top bound fact
     by_flow : (flow : Flow) (t u : SourceState) (state : State)
         → LeavesBy ways flow
         → (begun_registers : Registers) (before : List ℕ)
-        → Keeps (IsOfCall activation.around.program activation.floor (top + 2 + bytes_pushed values)) memory before
+        → Keeps (IsOfCall activation.around.program activation.floor (top + 2 + bytes_pushed values)) memory
+        before
         → ReturnLies (activation.level + activation.back) back before
         → Leaves at before end_place last t.budget flow u state
         → Does activation.around.program.script u.budget 0 state
@@ -213,9 +240,11 @@ entered_does at number found range room entry middle end_place to top bound fact
         by_reaches reaches before u state by_way end_is kept return_lies leaves
     by_flow (Returned value) t u state by_way begun_registers before kept return_lies leaves =
         subst (λ (state : State).
-        Does activation.around.program.script u.budget 0 state (Gave value (record u { frame = s.frame })) Good)
+        Does activation.around.program.script u.budget 0 state
+        (Gave value (record u { frame = s.frame })) Good)
         (sym comes_of.is_at)
-        (comes_back before value u returning.place comes_of.r comes_of.memory kept returning.stands return_lies
+        (comes_back before value u returning.place comes_of.r comes_of.memory kept
+        returning.stands return_lies
         comes_of.ready comes_of.holds)
       where
         returning : ComesToReturn at before value u state
@@ -225,4 +254,5 @@ entered_does at number found range room entry middle end_place to top bound fact
             (λ (given : Unit {0}) (r : Registers) (memory : List ℕ).
             ResultLies at.body.procedure.now.result value r memory) tt u state
         comes_of = returning.comes
-    by_flow (Jumped label) t u state by_way begun_registers before kept return_lies leaves = absurd (no_jump label by_way)
+    by_flow (Jumped label) t u state by_way begun_registers before kept return_lies leaves =
+        absurd (no_jump label by_way)

@@ -23,13 +23,14 @@ pub plain_planned :
     → AreCarriedOut at.body at.context.called here None (plain i ∷ others) list last
     → IsPlainFirst at i others list
 unfolding carried_steps here_after waiting_after
-plain_planned at {here = here} {last = last} i others (StepCarriedOut {known = known} {first = first} {more = more} holds written rest) = record {
-  more = more;
-  is = ap (λ (one : List Item). one ++ more) (instruction_written at i written);
-  here = record { facts = known; goes_on = here.goes_on };
-  last = last;
-  written = rest;
-}
+plain_planned at {here = here} {last = last} i others
+    (StepCarriedOut {known = known} {first = first} {more = more} holds written rest) = record {
+      more = more;
+      is = ap (λ (one : List Item). one ++ more) (instruction_written at i written);
+      here = record { facts = known; goes_on = here.goes_on };
+      last = last;
+      written = rest;
+    }
 
 -- The end does: where the code of the return stands after it, with 0 in the register of a result.
 pub end_does :
@@ -43,23 +44,30 @@ pub end_does :
     → ((place : ℕ) (now : Registers) → ReturnStands at place
     → IsReady at.context.activation at.context.activation.level base source frame now memory
     → ResultLies at.body.procedure.now.result 0 now memory
-    → Does at.context.activation.around.program.script budget 0 (at_place place now memory events) outcome Good)
+    → Does at.context.activation.around.program.script budget 0
+    (at_place place now memory events) outcome Good)
     → Does at.context.activation.around.program.script budget 0 (at_place from r memory events) outcome Good
 unfolding end_steps zero_result_steps
-end_does {A = A} {outcome = outcome} {Good = Good} {budget = budget} {base = base} {source = source} {frame = frame} {memory = memory} {events = events} at here last list from to r lies written there ready return =
+end_does {A = A} {outcome = outcome} {Good = Good} {budget = budget} {base = base} {source = source}
+    {frame = frame} {memory = memory} {events = events} at here last list from to r lies written
+    there ready return =
     by_result at.body.procedure.now.result refl written
   where
     by_result : (result : Option ScalarType) → at.body.procedure.now.result ≡ result
-        → AreCarriedOut at.body at.context.called here None (zero_result_steps result ++ return_steps at.body) list last
-        → Does at.context.activation.around.program.script budget 0 (at_place from r memory events) outcome Good
+        → AreCarriedOut at.body at.context.called here None
+        (zero_result_steps result ++ return_steps at.body) list last
+        → Does at.context.activation.around.program.script budget 0
+        (at_place from r memory events) outcome Good
     by_result None same written =
         return from r
         (record { here = here; last = last; list = list; to = to; written = written; there = there }) ready
         (subst (λ (result : Option ScalarType). ResultLies result 0 r memory) (sym same) tt)
     by_result (Some Byte) same written =
         let parts = plain_planned at clear_a (return_steps at.body) written in
-        let here_there = subst (λ (list : List Item). IsThere at.context.activation list from to) parts.is there in
-        let now : Registers = record r { a = bit_xor r.a r.a; flags = (operate ExclusiveOr r.a r.a r.flags).flags } in
+        let here_there =
+        subst (λ (list : List Item). IsThere at.context.activation list from to) parts.is there in
+        let now : Registers =
+        record r { a = bit_xor r.a r.a; flags = (operate ExclusiveOr r.a r.a r.flags).flags } in
         let bytes = ready.registers in
         let zero : bit_xor r.a r.a ≡ 0 = xor_self r.a in
         plain_first r lies ready.shares.code here_there
@@ -78,7 +86,8 @@ end_does {A = A} {outcome = outcome} {Good = Good} {budget = budget} {base = bas
         (subst (λ (result : Option ScalarType). ResultLies result 0 now memory) (sym same) zero))
     by_result (Some Address) same written =
         let parts = plain_planned at (Lxi Hl 0) (return_steps at.body) written in
-        let here_there = subst (λ (list : List Item). IsThere at.context.activation list from to) parts.is there in
+        let here_there =
+        subst (λ (list : List Item). IsThere at.context.activation list from to) parts.is there in
         let now : Registers = record r { h = 0; l = 0 } in
         let bytes = ready.registers in
         plain_first r lies ready.shares.code here_there

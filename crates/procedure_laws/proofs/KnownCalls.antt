@@ -8,11 +8,13 @@ use Rattle.procedure_laws.proofs.Static.StaticProcedures.{static_begins}
 use Rattle.procedure_laws.proofs.Returns.StaticReturns.{static_returns}
 
 -- what a place in a program has
-pub record IsAt (modules : List TypedModule) (at : InProgram) (typed : TypedModule) (found : TypedProcedure) : Type 0 where
+pub record IsAt (modules : List TypedModule) (at : InProgram) (typed : TypedModule)
+    (found : TypedProcedure) : Type 0 where
   pub is_module : slice_get modules at.number_of_module ≡ Some typed
   pub is_procedure : slice_get typed.procedures at.number ≡ Some found
 
-pub procedure_is_at : (modules : List TypedModule) (at : InProgram) (typed : TypedModule) (found : TypedProcedure)
+pub procedure_is_at : (modules : List TypedModule) (at : InProgram) (typed : TypedModule)
+    (found : TypedProcedure)
     → procedure_at modules at ≡ Some (typed, found)
     → IsAt modules at typed found
 procedure_is_at modules at typed found there = by_module (slice_get modules at.number_of_module) refl there
@@ -20,7 +22,8 @@ procedure_is_at modules at typed found there = by_module (slice_get modules at.n
     by_procedure : (its : TypedModule) (entry : Option TypedProcedure)
         → slice_get modules at.number_of_module ≡ Some its
         → slice_get its.procedures at.number ≡ entry
-        → option_map {U = TypedModule × TypedProcedure} (λ (procedure : TypedProcedure). (its, procedure)) entry
+        → option_map {U = TypedModule × TypedProcedure}
+        (λ (procedure : TypedProcedure). (its, procedure)) entry
         ≡ Some (typed, found)
         → IsAt modules at typed found
     by_procedure its None is there same = let bad : ⊥ = cc in absurd bad
@@ -56,14 +59,17 @@ pub own_calls_follow :
     (AllCallsAreKnown code.program code.image entries)
 own_calls_follow code entries bound lies lists fit number bounded known index found is here =
     procedures_do code entries bound number lies known bounded lists fit
-    (λ tree same. static_begins (with_tree code tree) entries bound (lies_anywhere code entries tree same lies))
+    (λ tree same. static_begins (with_tree code tree) entries bound
+    (lies_anywhere code entries tree same lies))
     (λ tree same. static_returns (with_tree code tree) bound)
-    (λ tree same. reentrant_begins (with_tree code tree) entries bound (lies_anywhere code entries tree same lies))
-    (λ tree same. reentrant_returns (with_tree code tree) entries bound (lies_anywhere code entries tree same lies))
+    (λ tree same. reentrant_begins (with_tree code tree) entries bound
+    (lies_anywhere code entries tree same lies))
+    (λ tree same. reentrant_returns (with_tree code tree) entries bound
+    (lies_anywhere code entries tree same lies))
     index found is here
 
--- Where each module does so, all calls of a program are known, in runs of up to as many calls, turns and jumps as the
--- meaning is tied by.
+-- Where each module does so, all calls of a program are known, in runs of up to as many calls, turns and
+-- jumps as the meaning is tied by.
 pub calls_known :
     (program : Program) (image : List ℕ) (entries : Entries) (bound : ℕ)
     → ((number_of_module : ℕ) (typed : TypedModule) → slice_get program.modules number_of_module ≡ Some typed
@@ -76,4 +82,5 @@ calls_known program image entries bound modules zero bounded at typed found ther
 calls_known program image entries bound modules (suc number) bounded at typed found there here =
     let is = procedure_is_at program.modules at typed found there in
     modules at.number_of_module typed is.is_module number bounded
-    (calls_known program image entries bound modules number (omega (arith, bounded))) at.number found is.is_procedure here
+    (calls_known program image entries bound modules number (omega (arith, bounded))) at.number found
+    is.is_procedure here

@@ -20,10 +20,12 @@ gives_where :
     {A : Type 0} {script : List (List ℕ)} {budget : ℕ} {from : State} (outcome : Outcome A)
     {Middle Good : A → SourceState → State → Type 0}
     → Does script budget 0 from outcome Middle
-    → ((found : A) (t : SourceState) (end : State) → outcome ≡ Gave found t → Middle found t end → t.budget ≤ budget
+    → ((found : A) (t : SourceState) (end : State) → outcome ≡ Gave found t
+    → Middle found t end → t.budget ≤ budget
     → Does script t.budget 0 end (Gave found t) Good)
     → Does script budget 0 from outcome Good
-gives_where {A = A} {script = script} {budget = budget} {from = from} outcome {Middle = Middle} {Good = Good} one rest =
+gives_where {A = A} {script = script} {budget = budget} {from = from} outcome {Middle = Middle}
+    {Good = Good} one rest =
     subst (λ (given : Outcome A). Does script budget 0 from given Good) (given_again outcome)
     (then_does_where outcome {go = λ found t. Gave found t} one rest)
 
@@ -31,7 +33,8 @@ end_word : (address level : ℕ) → wrap address ≡ wrap level → wrap (0 + a
 end_word address level same = omega (arith, same)
 
 main_goes :
-    (code : ModuleCode) (entries : Entries) (start budget room : ℕ) (s : SourceState) (r : Registers) (memory : List ℕ)
+    (code : ModuleCode) (entries : Entries) (start budget room : ℕ) (s : SourceState)
+    (r : Registers) (memory : List ℕ)
     → ModuleLies code entries
     → CallsAreKnown code.program code.image (later_by (suc budget)) budget entries
     → ListsAreDone
@@ -45,7 +48,8 @@ main_goes :
     → HoldBytes r
     → Does code.program.script s.budget 0 (at_place start r memory s.events)
     (main_done budget code.typed (surroundings_in code room) s) IsHalted
-main_goes code entries start budget room s r memory lies known lists fit stands one_tree below no_frame enough shares bytes =
+main_goes code entries start budget room s r memory lies known lists fit stands one_tree below no_frame
+    enough shares bytes =
     charged_does (charge_of code.typed.main) (surroundings_in code room) s
     (λ within t. done_list (later_by (suc budget)) within code.typed.main.body t) (λ fits. runs fits)
   where
@@ -57,7 +61,8 @@ main_goes code entries start budget room s r memory lies known lists fit stands 
 
     runs : charge_of code.typed.main ≤ room
         → Does code.program.script s.budget 0 (at_place start r memory s.events)
-        (done_list (later_by (suc budget)) (surroundings_in code (room - charge_of code.typed.main)) code.typed.main.body s)
+        (done_list (later_by (suc budget)) (surroundings_in code (room - charge_of code.typed.main))
+        code.typed.main.body s)
         IsHalted
     runs fits =
         word_first r well shares.code at_start
@@ -68,11 +73,14 @@ main_goes code entries start budget room s r memory lies known lists fit stands 
         (gives_where
         (done_list (later_by (suc budget)) (surroundings_in code (room - charge_of code.typed.main))
         code.typed.main.body s)
-        (lists at no_facts code.tree.now.main.body stands.statements stands.last (start + 3) parts.middle sound
+        (lists at no_facts code.tree.now.main.body stands.statements stands.last
+        (start + 3) parts.middle sound
         stands.list_written parts.first (length (nodes_of code.tree.now).statements) code.typed.main.body
         lowered.body lies.types.main lies.jumps.main.stands memory s
-        (record r { sp = wrap (code.program.placement.stack.start + code.program.placement.stack.len) }) memory
-        (omega (arith, below)) (record { depth = omega arith; enough = omega (arith, fits, charge, enough); even = refl }) ready
+        (record r { sp = wrap (code.program.placement.stack.start + code.program.placement.stack.len) })
+        memory
+        (omega (arith, below))
+        (record { depth = omega arith; enough = omega (arith, fits, charge, enough); even = refl }) ready
         no_facts_hold)
         (λ flow t end gave leaves spent.
         by_flow flow t end
@@ -84,16 +92,19 @@ main_goes code entries start budget room s r memory lies known lists fit stands 
         inner = room - charge_of code.typed.main
 
         well : LiesWell (activation_in code (room - charge_of code.typed.main)
-            (main_shape code.program.placement.stack.start (code.program.placement.stack.start + code.program.placement.stack.len)))
+            (main_shape code.program.placement.stack.start
+            (code.program.placement.stack.start + code.program.placement.stack.len)))
         well =
             static_lies code entries (room - charge_of code.typed.main) code.program.placement.stack.start
-            (code.program.placement.stack.start + code.program.placement.stack.len) 0 lies (omega arith) (omega arith) (omega arith)
+            (code.program.placement.stack.start + code.program.placement.stack.len) 0 lies (omega arith)
+            (omega arith) (omega arith)
 
         at : BodyContext
         at =
             body_in code WithinMain stands.body code.typed.main (suc budget) (suc budget)
             (room - charge_of code.typed.main)
-            (main_shape code.program.placement.stack.start (code.program.placement.stack.start + code.program.placement.stack.len))
+            (main_shape code.program.placement.stack.start
+            (code.program.placement.stack.start + code.program.placement.stack.len))
 
         lowered : HasBody (nodes_of code.tree.now) code.storage code.tree.now.main code.typed.main
         lowered = lies.lowered.main
@@ -104,15 +115,18 @@ main_goes code entries start budget room s r memory lies known lists fit stands 
         charge = charge_is code.typed.main
 
         at_start : IsThere (activation_in code (room - charge_of code.typed.main)
-            (main_shape code.program.placement.stack.start (code.program.placement.stack.start + code.program.placement.stack.len)))
+            (main_shape code.program.placement.stack.start
+            (code.program.placement.stack.start + code.program.placement.stack.len)))
             (items.WithWord (LoadPair Sp) (AtTarget (InSegment Stack) 0)
             ∷ (stands.statements ++ (items.Plain Hlt ∷ []))) start stands.to
         at_start =
             there_in code (room - charge_of code.typed.main)
-            (main_shape code.program.placement.stack.start (code.program.placement.stack.start + code.program.placement.stack.len)) stands.there
+            (main_shape code.program.placement.stack.start
+            (code.program.placement.stack.start + code.program.placement.stack.len)) stands.there
 
         parts : AreThere (activation_in code (room - charge_of code.typed.main)
-            (main_shape code.program.placement.stack.start (code.program.placement.stack.start + code.program.placement.stack.len)))
+            (main_shape code.program.placement.stack.start
+            (code.program.placement.stack.start + code.program.placement.stack.len)))
             stands.statements (items.Plain Hlt ∷ []) (start + 3) stands.to
         parts = both_there stands.statements (items.Plain Hlt ∷ []) (after_word at_start)
 
@@ -123,9 +137,11 @@ main_goes code entries start budget room s r memory lies known lists fit stands 
             (code.program.placement.stack.start + code.program.placement.stack.len) lies.stack_end
 
         ready : IsReady (activation_in code (room - charge_of code.typed.main)
-            (main_shape code.program.placement.stack.start (code.program.placement.stack.start + code.program.placement.stack.len)))
+            (main_shape code.program.placement.stack.start
+            (code.program.placement.stack.start + code.program.placement.stack.len)))
             (code.program.placement.stack.start + code.program.placement.stack.len) memory s.memory s.frame
-            (record r { sp = wrap (code.program.placement.stack.start + code.program.placement.stack.len) }) memory
+            (record r { sp = wrap (code.program.placement.stack.start + code.program.placement.stack.len) })
+            memory
         ready = record {
           pointer = refl;
           registers =
@@ -137,27 +153,32 @@ main_goes code entries start budget room s r memory lies known lists fit stands 
             bytes = λ object offset within. absurd (omega (arith, within));
           };
           kept = keeps_all (Owns (activation_in code (room - charge_of code.typed.main)
-              (main_shape code.program.placement.stack.start (code.program.placement.stack.start + code.program.placement.stack.len)))
+              (main_shape code.program.placement.stack.start
+              (code.program.placement.stack.start + code.program.placement.stack.len)))
               (code.program.placement.stack.start + code.program.placement.stack.len)) memory;
         }
 
         sound : IsSoundBody (body_in code WithinMain stands.body code.typed.main (suc budget) (suc budget)
             (room - charge_of code.typed.main)
-            (main_shape code.program.placement.stack.start (code.program.placement.stack.start + code.program.placement.stack.len)))
+            (main_shape code.program.placement.stack.start
+            (code.program.placement.stack.start + code.program.placement.stack.len)))
         sound =
             body_sound code WithinMain stands.body code.typed.main (suc budget) (suc budget)
             (room - charge_of code.typed.main)
-            (main_shape code.program.placement.stack.start (code.program.placement.stack.start + code.program.placement.stack.len)) one_tree tt
+            (main_shape code.program.placement.stack.start
+            (code.program.placement.stack.start + code.program.placement.stack.len)) one_tree tt
             (omega arith) (main_labels_differ code.typed lies.jumps)
             (context_sound code entries WithinMain stands.body.frame (suc budget) budget
             (room - charge_of code.typed.main)
-            (main_shape code.program.placement.stack.start (code.program.placement.stack.start + code.program.placement.stack.len)) lies known
+            (main_shape code.program.placement.stack.start
+            (code.program.placement.stack.start + code.program.placement.stack.len)) lies known
             (omega arith) well
             (main_planned code stands.body.frame (suc budget) (suc budget) (room - charge_of code.typed.main)
             code.program.placement.stack.start
             (code.program.placement.stack.start + code.program.placement.stack.len))
             (fit WithinMain stands.body.frame (suc budget) (room - charge_of code.typed.main)
-            (main_shape code.program.placement.stack.start (code.program.placement.stack.start + code.program.placement.stack.len))))
+            (main_shape code.program.placement.stack.start
+            (code.program.placement.stack.start + code.program.placement.stack.len))))
 
         reaches_end : Bool
         reaches_end =
@@ -177,7 +198,8 @@ main_goes code entries start budget room s r memory lies known lists fit stands 
             → LeavesBy (record { reaches = reaches_end; returns = false; labels = [] }) flow
             → Leaves (body_in code WithinMain stands.body code.typed.main (suc budget) (suc budget)
             (room - charge_of code.typed.main)
-            (main_shape code.program.placement.stack.start (code.program.placement.stack.start + code.program.placement.stack.len)))
+            (main_shape code.program.placement.stack.start
+            (code.program.placement.stack.start + code.program.placement.stack.len)))
             memory parts.middle stands.last s.budget flow t end
             → Does code.program.script t.budget 0 end (Gave flow t) IsHalted
         by_flow Onward t end by_way leaves =
@@ -191,7 +213,8 @@ main_goes code entries start budget room s r memory lies known lists fit stands 
 
 -- wherever its tree code lies
 pub main_does :
-    (code : ModuleCode) (entries : Entries) (start budget room : ℕ) (s : SourceState) (r : Registers) (memory : List ℕ)
+    (code : ModuleCode) (entries : Entries) (start budget room : ℕ) (s : SourceState)
+    (r : Registers) (memory : List ℕ)
     → ModuleLies code entries
     → CallsAreKnown code.program code.image (later_by (suc budget)) budget entries
     → ListsAreDone
@@ -204,7 +227,8 @@ pub main_does :
     → HoldBytes r
     → Does code.program.script s.budget 0 (at_place start r memory s.events)
     (main_done budget code.typed (surroundings_in code room) s) IsHalted
-main_does code entries start budget room s r memory lies known lists fit stands below no_frame enough shares bytes =
+main_does code entries start budget room s r memory lies known lists fit stands below no_frame
+    enough shares bytes =
     main_goes (with_tree code stands.body.tree) entries start budget room s r memory
     (lies_anywhere code entries stands.body.tree stands.tree lies) known lists fit
     (record {
@@ -216,7 +240,8 @@ main_does code entries start budget room s r memory lies known lists fit stands 
       statements = stands.statements;
       last = stands.last;
       list_written =
-          subst (λ (one : TreeModule). IsListCarriedOut stands.body code.called no_facts one.main.body stands.statements stands.last)
+          subst (λ (one : TreeModule). IsListCarriedOut stands.body code.called no_facts one.main.body
+          stands.statements stands.last)
           (sym stands.tree) stands.list_written;
       to = stands.to;
       there = stands.there;
@@ -242,7 +267,8 @@ ends_as script budget from (Stopped (Outside reason) t) does = tt
 
 -- For each budget the machine ends as the source does.
 pub main_runs :
-    (code : ModuleCode) (entries : Entries) (start budget room : ℕ) (s : SourceState) (r : Registers) (memory : List ℕ)
+    (code : ModuleCode) (entries : Entries) (start budget room : ℕ) (s : SourceState)
+    (r : Registers) (memory : List ℕ)
     → ModuleLies code entries
     → CallsAreKnown code.program code.image (later_by (suc budget)) budget entries
     → ListsAreDone
@@ -256,11 +282,13 @@ pub main_runs :
     → EndsAs code.program.script budget (at_place start r memory s.events)
     (run_of (main_done budget code.typed (surroundings_in code room) s)).end
     (run_of (main_done budget code.typed (surroundings_in code room) s)).events
-main_runs code entries start budget room s r memory lies known lists fit stands is no_frame enough shares bytes =
+main_runs code entries start budget room s r memory lies known lists fit stands is no_frame
+    enough shares bytes =
     ends_as code.program.script budget (at_place start r memory s.events)
     (main_done budget code.typed (surroundings_in code room) s)
     (subst (λ (left : ℕ).
     Does code.program.script left 0 (at_place start r memory s.events)
     (main_done budget code.typed (surroundings_in code room) s) IsHalted) is
-    (main_does code entries start budget room s r memory lies known lists fit stands (omega (arith, is)) no_frame enough
+    (main_does code entries start budget room s r memory lies known lists fit stands
+    (omega (arith, is)) no_frame enough
     shares bytes))

@@ -6,7 +6,8 @@ use Rattle.statements8080.specs.Plans.{word}
 
 -- what is written after the first items, where this is known then
 pub record IsBehind
-    (at : BodyContext) (first : List Item) (known : Facts) (others : List Planned) (list : List Item) (last : Here) :
+    (at : BodyContext) (first : List Item) (known : Facts) (others : List Planned)
+    (list : List Item) (last : Here) :
     Type 0 where
   pub more : List Item
   pub is : list ≡ first ++ more
@@ -14,7 +15,8 @@ pub record IsBehind
   pub facts : here.facts ≡ known
   pub written : AreCarriedOut at.body at.context.called here None others more last
 
-record IsStep (at : BodyContext) (first : List Item) (after : Facts) (list : List Item) (known : Facts) : Type 0 where
+record IsStep (at : BodyContext) (first : List Item) (after : Facts) (list : List Item)
+    (known : Facts) : Type 0 where
   items_are : list ≡ first
   facts_are : known ≡ after
 
@@ -52,11 +54,13 @@ plain_behind at {here = here} i others (StepCarriedOut {known = known} {more = m
     }
 
 pub word_behind :
-    (at : BodyContext) {here last : Here} (form : WordForm) (place : Place) (others : List Planned) {list : List Item}
+    (at : BodyContext) {here last : Here} (form : WordForm) (place : Place)
+    (others : List Planned) {list : List Item}
     → AreCarriedOut at.body at.context.called here None (word form place ∷ others) list last
     → IsBehind at (word_item form place ∷ []) (after_word here.facts form place) others list last
 unfolding carried_steps here_after waiting_after
-word_behind at {here = here} form place others (StepCarriedOut {known = known} {more = more} holds written rest) =
+word_behind at {here = here} form place others
+    (StepCarriedOut {known = known} {more = more} holds written rest) =
     let step = word_written at form place written in
     record {
       more = more;

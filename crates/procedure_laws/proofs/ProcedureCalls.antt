@@ -72,7 +72,8 @@ kind_here typed index found here = by found.visibility found.is_reentrant refl r
         ≡ kind_of typed index (record found { visibility = visibility; is_reentrant = is_reentrant })
     kind_by visibility is_reentrant one other =
         ap (λ (visibility : Visibility). kind_of typed index (record found { visibility = visibility })) one
-        ∙ ap (λ (test : Bool). kind_of typed index (record found { visibility = visibility; is_reentrant = test })) other
+        ∙ ap (λ (test : Bool). kind_of typed index
+        (record found { visibility = visibility; is_reentrant = test })) other
 
     by : (visibility : Visibility) (is_reentrant : Bool)
         → found.visibility ≡ visibility → found.is_reentrant ≡ is_reentrant
@@ -85,23 +86,27 @@ kind_here typed index found here = by found.visibility found.is_reentrant refl r
     by visibilities.Private false one other = inl (kind_by visibilities.Private false one other, other)
 
 module _ (code : ModuleCode) (entries : Entries) (bound number : ℕ) (lies : ModuleLies code entries)
-    (known : CallsAreKnown code.program code.image (later_by bound) number entries) (bounded : suc number ≤ bound)
+    (known : CallsAreKnown code.program code.image (later_by bound) number entries)
+    (bounded : suc number ≤ bound)
     (lists : ListsAreDone) (fit : CallsOfModuleFit code bound) where
   module _ (index : ℕ) (procedure : TreeProcedure) (found : TypedProcedure)
       (there : slice_get code.tree.now.procedures.items index ≡ Some procedure)
       (is : slice_get code.typed.procedures index ≡ Some found)
       (not_outside : (name : ℕ) → procedure.kind ≢ kinds.External name)
-      (stands : ProcedureStands code procedure (code.layout.place_of index)) (one_tree : stands.body.tree ≡ code.tree) where
+      (stands : ProcedureStands code procedure (code.layout.place_of index))
+      (one_tree : stands.body.tree ≡ code.tree) where
     lowered : IsProcedure code.typed (nodes_of code.tree.now) code.storage index procedure found
     lowered = lies.lowered.procedures index procedure found there is
 
     sound_jumps : BodyIsSound found.body
     sound_jumps =
-        holds_for_item (λ (one : TypedProcedure). BodyIsSound one.body) code.typed.procedures index found lies.jumps.procedures is
+        holds_for_item (λ (one : TypedProcedure). BodyIsSound one.body) code.typed.procedures index found
+        lies.jumps.procedures is
 
     types_hold : TypesHoldInList code.typed (WithinProcedure index found.result) found.body
     types_hold =
-        numbered_at (TypesHoldInProcedure code.typed) code.typed.procedures index found lies.types.procedures is
+        numbered_at (TypesHoldInProcedure code.typed) code.typed.procedures index found
+        lies.types.procedures is
 
     has : HasParameters code.typed index found
     has = has_parameters code.typed index found lies.parameters is
@@ -118,35 +123,45 @@ module _ (code : ModuleCode) (entries : Entries) (bound number : ℕ) (lies : Mo
     -- the body of a call, wherever its activation lies
     abbrev body_at : (room : ℕ) (shape : Shape) → BodyContext
     body_at room shape =
-        body_in code (WithinProcedure index found.result) stands.body found bound (suc number) (room - charge_of found)
+        body_in code (WithinProcedure index found.result) stands.body found bound (suc number)
+        (room - charge_of found)
         shape
 
     in_shape :
         (room top : ℕ) (shape : Shape)
         → LiesWell (activation_in code (room - charge_of found) shape)
-        → FrameIsPlanned (context_in code (WithinProcedure index found.result) stands.body.frame bound (suc number)
+        → FrameIsPlanned
+        (context_in code (WithinProcedure index found.result) stands.body.frame bound (suc number)
         (room - charge_of found) shape)
         → shape.back + 2 ≤ shape.whole
         → shape.level + shape.whole ≡ top + 2 + 2 * (length found.parameter_types - 1)
         → shape.floor + (room - charge_of found) + (2 + 2 * height_of_list found.body) ≤ shape.level
         → ((middle : ℕ)
         → IsSoundBody (body_at room shape)
-        → IsThere (activation_in code (room - charge_of found) shape) stands.begins (code.layout.place_of index) middle
-        → BeginDoes (body_at room shape) index found room (code.layout.place_of index) middle top stands.begun.facts)
+        → IsThere (activation_in code (room - charge_of found) shape) stands.begins
+        (code.layout.place_of index) middle
+        → BeginDoes (body_at room shape) index found room (code.layout.place_of index) middle
+        top stands.begun.facts)
         → (IsSoundBody (body_at room shape) → ReturnDoes (body_at room shape) (shape.level + shape.whole))
         → (back : ℕ) (values : List ℕ) (s : SourceState) (r : Registers) (memory : List ℕ)
         → s.budget < suc number
         → bytes_pushed values ≡ 2 * (length found.parameter_types - 1)
         → IsEntered code.program code.image room found.parameter_types values top back s r memory
         → Does code.program.script s.budget 0 (at_place (code.layout.place_of index) r memory s.events)
-        (entered (later_by bound) code.typed index found values (surroundings_in code (room - charge_of found)) s)
-        (ComesBack code.program code.image found.result shape.floor (top + 2 + bytes_pushed values) back s memory)
-    in_shape room top shape well planned within_whole ends_above has_room begins returns back values s r memory below many enters =
-        entered_does (body_at room shape) index found procedure.body room (code.layout.place_of index) first.middle
-        second.middle stands.to top (length (nodes_of code.tree.now).statements) stands.begun.facts stands.last
+        (entered (later_by bound) code.typed index found values
+        (surroundings_in code (room - charge_of found)) s)
+        (ComesBack code.program code.image found.result shape.floor
+        (top + 2 + bytes_pushed values) back s memory)
+    in_shape room top shape well planned within_whole ends_above has_room begins returns back values s r
+        memory below many enters =
+        entered_does (body_at room shape) index found procedure.body room
+        (code.layout.place_of index) first.middle
+        second.middle stands.to top (length (nodes_of code.tree.now).statements)
+        stands.begun.facts stands.last
         procedure.reaches_its_end stands.ends well within_whole ends_above has_room body_result
         (begins first.middle sound first_there)
-        (lists (body_at room shape) stands.begun.facts procedure.body stands.statements stands.last first.middle
+        (lists (body_at room shape) stands.begun.facts procedure.body stands.statements
+        stands.last first.middle
         second.middle sound stands.list_written second_there)
         lowered.has_body.body types_hold sound_jumps.stands
         (λ t.
@@ -155,11 +170,13 @@ module _ (code : ModuleCode) (entries : Entries) (bound number : ℕ) (lies : Mo
         (done_list (later_by bound) (surroundings_in code (room - charge_of found)) found.body t))
         (sym lowered.has_body.reaches_its_end)
         (body_left code.typed (WithinProcedure index found.result) (nodes_of code.tree.now) code.storage
-        (place_at code.layout) (surroundings_in code (room - charge_of found)) (lies.resolves (room - charge_of found))
+        (place_at code.layout) (surroundings_in code (room - charge_of found))
+        (lies.resolves (room - charge_of found))
         lies.lists bound found.body t sound_jumps.closed sound_jumps.stands types_hold))
         stands.end_written third_there (returns sound) back values s r memory below many enters
       where
-        first : AreThere (bare code) stands.begins (stands.statements ++ stands.ends) (code.layout.place_of index) stands.to
+        first : AreThere (bare code) stands.begins (stands.statements ++ stands.ends)
+            (code.layout.place_of index) stands.to
         first = both_there stands.begins (stands.statements ++ stands.ends) stands.there
 
         second : AreThere (bare code) stands.statements stands.ends first.middle stands.to
@@ -169,11 +186,13 @@ module _ (code : ModuleCode) (entries : Entries) (bound number : ℕ) (lies : Mo
             (code.layout.place_of index) first.middle
         first_there = there_in code (room - charge_of found) shape first.first
 
-        second_there : IsThere (activation_in code (room - charge_of found) shape) stands.statements first.middle
+        second_there : IsThere (activation_in code (room - charge_of found) shape)
+            stands.statements first.middle
             second.middle
         second_there = there_in code (room - charge_of found) shape second.first
 
-        third_there : IsThere (activation_in code (room - charge_of found) shape) stands.ends second.middle stands.to
+        third_there : IsThere (activation_in code (room - charge_of found) shape) stands.ends
+            second.middle stands.to
         third_there = there_in code (room - charge_of found) shape second.second
 
         body_result : stands.body.procedure.now.result ≡ found.result
@@ -186,7 +205,8 @@ module _ (code : ModuleCode) (entries : Entries) (bound number : ℕ) (lies : Mo
             (procedure_labels_differ code.typed index found lies.jumps sound_jumps.stands is)
             (context_sound code entries (WithinProcedure index found.result) stands.body.frame bound number
             (room - charge_of found) shape lies known bounded well planned
-            (fit (WithinProcedure index found.result) stands.body.frame (suc number) (room - charge_of found) shape))
+            (fit (WithinProcedure index found.result) stands.body.frame (suc number)
+            (room - charge_of found) shape))
 
     entry_fits : (room top back : ℕ) (values : List ℕ) (s : SourceState) (r : Registers) (memory : List ℕ)
         → charge_of found ≤ room
@@ -203,7 +223,8 @@ module _ (code : ModuleCode) (entries : Entries) (bound number : ℕ) (lies : Mo
           charged = omega (arith, charge_fits, charge);
           types =
               as_many_parameters code.typed
-              (home_of_parameters index found.is_reentrant found.visibility) found.parameter_types found.parameters
+              (home_of_parameters index found.is_reentrant found.visibility)
+              found.parameter_types found.parameters
               has.objects;
         }
 
@@ -217,8 +238,10 @@ module _ (code : ModuleCode) (entries : Entries) (bound number : ℕ) (lies : Mo
         → IsEntered code.program code.image room found.parameter_types values top back s r memory
         → EntryFits code found room top values
         → Does code.program.script s.budget 0 (at_place (code.layout.place_of index) r memory s.events)
-        (entered (later_by bound) code.typed index found values (surroundings_in code (room - charge_of found)) s)
-        (ComesBack code.program code.image found.result (top + 2 - room) (top + 2 + bytes_pushed values) back s memory)
+        (entered (later_by bound) code.typed index found values
+        (surroundings_in code (room - charge_of found)) s)
+        (ComesBack code.program code.image found.result (top + 2 - room)
+        (top + 2 + bytes_pushed values) back s memory)
     static_does begins returns kind static room top back values s r memory below charge_fits enters fits =
         in_shape room top (static_shape (top + 2 - room) (static_level found top))
         (static_lies code entries (room - charge_of found) (top + 2 - room) (static_level found top) 2 lies
@@ -227,9 +250,11 @@ module _ (code : ModuleCode) (entries : Entries) (bound number : ℕ) (lies : Mo
         (room - charge_of found) (top + 2 - room) (static_level found top) lies is static)
         (omega arith) (omega arith) (omega (arith, low, charged, charge))
         (λ middle sound its_there.
-        begins index (suc number) room (code.layout.place_of index) middle top stands.first procedure found stands.body
+        begins index (suc number) room (code.layout.place_of index) middle top stands.first
+        procedure found stands.body
         stands.begins stands.begun is_body kind charge_fits sound stands.entry_written its_there)
-        (λ sound. returns index (suc number) room top procedure found stands.body is_body kind charge_fits sound)
+        (λ sound. returns index (suc number) room top procedure found stands.body is_body
+        kind charge_fits sound)
         back values s r memory below fits.many enters
       where
         low : code.program.placement.stack.start + room ≤ top + 2
@@ -255,20 +280,27 @@ module _ (code : ModuleCode) (entries : Entries) (bound number : ℕ) (lies : Mo
         → IsEntered code.program code.image room found.parameter_types values top back s r memory
         → EntryFits code found room top values
         → Does code.program.script s.budget 0 (at_place (code.layout.place_of index) r memory s.events)
-        (entered (later_by bound) code.typed index found values (surroundings_in code (room - charge_of found)) s)
-        (ComesBack code.program code.image found.result (top + 2 - room) (top + 2 + bytes_pushed values) back s memory)
+        (entered (later_by bound) code.typed index found values
+        (surroundings_in code (room - charge_of found)) s)
+        (ComesBack code.program code.image found.result (top + 2 - room)
+        (top + 2 + bytes_pushed values) back s memory)
     reentrant_does begins returns kind room top back values s r memory below charge_fits enters fits =
         in_shape room top (frame_shape code.typed index found plan (top + 2 - room) (frame_level plan top))
-        (frame_lies code entries index procedure found plan (room - charge_of found) (top + 2 - room) (frame_level plan top)
-        lies there is (stands.frame kind) (omega (arith, low)) (omega (arith, low, charged, at_most)) (omega (arith, high, whole, low, charged, at_most, types)))
-        (frame_planned code index found found.result stands.body.frame bound (suc number) (room - charge_of found)
+        (frame_lies code entries index procedure found plan (room - charge_of found) (top + 2 - room)
+        (frame_level plan top)
+        lies there is (stands.frame kind) (omega (arith, low)) (omega (arith, low, charged, at_most))
+        (omega (arith, high, whole, low, charged, at_most, types)))
+        (frame_planned code index found found.result stands.body.frame bound (suc number)
+        (room - charge_of found)
         (top + 2 - room) (frame_level plan top))
         (omega (arith, within)) (omega (arith, whole, low, charged, at_most, types))
         (omega (arith, low, charged, charge, at_most))
         (λ middle sound its_there.
-        begins index (suc number) room (code.layout.place_of index) middle top stands.first procedure found stands.body
+        begins index (suc number) room (code.layout.place_of index) middle top stands.first
+        procedure found stands.body
         stands.begins stands.begun is_body kind charge_fits sound stands.entry_written its_there)
-        (λ sound. returns index (suc number) room top procedure found stands.body is_body kind charge_fits sound)
+        (λ sound. returns index (suc number) room top procedure found stands.body is_body
+        kind charge_fits sound)
         back values s r memory below fits.many enters
       where
         plan : FramePlan
@@ -299,7 +331,8 @@ module _ (code : ModuleCode) (entries : Entries) (bound number : ℕ) (lies : Mo
             return_is plan found.frame_bytes (length found.parameters)
             ((stands.frame kind).variable_bytes ∙ lowered.frame_bytes)
             ((stands.frame kind).parameter_count
-            ∙ parameter_count code.typed index found (nodes_of code.tree.now).homes procedure.parameters.items has
+            ∙ parameter_count code.typed index found (nodes_of code.tree.now).homes
+            procedure.parameters.items has
             lowered.has_body.parameters)
 
         whole : (return_of plan).start + 2 + 2 * (length found.parameters - 1)
@@ -314,29 +347,39 @@ module _ (code : ModuleCode) (entries : Entries) (bound number : ℕ) (lies : Mo
 
     -- a call of it, from its entry on
     own_does :
-        StaticBegins code bound → StaticReturns code bound → ReentrantBegins code bound → ReentrantReturns code bound
-        → ((procedure.kind ≡ kinds.Static) × (found.is_reentrant ≡ false)) ⊎ (procedure.kind ≡ kinds.Reentrant)
+        StaticBegins code bound → StaticReturns code bound → ReentrantBegins code bound
+        → ReentrantReturns code bound
+        → ((procedure.kind ≡ kinds.Static) × (found.is_reentrant ≡ false))
+        ⊎ (procedure.kind ≡ kinds.Reentrant)
         → EntryDoes code.program code.image (later_by bound) (suc number)
         (record { number_of_module = code.number; number = index }) code.typed found
         (entries (record { number_of_module = code.number; number = index }))
-    own_does begins returns frame_begins frame_returns kind room top back values s r memory below charge_fits enters =
+    own_does begins returns frame_begins frame_returns kind room top back values s r memory below
+        charge_fits enters =
         subst (λ (state : State).
         Does code.program.script s.budget 0 state
-        (entered (later_by bound) code.typed index found values (surroundings_in code (room - charge_of found)) s)
-        (ComesBack code.program code.image found.result (top + 2 - room) (top + 2 + bytes_pushed values) back s memory))
+        (entered (later_by bound) code.typed index found values
+        (surroundings_in code (room - charge_of found)) s)
+        (ComesBack code.program code.image found.result (top + 2 - room)
+        (top + 2 + bytes_pushed values) back s memory))
         (ap (λ (place : ℕ). running (record r { pc = place }) memory s.events)
         (sym (lies.own index procedure there not_outside)))
         (by_kind kind)
       where
-        by_kind : ((procedure.kind ≡ kinds.Static) × (found.is_reentrant ≡ false)) ⊎ (procedure.kind ≡ kinds.Reentrant)
+        by_kind : ((procedure.kind ≡ kinds.Static) × (found.is_reentrant ≡ false))
+            ⊎ (procedure.kind ≡ kinds.Reentrant)
             → Does code.program.script s.budget 0 (at_place (code.layout.place_of index) r memory s.events)
-            (entered (later_by bound) code.typed index found values (surroundings_in code (room - charge_of found)) s)
-            (ComesBack code.program code.image found.result (top + 2 - room) (top + 2 + bytes_pushed values) back s memory)
+            (entered (later_by bound) code.typed index found values
+            (surroundings_in code (room - charge_of found)) s)
+            (ComesBack code.program code.image found.result (top + 2 - room)
+            (top + 2 + bytes_pushed values) back s memory)
         by_kind (inl static) =
-            static_does begins returns static.0 static.1 room top back values s r memory below charge_fits enters
+            static_does begins returns static.0 static.1 room top back values s r memory
+            below charge_fits enters
             (entry_fits room top back values s r memory charge_fits enters)
         by_kind (inr reentrant) =
-            reentrant_does frame_begins frame_returns reentrant room top back values s r memory below charge_fits enters
+            reentrant_does frame_begins frame_returns reentrant room top back values s r memory
+            below charge_fits enters
             (entry_fits room top back values s r memory charge_fits enters)
 
 -- The step for a module: its own procedures do what calls of them mean, in runs of one more.
@@ -357,7 +400,8 @@ pub procedures_do :
     → EntryDoes code.program code.image (later_by bound) (suc number)
     (record { number_of_module = code.number; number = index }) code.typed found
     (entries (record { number_of_module = code.number; number = index }))
-procedures_do code entries bound number lies known bounded lists fit begins returns frame_begins frame_returns index found is here =
+procedures_do code entries bound number lies known bounded lists fit begins returns frame_begins frame_returns
+    index found is here =
     let tree = tree_of code entries index found lies is in
     let kind = kind_here code.typed index found here in
     let own : (name : ℕ) → tree.procedure.kind ≢ kinds.External name =
@@ -366,12 +410,15 @@ procedures_do code entries bound number lies known bounded lists fit begins retu
     let stands : ProcedureStands code tree.procedure (code.layout.place_of index) =
     lies.procedures index tree.procedure tree.there own in
     let its : Bor TreeModule = stands.body.tree in
-    own_does (with_tree code its) entries bound number (lies_anywhere code entries its stands.tree lies) known bounded lists fit
+    own_does (with_tree code its) entries bound number (lies_anywhere code entries its stands.tree lies)
+    known bounded lists fit
     index tree.procedure found
-    (subst (λ (one : TreeModule). slice_get one.procedures.items index ≡ Some tree.procedure) (sym stands.tree) tree.there) is own
+    (subst (λ (one : TreeModule). slice_get one.procedures.items index ≡ Some tree.procedure)
+    (sym stands.tree) tree.there) is own
     (strong stands)
     refl
-    (begins its stands.tree) (returns its stands.tree) (frame_begins its stands.tree) (frame_returns its stands.tree)
+    (begins its stands.tree) (returns its stands.tree) (frame_begins its stands.tree)
+    (frame_returns its stands.tree)
     (of_tree tree.procedure.kind tree.kind kind)
   where
     no_static : (name : ℕ) → kinds.Static ≡ kinds.External name → ⊥

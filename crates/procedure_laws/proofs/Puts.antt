@@ -43,14 +43,17 @@ abbrev pub put_down : (count : ℕ) → List Slot → (values : List ℕ) → Li
 put_down zero slots values memory = memory
 put_down (suc count) slots values memory = put_down count slots values (put_nth count slots values memory)
 
-pub put_length : (scalar : ScalarType) (at value : ℕ) (memory : List ℕ) → length (put scalar at value memory) ≡ length memory
+pub put_length : (scalar : ScalarType) (at value : ℕ) (memory : List ℕ)
+    → length (put scalar at value memory) ≡ length memory
 put_length Byte at value memory = length-set memory at (value % 256)
 put_length Address at value memory =
-    length-set (slice_set memory at (value % 256)) (wrap (at + 1)) (value / 256) ∙ length-set memory at (value % 256)
+    length-set (slice_set memory at (value % 256)) (wrap (at + 1)) (value / 256)
+    ∙ length-set memory at (value % 256)
 
 put_both : (one other : ScalarType) (first second value number : ℕ) (memory : List ℕ)
     → ((address : ℕ) → IsPart one first address → IsPart other second address → ⊥)
-    → put one first value (put other second number memory) ≡ put other second number (put one first value memory)
+    → put one first value (put other second number memory)
+    ≡ put other second number (put one first value memory)
 put_both Byte Byte first second value number memory apart =
     set_comm memory second first (number % 256) (value % 256) (λ same. apart second same refl)
 put_both Byte Address first second value number memory apart =
@@ -120,7 +123,8 @@ put_lies : (scalar : ScalarType) (at value : ℕ) (memory : List ℕ)
 put_lies Byte at value memory small size = byte_put memory at (value % 256) (omega (arith, small, size))
 put_lies Address at value memory small size =
     let inner = length-set memory at (value % 256) in (
-      byte_kept (slice_set memory at (value % 256)) (wrap (at + 1)) at (value / 256) (differs_from_next at small)
+      byte_kept (slice_set memory at (value % 256)) (wrap (at + 1)) at (value / 256)
+          (differs_from_next at small)
           ∙ byte_put memory at (value % 256) (omega (arith, small, size)),
       byte_put (slice_set memory at (value % 256)) (wrap (at + 1)) (value / 256) (omega (arith, inner, size)),
     )
@@ -129,7 +133,8 @@ pub put_kept : (scalar : ScalarType) (at value : ℕ) (memory : List ℕ) (addre
     → (IsPart scalar at address → ⊥) → byte_at (put scalar at value memory) address ≡ byte_at memory address
 put_kept Byte at value memory address outside = byte_kept memory at address (value % 256) outside
 put_kept Address at value memory address outside =
-    byte_kept (slice_set memory at (value % 256)) (wrap (at + 1)) address (value / 256) (λ same. outside (inr same))
+    byte_kept (slice_set memory at (value % 256)) (wrap (at + 1)) address (value / 256)
+    (λ same. outside (inr same))
     ∙ byte_kept memory at address (value % 256) (λ same. outside (inl same))
 
 lies_kept : (one other : ScalarType) (first second value number : ℕ) (memory : List ℕ)
@@ -139,7 +144,8 @@ lies_kept one Byte first second value number memory apart lies =
     put_kept one first value memory second (λ part. apart second part refl) ∙ lies
 lies_kept one Address first second value number memory apart lies = (
   put_kept one first value memory second (λ part. apart second part (inl refl)) ∙ lies.0,
-  put_kept one first value memory (wrap (second + 1)) (λ part. apart (wrap (second + 1)) part (inr refl)) ∙ lies.1,
+  put_kept one first value memory (wrap (second + 1)) (λ part. apart (wrap (second + 1)) part (inr refl))
+      ∙ lies.1,
 )
 
 apart_at : (slot : Slot) (slots : List Slot) (index : ℕ) (other : Slot)
@@ -174,20 +180,24 @@ pub lies_there : (slots : List Slot) (values memory : List ℕ) (index : ℕ) (s
     → slot.at < MEMORY_SIZE
     → Lies slot.scalar slot.at value (put_down (length slots) slots values memory)
 lies_there [] values memory index slot value apart many size there is small = let bad : ⊥ = cc in absurd bad
-lies_there (first ∷ slots) [] memory index slot value apart many size there is small = let bad : ⊥ = cc in absurd bad
+lies_there (first ∷ slots) [] memory index slot value apart many size there is small =
+    let bad : ⊥ = cc in absurd bad
 lies_there (first ∷ slots) (number ∷ values) memory zero slot value apart many size there is small =
     let same : first ≡ slot = cc in
     let number_is : number ≡ value = cc in
     let length_is = down_length (length slots) slots values memory in
     subst (λ (memory : List ℕ). Lies slot.scalar slot.at value memory)
     (ap (λ (one : Slot). put one.scalar one.at value (put_down (length slots) slots values memory)) (sym same)
-    ∙ ap (λ (one : ℕ). put first.scalar first.at one (put_down (length slots) slots values memory)) (sym number_is)
+    ∙ ap (λ (one : ℕ). put first.scalar first.at one (put_down (length slots) slots values memory))
+    (sym number_is)
     ∙ sym (down_first (length slots) first slots number values memory))
-    (put_lies slot.scalar slot.at value (put_down (length slots) slots values memory) small (length_is ∙ size))
+    (put_lies slot.scalar slot.at value (put_down (length slots) slots values memory)
+    small (length_is ∙ size))
 lies_there (first ∷ slots) (number ∷ values) memory (suc index) slot value apart many size there is small =
     subst (λ (memory : List ℕ). Lies slot.scalar slot.at value memory)
     (sym (down_first (length slots) first slots number values memory))
-    (lies_kept first.scalar slot.scalar first.at slot.at number value (put_down (length slots) slots values memory)
+    (lies_kept first.scalar slot.scalar first.at slot.at number value
+    (put_down (length slots) slots values memory)
     (apart_at first slots index slot apart.0 there)
     (lies_there slots values memory index slot value apart.1 (omega (arith, many)) size there is small))
 
@@ -195,7 +205,8 @@ lies_there (first ∷ slots) (number ∷ values) memory (suc index) slot value a
 abbrev pub AreVariables : Program → List Slot → Type 0
 AreVariables program [] = Unit {0}
 AreVariables program (slot ∷ slots) =
-    ((address : ℕ) → IsPart slot.scalar slot.at address → IsVariable program address) × AreVariables program slots
+    ((address : ℕ) → IsPart slot.scalar slot.at address → IsVariable program address)
+    × AreVariables program slots
 
 abbrev pub AreMeant : Surroundings → List Slot → Type 0
 AreMeant around [] = Unit {0}
@@ -255,7 +266,8 @@ is_written program Address at value s =
     by true true next other one two three four = inr (Constant, s, refl)
     by false constant next other one two three four = inr (UndeclaredByte, s, refl)
 
--- Parameters are set: where the meaning does not go outside, their bytes are variables, and the memory is this.
+-- Parameters are set: where the meaning does not go outside, their bytes are variables, and the memory is
+-- this.
 pub set_does :
     {script : List (List ℕ)} {budget : ℕ} {from : State} {Good : Unit {0} → SourceState → State → Type 0}
     (around : Surroundings) (slots : List Slot) (values : List ℕ) (s : SourceState)
@@ -264,17 +276,20 @@ pub set_does :
     → (AreVariables around.program slots
     → Does script budget 0 from (Gave tt (record s { memory = set_all slots values s.memory })) Good)
     → Does script budget 0 from
-    (parameters_set around (map (λ (slot : Slot). slot.scalar) slots) (map (λ (slot : Slot). slot.object) slots) values s)
+    (parameters_set around (map (λ (slot : Slot). slot.scalar) slots)
+    (map (λ (slot : Slot). slot.object) slots) values s)
     Good
 set_does around [] [] s meant many rest = rest tt
 set_does around [] (value ∷ values) s meant many rest = absurd (omega (arith, many))
 set_does around (slot ∷ slots) [] s meant many rest = absurd (omega (arith, many))
-set_does {script = script} {budget = budget} {from = from} {Good = Good} around (slot ∷ slots) (value ∷ values) s meant many rest =
+set_does {script = script} {budget = budget} {from = from} {Good = Good} around (slot ∷ slots)
+    (value ∷ values) s meant many rest =
     subst (λ (outcome : Outcome (Unit {0})).
     Does script budget 0 from
     (then_do outcome
     (λ _ t.
-    parameters_set around (map (λ (slot : Slot). slot.scalar) slots) (map (λ (slot : Slot). slot.object) slots) values t))
+    parameters_set around (map (λ (slot : Slot). slot.scalar) slots)
+    (map (λ (slot : Slot). slot.object) slots) values t))
     Good)
     (ap (λ place. write_scalar around.program slot.scalar place value s) (sym meant.0))
     (by_written
@@ -286,13 +301,15 @@ set_does {script = script} {budget = budget} {from = from} {Good = Good} around 
     by_written : {outcome : Outcome (Unit {0})}
         → (((address : ℕ) → IsPart slot.scalar slot.at address → IsVariable around.program address)
         → Does script budget 0 from
-        (parameters_set around (map (λ (slot : Slot). slot.scalar) slots) (map (λ (slot : Slot). slot.object) slots) values
+        (parameters_set around (map (λ (slot : Slot). slot.scalar) slots)
+        (map (λ (slot : Slot). slot.object) slots) values
         (record s { memory = put slot.scalar slot.at value s.memory })) Good)
         → IsWritten around.program slot.scalar slot.at value s outcome
         → Does script budget 0 from
         (then_do outcome
         (λ _ t.
-        parameters_set around (map (λ (slot : Slot). slot.scalar) slots) (map (λ (slot : Slot). slot.object) slots) values
+        parameters_set around (map (λ (slot : Slot). slot.scalar) slots)
+        (map (λ (slot : Slot). slot.object) slots) values
         t))
         Good
     by_written go (inl given) =
@@ -300,7 +317,8 @@ set_does {script = script} {budget = budget} {from = from} {Good = Good} around 
         Does script budget 0 from
         (then_do outcome
         (λ _ t.
-        parameters_set around (map (λ (slot : Slot). slot.scalar) slots) (map (λ (slot : Slot). slot.object) slots) values
+        parameters_set around (map (λ (slot : Slot). slot.scalar) slots)
+        (map (λ (slot : Slot). slot.object) slots) values
         t))
         Good) (sym given.1)
         (go given.0)
@@ -309,6 +327,7 @@ set_does {script = script} {budget = budget} {from = from} {Good = Good} around 
         Does script budget 0 from
         (then_do outcome
         (λ _ t.
-        parameters_set around (map (λ (slot : Slot). slot.scalar) slots) (map (λ (slot : Slot). slot.object) slots) values
+        parameters_set around (map (λ (slot : Slot). slot.scalar) slots)
+        (map (λ (slot : Slot). slot.object) slots) values
         t))
         Good) (sym stopped.2) (record { told = tt })

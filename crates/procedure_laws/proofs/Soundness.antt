@@ -55,7 +55,8 @@ context_sound code entries within frame bound number room shape lies known bound
 
 -- and so is the body
 pub body_sound :
-    (code : ModuleCode) (within : Within) (body : Body) (found : TypedProcedure) (bound number room : ℕ) (shape : Shape)
+    (code : ModuleCode) (within : Within) (body : Body) (found : TypedProcedure)
+    (bound number room : ℕ) (shape : Shape)
     → body.tree ≡ code.tree
     → IsWithin within body
     → number ≤ bound
@@ -64,7 +65,8 @@ pub body_sound :
     → IsSoundBody (body_in code within body found bound number room shape)
 body_sound code within body found bound number room shape is_tree is_within bounded labels sound = record {
   sound = sound;
-  site = ap (λ (tree : Bor TreeModule). record { tree = tree; frame = body.frame; facts = no_facts }) (sym is_tree);
+  site = ap (λ (tree : Bor TreeModule). record { tree = tree; frame = body.frame; facts = no_facts })
+      (sym is_tree);
   within = is_within;
   bound = bound;
   later = refl;
@@ -102,13 +104,16 @@ static_lies code entries room floor level whole lies bottom low above = record {
 }
 
 pub static_planned :
-    (code : ModuleCode) (entries : Entries) (index : ℕ) (heading : TypedProcedure) (result : Option ScalarType)
+    (code : ModuleCode) (entries : Entries) (index : ℕ) (heading : TypedProcedure)
+    (result : Option ScalarType)
     (frame : Bor FramePlan) (bound number room floor level : ℕ)
     → ModuleLies code entries
     → slice_get code.typed.procedures index ≡ Some heading
     → heading.is_reentrant ≡ false
-    → FrameIsPlanned (context_in code (WithinProcedure index result) frame bound number room (static_shape floor level))
-static_planned code entries index heading result frame bound number room floor level lies is static procedure object other found within there home =
+    → FrameIsPlanned
+    (context_in code (WithinProcedure index result) frame bound number room (static_shape floor level))
+static_planned code entries index heading result frame bound number room floor level lies is static procedure
+    object other found within there home =
     let same : index ≡ procedure = same_procedure index procedure result other within in
     let reentrant =
     lies.reentrant object index found heading there is (home ∙ ap (λ (one : ℕ). InFrame one) (sym same)) in
@@ -124,7 +129,8 @@ size_at :
 size_at typed procedure object found there home =
     ap (λ (entry : Option TypedObject).
     option_map_or
-    (λ (found : TypedObject). if is_in_frame procedure found.home then size_of_object found else 0) entry 0) there
+    (λ (found : TypedObject). if is_in_frame procedure found.home then size_of_object found else 0) entry 0)
+    there
     ∙ ap (λ (home : Home). if is_in_frame procedure home then size_of_object found else 0) home
     ∙ ap (λ (test : Bool). if test then size_of_object found else 0) (eq-eqb procedure procedure refl)
 
@@ -151,7 +157,8 @@ byte_in_frame typed procedure object offset within = by_object (slice_get typed.
 
     by_object : (entry : Option TypedObject)
         → offset < option_map_or
-        (λ (found : TypedObject). if is_in_frame procedure found.home then size_of_object found else 0) entry 0
+        (λ (found : TypedObject). if is_in_frame procedure found.home then size_of_object found else 0) entry
+        0
         → IsSomeAnd entry
         (λ (found : TypedObject). (found.home ≡ InFrame procedure) × (offset < size_of_object found))
     by_object None within = absurd (omega (arith, within))
@@ -169,37 +176,41 @@ pub frame_lies :
     → level + (2 + 2 * length found.parameters + found.frame_bytes)
     ≤ code.program.placement.stack.start + code.program.placement.stack.len
     → LiesWell (activation_in code room (frame_shape code.typed index found plan floor level))
-frame_lies code entries index procedure found plan room floor level lies there is planned bottom low above = record {
-  placed = lies.placed;
-  bottom = bottom;
-  low = low;
-  above = above;
-  inside = λ object offset within.
-      objects.within object offset (byte_in_frame code.typed index object offset within);
-  not_back = λ object offset within. (
-    (λ same.
-        objects.off_return object offset (byte_in_frame code.typed index object offset within)
-        (omega (arith, same), omega (arith, same))),
-    (λ same.
-        objects.off_return object offset (byte_in_frame code.typed index object offset within)
-        (omega (arith, same), omega (arith, same))),
-  );
-  differ = λ object offset other place within there same.
-      objects.apart object offset other place (byte_in_frame code.typed index object offset within)
-      (byte_in_frame code.typed index other place there) same;
-}
+frame_lies code entries index procedure found plan room floor level lies there is planned bottom low above =
+    record {
+      placed = lies.placed;
+      bottom = bottom;
+      low = low;
+      above = above;
+      inside = λ object offset within.
+          objects.within object offset (byte_in_frame code.typed index object offset within);
+      not_back = λ object offset within. (
+        (λ same.
+            objects.off_return object offset (byte_in_frame code.typed index object offset within)
+            (omega (arith, same), omega (arith, same))),
+        (λ same.
+            objects.off_return object offset (byte_in_frame code.typed index object offset within)
+            (omega (arith, same), omega (arith, same))),
+      );
+      differ = λ object offset other place within there same.
+          objects.apart object offset other place (byte_in_frame code.typed index object offset within)
+          (byte_in_frame code.typed index other place there) same;
+    }
   where
     objects : ObjectsLie code.typed index found plan
     objects =
-        (lowered_framed code.typed code.storage code.tree.now index procedure found lies.sized lies.parameters lies.frames
+        (lowered_framed code.typed code.storage code.tree.now index procedure found lies.sized
+        lies.parameters lies.frames
         lies.lowered there is).objects plan planned
 
 pub frame_planned :
-    (code : ModuleCode) (index : ℕ) (found : TypedProcedure) (result : Option ScalarType) (frame : Bor FramePlan)
+    (code : ModuleCode) (index : ℕ) (found : TypedProcedure) (result : Option ScalarType)
+    (frame : Bor FramePlan)
     (bound number room floor level : ℕ)
     → FrameIsPlanned (context_in code (WithinProcedure index result) frame bound number room
     (frame_shape code.typed index found frame.now floor level))
-frame_planned code index found result frame bound number room floor level procedure object other its within there home =
+frame_planned code index found result frame bound number room floor level procedure object other
+    its within there home =
     let same : index ≡ procedure = same_procedure index procedure result other within in (
       ap (λ (one : ℕ). distance_of frame.now (frame_number code.typed one object)) same,
       size_at code.typed index object its there (home ∙ ap (λ (one : ℕ). InFrame one) (sym same)),

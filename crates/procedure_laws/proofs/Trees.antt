@@ -50,7 +50,8 @@ lies_with code entries place lies = record {
   stack_end = lies.stack_end;
   routines = lies.routines;
   procedures = λ number procedure there own.
-      stands_with code place procedure (code.layout.place_of number) (lies.procedures number procedure there own);
+      stands_with code place procedure (code.layout.place_of number)
+      (lies.procedures number procedure there own);
   own = lies.own;
   externals = lies.externals;
 }
@@ -62,7 +63,8 @@ pub lies_anywhere :
     → ModuleLies code entries
     → ModuleLies (with_tree code tree) entries
 lies_anywhere code entries tree same lies =
-    subst (λ (now : TreeModule). ModuleLies (with_tree code (record { ref_ptr = tree.ref_ptr; now = now })) entries)
+    subst (λ (now : TreeModule). ModuleLies
+    (with_tree code (record { ref_ptr = tree.ref_ptr; now = now })) entries)
     (sym same) (lies_with code entries tree.ref_ptr lies)
 
 pub stands_anywhere :
@@ -71,7 +73,8 @@ pub stands_anywhere :
     → ProcedureStands code procedure entry
     → ProcedureStands (with_tree code tree) procedure entry
 stands_anywhere code tree procedure entry same stands =
-    subst (λ (now : TreeModule). ProcedureStands (with_tree code (record { ref_ptr = tree.ref_ptr; now = now })) procedure entry)
+    subst (λ (now : TreeModule). ProcedureStands
+    (with_tree code (record { ref_ptr = tree.ref_ptr; now = now })) procedure entry)
     (sym same) (stands_with code tree.ref_ptr procedure entry stands)
 
 main_with :
@@ -96,5 +99,6 @@ pub main_anywhere :
     → MainStands code start
     → MainStands (with_tree code tree) start
 main_anywhere code tree start same stands =
-    subst (λ (now : TreeModule). MainStands (with_tree code (record { ref_ptr = tree.ref_ptr; now = now })) start)
+    subst (λ (now : TreeModule). MainStands
+    (with_tree code (record { ref_ptr = tree.ref_ptr; now = now })) start)
     (sym same) (main_with code tree.ref_ptr start stands)

@@ -1,5 +1,5 @@
--- How a body can be left: no jump leaves one in which each GOTO goes to a label of a list around it; its end is reached
--- only where its form and known conditions let it be; and a main program does not return.
+-- How a body can be left: no jump leaves one in which each GOTO goes to a label of a list around it; its end
+-- is reached only where its form and known conditions let it be; and a main program does not return.
 use Rattle.procedure_laws.proofs.Prelude.{◌≡◌, ℕ, zero, suc, ◌+◌, ◌-◌, ◌≤◌, ◌==◌, Bool, true, false, not, List, [], ◌∷◌, length, slice_get, nat_le, nat_lt, Option, Some, None, cond, Any, option_map, arith, refl, sym, ap, subst, ◌∙◌, LabelsOf, IsAmongLabels, labels_of_list, IsClosed, JumpsStay, JumpsStayInElse, JumpsStayInStatements, JumpsStayInList, LabelsStand, ListsStand, ListsStandInCases, ListsStandInElse, ListsStandInStatements, ListStands, TypedExpression, TypedIteration, TypedModule, TypedStatement, LabelStatement, NullStatement, AssignmentStatement, CallStatement, MoveStatement, ReturnStatement, HaltStatement, GotoStatement, IfStatement, DoStatement, WhileStatement, IterateStatement, CaseStatement, TypedElse, NoElse, ElseStatement, TypedStatements, NoStatements, MoreStatements, TypedList, ListOf, IsReturned, TypesHold, TypesHoldIn, TypesHoldInElse, TypesHoldInList, TypesHoldInStatements, Within, WithinMain, WithinProcedure, Storage, as_type, is_true, values_of, Surroundings, Later, Turn, WhileTurn, IterateTurn, after_turn, called_for, callee_in, caught_in, done, done_all, done_case, done_else, done_list, dropped, going_on, iterated, later_by, moved, read_variable, rest_from, rest_of, returned, step_value, stepped, stored_in_each, turn_of, value, values, write_variable, Outcome, Gave, Stopped, then_do, taking_one, Flow, Onward, Returned, Jumped, body_of_turn, Place, Number, known_number, known_value, ends_by, reaches_end, reaches_end_of_else, reaches_end_of_list, reaches_end_of_statements, Nodes, HaveOperands, Resolves, have_operands, place_of_number, dropped_types, or_left, or_right, dropped_lists, jumps_dropped, outer_label}
 use Rattle.meaning.specs.{Meaning.{landed}, Outcomes.{State}}
 use Rattle.treecode.specs.declared.place.Home.{Home}
@@ -10,8 +10,8 @@ abbrev pub may_return : Within → Bool
 may_return (WithinProcedure number result) = true
 may_return WithinMain = false
 
--- the ways that lead out of a part: whether its end can be reached, whether it can return, and the labels that it can
--- jump to
+-- the ways that lead out of a part: whether its end can be reached, whether it can return, and the labels
+-- that it can jump to
 pub record Ways : Type 0 where
   pub reaches : Bool
   pub returns : Bool
@@ -29,7 +29,8 @@ IsLeftBy ways (Stopped why t) = Unit {0}
 
 -- whether a further turn of a loop can end
 abbrev pub reaches_after : List Home → Storage → Turn → Bool
-reaches_after starts storage (WhileTurn condition body) = reaches_end starts storage (WhileStatement condition body)
+reaches_after starts storage (WhileTurn condition body) =
+    reaches_end starts storage (WhileStatement condition body)
 reaches_after starts storage (IterateTurn head body) = true
 
 abbrev ConditionHolds : TypedModule → Within → Turn → Type 0
@@ -54,7 +55,8 @@ left_flow inner ways (Gave flow t) go first rest = rest flow t first
 left_flow inner ways (Stopped why t) go first rest = tt
 
 left_if : (ways : Ways) (test : Bool) (one other : Outcome Flow)
-    → (test ≡ true → IsLeftBy ways one) → (test ≡ false → IsLeftBy ways other) → IsLeftBy ways (cond test one other)
+    → (test ≡ true → IsLeftBy ways one) → (test ≡ false → IsLeftBy ways other)
+    → IsLeftBy ways (cond test one other)
 left_if ways true one other first second = first refl
 left_if ways false one other first second = second refl
 
@@ -108,7 +110,8 @@ after_one from place first others there =
     record {
       low = omega (arith, low);
       some =
-          subst (λ (count : ℕ). IsSome (dropped count (MoreStatements first others))) (one_on from place low) there.some;
+          subst (λ (count : ℕ). IsSome (dropped count (MoreStatements first others)))
+          (one_on from place low) there.some;
     }
 
 none_there : (from other : ℕ) → from ≡ other → other - from ≡ 0
@@ -121,13 +124,16 @@ stands_there : (label from : ℕ) (places : List ℕ) (body : TypedStatements) (
     → LabelsStand label from places body
     → slice_get places index ≡ Some place
     → StandsThere from place body
-stands_there label from places NoStatements index place stands found = absurd (nothing places index stands found)
+stands_there label from places NoStatements index place stands found =
+    absurd (nothing places index stands found)
   where
     nothing : (none : List ℕ) (index : ℕ) → none ≡ [] → slice_get none index ≡ Some place → ⊥
     nothing [] index same there = let bad : None ≡ Some place = there in cc
     nothing (first ∷ others) index same there = cc
-stands_there label from [] (MoreStatements (LabelStatement number) others) index place stands found = absurd stands
-stands_there label from (first ∷ places) (MoreStatements (LabelStatement number) others) zero place stands found =
+stands_there label from [] (MoreStatements (LabelStatement number) others) index place stands found =
+    absurd stands
+stands_there label from (first ∷ places) (MoreStatements (LabelStatement number) others) zero
+    place stands found =
     let here : first ≡ from = stands.1 in
     let same : first ≡ place = cc in
     record {
@@ -136,14 +142,17 @@ stands_there label from (first ∷ places) (MoreStatements (LabelStatement numbe
           subst (λ (count : ℕ). IsSome (dropped count (MoreStatements (LabelStatement number) others)))
           (sym (none_there from place (sym here ∙ same))) tt;
     }
-stands_there label from (first ∷ places) (MoreStatements (LabelStatement number) others) (suc index) place stands found =
+stands_there label from (first ∷ places) (MoreStatements (LabelStatement number) others) (suc index)
+    place stands found =
     after_one from place (LabelStatement number) others
     (stands_there (label + 1) (from + 1) places others index place stands.2 found)
 stands_there label from places (MoreStatements statement others) index place stands found =
-    after_one from place statement others (stands_there label (from + 1) places others index place stands found)
+    after_one from place statement others
+    (stands_there label (from + 1) places others index place stands found)
 
 -- whether the end of a list is reached from a label on, which there is, is whether its end is reached
-reaches_rest : (starts : List Home) (storage : Storage) (before other : Bool) (count : ℕ) (body : TypedStatements)
+reaches_rest : (starts : List Home) (storage : Storage) (before other : Bool) (count : ℕ)
+    (body : TypedStatements)
     → IsSome (dropped count body)
     → reaches_end_of_statements starts storage other (dropped count body)
     ≡ reaches_end_of_statements starts storage before body
@@ -173,7 +182,8 @@ module _ (typed : TypedModule) (within : Within) (nodes : Nodes) (storage : Stor
     pub onto : (labels : List LabelsOf) (list : TypedList) (rest : TypedStatements) (label : ℕ) (s : State)
         → IsGood labels list
         → rest_from label list ≡ Some rest
-        → IsLeftBy (by (reaches_end_of_list nodes.homes storage true list) labels) (later.onto list rest around s)
+        → IsLeftBy (by (reaches_end_of_list nodes.homes storage true list) labels)
+        (later.onto list rest around s)
 
   module _ (later : Later) (left : LaterIsLeft later) where
     abbrev starts : List Home
@@ -191,7 +201,8 @@ module _ (typed : TypedModule) (within : Within) (nodes : Nodes) (storage : Stor
         by_within WithinMain expression is = absurd is
         by_within (WithinProcedure number result) None is = refl
         by_within (WithinProcedure number result) (Some expression) is =
-            left_then (record { reaches = false; returns = true; labels = labels }) (value later around expression s) _
+            left_then (record { reaches = false; returns = true; labels = labels })
+            (value later around expression s) _
             (λ found t. refl)
 
     lands : (first label : ℕ) (places : List ℕ) (body : TypedStatements) (labels : List LabelsOf)
@@ -227,7 +238,8 @@ module _ (typed : TypedModule) (within : Within) (nodes : Nodes) (storage : Stor
     turns labels turn other (Returned found) t good condition leaves = leaves
     turns labels turn other (Jumped label) t good condition leaves = leaves
 
-    steps_left : (labels : List LabelsOf) (head : TypedIteration) (body : TypedList) (other : Bool) (flow : Flow)
+    steps_left : (labels : List LabelsOf) (head : TypedIteration) (body : TypedList)
+        (other : Bool) (flow : Flow)
         (t : State)
         → IsGood labels body
         → LeavesBy (by other labels) flow
@@ -273,7 +285,8 @@ module _ (typed : TypedModule) (within : Within) (nodes : Nodes) (storage : Stor
         → value later around condition s ≡ Gave n s
     known_condition condition n types is s =
         known_gives around nodes storage address resolves later condition (Number n)
-        (subst (λ (count : ℕ). HaveOperands count condition) (sym lists) (have_operands typed within condition types))
+        (subst (λ (count : ℕ). HaveOperands count condition) (sym lists)
+        (have_operands typed within condition types))
         (place_of_number (known_value starts storage condition) n is) s
         ∙ ap (λ (k : ℕ). Gave k s) (resolves.number n)
 
@@ -289,7 +302,8 @@ module _ (typed : TypedModule) (within : Within) (nodes : Nodes) (storage : Stor
         left_then (by true labels) (value later around condition s) _
         (λ found t.
         left_if (by true labels) (is_true found)
-        (taking_one t (λ u. then_do (done_list later around body u) (after_turn later around (WhileTurn condition body))))
+        (taking_one t (λ u. then_do (done_list later around body u)
+        (after_turn later around (WhileTurn condition body))))
         (Gave Onward t)
         (λ same.
         left_taking (by true labels) t
@@ -300,8 +314,10 @@ module _ (typed : TypedModule) (within : Within) (nodes : Nodes) (storage : Stor
         (λ flow v leaves.
         left_wider (by (reaches_after starts storage (WhileTurn condition body)) labels) (by true labels)
         (after_turn later around (WhileTurn condition body) flow v)
-        (λ flow leaves. reached (reaches_after starts storage (WhileTurn condition body)) true (may_return within) labels flow (λ same. refl) leaves)
-        (turns labels (WhileTurn condition body) (reaches_end_of_list starts storage true body) flow v good types leaves))))
+        (λ flow leaves. reached (reaches_after starts storage (WhileTurn condition body)) true
+        (may_return within) labels flow (λ same. refl) leaves)
+        (turns labels (WhileTurn condition body) (reaches_end_of_list starts storage true body) flow v
+        good types leaves))))
         (λ same. refl))
     whiles condition body labels s (Some n) known good types body_left =
         subst (λ (outcome : Outcome ℕ).
@@ -319,12 +335,14 @@ module _ (typed : TypedModule) (within : Within) (nodes : Nodes) (storage : Stor
             → IsLeftBy (by (not test) labels)
             (cond test
             (taking_one s
-            (λ u. then_do (done_list later around body u) (after_turn later around (WhileTurn condition body))))
+            (λ u. then_do (done_list later around body u)
+            (after_turn later around (WhileTurn condition body))))
             (Gave Onward s))
         by_test false same = refl
         by_test true same =
             left_taking (by false labels) s
-            (λ u. then_do (done_list later around body u) (after_turn later around (WhileTurn condition body)))
+            (λ u. then_do (done_list later around body u)
+            (after_turn later around (WhileTurn condition body)))
             (λ u.
             left_flow (by (reaches_end_of_list starts storage true body) labels) (by false labels)
             (done_list later around body u) (after_turn later around (WhileTurn condition body)) (body_left u)
@@ -332,16 +350,21 @@ module _ (typed : TypedModule) (within : Within) (nodes : Nodes) (storage : Stor
             subst (λ (test : Bool).
             IsLeftBy (by test labels) (after_turn later around (WhileTurn condition body) flow v))
             (ap (λ (known : Option ℕ). ends_by known) known ∙ ap not same)
-            (turns labels (WhileTurn condition body) (reaches_end_of_list starts storage true body) flow v good types leaves)))
+            (turns labels (WhileTurn condition body) (reaches_end_of_list starts storage true body) flow v
+            good types leaves)))
 
-    goes_on : (first : TypedStatement) (others : TypedStatements) (labels : List LabelsOf) (flow : Flow) (t : State)
+    goes_on : (first : TypedStatement) (others : TypedStatements) (labels : List LabelsOf)
+        (flow : Flow) (t : State)
         → LeavesBy (by (reaches_end starts storage first) labels) flow
-        → IsLeftBy (by (reaches_end_of_statements starts storage true others) labels) (done_all later around others t)
-        → IsLeftBy (by (reaches_end_of_statements starts storage (reaches_end starts storage first) others) labels)
+        → IsLeftBy (by (reaches_end_of_statements starts storage true others) labels)
+        (done_all later around others t)
+        → IsLeftBy
+        (by (reaches_end_of_statements starts storage (reaches_end starts storage first) others) labels)
         (going_on flow (λ u. done_all later around others u) t)
     goes_on first others labels Onward t leaves rest =
         subst (λ (before : Bool).
-        IsLeftBy (by (reaches_end_of_statements starts storage before others) labels) (done_all later around others t))
+        IsLeftBy (by (reaches_end_of_statements starts storage before others) labels)
+        (done_all later around others t))
         (sym leaves) rest
     goes_on first others labels (Returned found) t leaves rest = leaves
     goes_on first others labels (Jumped label) t leaves rest = leaves
@@ -368,7 +391,8 @@ module _ (typed : TypedModule) (within : Within) (nodes : Nodes) (storage : Stor
           (λ bytes t. left_then (by true labels) (value later around source t) _
           (λ was u. left_then (by true labels) (value later around destination u) _
           (λ will v. left_then (by true labels) (moved around.program bytes was will v) _ (λ done w. refl))))
-      statement_left (ReturnStatement expression) labels s jumps stand types = returns expression labels s types
+      statement_left (ReturnStatement expression) labels s jumps stand types =
+          returns expression labels s types
       statement_left HaltStatement labels s jumps stand types = tt
       statement_left (GotoStatement label) labels s jumps stand types =
           left_taking (by false labels) s (λ t. Gave (Jumped label) t) (λ t. jumps)
@@ -376,13 +400,16 @@ module _ (typed : TypedModule) (within : Within) (nodes : Nodes) (storage : Stor
           left_then (by (reaches_end starts storage (IfStatement condition body otherwise)) labels)
           (value later around condition s) _
           (λ found t.
-          left_if (by (reaches_end starts storage (IfStatement condition body otherwise)) labels) (is_true found)
+          left_if (by (reaches_end starts storage (IfStatement condition body otherwise)) labels)
+          (is_true found)
           (done later around body t) (done_else later around otherwise t)
           (λ same.
           left_wider (by (reaches_end starts storage body) labels)
-          (by (reaches_end starts storage (IfStatement condition body otherwise)) labels) (done later around body t)
+          (by (reaches_end starts storage (IfStatement condition body otherwise)) labels)
+          (done later around body t)
           (λ flow leaves.
-          reached (reaches_end starts storage body) (reaches_end starts storage (IfStatement condition body otherwise))
+          reached (reaches_end starts storage body)
+          (reaches_end starts storage (IfStatement condition body otherwise))
           (may_return within) labels flow
           (or_left (reaches_end starts storage body) (reaches_end_of_else starts storage otherwise)) leaves)
           (statement_left body labels t jumps.0 stand.1 types.1))
@@ -414,7 +441,8 @@ module _ (typed : TypedModule) (within : Within) (nodes : Nodes) (storage : Stor
           → JumpsStayInElse labels otherwise
           → ListsStandInElse otherwise
           → TypesHoldInElse typed within otherwise
-          → IsLeftBy (by (reaches_end_of_else starts storage otherwise) labels) (done_else later around otherwise s)
+          → IsLeftBy (by (reaches_end_of_else starts storage otherwise) labels)
+          (done_else later around otherwise s)
       else_left NoElse labels s jumps stand types = refl
       else_left (ElseStatement statement) labels s jumps stand types =
           statement_left statement labels s jumps stand.1 types
@@ -426,8 +454,10 @@ module _ (typed : TypedModule) (within : Within) (nodes : Nodes) (storage : Stor
           → IsLeftBy (by true labels) (done_case later around body found s)
       case_left NoStatements found labels s jumps stand types = refl
       case_left (MoreStatements first others) zero labels s jumps stand types =
-          left_wider (by (reaches_end starts storage first) labels) (by true labels) (done later around first s)
-          (λ flow leaves. reached (reaches_end starts storage first) true (may_return within) labels flow (λ same. refl) leaves)
+          left_wider (by (reaches_end starts storage first) labels) (by true labels)
+          (done later around first s)
+          (λ flow leaves. reached (reaches_end starts storage first) true (may_return within) labels flow
+          (λ same. refl) leaves)
           (statement_left first labels s jumps.0 stand.1 types.0)
       case_left (MoreStatements first others) (suc found) labels s jumps stand types =
           case_left others found labels s jumps.1 stand.2 types.1
@@ -451,9 +481,11 @@ module _ (typed : TypedModule) (within : Within) (nodes : Nodes) (storage : Stor
           → JumpsStayInList labels list
           → ListStands list
           → TypesHoldInList typed within list
-          → IsLeftBy (by (reaches_end_of_list starts storage true list) labels) (done_list later around list s)
+          → IsLeftBy (by (reaches_end_of_list starts storage true list) labels)
+          (done_list later around list s)
       list_left (ListOf first places body) labels s jumps stand types =
-          left_flow (by (reaches_end_of_statements starts storage true body) (labels_of_list first places ∷ labels))
+          left_flow
+          (by (reaches_end_of_statements starts storage true body) (labels_of_list first places ∷ labels))
           (by (reaches_end_of_statements starts storage true body) labels)
           (done_all later around body s) (caught_in later around (ListOf first places body))
           (statements_left body (labels_of_list first places ∷ labels) s jumps stand.1 types)
@@ -466,20 +498,23 @@ module _ (typed : TypedModule) (within : Within) (nodes : Nodes) (storage : Stor
         → ConditionHolds typed within turn
         → IsLeftBy (by (reaches_after starts storage turn) labels) (turn_of later turn around s)
     turn_left labels (WhileTurn condition body) s good condition_types =
-        statement_left (WhileStatement condition body) labels s good.jumps good.stands (condition_types, good.types)
+        statement_left (WhileStatement condition body) labels s good.jumps good.stands
+        (condition_types, good.types)
     turn_left labels (IterateTurn head body) s good condition_types =
         iterates labels head body s good (λ v. list_left body labels v good.jumps good.stands good.types)
 
     rest_left : (labels : List LabelsOf) (list : TypedList) (rest : TypedStatements) (label : ℕ) (s : State)
         → IsGood labels list
         → rest_from label list ≡ Some rest
-        → IsLeftBy (by (reaches_end_of_list starts storage true list) labels) (rest_of later list rest around s)
+        → IsLeftBy (by (reaches_end_of_list starts storage true list) labels)
+        (rest_of later list rest around s)
     rest_left labels (ListOf first places body) rest label s good found =
         subst (λ (one : TypedStatements).
         IsLeftBy (by (reaches_end_of_statements starts storage true body) labels)
         (rest_of later (ListOf first places body) one around s))
         part.is
-        (left_flow (by (reaches_end_of_statements starts storage true body) (labels_of_list first places ∷ labels))
+        (left_flow (by (reaches_end_of_statements starts storage true body)
+        (labels_of_list first places ∷ labels))
         (by (reaches_end_of_statements starts storage true body) labels)
         (done_all later around (dropped part.place body) s)
         (caught_in later around (ListOf first places body))
@@ -494,7 +529,8 @@ module _ (typed : TypedModule) (within : Within) (nodes : Nodes) (storage : Stor
         (λ flow t leaves. catches first places body labels flow t good leaves))
       where
         part : IsRest label first places body rest
-        part = rest_is (nat_le first label) label first places (slice_get places (label - first)) body rest refl found
+        part = rest_is (nat_le first label) label first places (slice_get places (label - first))
+            body rest refl found
 
         there : StandsThere 0 part.place body
         there = stands_there first 0 places body (label - first) part.place good.stands.0 part.found
@@ -508,15 +544,19 @@ module _ (typed : TypedModule) (within : Within) (nodes : Nodes) (storage : Stor
     onto = λ labels list rest label s good found. tt;
   }
   later_left (suc count) = record {
-    again = λ labels turn s good condition. turn_left (later_by count) (later_left count) labels turn s good condition;
-    onto = λ labels list rest label s good found. rest_left (later_by count) (later_left count) labels list rest label s good found;
+    again = λ labels turn s good condition. turn_left (later_by count) (later_left count) labels
+        turn s good condition;
+    onto = λ labels list rest label s good found. rest_left (later_by count) (later_left count) labels list
+        rest label s good found;
   }
 
-  -- a closed body is left at its end, where that can be reached, or by a RETURN, where it is that of a procedure
+  -- a closed body is left at its end, where that can be reached, or by a RETURN, where it is that of a
+  -- procedure
   pub body_left : (count : ℕ) (body : TypedList) (s : State)
       → IsClosed body
       → ListStands body
       → TypesHoldInList typed within body
-      → IsLeftBy (by (reaches_end_of_list nodes.homes storage true body) []) (done_list (later_by count) around body s)
+      → IsLeftBy (by (reaches_end_of_list nodes.homes storage true body) [])
+      (done_list (later_by count) around body s)
   body_left count body s closed stands types =
       list_left (later_by count) (later_left count) body [] s closed stands types

@@ -2,8 +2,8 @@
 use Rattle.procedure_laws.proofs.Prelude.{◌≡◌, ◌≢◌, ℕ, zero, suc, ◌+◌, ◌-◌, ◌*◌, ◌/◌, ◌%◌, ◌<◌, ◌≤◌, ◌==◌, nat_le, nat_eq, Bool, true, false, if◌then◌else◌, List, [], ◌∷◌, ◌++◌, replicate, refl, sym, ap, subst, ◌∙◌, arith, eqb-true, eqb-false, leb-false, append_assoc, MEMORY_SIZE, IsMemory, byte_at, Event, SourceState, Outcome, NotZero, Dcr, Inx, Lxi, Mvi, Push, Of, De, Sp, B, StackDe, act, decrement_of, HoldBytes, Registers, State, word, wrap, JumpWhere, AgreesIn, pushed, pushed_is_memory, pushed_is_pushed, pushed_keeps, counted_out, counts_on, one_less_is, push_does, LiesWell, Does, at_place, LabelNumber, Planned, jump, mark, plain, Here, label_of, odd_byte_steps, push_loop_steps, pushes_steps, zeros_steps, BodyContext, at_start}
 use Rattle.procedure_laws.proofs.Frames.FramesSteps.{StepsLie, jump_goes, jump_stays, mark_goes, plain_goes}
 
--- The bytes from one address to another are zeros, and the stack pointer is at the lower one; A and HL are as before,
--- DE is 0, B counts, and no other byte changed but the one below.
+-- The bytes from one address to another are zeros, and the stack pointer is at the lower one; A and HL are as
+-- before, DE is 0, B counts, and no other byte changed but the one below.
 pub record AreZeros
     (count low high : ℕ) (r : Registers) (memory : List ℕ) (now : Registers) (ended : List ℕ) : Type 0 where
   pub b : now.b ≡ count
@@ -33,7 +33,8 @@ code_stays {count = count} {low = low} {high = high} at lies enough limit are ag
     are.kept address
     (λ from below.
     let bottom = lies.bottom in
-    lies.placed.apart address within.0 within.1 (omega (arith, from, enough, bottom)) (omega (arith, below, limit)))
+    lies.placed.apart address within.0 within.1 (omega (arith, from, enough, bottom))
+    (omega (arith, below, limit)))
     ∙ agrees address within
 
 -- none yet
@@ -69,31 +70,32 @@ one_word :
     → low ≤ high
     → AreZeros count low high r memory now ended
     → AreZeros count (low - 2) high r memory (record now { sp = wrap (low - 2) }) (pushed low 0 ended)
-one_word {high = high} {r = r} {now = now} {memory = memory} {ended = ended} low room limit below are = record {
-  b = are.b;
-  a = are.a;
-  h = are.h;
-  l = are.l;
-  d = are.d;
-  e = are.e;
-  registers = record {
-    a = are.registers.a;
-    b = are.registers.b;
-    c = are.registers.c;
-    d = are.registers.d;
-    e = are.registers.e;
-    h = are.registers.h;
-    l = are.registers.l;
-  };
-  pointer = refl;
-  is_memory = pushed_is_memory low 0 ended (omega arith) are.is_memory;
-  zeros = λ address from within. by_address address from within (address == (low - 1)) refl;
-  kept = λ address outside.
-      pushed_keeps low 0 ended address
-      (λ same. outside (omega (arith, same, room)) (omega (arith, same, room, below)))
-      (λ same. outside (omega (arith, same, room)) (omega (arith, same, room, below)))
-      ∙ are.kept address (λ from within. outside (omega (arith, from)) within);
-}
+one_word {high = high} {r = r} {now = now} {memory = memory} {ended = ended} low room limit below are =
+    record {
+      b = are.b;
+      a = are.a;
+      h = are.h;
+      l = are.l;
+      d = are.d;
+      e = are.e;
+      registers = record {
+        a = are.registers.a;
+        b = are.registers.b;
+        c = are.registers.c;
+        d = are.registers.d;
+        e = are.registers.e;
+        h = are.registers.h;
+        l = are.registers.l;
+      };
+      pointer = refl;
+      is_memory = pushed_is_memory low 0 ended (omega arith) are.is_memory;
+      zeros = λ address from within. by_address address from within (address == (low - 1)) refl;
+      kept = λ address outside.
+          pushed_keeps low 0 ended address
+          (λ same. outside (omega (arith, same, room)) (omega (arith, same, room, below)))
+          (λ same. outside (omega (arith, same, room)) (omega (arith, same, room, below)))
+          ∙ are.kept address (λ from within. outside (omega (arith, from)) within);
+    }
   where
     other_byte : (address : ℕ) → low - 2 ≤ address → address < high → address ≢ low - 1
         → (test : Bool) → (address == (low - 2)) ≡ test → byte_at (pushed low 0 ended) address ≡ 0
@@ -152,7 +154,8 @@ one_back {high = high} {r = r} {now = now} {memory = memory} {ended = ended} low
 -- where code goes on after zeros
 abbrev pub GoesOnAfter :
     {A : Type 0} → BodyContext → (last : Here) → List Planned → (budget : ℕ) → Outcome A
-    → (Good : A → SourceState → State → Type 0) → List Event → (count low high to : ℕ) → Registers → List ℕ → Type 0
+    → (Good : A → SourceState → State → Type 0) → List Event → (count low high to : ℕ)
+    → Registers → List ℕ → Type 0
 GoesOnAfter at last others budget outcome Good events count low high to r memory =
     (place : ℕ) (now : Registers) (ended : List ℕ)
     → StepsLie at at_start last others place to
@@ -196,8 +199,8 @@ pub same_steps :
 same_steps {here = here} {last = last} {from = from} {to = to} at same stand =
     subst (λ (planned : List Planned). StepsLie at here last planned from to) same stand
 
--- The bytes from one address to another are zeros, and the stack pointer is at the lower one; A and HL are as before, and
--- no other byte changed but the one below.
+-- The bytes from one address to another are zeros, and the stack pointer is at the lower one; A and HL are as
+-- before, and no other byte changed but the one below.
 pub record IsFilled
     (low high : ℕ) (r : Registers) (memory : List ℕ) (now : Registers) (ended : List ℕ) : Type 0 where
   pub a : now.a ≡ r.a
@@ -274,7 +277,8 @@ abbrev turn_steps : LabelNumber → List Planned → List Planned
 turn_steps again others =
     replicate 4 (plain (Push StackDe)) ++ (plain (Dcr (Of B)) ∷ jump (JumpWhere NotZero) again ∷ others)
 
-module _ {A : Type 0} {budget : ℕ} {outcome : Outcome A} {Good : A → SourceState → State → Type 0} {last : Here}
+module _ {A : Type 0} {budget : ℕ} {outcome : Outcome A}
+    {Good : A → SourceState → State → Type 0} {last : Here}
     {high to : ℕ} {r : Registers} {memory : List ℕ} {events : List Event} (at : BodyContext)
     (lies : LiesWell at.context.activation)
     (agrees : AgreesIn at.context.activation.around.program.placement.code at.context.activation.image memory)
@@ -288,9 +292,11 @@ module _ {A : Type 0} {budget : ℕ} {outcome : Outcome A} {Good : A → SourceS
       → StepsLie at at_start last (plain (Push StackDe) ∷ others) from to
       → AreZeros count low high r memory now ended
       → GoesOnAfter at last others budget outcome Good events count (low - 2) high to r memory
-      → Does at.context.activation.around.program.script budget 0 (at_place from now ended events) outcome Good
+      → Does at.context.activation.around.program.script budget 0
+      (at_place from now ended events) outcome Good
   word_pushed count low from now ended others room below stand are rest =
-      plain_goes at (Push StackDe) others now lies (code_stays at lies (omega (arith, room)) limit are agrees) stand
+      plain_goes at (Push StackDe) others now lies
+      (code_stays at lies (omega (arith, room)) limit are agrees) stand
       (λ more.
       subst (λ (state : State). Does at.context.activation.around.program.script budget 0 state outcome Good)
       (sym (does (from + 1)))
@@ -304,7 +310,8 @@ module _ {A : Type 0} {budget : ℕ} {outcome : Outcome A} {Good : A → SourceS
           → act at.context.activation.around.program.script (Push StackDe) (at_place place now ended events)
           ≡ at_place place (record now { sp = wrap (low - 2) }) (pushed low 0 ended) events
       does place =
-          push_does at.context.activation.around.program.script StackDe place low now ended events are.pointer in_memory
+          push_does at.context.activation.around.program.script StackDe place low now ended events
+          are.pointer in_memory
           (omega (arith, room))
           ∙ ap (λ (n : ℕ). at_place place (record now { sp = wrap (low - 2) }) (pushed low n ended) events)
           (zero_word now.d now.e are.d are.e)
@@ -317,7 +324,8 @@ module _ {A : Type 0} {budget : ℕ} {outcome : Outcome A} {Good : A → SourceS
       → StepsLie at at_start last (replicate words (plain (Push StackDe)) ++ others) from to
       → AreZeros count low high r memory now ended
       → GoesOnAfter at last others budget outcome Good events count (low - 2 * words) high to r memory
-      → Does at.context.activation.around.program.script budget 0 (at_place from now ended events) outcome Good
+      → Does at.context.activation.around.program.script budget 0
+      (at_place from now ended events) outcome Good
   words_pushed zero count low from now ended others room below stand are rest =
       rest from now ended stand
       (subst (λ (end : ℕ). AreZeros count end high r memory now ended) (none low) are)
@@ -325,10 +333,12 @@ module _ {A : Type 0} {budget : ℕ} {outcome : Outcome A} {Good : A → SourceS
       none : (low : ℕ) → low ≡ low - 2 * 0
       none low = omega arith
   words_pushed (suc words) count low from now ended others room below stand are rest =
-      word_pushed count low from now ended (replicate words (plain (Push StackDe)) ++ others) (omega (arith, room)) below stand
+      word_pushed count low from now ended (replicate words (plain (Push StackDe)) ++ others)
+      (omega (arith, room)) below stand
       are
       (λ place after last_memory stand_after are_after.
-      words_pushed words count (low - 2) place after last_memory others (omega (arith, room)) (omega (arith, below)) stand_after
+      words_pushed words count (low - 2) place after last_memory others (omega (arith, room))
+      (omega (arith, below)) stand_after
       are_after
       (subst (λ (end : ℕ). GoesOnAfter at last others budget outcome Good events count end high to r memory)
       (down words low) rest))
@@ -344,7 +354,8 @@ module _ {A : Type 0} {budget : ℕ} {outcome : Outcome A} {Good : A → SourceS
       → StepsLie at at_start last (plain (Push StackDe) ∷ plain (Inx Sp) ∷ others) from to
       → AreZeros count low high r memory now ended
       → GoesOnAfter at last others budget outcome Good events count (low - 1) high to r memory
-      → Does at.context.activation.around.program.script budget 0 (at_place from now ended events) outcome Good
+      → Does at.context.activation.around.program.script budget 0
+      (at_place from now ended events) outcome Good
   odd_pushed count low from now ended others room below stand are rest =
       pushed_there
     where
@@ -358,17 +369,20 @@ module _ {A : Type 0} {budget : ℕ} {outcome : Outcome A} {Good : A → SourceS
           → act at.context.activation.around.program.script (Push StackDe) (at_place place now ended events)
           ≡ at_place place (record now { sp = wrap (low - 2) }) (pushed low 0 ended) events
       does place =
-          push_does at.context.activation.around.program.script StackDe place low now ended events are.pointer in_memory
+          push_does at.context.activation.around.program.script StackDe place low now ended events
+          are.pointer in_memory
           (omega (arith, room))
           ∙ ap (λ (n : ℕ). at_place place (record now { sp = wrap (low - 2) }) (pushed low n ended) events)
           (zero_word now.d now.e are.d are.e)
 
-      pushed_there : Does at.context.activation.around.program.script budget 0 (at_place from now ended events) outcome Good
+      pushed_there : Does at.context.activation.around.program.script budget 0
+          (at_place from now ended events) outcome Good
       pushed_there =
           plain_goes at (Push StackDe) (plain (Inx Sp) ∷ others) now lies
           (code_stays at lies (omega (arith, room)) limit are agrees) stand
           (λ more.
-          subst (λ (state : State). Does at.context.activation.around.program.script budget 0 state outcome Good)
+          subst (λ (state : State). Does at.context.activation.around.program.script budget
+          0 state outcome Good)
           (sym (does (from + 1)))
           (plain_goes at (Inx Sp) others (record now { sp = wrap (low - 2) }) lies
           (code_stays at lies (omega (arith, room)) limit
@@ -389,7 +403,8 @@ module _ {A : Type 0} {budget : ℕ} {outcome : Outcome A} {Good : A → SourceS
       → StepsLie at at_start last (turn_steps again others) from to
       → AreZeros (suc turns) low high r memory now ended
       → GoesOnAfter at last others budget outcome Good events 0 (low - 8 * suc turns) high to r memory
-      → Does at.context.activation.around.program.script budget 0 (at_place from now ended events) outcome Good
+      → Does at.context.activation.around.program.script budget 0
+      (at_place from now ended events) outcome Good
   turns_pushed zero low from now ended again others place few room below stand are rest =
       words_pushed 4 1 low from now ended (plain (Dcr (Of B)) ∷ jump (JumpWhere NotZero) again ∷ others)
       (omega (arith, room)) below stand are
@@ -402,10 +417,12 @@ module _ {A : Type 0} {budget : ℕ} {outcome : Outcome A} {Good : A → SourceS
       (code_stays at lies (omega (arith, room)) limit are_after agrees) more (counted_out after.b are_after.b)
       (λ last_one.
       rest (count_place + 1 + 3)
-      (record after { b = (after.b + 254 + 1) % 256; flags = (decrement_of after.b after.flags).flags }) last_memory
+      (record after { b = (after.b + 254 + 1) % 256; flags = (decrement_of after.b after.flags).flags })
+      last_memory
       last_one (counted few are_after))))
   turns_pushed (suc turns) low from now ended again others place few room below stand are rest =
-      words_pushed 4 (suc (suc turns)) low from now ended (plain (Dcr (Of B)) ∷ jump (JumpWhere NotZero) again ∷ others)
+      words_pushed 4 (suc (suc turns)) low from now ended
+      (plain (Dcr (Of B)) ∷ jump (JumpWhere NotZero) again ∷ others)
       (omega (arith, room)) below stand are
       (λ count_place after last_memory stand_after are_after.
       plain_goes at (Dcr (Of B)) (jump (JumpWhere NotZero) again ∷ others) after lies
@@ -421,8 +438,10 @@ module _ {A : Type 0} {budget : ℕ} {outcome : Outcome A} {Good : A → SourceS
       last_memory events) outcome Good)
       (sym place)
       (turns_pushed turns (low - 8) from
-      (record after { b = (after.b + 254 + 1) % 256; flags = (decrement_of after.b after.flags).flags }) last_memory again
-      others place (omega (arith, few)) (omega (arith, room)) (omega (arith, below)) stand (counted few are_after)
+      (record after { b = (after.b + 254 + 1) % 256; flags = (decrement_of after.b after.flags).flags })
+      last_memory again
+      others place (omega (arith, few)) (omega (arith, room)) (omega (arith, below)) stand
+      (counted few are_after)
       (subst (λ (end : ℕ). GoesOnAfter at last others budget outcome Good events 0 end high to r memory)
       (down turns low) rest)))))
     where
@@ -437,8 +456,10 @@ module _ {A : Type 0} {budget : ℕ} {outcome : Outcome A} {Good : A → SourceS
       → low ≤ high
       → StepsLie at at_start last (pushes_steps words first ++ others) from to
       → AreZeros count low high r memory now ended
-      → ((count : ℕ) → GoesOnAfter at last others budget outcome Good events count (low - 2 * words) high to r memory)
-      → Does at.context.activation.around.program.script budget 0 (at_place from now ended events) outcome Good
+      → ((count : ℕ) → GoesOnAfter at last others budget outcome Good events count
+      (low - 2 * words) high to r memory)
+      → Does at.context.activation.around.program.script budget 0
+      (at_place from now ended events) outcome Good
   unfolding pushes_steps push_loop_steps
   pushes_go words first count low from now ended others few room below stand are rest =
       by_test (nat_le words 12) refl stand
@@ -453,9 +474,11 @@ module _ {A : Type 0} {budget : ℕ} {outcome : Outcome A} {Good : A → SourceS
       by_test : (test : Bool) → nat_le words 12 ≡ test
           → StepsLie at at_start last
           ((if test then replicate words (plain (Push StackDe))
-          else push_loop_steps (words / 4 % 256) (label_of first) ++ replicate (words % 4) (plain (Push StackDe)))
+          else push_loop_steps (words / 4 % 256) (label_of first)
+          ++ replicate (words % 4) (plain (Push StackDe)))
           ++ others) from to
-          → Does at.context.activation.around.program.script budget 0 (at_place from now ended events) outcome Good
+          → Does at.context.activation.around.program.script budget 0
+          (at_place from now ended events) outcome Good
       by_test true at_most stand =
           words_pushed words count low from now ended others room below stand are (rest count)
       by_test false more_than stand =
@@ -466,15 +489,18 @@ module _ {A : Type 0} {budget : ℕ} {outcome : Outcome A} {Good : A → SourceS
           = same_steps at (append_assoc (push_loop_steps (words / 4 % 256) (label_of first))
           (replicate (words % 4) (plain (Push StackDe))) others) stand in
           plain_goes at (Mvi (Of B) (words / 4 % 256))
-          (mark (label_of first) ∷ turn_steps (label_of first) (replicate (words % 4) (plain (Push StackDe)) ++ others)) now
+          (mark (label_of first) ∷ turn_steps (label_of first)
+          (replicate (words % 4) (plain (Push StackDe)) ++ others)) now
           lies (code_stays at lies (omega (arith, room, many)) limit are agrees) loop
           (λ more.
           let marked = mark_goes at (label_of first)
           (turn_steps (label_of first) (replicate (words % 4) (plain (Push StackDe)) ++ others)) more in
-          turns_pushed (words / 4 - 1) low (from + 2) (record now { b = words / 4 % 256 }) ended (label_of first)
+          turns_pushed (words / 4 - 1) low (from + 2) (record now { b = words / 4 % 256 })
+          ended (label_of first)
           (replicate (words % 4) (plain (Push StackDe)) ++ others) marked.place (omega (arith, few, many))
           (omega (arith, room, many)) below marked.lie
-          (subst (λ (number : ℕ). AreZeros number low high r memory (record now { b = words / 4 % 256 }) ended)
+          (subst (λ (number : ℕ). AreZeros number low high r memory
+          (record now { b = words / 4 % 256 }) ended)
           (whole few many) (renumbered (words / 4 % 256) (omega arith) are))
           (λ place after last_memory stand_after are_after.
           words_pushed (words % 4) 0 (low - 8 * suc (words / 4 - 1)) place after last_memory others
@@ -491,7 +517,8 @@ module _ {A : Type 0} {budget : ℕ} {outcome : Outcome A} {Good : A → SourceS
       → StepsLie at at_start last (odd_byte_steps bytes ++ others) from to
       → AreZeros count low high r memory now ended
       → GoesOnAfter at last others budget outcome Good events count (low - bytes % 2) high to r memory
-      → Does at.context.activation.around.program.script budget 0 (at_place from now ended events) outcome Good
+      → Does at.context.activation.around.program.script budget 0
+      (at_place from now ended events) outcome Good
   unfolding odd_byte_steps
   odd_goes bytes count low from now ended others room below least stand are rest =
       by_test (nat_eq (bytes % 2) 1) refl stand
@@ -499,11 +526,13 @@ module _ {A : Type 0} {budget : ℕ} {outcome : Outcome A} {Good : A → SourceS
       by_test : (test : Bool) → nat_eq (bytes % 2) 1 ≡ test
           → StepsLie at at_start last
           ((if test then plain (Push StackDe) ∷ plain (Inx Sp) ∷ [] else []) ++ others) from to
-          → Does at.context.activation.around.program.script budget 0 (at_place from now ended events) outcome Good
+          → Does at.context.activation.around.program.script budget 0
+          (at_place from now ended events) outcome Good
       by_test true same stand =
           let odd : bytes % 2 ≡ 1 = eqb-true (bytes % 2) 1 same in
           odd_pushed count low from now ended others (omega (arith, room, odd)) below stand are
-          (subst (λ (odd : ℕ). GoesOnAfter at last others budget outcome Good events count (low - odd) high to r memory) odd
+          (subst (λ (odd : ℕ). GoesOnAfter at last others budget outcome Good events count (low - odd)
+          high to r memory) odd
           rest)
       by_test false other stand =
           let even : bytes % 2 ≢ 1 = eqb-false (bytes % 2) 1 other in
@@ -522,7 +551,8 @@ module _ {A : Type 0} {budget : ℕ} {outcome : Outcome A} {Good : A → SourceS
       → ((place : ℕ) (now : Registers) (ended : List ℕ)
       → StepsLie at at_start last others place to
       → IsFilled (high - bytes) high r memory now ended
-      → Does at.context.activation.around.program.script budget 0 (at_place place now ended events) outcome Good)
+      → Does at.context.activation.around.program.script budget 0
+      (at_place place now ended events) outcome Good)
       → Does at.context.activation.around.program.script budget 0 (at_place from r memory events) outcome Good
   unfolding zeros_steps
   zeros_go bytes first from others few room bytes_held pointer is_memory stand rest =
@@ -536,9 +566,11 @@ module _ {A : Type 0} {budget : ℕ} {outcome : Outcome A} {Good : A → SourceS
 
       by_test : (test : Bool) → nat_eq bytes 0 ≡ test
           → StepsLie at at_start last
-          ((if test then [] else plain (Lxi De 0) ∷ (pushes_steps (bytes / 2) first ++ odd_byte_steps bytes)) ++ others)
+          ((if test then [] else plain (Lxi De 0) ∷ (pushes_steps (bytes / 2) first ++ odd_byte_steps bytes))
+          ++ others)
           from to
-          → Does at.context.activation.around.program.script budget 0 (at_place from r memory events) outcome Good
+          → Does at.context.activation.around.program.script budget 0
+          (at_place from r memory events) outcome Good
       by_test true same stand =
           rest from r memory stand (record {
             a = refl;
@@ -552,7 +584,8 @@ module _ {A : Type 0} {budget : ℕ} {outcome : Outcome A} {Good : A → SourceS
           })
       by_test false other stand =
           let some : bytes ≢ 0 = eqb-false bytes 0 other in
-          plain_goes at (Lxi De 0) ((pushes_steps (bytes / 2) first ++ odd_byte_steps bytes) ++ others) r lies agrees stand
+          plain_goes at (Lxi De 0) ((pushes_steps (bytes / 2) first ++ odd_byte_steps bytes) ++ others) r lies
+          agrees stand
           (λ more.
           pushes_go (bytes / 2) first r.b high (from + 3) (record r { d = 0; e = 0 }) memory
           (odd_byte_steps bytes ++ others) (omega (arith, few)) (omega (arith, room)) (omega arith)

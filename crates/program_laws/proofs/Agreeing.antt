@@ -23,7 +23,8 @@ module _ (script : List (List ℕ)) (start : State) where
       cc
 
   legal_before :
-      (j k : ℕ) (status : Status) → j ≤ k → (after k).status ≡ status → status ≢ Illegal → (after j).status ≢ Illegal
+      (j k : ℕ) (status : Status) → j ≤ k → (after k).status ≡ status → status ≢ Illegal
+      → (after j).status ≢ Illegal
   legal_before j k status le is legal illegal =
       let same = stays_from j k Illegal le illegal (λ e. let bad : Illegal ≡ Running = e in cc) in
       legal (sym is ∙ (ap (λ (s : State). s.status) same ∙ illegal))
@@ -79,14 +80,19 @@ module _ (script : List (List ℕ)) (start : State) where
 
       pub agrees : Agrees source after
       agrees = record {
-        keeps_up = λ n. by_end n (λ is comes. (comes.count, comes.events_are)) (λ is comes. (comes.count, comes.events_are));
+        keeps_up =
+            λ n. by_end n (λ is comes. (comes.count, comes.events_are))
+            (λ is comes. (comes.count, comes.events_are));
         runs_no_further = λ k. (
           k,
           by_end k
-              (λ is comes. subst (IsBeginning (after k).events) comes.events_are (begins_halted k comes.count comes.status_is))
-              (λ is comes. subst (IsBeginning (after k).events) comes.events_are (begins_before k comes.count comes.enough)),
+              (λ is comes. subst (IsBeginning (after k).events) comes.events_are
+              (begins_halted k comes.count comes.status_is))
+              (λ is comes. subst (IsBeginning (after k).events) comes.events_are
+              (begins_before k comes.count comes.enough)),
         );
-        halts_when_ended = λ n is. let comes = (performs n).ended is in (comes.count, comes.status_is, comes.events_are);
+        halts_when_ended =
+            λ n is. let comes = (performs n).ended is in (comes.count, comes.status_is, comes.events_are);
         ended_when_halted = λ k halted. (
           k,
           by_end k
@@ -97,5 +103,6 @@ module _ (script : List (List ℕ)) (start : State) where
             by_end k
             (λ is comes. legal_halted k comes.count comes.status_is)
             (λ is comes.
-            legal_before k comes.count Running comes.enough comes.status_is (λ e. let bad : Running ≡ Illegal = e in cc));
+            legal_before k comes.count Running comes.enough comes.status_is
+            (λ e. let bad : Running ≡ Illegal = e in cc));
       }

@@ -80,7 +80,8 @@ pub bytes_of_cells :
     → AllByRecursion HasByte (fixed_bytes fixes offset cells)
 bytes_of_cells fixes offset [] all = tt
 bytes_of_cells fixes offset (None ∷ others) all = (tt, bytes_of_cells fixes (offset + 1) others all.1)
-bytes_of_cells fixes offset (Some value ∷ others) all = (all.0, bytes_of_cells fixes (offset + 1) others all.1)
+bytes_of_cells fixes offset (Some value ∷ others) all =
+    (all.0, bytes_of_cells fixes (offset + 1) others all.1)
 
 -- and the other way round
 pub cells_of_bytes :
@@ -89,7 +90,8 @@ pub cells_of_bytes :
     → AllByRecursion IsCell cells
 cells_of_bytes fixes offset [] all = tt
 cells_of_bytes fixes offset (None ∷ others) all = (tt, cells_of_bytes fixes (offset + 1) others all.1)
-cells_of_bytes fixes offset (Some value ∷ others) all = (all.0, cells_of_bytes fixes (offset + 1) others all.1)
+cells_of_bytes fixes offset (Some value ∷ others) all =
+    (all.0, cells_of_bytes fixes (offset + 1) others all.1)
 
 -- Bytes that are set stand in a memory that has them.
 stand_by :
@@ -146,7 +148,8 @@ same_bytes :
     → rest ≡ out)
     → cells ≡ map Some bytes ++ out
 same_bytes memory [] from cells out more flags set stands rest =
-    rest cells flags (let same : from ≡ from + 0 = omega arith in subst (λ n. SetBytesStand memory n cells) same set)
+    rest cells flags
+    (let same : from ≡ from + 0 = omega arith in subst (λ n. SetBytesStand memory n cells) same set)
 same_bytes memory (byte ∷ bytes) from [] out more flags set stands rest = absurd (cc)
 same_bytes memory (byte ∷ bytes) from (None ∷ cells) out more flags set stands rest = absurd (cc)
 same_bytes memory (byte ∷ bytes) from (Some cell ∷ cells) out more flags set stands rest =
@@ -174,7 +177,8 @@ same_item :
     → rest ≡ out)
     → cells ≡ map Some bytes ++ out
 same_item memory bytes size from cells out more sized flags set stands rest =
-    same_bytes memory bytes from cells out more (flags ∙ ap (λ n. replicate n true ++ more) (sym sized)) set stands
+    same_bytes memory bytes from cells out more
+    (flags ∙ ap (λ n. replicate n true ++ more) (sym sized)) set stands
     (λ others is there. rest others is (subst (λ n. SetBytesStand memory (from + n) others) sized there))
 
 -- and those of a gap
@@ -188,7 +192,8 @@ same_gap :
     → rest ≡ out)
     → cells ≡ replicate count None ++ out
 same_gap memory zero from cells out more flags set rest =
-    rest cells flags (let same : from ≡ from + 0 = omega arith in subst (λ n. SetBytesStand memory n cells) same set)
+    rest cells flags
+    (let same : from ≡ from + 0 = omega arith in subst (λ n. SetBytesStand memory n cells) same set)
 same_gap memory (suc count) from [] out more flags set rest = absurd (cc)
 same_gap memory (suc count) from (Some cell ∷ cells) out more flags set rest = absurd (cc)
 same_gap memory (suc count) from (None ∷ cells) out more flags set rest =
@@ -209,12 +214,14 @@ cells_by_items :
 cells_by_items layout memory [] from to [] flags set stands = refl
 cells_by_items layout memory [] from to (cell ∷ cells) flags set stands = absurd (cc)
 cells_by_items layout memory (Plain instruction ∷ others) from to cells flags set stands =
-    same_item memory (bytes_of instruction) (size_of (Plain instruction)) from cells (cells_of_items layout others)
+    same_item memory (bytes_of instruction) (size_of (Plain instruction)) from cells
+    (cells_of_items layout others)
     (flags_of_items others) refl flags set stands.0
     (λ rest is there.
     cells_by_items layout memory others (from + size_of (Plain instruction)) to rest is there stands.1)
 cells_by_items layout memory (WithWord form reference ∷ others) from to cells flags set stands =
-    same_item memory (bytes_of_item layout (WithWord form reference)) 3 from cells (cells_of_items layout others)
+    same_item memory (bytes_of_item layout (WithWord form reference)) 3 from cells
+    (cells_of_items layout others)
     (flags_of_items others) (item_length layout (WithWord form reference)) flags set stands.0
     (λ rest is there. cells_by_items layout memory others (from + 3) to rest is there stands.1)
 cells_by_items layout memory (Byte value ∷ others) from to cells flags set stands =
@@ -233,7 +240,8 @@ cells_by_items layout memory (Mark label ∷ others) from to cells flags set sta
 
 -- of each byte it is said whether it is set
 flags_of_set :
-    (bytes : List ℕ) (flags : List Bool) → length flags ≡ length bytes → map is_some (set_bytes bytes flags) ≡ flags
+    (bytes : List ℕ) (flags : List Bool) → length flags ≡ length bytes
+    → map is_some (set_bytes bytes flags) ≡ flags
 flags_of_set [] [] same = refl
 flags_of_set [] (flag ∷ flags) same = absurd (omega (arith, same))
 flags_of_set (byte ∷ bytes) [] same = absurd (omega (arith, same))
@@ -250,7 +258,8 @@ pub cells_are :
     → AllByRecursion IsCell (set_bytes code.bytes code.is_set)
     → set_bytes code.bytes code.is_set ≡ cells_of_items (layout_at at_zero assembly) assembly.items
 cells_are assembly code is small all =
-    cells_by_items (layout_at at_zero assembly) (memory_of cells) assembly.items 0 (0 + length code.bytes) cells
+    cells_by_items (layout_at at_zero assembly) (memory_of cells) assembly.items 0
+    (0 + length code.bytes) cells
     (flags_of_set code.bytes code.is_set told ∙ is.set)
     standing
     (is.stands at_zero (memory_of cells) (omega (arith, small))
@@ -263,7 +272,8 @@ cells_are assembly code is small all =
     told = ap (λ (flags : List Bool). length flags) is.set ∙ flags_length assembly.items ∙ sym is.size
 
     standing : SetBytesStand (memory_of cells) 0 cells
-    standing = stand_at_zero cells (let same = set_length code.bytes code.is_set in omega (arith, same, small))
+    standing =
+        stand_at_zero cells (let same = set_length code.bytes code.is_set in omega (arith, same, small))
 
     still : bytes_resolved at_zero (places_of code) ≡ cells
     still =

@@ -21,7 +21,8 @@ module _
 
     abbrev own : Layout
     own =
-        module_layout address_of address_of_name sound.made.generated.to written sound.made.tree.externals.items
+        module_layout address_of address_of_name sound.made.generated.to written
+        sound.made.tree.externals.items
 
     abbrev base : ℕ
     base = address_of (InSegment segments.Code)

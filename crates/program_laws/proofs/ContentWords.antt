@@ -44,7 +44,8 @@ gap_words (Byte byte ∷ others) count are = (tt, gap_words others count are.1)
 gap_words (Word place ∷ others) count are = (are.0, gap_words others count are.1)
 gap_words (Gap gap ∷ next ∷ others) count are = (tt, gap_words (next ∷ others) count are.1)
 
-gap_if_any_words : (before : List Content) (count : ℕ) → AreWords before → AreWords (with_gap_if_any before count)
+gap_if_any_words : (before : List Content) (count : ℕ) → AreWords before
+    → AreWords (with_gap_if_any before count)
 gap_if_any_words before count are = by (count == 0)
   where
     by : (none : Bool) → AreWords (if none then before else with_gap before count)
@@ -92,7 +93,8 @@ item_words typed starts (ConstantObject number) before are = by (slice_get typed
   where
     by : (found : Option TypedObject)
         → AreWords
-        (option_map_or (λ (object : TypedObject). constant_object starts object object.home before) found before)
+        (option_map_or (λ (object : TypedObject). constant_object starts object object.home before) found
+        before)
     by None = are
     by (Some object) = constant_words starts object object.home before are
 item_words typed starts (ConstantList number) before are = by (slice_get typed.constants.lists number)
@@ -107,7 +109,8 @@ items_words :
     → AreWords before → AreWords (constants_from typed starts before items)
 items_words typed starts [] before are = are
 items_words typed starts (item ∷ others) before are =
-    items_words typed starts others (with_constant typed starts item before) (item_words typed starts item before are)
+    items_words typed starts others (with_constant typed starts item before)
+    (item_words typed starts item before are)
 
 objects_words :
     (starts : List Home) (objects : List TypedObject) (before : List Content)

@@ -50,7 +50,8 @@ module _
   gap_begins :
       (count : ℕ) (bytes : Places) (others : List (Option SetByte))
       → BeginWith object bytes (map (place_to to) others)
-      → BeginWith object (replicate count None ++ bytes) (map (place_to to) (row_of (replicate count None) ++ others))
+      → BeginWith object (replicate count None ++ bytes)
+      (map (place_to to) (row_of (replicate count None) ++ others))
   gap_begins zero bytes others begins = begins
   gap_begins (suc count) bytes others begins = (tt, gap_begins count bytes others begins)
 
@@ -62,7 +63,8 @@ module _
   name_target index number named =
       subst (IsTarget object (Named (name_at names index))) (sym named.target)
       (named.found
-      ∙ ap (λ (found : Option ExternalName). Some (option_map_or (λ (external : ExternalName). external.name) found []))
+      ∙ ap (λ (found : Option ExternalName). Some
+      (option_map_or (λ (external : ExternalName). external.name) found []))
       (sym named.name))
 
   -- Each content is as it was.
@@ -85,7 +87,8 @@ module _
   contents_begin (contents.Word (places.Number number) ∷ others) made words same =
       in_front_of (items.Byte (low number))
       (in_front (Some (items.Byte (high number))) (numbered written (items_from others))) made
-      (λ made. BeginWith object (places_of_contents names (contents.Word (places.Number number) ∷ others)) (placed made))
+      (λ made. BeginWith object (places_of_contents names (contents.Word (places.Number number) ∷ others))
+      (placed made))
       same
       (λ rest is.
       in_front_of (items.Byte (high number)) (numbered written (items_from others)) rest
@@ -96,7 +99,8 @@ module _
   contents_begin (contents.Word (places.Code offset) ∷ others) made words same =
       in_front_of (items.Address (AtTarget (InSegment object_segments.Code) offset))
       (numbered written (items_from others)) made
-      (λ made. BeginWith object (places_of_contents names (contents.Word (places.Code offset) ∷ others)) (placed made))
+      (λ made. BeginWith object (places_of_contents names (contents.Word (places.Code offset) ∷ others))
+      (placed made))
       same
       (λ rest is. (
         (low_of offset words.0, (refl, targets.starts object_segments.Code refl)),
@@ -105,7 +109,8 @@ module _
   contents_begin (contents.Word (places.Data offset) ∷ others) made words same =
       in_front_of (items.Address (AtTarget (InSegment object_segments.Data) offset))
       (numbered written (items_from others)) made
-      (λ made. BeginWith object (places_of_contents names (contents.Word (places.Data offset) ∷ others)) (placed made))
+      (λ made. BeginWith object (places_of_contents names (contents.Word (places.Data offset) ∷ others))
+      (placed made))
       same
       (λ rest is. (
         (low_of offset words.0, (refl, targets.starts object_segments.Data refl)),
@@ -123,7 +128,8 @@ module _
           → ((rest : List Item)
           → numbered written (items_from others) ≡ Some rest
           → BeginWith object (places_of_contents names others) (placed rest))
-          → BeginWith object (places_of_contents names (contents.Word (places.External offset index) ∷ others))
+          → BeginWith object
+          (places_of_contents names (contents.Word (places.External offset index) ∷ others))
           (placed made)
       by None found is later = absurd (none-some made is)
       by (Some number) found is later =
@@ -164,12 +170,14 @@ module _
       (λ made. AllByRecursion HasByte (placed made) → KeepWords (contents.Gap count ∷ others)) same
       (λ rest is all. (
         tt,
-        contents_keep others rest is (gap_bytes count (set_of_items (layout_at at_zero assembly) (rest ++ more)) all),
+        contents_keep others rest is
+            (gap_bytes count (set_of_items (layout_at at_zero assembly) (rest ++ more)) all),
       )) all
   contents_keep (contents.Word (places.Number number) ∷ others) made same all =
       in_front_of (items.Byte (low number))
       (in_front (Some (items.Byte (high number))) (numbered written (items_from others))) made
-      (λ made. AllByRecursion HasByte (placed made) → KeepWords (contents.Word (places.Number number) ∷ others)) same
+      (λ made. AllByRecursion HasByte (placed made)
+      → KeepWords (contents.Word (places.Number number) ∷ others)) same
       (λ rest is.
       in_front_of (items.Byte (high number)) (numbered written (items_from others)) rest
       (λ rest.
@@ -179,12 +187,14 @@ module _
   contents_keep (contents.Word (places.Code offset) ∷ others) made same all =
       in_front_of (items.Address (AtTarget (InSegment object_segments.Code) offset))
       (numbered written (items_from others)) made
-      (λ made. AllByRecursion HasByte (placed made) → KeepWords (contents.Word (places.Code offset) ∷ others)) same
+      (λ made. AllByRecursion HasByte (placed made) → KeepWords (contents.Word (places.Code offset) ∷ others))
+      same
       (λ rest is all. (tt, contents_keep others rest is all.1.1)) all
   contents_keep (contents.Word (places.Data offset) ∷ others) made same all =
       in_front_of (items.Address (AtTarget (InSegment object_segments.Data) offset))
       (numbered written (items_from others)) made
-      (λ made. AllByRecursion HasByte (placed made) → KeepWords (contents.Word (places.Data offset) ∷ others)) same
+      (λ made. AllByRecursion HasByte (placed made) → KeepWords (contents.Word (places.Data offset) ∷ others))
+      same
       (λ rest is all. (tt, contents_keep others rest is all.1.1)) all
   contents_keep (contents.Word (places.External offset index) ∷ others) made same all =
       by (entry written.externals index) same (λ rest is all. contents_keep others rest is all)
@@ -201,7 +211,9 @@ module _
           → KeepWords (contents.Word (places.External offset index) ∷ others)
       by None is later = absurd (none-some made is)
       by (Some number) is later =
-          in_front_of (items.Address (AtTarget (External number) offset)) (numbered written (items_from others)) made
+          in_front_of (items.Address (AtTarget (External number) offset))
+          (numbered written (items_from others)) made
           (λ made.
-          AllByRecursion HasByte (placed made) → KeepWords (contents.Word (places.External offset index) ∷ others)) is
+          AllByRecursion HasByte (placed made)
+          → KeepWords (contents.Word (places.External offset index) ∷ others)) is
           (λ rest are all. (tt, later rest are all.1.1)) all

@@ -14,7 +14,8 @@ home_from :
     (typed : TypedModule) (storage : Storage) (before : List Home) (objects : List TypedObject)
     (index : ℕ) (object : TypedObject) (default : Home)
     → slice_get objects index ≡ Some object
-    → HomeIs typed storage object.home (get_or (homes_from typed storage before objects) (length before + index) default)
+    → HomeIs typed storage object.home
+    (get_or (homes_from typed storage before objects) (length before + index) default)
 home_from typed storage before [] index object default found = absurd (none-some object found)
 home_from typed storage before (first ∷ others) zero object default found = record {
   before = before;
@@ -23,7 +24,8 @@ home_from typed storage before (first ∷ others) zero object default found = re
       ap (λ (number : ℕ).
       get_or (homes_from typed storage (before ++ next_home typed storage before first ∷ []) others) number
       default) nothing_more
-      ∙ earlier_kept typed storage (before ++ next_home typed storage before first ∷ []) others (length before) default
+      ∙ earlier_kept typed storage (before ++ next_home typed storage before first ∷ []) others
+      (length before) default
       (omega (arith, length_push before (next_home typed storage before first)))
       ∙ get_or_push before (next_home typed storage before first) default (length before) refl
       ∙ ap (λ (home : TypedHome). home_of_object typed storage before (length before) home)
@@ -33,13 +35,16 @@ home_from typed storage before (first ∷ others) zero object default found = re
     nothing_more : length before + 0 ≡ length before
     nothing_more = omega arith
 home_from typed storage before (first ∷ others) (suc index) object default found =
-    let later = home_from typed storage (before ++ next_home typed storage before first ∷ []) others index object default found in
+    let later =
+    home_from typed storage (before ++ next_home typed storage before first ∷ []) others index
+    object default found in
     record {
       before = later.before;
       at = later.at;
       is =
           ap (λ (number : ℕ).
-          get_or (homes_from typed storage (before ++ next_home typed storage before first ∷ []) others) number
+          get_or (homes_from typed storage (before ++ next_home typed storage before first ∷ []) others)
+          number
           default) one_more
           ∙ later.is;
     }

@@ -18,7 +18,8 @@ pub external_kind :
 external_kind typed number heading name is = by heading.visibility heading.is_reentrant refl is
   where
     by : (visibility : Visibility) (reentrant : Bool) → heading.visibility ≡ visibility
-        → kind_of typed number (record heading { visibility = visibility; is_reentrant = reentrant }) ≡ kinds.External name
+        → kind_of typed number (record heading { visibility = visibility; is_reentrant = reentrant })
+        ≡ kinds.External name
         → IsExternal typed number heading name
     by visibilities.External reentrant same kind = record { visibility = same; name_is = cc }
     by visibilities.Private true same kind = absurd (cc)
@@ -41,7 +42,8 @@ pub own_if_here :
     (typed : TypedModule) (number : ℕ) (heading : TypedProcedure)
     → heading.visibility ≢ visibilities.External
     → IsOwn (kind_of typed number heading)
-own_if_here typed number heading here name kind = here (external_kind typed number heading name kind).visibility
+own_if_here typed number heading here name kind =
+    here (external_kind typed number heading name kind).visibility
 
 pub here_if_own :
     (typed : TypedModule) (number : ℕ) (heading : TypedProcedure)
@@ -49,7 +51,8 @@ pub here_if_own :
     → heading.visibility ≢ visibilities.External
 here_if_own typed number heading own external =
     own (unwrap_or (external_number typed (is_global_procedure number)) 0)
-    (ap (λ (visibility : Visibility). kind_of typed number (record heading { visibility = visibility })) external)
+    (ap (λ (visibility : Visibility). kind_of typed number (record heading { visibility = visibility }))
+    external)
 
 module _
     (typed : TypedModule) (object : ObjectModule) (sound : IsSoundlyMade typed object)
@@ -100,17 +103,20 @@ module _
         (bound_in_parts known.number of.made of.listed
         ∙ or_left (is_bound known.number of.made) (is_bound known.number of.listed) known.bound) in
         let small = bound_label_small written.code.labels known.number written.code.items
-        (recursion_from_All (KnowsLabels written.code.labels) written.code.items generated.code_segment.is_assembly.known) in_code in
+        (recursion_from_All (KnowsLabels written.code.labels) written.code.items
+        generated.code_segment.is_assembly.known) in_code in
         let place = place_of generated.code_bytes known.number in
         let by_label : place_of_label written generated.code_bytes label ≡ place =
         ap (λ one. place_of_known generated.code_bytes (known_label written.code.labels one)) known.entry_is
-        ∙ ap (λ (test : Bool). place_of_known generated.code_bytes (if test then Some known.number else None)) (lt-ltb known.number written.code.labels small) in
+        ∙ ap (λ (test : Bool). place_of_known generated.code_bytes (if test then Some known.number else None))
+        (lt-ltb known.number written.code.labels small) in
         let of_code : Layout = written_layout address_of generated.to written in
         let by_layout : own.place_of label ≡ base + place =
         ap (λ one. option_map_or of_code.place_of one 0) known.entry_is
         ∙ ap (λ start. start + unwrap_or (offset_of known.number written.code.items) 0)
         (ap address_of (generated.targets.starts segments.Code refl))
-        ∙ ap (λ offset. base + unwrap_or offset 0) (generated.code_segment.assembles.places known.number small) in
+        ∙ ap (λ offset. base + unwrap_or offset 0)
+        (generated.code_segment.assembles.places known.number small) in
         ap (λ offset. base + offset) by_label ∙ sym by_layout
 
     -- in two parts after the constants
@@ -122,8 +128,10 @@ module _
     in_own_code label bound =
         let of = generated.code_is in
         subst (λ list. is_bound label list ≡ true) (sym of.own_is.list_is)
-        (bound_in_parts label (contents_items sound.made.tree.constants.items) (of.own_is.main ++ of.own_is.procedures)
-        ∙ or_right (is_bound label (contents_items sound.made.tree.constants.items)) (is_bound label (of.own_is.main ++ of.own_is.procedures))
+        (bound_in_parts label (contents_items sound.made.tree.constants.items)
+        (of.own_is.main ++ of.own_is.procedures)
+        ∙ or_right (is_bound label (contents_items sound.made.tree.constants.items))
+        (is_bound label (of.own_is.main ++ of.own_is.procedures))
         (bound_in_parts label of.own_is.main of.own_is.procedures ∙ bound))
 
     pub label_lies :
@@ -165,7 +173,8 @@ module _
         let of = generated.code_is in
         let start : ℕ = generated.start_label in
         let main : IsMainCode sound.made.tree of.called start of.own_is.main =
-        subst (λ (there : Bool). IsCodeOfMain sound.made.tree of.called start there of.own_is.main) has of.own_is.main_is in
+        subst (λ (there : Bool). IsCodeOfMain sound.made.tree of.called start there of.own_is.main) has
+        of.own_is.main_is in
         bound_lies start
         (in_own_code start
         (or_left (is_bound start of.own_is.main) (is_bound start of.own_is.procedures)

@@ -84,7 +84,8 @@ pub numbered_in :
 numbered_in first [] index item found = absurd (none-some item found)
 numbered_in first (one ∷ others) zero item found = record {
   index = 0;
-  found = ap (λ given. Some (first, given)) (same_Some one item found) ∙ ap (λ number. Some (number, item)) nothing;
+  found = ap (λ given. Some (first, given)) (same_Some one item found)
+      ∙ ap (λ number. Some (number, item)) nothing;
 }
   where
     nothing : first ≡ first + 0
@@ -122,7 +123,8 @@ pub object_listed :
 object_listed typed number object lists found shared =
     let at = numbered_in 0 typed.objects number object found in
     let same : 0 + number ≡ number = omega arith in
-    let kept = kept_in global_object (enumerate_from 0 typed.objects) at.index (0 + number, object) number at.found
+    let kept =
+    kept_in global_object (enumerate_from 0 typed.objects) at.index (0 + number, object) number at.found
     (ap (λ (is : Bool). if is then Some (0 + number) else None) shared ∙ ap Some same) in
     let came = came_from shared_object typed.globals kept.index number
     (ap (λ (numbers : List ℕ). slice_get numbers kept.index) lists.objects ∙ kept.found) in
@@ -173,7 +175,8 @@ pub procedure_shared :
     → InList typed.globals (GlobalProcedure number)
     → SharedProcedure typed number
 procedure_shared typed number lists at =
-    let kept = kept_in shared_procedure typed.globals at.index (GlobalProcedure number) number at.found refl in
+    let kept =
+    kept_in shared_procedure typed.globals at.index (GlobalProcedure number) number at.found refl in
     let came = came_from global_procedure (enumerate_from 0 typed.procedures) kept.index number
     (ap (λ (numbers : List ℕ). slice_get numbers kept.index) (sym lists.procedures) ∙ kept.found) in
     let is = passed (is_global (came.item.1).visibility) came.item.0 number came.is in

@@ -1,4 +1,5 @@
--- Object modules that are made of the modules of a program are what linking, placing and loading want of them.
+-- Object modules that are made of the modules of a program are what linking, placing and loading want of
+-- them.
 use Rattle.program_laws.proofs.Prelude.{◌≡◌, ℕ, zero, suc, ◌≤◌, List, [], ◌∷◌, length, Some, None, Ok, zip, refl, ap, subst, arith, All, slice_get, AllByRecursion, All-from_recursion, none-some, same_Some, MEMORY_SIZE, IsLoaded, Image, image_of, merge_of, IsObjectModule, ObjectModule, ListsGlobals, IsStorable, TypedModule, constant_bytes, HoldConstants, constants_length, IsJoined, IsLawful, PlacingPlan, placing_refusal, constant_places, AreObjectsOf, code_lengths_of, plan_of, HaveSegments, IsInMemory, placement_of, HaveImage, HaveNames, program_has_image, AreMadeOf, IsMadeOf, begin_length}
 use Rattle.program_laws.proofs.Names.{has_names}
 use Rattle.program_laws.proofs.Objects.{is_object_of}
@@ -121,21 +122,22 @@ pub is_in_memory :
     → IsLoaded image.byte_at before after
     → length before ≡ MEMORY_SIZE
     → IsInMemory plan modules objects merged image before after
-is_in_memory plan modules objects merged image before after joined made lawful merge placed loaded size = record {
-  joined = joined;
-  globals = All-from_recursion ListsGlobals modules (all_list modules objects made);
-  storable = All-from_recursion IsStorable modules (all_storable modules objects made);
-  lawful = lawful;
-  made = are_objects_of modules objects made;
-  segments = have_segments modules objects made;
-  placed = record {
-    valid = All-from_recursion IsObjectModule objects (all_valid modules objects made);
-    merge = merge;
-    placed = placed;
-    loaded = loaded;
-  };
-  size = size;
-}
+is_in_memory plan modules objects merged image before after joined made lawful merge placed loaded size =
+    record {
+      joined = joined;
+      globals = All-from_recursion ListsGlobals modules (all_list modules objects made);
+      storable = All-from_recursion IsStorable modules (all_storable modules objects made);
+      lawful = lawful;
+      made = are_objects_of modules objects made;
+      segments = have_segments modules objects made;
+      placed = record {
+        valid = All-from_recursion IsObjectModule objects (all_valid modules objects made);
+        merge = merge;
+        placed = placed;
+        loaded = loaded;
+      };
+      size = size;
+    }
 
 pub hold_constants :
     (modules : List TypedModule) (objects : List ObjectModule)
@@ -187,5 +189,6 @@ as_many_lengths (typed ∷ modules) (object ∷ objects) made =
 
 -- and all modules have a place for their objects and constants
 pub are_storable :
-    (modules : List TypedModule) (objects : List ObjectModule) → AreMadeOf modules objects → All IsStorable modules
+    (modules : List TypedModule) (objects : List ObjectModule) → AreMadeOf modules objects
+    → All IsStorable modules
 are_storable modules objects made = All-from_recursion IsStorable modules (all_storable modules objects made)

@@ -1,4 +1,5 @@
--- A program whose object modules are made of its modules, linked, placed and loaded, does what its source does.
+-- A program whose object modules are made of its modules, linked, placed and loaded, does what its source
+-- does.
 use Rattle.program_laws.proofs.Prelude.{◌≡◌, ℕ, zero, suc, List, [], ◌∷◌, Option, Some, None, Ok, length, refl, sym, subst, ◌∙◌, slice_get, none-some, same_Some, MEMORY_SIZE, IsMemory, Event, IsScript, Image, image_of, merge_of, ObjectModule, IsLoaded, TypedModule, IsJoined, IsLawful, PlacingPlan, NeverOutside, source_run, HoldBytes, Registers, running, state_after, plan_of, IsInMemory, placement_of, is_linked, AreMadeOf, Agrees, ModulesAre, ModuleIs, AreSoundlyMade, IsSoundlyMade}
 use Rattle.program_laws.proofs.Made.{is_in_memory}
 use Rattle.program_laws.proofs.Programs.{program_does}
@@ -52,14 +53,17 @@ module _
           at = linked;
           sound =
               subst (IsSoundlyMade typed)
-              (same_Some sound.object linked.linked.object (sym sound.found ∙ linked.object_found)) sound.sound;
+              (same_Some sound.object linked.linked.object (sym sound.found ∙ linked.object_found))
+              sound.sound;
         }
 
-    found_at : (number : ℕ) (found : Option TypedModule) → slice_get modules number ≡ found → Option (At number)
+    found_at : (number : ℕ) (found : Option TypedModule) → slice_get modules number ≡ found
+        → Option (At number)
     found_at number None there = None
     found_at number (Some typed) there = Some (module_at number typed there)
 
-    all_at : (number : ℕ) (typed : TypedModule) (found : Option TypedModule) (there : slice_get modules number ≡ found)
+    all_at : (number : ℕ) (typed : TypedModule) (found : Option TypedModule)
+        (there : slice_get modules number ≡ found)
         → found ≡ Some typed
         → (module_is : At number) × (found_at number found there ≡ Some module_is)
     unfolding found_at
@@ -79,18 +83,21 @@ module _
         → HoldBytes r
         → NeverOutside
         (λ (budget : ℕ).
-        source_run modules (placement_of plan modules objects) (placement_of plan modules objects).stack.len before script events
+        source_run modules (placement_of plan modules objects) (placement_of plan modules objects).stack.len
+        before script events
         budget)
         → Agrees
         (λ (budget : ℕ).
-        source_run modules (placement_of plan modules objects) (placement_of plan modules objects).stack.len before script events
+        source_run modules (placement_of plan modules objects) (placement_of plan modules objects).stack.len
+        before script events
         budget)
         (λ (steps : ℕ). state_after script steps (running (record r { pc = image.start }) after events))
     in_memory_does script events r bytes is_memory registers never =
-        program_does plan modules objects merged image before after is script bytes is_memory modules_are events r registers never
+        program_does plan modules objects merged image before after is script bytes is_memory modules_are
+        events r registers never
 
--- The machine performs exactly the port reads and writes of the source, in order and with the same values, and halts
--- exactly if the source ends, for every starting memory and every script.
+-- The machine performs exactly the port reads and writes of the source, in order and with the same values,
+-- and halts exactly if the source ends, for every starting memory and every script.
 pub made_program_does :
     (plan : PlacingPlan) (modules : List TypedModule) (objects : List ObjectModule) (merged : ObjectModule)
     (image : Image) (before after : List ℕ)
@@ -107,15 +114,19 @@ pub made_program_does :
     → HoldBytes r
     → NeverOutside
     (λ (budget : ℕ).
-    source_run modules (placement_of plan modules objects) (placement_of plan modules objects).stack.len before script events
+    source_run modules (placement_of plan modules objects) (placement_of plan modules objects).stack.len
+    before script events
     budget)
     → Agrees
     (λ (budget : ℕ).
-    source_run modules (placement_of plan modules objects) (placement_of plan modules objects).stack.len before script events
+    source_run modules (placement_of plan modules objects) (placement_of plan modules objects).stack.len
+    before script events
     budget)
     (λ (steps : ℕ). state_after script steps (running (record r { pc = image.start }) after events))
-made_program_does plan modules objects merged image before after joined made lawful merge placed loaded size is_memory script events r bytes registers never =
+made_program_does plan modules objects merged image before after joined made lawful merge placed loaded size
+    is_memory script events r bytes registers never =
     in_memory_does plan modules objects merged image before after made
-    (is_in_memory plan modules objects merged image before after joined (are_made modules objects made) lawful merge
+    (is_in_memory plan modules objects merged image before after joined
+    (are_made modules objects made) lawful merge
     placed loaded size)
     script events r bytes is_memory registers never

@@ -11,7 +11,8 @@ bound_by_code :
     → is_bound number list ≡ true
 bound_by_code tree called number procedure list is =
     subst (λ one. is_bound number one ≡ true) (sym is.list_is)
-    (or_left (marks number (Mark number)) (is_bound number (is.beginning ++ (is.statements ++ is.ending))) (eq-eqb number number refl))
+    (or_left (marks number (Mark number)) (is_bound number (is.beginning ++ (is.statements ++ is.ending)))
+    (eq-eqb number number refl))
 
 bound_by_kind :
     (tree : TreeModule) (called : List Bool) (number : ℕ) (procedure : TreeProcedure) (kind : ProcedureKind)
@@ -20,8 +21,10 @@ bound_by_kind :
     → IsCodeOf tree called number procedure kind list
     → is_bound number list ≡ true
 bound_by_kind tree called number procedure (kinds.External name) list own is = absurd (own name refl)
-bound_by_kind tree called number procedure kinds.Static list own is = bound_by_code tree called number procedure list is
-bound_by_kind tree called number procedure kinds.Reentrant list own is = bound_by_code tree called number procedure list is
+bound_by_kind tree called number procedure kinds.Static list own is =
+    bound_by_code tree called number procedure list is
+bound_by_kind tree called number procedure kinds.Reentrant list own is =
+    bound_by_code tree called number procedure list is
 
 pub procedures_bound :
     (tree : TreeModule) (called : List Bool) (first index : ℕ) (all : List TreeProcedure)
@@ -92,28 +95,38 @@ label_known written label (Mark other ∷ others) made is bound =
         → (first : Item) (more : List Item) → option_map Mark (entry written.labels other) ≡ Some first
         → (is_bound label others ≡ true → IsKnownAs written label more)
         → IsKnownAs written label (first ∷ more)
-    by true marked there first more item_is rest = at_front written label other first more (eqb-true label other marked) item_is
+    by true marked there first more item_is rest =
+        at_front written label other first more (eqb-true label other marked) item_is
     by false marked there first more item_is rest = with_first written label first more (rest there)
 label_known written label (Plain i ∷ others) made is bound =
     let front = front_of (Some (Plain i)) (numbered written others) made is in
     subst (IsKnownAs written label) (sym front.made_is)
-    (with_first written label front.first front.more (label_known written label others front.more front.others_are bound))
+    (with_first written label front.first front.more
+    (label_known written label others front.more front.others_are bound))
 label_known written label (WithWord form reference ∷ others) made is bound =
-    let front = front_of (option_map (WithWord form) (numbered_reference written reference)) (numbered written others) made is in
+    let front =
+    front_of (option_map (WithWord form) (numbered_reference written reference))
+    (numbered written others) made is in
     subst (IsKnownAs written label) (sym front.made_is)
-    (with_first written label front.first front.more (label_known written label others front.more front.others_are bound))
+    (with_first written label front.first front.more
+    (label_known written label others front.more front.others_are bound))
 label_known written label (Byte value ∷ others) made is bound =
     let front = front_of (Some (Byte value)) (numbered written others) made is in
     subst (IsKnownAs written label) (sym front.made_is)
-    (with_first written label front.first front.more (label_known written label others front.more front.others_are bound))
+    (with_first written label front.first front.more
+    (label_known written label others front.more front.others_are bound))
 label_known written label (Address reference ∷ others) made is bound =
-    let front = front_of (option_map Address (numbered_reference written reference)) (numbered written others) made is in
+    let front =
+    front_of (option_map Address (numbered_reference written reference))
+    (numbered written others) made is in
     subst (IsKnownAs written label) (sym front.made_is)
-    (with_first written label front.first front.more (label_known written label others front.more front.others_are bound))
+    (with_first written label front.first front.more
+    (label_known written label others front.more front.others_are bound))
 label_known written label (Gap count ∷ others) made is bound =
     let front = front_of (Some (Gap count)) (numbered written others) made is in
     subst (IsKnownAs written label) (sym front.made_is)
-    (with_first written label front.first front.more (label_known written label others front.more front.others_are bound))
+    (with_first written label front.first front.more
+    (label_known written label others front.more front.others_are bound))
 
 -- a label that items bind is one of those that they know
 pub bound_label_small :
@@ -129,8 +142,13 @@ bound_label_small labels label (Mark other ∷ others) known bound =
         → (is_bound label others ≡ true → label < labels) → label < labels
     by true marked there rest = subst (λ n. n < labels) (sym (eqb-true label other marked)) known.0
     by false marked there rest = rest there
-bound_label_small labels label (Plain i ∷ others) known bound = bound_label_small labels label others known.1 bound
-bound_label_small labels label (WithWord form reference ∷ others) known bound = bound_label_small labels label others known.1 bound
-bound_label_small labels label (Byte value ∷ others) known bound = bound_label_small labels label others known.1 bound
-bound_label_small labels label (Address reference ∷ others) known bound = bound_label_small labels label others known.1 bound
-bound_label_small labels label (Gap count ∷ others) known bound = bound_label_small labels label others known.1 bound
+bound_label_small labels label (Plain i ∷ others) known bound =
+    bound_label_small labels label others known.1 bound
+bound_label_small labels label (WithWord form reference ∷ others) known bound =
+    bound_label_small labels label others known.1 bound
+bound_label_small labels label (Byte value ∷ others) known bound =
+    bound_label_small labels label others known.1 bound
+bound_label_small labels label (Address reference ∷ others) known bound =
+    bound_label_small labels label others known.1 bound
+bound_label_small labels label (Gap count ∷ others) known bound =
+    bound_label_small labels label others known.1 bound

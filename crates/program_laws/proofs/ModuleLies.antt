@@ -17,7 +17,8 @@ module _
     (lies : LiesInMemory program number typed object address_of address_of_name memory)
     (entries : Entries)
     (entered :
-    AreEntered program number typed (place_of_label sound.made.generated.code sound.made.generated.code_bytes) address_of
+    AreEntered program number typed (place_of_label sound.made.generated.code sound.made.generated.code_bytes)
+    address_of
     address_of_name entries)
   where
     abbrev tree : TreeModule
@@ -76,7 +77,8 @@ module _
         let named : name_at tree.externals.items name ≡ heading.heading.name =
         ap (λ names. name_at names name) sound.made.lowered.externals
         ∙ (ap (name_at (externals_of typed)) (sym external.name_is)
-        ∙ external_named typed index heading.heading sound.made.laid.globals heading.found external.visibility) in
+        ∙ external_named typed index heading.heading sound.made.laid.globals heading.found
+        external.visibility) in
         entered.externals index heading.heading at heading.found external.visibility callee
         ∙ ap (λ (given : List ℕ). wrap (address_of_name given)) (sym named)
 
@@ -100,7 +102,8 @@ module _
           script = lies.types.script;
           placed = placement_lies program lies.lawful;
           apart = variables_apart code sound.made.laid sound.made.lowered.homes;
-          resolves = λ room. resolves program number typed object address_of address_of_name memory sound lies room;
+          resolves =
+              λ room. resolves program number typed object address_of address_of_name memory sound lies room;
           words = λ index place static. place_small place index static;
           stack_end = stack_lies;
           routines = parts.routines;

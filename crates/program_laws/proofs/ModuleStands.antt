@@ -47,7 +47,8 @@ module _ (code : ModuleCode) where
         ends = is.ending;
         end_written = is.ends;
         to = to;
-        there = subst (λ at. IsThere (bare code) (is.beginning ++ (is.statements ++ is.ending)) at to) (sym parts.0) parts.1;
+        there = subst (λ at. IsThere (bare code) (is.beginning ++ (is.statements ++ is.ending)) at to)
+            (sym parts.0) parts.1;
       }
 
   by_kind :
@@ -58,19 +59,23 @@ module _ (code : ModuleCode) where
       → IsThere (bare code) list from to
       → ProcedureStands code procedure (code.layout.place_of number)
   by_kind number procedure (kinds.External name) list from to framed own is there = absurd (own name refl)
-  by_kind number procedure kinds.Static list from to framed own is there = procedure_stands number procedure list from to framed is there
-  by_kind number procedure kinds.Reentrant list from to framed own is there = procedure_stands number procedure list from to framed is there
+  by_kind number procedure kinds.Static list from to framed own is there =
+      procedure_stands number procedure list from to framed is there
+  by_kind number procedure kinds.Reentrant list from to framed own is there =
+      procedure_stands number procedure list from to framed is there
 
   -- each of the procedures that are numbered from one on does
   procedures_stand :
-      (first index : ℕ) (all : List TreeProcedure) (procedure : TreeProcedure) (list : List Item) (from to : ℕ)
+      (first index : ℕ) (all : List TreeProcedure) (procedure : TreeProcedure)
+      (list : List Item) (from to : ℕ)
       → AreCodeOf code.tree.now code.called first all list
       → IsThere (bare code) list from to
       → slice_get all index ≡ Some procedure
       → HasFrame procedure
       → IsOwn procedure.kind
       → ProcedureStands code procedure (code.layout.place_of (first + index))
-  procedures_stand first index [] procedure list from to are there found framed own = absurd (none-some procedure found)
+  procedures_stand first index [] procedure list from to are there found framed own =
+      absurd (none-some procedure found)
   procedures_stand first zero (one ∷ others) procedure list from to are there found framed own =
       let parts = both_there are.0 are.1 (subst (λ one. IsThere (bare code) one from to) are.4 there) in
       let same : one ≡ procedure = same_Some one procedure found in
@@ -84,7 +89,8 @@ module _ (code : ModuleCode) where
       let parts = both_there are.0 are.1 (subst (λ one. IsThere (bare code) one from to) are.4 there) in
       let more : first + suc index ≡ suc first + index = omega arith in
       subst (λ number. ProcedureStands code procedure (code.layout.place_of number)) (sym more)
-      (procedures_stand (suc first) index others procedure are.1 parts.middle to are.3 parts.second found framed own)
+      (procedures_stand (suc first) index others procedure are.1 parts.middle to are.3
+      parts.second found framed own)
 
   -- the main program stands at its label
   main_stands :
@@ -94,7 +100,8 @@ module _ (code : ModuleCode) where
       → MainStands code (code.layout.place_of start)
   main_stands start list from to is there =
       let rest : List Item = stack_end_item (LoadPair Sp) ∷ (is.statements ++ (items.Plain Hlt ∷ [])) in
-      let parts = after_label start rest from to (subst (λ one. IsThere (bare code) one from to) is.list_is there) in
+      let parts =
+      after_label start rest from to (subst (λ one. IsThere (bare code) one from to) is.list_is there) in
       record {
         body = is.body;
         tree = is.tree_is;
@@ -140,11 +147,14 @@ module _
         (routine : Routine) (list : List Item) (from to : ℕ)
         → IsRoutineCode code.tree.now written routine list
         → InCode list from to
-        → RoutineIsAt (bare code) routine (code.layout.place_of (module_label_of_routine code.tree.now routine).index)
+        → RoutineIsAt (bare code) routine
+        (code.layout.place_of (module_label_of_routine code.tree.now routine).index)
     routine_stands routine list from to is there =
-        let parts = after_label is.label is.listing from to (subst (λ one. InCode one from to) is.list_is there) in
+        let parts =
+        after_label is.label is.listing from to (subst (λ one. InCode one from to) is.list_is there) in
         let entry : ℕ = code.layout.place_of (module_label_of_routine code.tree.now routine).index in
-        let at : entry ≡ from = lays.labels (module_label_of_routine code.tree.now routine).index is.label is.known ∙ parts.0 in
+        let at : entry ≡ from =
+        lays.labels (module_label_of_routine code.tree.now routine).index is.label is.known ∙ parts.0 in
         let long = stands_size of_code code.image is.listing from to parts.1.stands in
         let low = parts.1.low in
         let size = is.size in
@@ -166,14 +176,16 @@ module _
         → InCode list from to
         → slice_get all index ≡ Some routine
         → has_routine code.called routine ≡ true
-        → RoutineIsAt (bare code) routine (code.layout.place_of (module_label_of_routine code.tree.now routine).index)
+        → RoutineIsAt (bare code) routine
+        (code.layout.place_of (module_label_of_routine code.tree.now routine).index)
     routines_stand [] index routine list from to are there found called = absurd (none-some routine found)
     routines_stand (one ∷ others) zero routine list from to are there found called =
         let parts = both_there are.0 are.1 (subst (λ one. InCode one from to) are.4 there) in
         let same : one ≡ routine = same_Some one routine found in
         routine_stands routine are.0 from parts.middle
         (subst (λ (is_called : Bool). IsCodeOfRoutine code.tree.now written routine is_called are.0) called
-        (subst (λ (given : Routine). IsCodeOfRoutine code.tree.now written given (has_routine code.called given) are.0) same are.2))
+        (subst (λ (given : Routine). IsCodeOfRoutine code.tree.now written given
+        (has_routine code.called given) are.0) same are.2))
         parts.first
     routines_stand (one ∷ others) (suc index) routine list from to are there found called =
         let parts = both_there are.0 are.1 (subst (λ one. InCode one from to) are.4 there) in
@@ -190,7 +202,8 @@ pub record PartsStand (code : ModuleCode) (start : ℕ) : Type 0 where
       → ProcedureStands code procedure (code.layout.place_of number)
   pub routines :
       (routine : Routine) → has_routine code.called routine ≡ true
-      → RoutineIsAt (bare code) routine (code.layout.place_of (module_label_of_routine code.tree.now routine).index)
+      → RoutineIsAt (bare code) routine
+      (code.layout.place_of (module_label_of_routine code.tree.now routine).index)
 
 module _
     (program : Program) (number : ℕ) (typed : TypedModule) (object : ObjectModule)
@@ -238,23 +251,30 @@ module _
         } in
         let halves = both_there of.made of.listed all in
         let named : IsThere (bare code_of) of.own base halves.middle = record {
-          stands = stands_so written code_of.layout of_code lays memory of.own of.made base halves.middle of.same halves.first.stands;
+          stands =
+              stands_so written code_of.layout of_code lays memory of.own of.made base halves.middle of.same
+              halves.first.stands;
           low = halves.first.low;
           high = halves.first.high;
         } in
-        let contents = both_there (contents_items sound.made.tree.constants.items) (own.main ++ own.procedures)
+        let contents =
+        both_there (contents_items sound.made.tree.constants.items) (own.main ++ own.procedures)
         (subst (λ list. IsThere (bare code_of) list base halves.middle) own.list_is named) in
         let parts = both_there own.main own.procedures contents.second in
         record {
           main = λ has.
               main_stands code_of sound.made.generated.start_label own.main contents.middle parts.middle
-              (subst (λ (there : Bool). IsCodeOfMain sound.made.tree of.called sound.made.generated.start_label there own.main) has own.main_is)
+              (subst (λ (there : Bool). IsCodeOfMain sound.made.tree of.called
+              sound.made.generated.start_label there own.main) has own.main_is)
               parts.first;
           procedures = λ procedure_number procedure found framed is_own.
-              subst (λ at. ProcedureStands code_of procedure (code_of.layout.place_of at)) (zero-add procedure_number)
-              (procedures_stand code_of 0 procedure_number sound.made.tree.procedures.items procedure own.procedures
+              subst (λ at. ProcedureStands code_of procedure (code_of.layout.place_of at))
+              (zero-add procedure_number)
+              (procedures_stand code_of 0 procedure_number sound.made.tree.procedures.items
+              procedure own.procedures
               parts.middle halves.middle own.procedures_are parts.second found framed is_own);
           routines = λ routine called.
-              routines_stand code_of written of_code lays all_routines (index_of_routine routine) routine of.listed
+              routines_stand code_of written of_code lays all_routines
+              (index_of_routine routine) routine of.listed
               halves.middle (base + size) of.listed_are halves.second (among_routines routine) called;
         }

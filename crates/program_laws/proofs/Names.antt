@@ -1,5 +1,5 @@
--- The object module of a module has its names: its PUBLIC names in their order, EXTERNAL ones alone, and a start where it
--- is a main module.
+-- The object module of a module has its names: its PUBLIC names in their order, EXTERNAL ones alone, and a
+-- start where it is a main module.
 use Rattle.program_laws.proofs.Prelude.{◌≡◌, ℕ, zero, suc, Bool, true, false, ◌||◌, List, [], ◌∷◌, map, Option, Some, None, option_map, is_some, if◌then◌else◌, refl, sym, ap, ap₂, subst, ◌∙◌, arith, All, filter, filter_map, nat_lt, not, slice_get, AllByRecursion, cons_option, option_and_then, bytes_eq, lt-ltb, All-from_recursion, recursion_from_All, none-some, same_Some, bytes_eq-Decides, ObjectModule, Public, is_among, GlobalItem, GlobalObject, GlobalProcedure, Visibility, IsHereIfPublic, ListsGlobals, is_global, is_shared, TypedStatements, TypedList, ListOf, TypedHome, InData, InConstants, Placed, BasedOn, Elsewhere, Nowhere, InFrame, TypedObject, TypedProcedure, TypedModule, of_all, Global, global_object, global_of, has_statement, Storage, Assembled, Range, ExternalName, PublicName, PublicPlace, TreeModule, Home, Place, public_item, public_object, public_procedure, publics_of, static_place, external_name, external_object, external_procedure, AreMoreStatements, AreNoStatements, AreStatements, IsList, IsListOf, IsLowered, Nodes, home_at, Written, place_of_label, ArePublicsOf, IsAtPlace, IsGenerated, IsPublicOf, has_main, used_names, IsLaidOut, HasNames, external_names_in, public_names_in, or_right}
 use Rattle.typed_trees.specs.declared.parts.Visibility.TheVariants as visibilities
 use Rattle.layout.specs.Joined.{global_procedure}
@@ -47,7 +47,8 @@ publics_named written bytes (name ∷ names) (public ∷ publics) are =
     (publics_named written bytes names publics are.1)
 
 -- What is shared of one of the globals, in the forms of the program, of tree code and of its external names.
-record SharesAlike (given : Option Global) (public : Option PublicName) (external : Option ExternalName) : Type 0 where
+record SharesAlike (given : Option Global) (public : Option PublicName)
+    (external : Option ExternalName) : Type 0 where
   publics : (globals : List Global) (names : List PublicName)
       → map name_of names ≡ map global_name (filter (λ (global : Global). global.is_public) globals)
       → map name_of (cons_option public names)
@@ -149,14 +150,16 @@ item_alike typed starts (GlobalObject number) lists at =
     (option_and_then (λ (object : TypedObject). external_object object.home object.name) found))
     (sym is.found)
     (object_alike starts number is.object (is.object).home is.shared
-    (of_all (λ (object : TypedObject). IsHereIfPublic object.home object.is_public) typed.objects number is.object
+    (of_all (λ (object : TypedObject). IsHereIfPublic object.home object.is_public)
+    typed.objects number is.object
     (recursion_from_All (λ (object : TypedObject). IsHereIfPublic object.home object.is_public) typed.objects
     lists.here) is.found))
 item_alike typed starts (GlobalProcedure number) lists at =
     let is = procedure_shared typed number lists at in
     subst (λ (found : Option TypedProcedure).
     SharesAlike (option_map global_procedure found) (option_and_then (public_procedure number) found)
-    (option_and_then (λ (procedure : TypedProcedure). external_procedure procedure.visibility procedure.name) found))
+    (option_and_then (λ (procedure : TypedProcedure). external_procedure procedure.visibility procedure.name)
+    found))
     (sym is.found)
     (procedure_alike number is.procedure (is.procedure).visibility is.shared)
 
@@ -165,7 +168,8 @@ record NamesAlike (typed : TypedModule) (starts : List Home) (items : List Globa
   publics : map name_of (filter_map (public_item typed starts) items)
       ≡ map global_name (filter (λ (global : Global). global.is_public) (filter_map (global_of typed) items))
   externals : map external_of (filter_map (external_name typed) items)
-      ≡ map global_name (filter (λ (global : Global). not global.is_public) (filter_map (global_of typed) items))
+      ≡ map global_name
+      (filter (λ (global : Global). not global.is_public) (filter_map (global_of typed) items))
 
 all_alike :
     (typed : TypedModule) (starts : List Home) (items : List GlobalItem)
@@ -182,7 +186,8 @@ all_alike typed starts (item ∷ others) all =
           rest.externals;
     }
 
-alike : (typed : TypedModule) (starts : List Home) → ListsGlobals typed → NamesAlike typed starts typed.globals
+alike : (typed : TypedModule) (starts : List Home) → ListsGlobals typed
+    → NamesAlike typed starts typed.globals
 alike typed starts lists =
     all_alike typed starts typed.globals
     (of_each (IsAlike typed starts) typed.globals (λ item at. item_alike typed starts item lists at))
@@ -227,7 +232,8 @@ count_is :
     → AreStatements nodes storage labels bound first count trees
     → nat_lt 0 count ≡ has_statement (ListOf first_label places trees)
 count_is first_label places AreNoStatements = refl
-count_is {count = suc count} first_label places (AreMoreStatements found is are) = lt-ltb 0 (suc count) (omega arith)
+count_is {count = suc count} first_label places (AreMoreStatements found is are) =
+    lt-ltb 0 (suc count) (omega arith)
 
 statement_is :
     {nodes : Nodes} {storage : Storage} {labels : List ℕ} {bound : ℕ} {range : Range} {list : TypedList}
@@ -252,7 +258,8 @@ has_names typed storage tree object laid lowered is = record {
       ∙ ap (map name_of) lowered.publics
       ∙ public_names_are typed tree.homes.items laid.globals;
   externals =
-      subst (λ (names : List (List ℕ)). All (λ (name : List ℕ). is_among name (external_names_in typed) ≡ true) names)
+      subst (λ (names : List (List ℕ)). All
+      (λ (name : List ℕ). is_among name (external_names_in typed) ≡ true) names)
       (sym is.externals)
       (All-from_recursion (λ (name : List ℕ). is_among name (external_names_in typed) ≡ true)
       (used_names is.variables.externals tree.externals.items)

@@ -13,17 +13,20 @@ module _
     (lies : LiesInMemory program number typed object address_of address_of_name memory)
   where
     both : slice_get (zip program.modules program.placement.modules) number ≡ Some (typed, lies.placed)
-    both = got_both program.modules program.placement.modules number typed lies.placed lies.is_module lies.is_placed
+    both = got_both program.modules program.placement.modules number typed lies.placed
+        lies.is_module lies.is_placed
 
     pub has_addresses : HasAddresses (typed, lies.placed)
     has_addresses =
         of_all HasAddresses (zip program.modules program.placement.modules) number (typed, lies.placed)
-        (recursion_from_All HasAddresses (zip program.modules program.placement.modules) lies.lawful.complete) both
+        (recursion_from_All HasAddresses (zip program.modules program.placement.modules) lies.lawful.complete)
+        both
 
     at_says : LiesWhereAtSays (typed, lies.placed)
     at_says =
         of_all LiesWhereAtSays (zip program.modules program.placement.modules) number (typed, lies.placed)
-        (recursion_from_All LiesWhereAtSays (zip program.modules program.placement.modules) lies.lawful.where_at_says)
+        (recursion_from_All LiesWhereAtSays (zip program.modules program.placement.modules)
+        lies.lawful.where_at_says)
         both
 
     abbrev AddressOf : (index : ℕ) → ℕ
@@ -47,7 +50,8 @@ module _
         → address_in program.placement (in_module number index) ≡ slice_index lies.placed.objects index
     by_number index =
         ap (λ (placed : Option ModulePlacement).
-        option_map_or (λ (placed : ModulePlacement). slice_index placed.objects index) placed 0) lies.is_placed
+        option_map_or (λ (placed : ModulePlacement). slice_index placed.objects index)
+        placed 0) lies.is_placed
 
     by_place : (index : ℕ) (found : TypedObject)
         → slice_get typed.objects index ≡ Some found
@@ -55,7 +59,8 @@ module _
         → address_in program.placement (in_module number index) ≡ there index
     by_place index found is place =
         by_number index
-        ∙ lies_at_location typed (bases_at address_of) lies.placed (address_for address_of address_of_name) index found
+        ∙ lies_at_location typed (bases_at address_of) lies.placed
+        (address_for address_of address_of_name) index found
         storable lies.follows at_says has_addresses (λ segment. refl) is place
 
     located : (index : ℕ) (found : TypedObject) (home : Home)
@@ -83,9 +88,11 @@ module _
         → IsStatic home
         → AddressOf index ≡ there index
     by_home index found (InData values) is is_home static =
-        meant index found (InData values) is is_home ∙ by_place index found is (subst HasPlace (sym is_home) tt)
+        meant index found (InData values) is is_home
+        ∙ by_place index found is (subst HasPlace (sym is_home) tt)
     by_home index found (InConstants values) is is_home static =
-        meant index found (InConstants values) is is_home ∙ by_place index found is (subst HasPlace (sym is_home) tt)
+        meant index found (InConstants values) is is_home
+        ∙ by_place index found is (subst HasPlace (sym is_home) tt)
     by_home index found (Placed at) is is_home static =
         meant index found (Placed at) is is_home ∙ by_place index found is (subst HasPlace (sym is_home) tt)
     by_home index found (BasedOn base) is is_home static = absurd static
@@ -103,7 +110,8 @@ module _
         → AddressOf index ≡ there index
     object_lies index static = by (slice_get_cases typed.objects index).1
       where
-        by : ((found : TypedObject) × (index < length typed.objects) × (slice_get typed.objects index ≡ Some found)
+        by : ((found : TypedObject) × (index < length typed.objects)
+            × (slice_get typed.objects index ≡ Some found)
             × (get_or typed.objects index found ≡ found))
             ⊎ ((length typed.objects ≤ index) × (slice_get typed.objects index ≡ None))
             → AddressOf index ≡ there index

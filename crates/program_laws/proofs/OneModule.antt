@@ -20,18 +20,22 @@ main_has : (tree : TreeModule) (typed : TypedModule) (storage : Storage)
 main_has tree typed storage has is = by typed.main.body tree.main.body has.body is
   where
     by_count : (bound first count : ℕ) (trees : TypedStatements)
-        → AreStatements (nodes_of tree) storage (labels_numbered_in_list typed.main.body) bound first count trees
+        → AreStatements (nodes_of tree) storage (labels_numbered_in_list typed.main.body)
+        bound first count trees
         → has_statement (ListOf 0 [] trees) ≡ true
         → nat_lt 0 count ≡ true
     by_count bound first _ _ AreNoStatements some = let bad : ⊥ = cc in absurd bad
-    by_count bound first _ _ (AreMoreStatements {count = count} found one others) some = lt-ltb 0 (suc count) (omega arith)
+    by_count bound first _ _ (AreMoreStatements {count = count} found one others) some =
+        lt-ltb 0 (suc count) (omega arith)
 
     by : (list : TypedList) (range : Range)
-        → IsList (nodes_of tree) storage (labels_numbered_in_list typed.main.body) (length (nodes_of tree).statements) range list
+        → IsList (nodes_of tree) storage (labels_numbered_in_list typed.main.body)
+        (length (nodes_of tree).statements) range list
         → has_statement list ≡ true
         → nat_lt 0 range.count ≡ true
     by _ range (IsListOf {first_label = first} {places = places} {trees = trees} are) some =
-        by_count (length (nodes_of tree).statements) range.first range.count trees are (statement_there first places trees some)
+        by_count (length (nodes_of tree).statements) range.first range.count trees are
+        (statement_there first places trees some)
 
 module _
     (typed : TypedModule) (object : ObjectModule) (sound : IsSoundlyMade typed object)
@@ -43,11 +47,14 @@ module _
     pub started :
         is_main typed ≡ true
         → object.start
-        ≡ Some (place_of_label sound.made.generated.code sound.made.generated.code_bytes sound.made.generated.start_label)
+        ≡ Some (place_of_label sound.made.generated.code sound.made.generated.code_bytes
+        sound.made.generated.start_label)
     started is =
         sound.made.generated.start
         ∙ ap (λ (test : Bool).
-        if test then Some (place_of_label sound.made.generated.code sound.made.generated.code_bytes sound.made.generated.start_label) else None)
+        if test then Some
+        (place_of_label sound.made.generated.code sound.made.generated.code_bytes
+        sound.made.generated.start_label) else None)
         (main_is_there is)
 
 module _
@@ -57,7 +64,8 @@ module _
     (lies : LiesInMemory program number typed object address_of address_of_name memory)
     (entries : Entries)
     (entered :
-    AreEntered program number typed (place_of_label sound.made.generated.code sound.made.generated.code_bytes) address_of
+    AreEntered program number typed (place_of_label sound.made.generated.code sound.made.generated.code_bytes)
+    address_of
     address_of_name entries)
   where
     abbrev code : ModuleCode
@@ -68,17 +76,21 @@ module _
 
     start_is : is_main typed ≡ true → start_place address_of object ≡ place
     start_is is =
-        ap (λ (start : Option ℕ). option_map_or (λ offset. address_of (InSegment segments.Code) + offset) start 0)
+        ap (λ (start : Option ℕ). option_map_or
+        (λ offset. address_of (InSegment segments.Code) + offset) start 0)
         (started typed object sound is)
         ∙ start_lies typed object sound address_of address_of_name (main_is_there typed object sound is)
 
     at_label : ModuleDoes program memory entries number typed place (AllCallsAreKnown program memory entries)
     at_label =
-        module_does code entries place (module_lies program number typed object address_of address_of_name memory sound lies entries entered) lies.types
-        (λ is. (parts_stand program number typed object address_of address_of_name memory sound lies).main (main_is_there typed object sound is))
+        module_does code entries place
+        (module_lies program number typed object address_of address_of_name memory sound lies
+        entries entered) lies.types
+        (λ is. (parts_stand program number typed object address_of address_of_name memory sound lies).main
+        (main_is_there typed object sound is))
 
-    -- The object module of a module, wherever it lies: each step of calls from those of all procedures, and the run of the
-    -- main program.
+    -- The object module of a module, wherever it lies: each step of calls from those of all procedures, and
+    -- the run of the main program.
     pub object_does :
         ModuleDoes program memory entries number typed (start_place address_of object)
         (AllCallsAreKnown program memory entries)
@@ -97,7 +109,8 @@ module _
         ModuleDoes program memory entries number typed (start_place address_of object)
         (OtherCallsAreKnown program memory entries number)
     object_does_by_others =
-        does_by_others program memory entries number typed lies.is_module (start_place address_of object) object_does
+        does_by_others program memory entries number typed lies.is_module
+        (start_place address_of object) object_does
 
 -- Code that was generated for a module does, wherever it lies, what the module says.
 pub generated_does :
@@ -112,5 +125,6 @@ generated_does typed object sound = record {
   by_calls = λ program number address_of address_of_name memory entries lies entered.
       object_does program number typed object address_of address_of_name memory sound lies entries entered;
   by_other_calls = λ program number address_of address_of_name memory entries lies entered.
-      object_does_by_others program number typed object address_of address_of_name memory sound lies entries entered;
+      object_does_by_others program number typed object address_of address_of_name memory sound
+      lies entries entered;
 }

@@ -1,4 +1,5 @@
--- A segment of an object module has the bytes of the items of its code, with the targets that the module has for them.
+-- A segment of an object module has the bytes of the items of its code, with the targets that the module has
+-- for them.
 use Rattle.program_laws.proofs.Prelude.{◌≡◌, ℕ, suc, ◌+◌, ◌≤◌, Bool, true, false, ◌&&◌, ◌||◌, not, ◌==◌, cond, List, [], ◌∷◌, length, map, find, Option, Some, None, option_map, refl, ap, subst, ◌∙◌, arith, IsTrue, nat_le, nat_lt, AllByRecursion, list_all, option_map_or, leb-true, ltb-true, Fix, Target, SEGMENT_LIMIT, Fixup, SetByte, is_page, is_target, is_valid_byte, is_valid_segment, words_are_whole, fixup_at, Assembled, fixed_bytes, layout_at, set_bytes, set_of_items, Written, retargeted, IsSegmentOf, and_parts, set_length}
 use Rattle.object_modules.specs.Module.{Places}
 use Rattle.program_laws.proofs.Cells.{HasByte, at_zero, cells_of_bytes, places_are}
@@ -33,7 +34,8 @@ module _ (to : Target → Target) where
 
   bytes_retargeted :
       (fixes : List Fix) (offset : ℕ) (bytes : List (Option ℕ))
-      → fixed_bytes (map (retargeted to) fixes) offset bytes ≡ map (place_to to) (fixed_bytes fixes offset bytes)
+      → fixed_bytes (map (retargeted to) fixes) offset bytes
+      ≡ map (place_to to) (fixed_bytes fixes offset bytes)
   bytes_retargeted fixes offset [] = refl
   bytes_retargeted fixes offset (None ∷ others) =
       ap (λ (places : List (Option SetByte)). None ∷ places) (bytes_retargeted fixes (offset + 1) others)

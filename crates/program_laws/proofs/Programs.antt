@@ -22,7 +22,8 @@ first_that {X} passes (first ∷ others) some = by (passes first) refl (λ more.
       one = first;
       found = ap (λ (test : Bool). cond test (Some first) (find passes others)) is;
       within =
-          subst (λ (test : Bool). cond (not test) (1 + position_or_len passes others) 0 < suc (length others)) (sym is)
+          subst (λ (test : Bool). cond (not test) (1 + position_or_len passes others) 0 < suc (length others))
+          (sym is)
           (omega arith);
       holds = is;
     }
@@ -37,7 +38,8 @@ first_that {X} passes (first ∷ others) some = by (passes first) refl (λ more.
           one = rest.one;
           found = ap (λ (test : Bool). cond test (Some first) (find passes others)) is ∙ rest.found;
           within =
-              subst (λ (test : Bool). cond (not test) (1 + position_or_len passes others) 0 < suc (length others)) (sym is)
+              subst (λ (test : Bool). cond (not test) (1 + position_or_len passes others) 0
+              < suc (length others)) (sym is)
               (omega (arith, less));
           holds = rest.holds;
         }
@@ -76,7 +78,8 @@ module _
     program = program_of plan modules objects merged image before after is script
 
     -- each module is typed, and it is tree code
-    typed_code : (number : ℕ) (typed : TypedModule) → slice_get modules number ≡ Some typed → IsTypedCode typed
+    typed_code : (number : ℕ) (typed : TypedModule)
+        → slice_get modules number ≡ Some typed → IsTypedCode typed
     typed_code number typed there =
         let module_is = (modules_are.all number typed there).0 in
         subst IsTypedCode (same_Some module_is.typed typed (sym module_is.found ∙ there)) (record {
@@ -101,7 +104,8 @@ module _
         (public_address plan merged) after module_is.sound
         (lies_in_memory plan modules objects merged image before after is number module_is script types)
         (entries_of modules_are)
-        (are_entered plan modules objects merged image before after is modules_are number module_is script at_is)
+        (are_entered plan modules objects merged image before after is modules_are number
+        module_is script at_is)
 
     -- so all calls are known
     all_known : (bound number : ℕ) → number ≤ bound
@@ -113,12 +117,14 @@ module _
         subst (λ (typed : TypedModule).
         CallsFollow program after (entries_of modules_are) number typed bound
         (AllCallsAreKnown program after (entries_of modules_are)))
-        (same_Some (one.0).typed typed (sym (one.0).found ∙ there)) ((does_at number one.0 one.1).calls bound))
+        (same_Some (one.0).typed typed (sym (one.0).found ∙ there))
+        ((does_at number one.0 one.1).calls bound))
 
     shares : Shares program after (starting_memory modules (placement_of plan modules objects) before) after
     shares = record {
       is_memory = is_memory;
-      size = (starts_as modules (placement_of plan modules objects) before is.lawful is.storable is.size).size ∙ is.size;
+      size = (starts_as modules (placement_of plan modules objects) before is.lawful is.storable is.size).size
+          ∙ is.size;
       declared = λ address declared.
           starts_as_its_source plan modules objects merged image before after is address
           ((Decides-declared modules (placement_of plan modules objects) address).0 declared);
@@ -134,12 +140,15 @@ module _
         main_starts objects merged (plan_of plan) image is.placed.merge is.placed.placed in
         let one : StartsAt (plan_of plan) image module_is.at.linked =
         of_all (StartsAt (plan_of plan) image) (linked_modules objects) number module_is.at.linked
-        (recursion_from_All (StartsAt (plan_of plan) image) (linked_modules objects) all) module_is.at.found in
+        (recursion_from_All (StartsAt (plan_of plan) image) (linked_modules objects) all)
+        module_is.at.found in
         let start_is = started module_is.typed module_is.at.linked.object module_is.sound main in
         subst (λ (start : Option ℕ). IfSome start (λ offset.
-        image.start ≡ (piece_base (plan_of plan) module_is.at.linked.start segments.Code + offset) % MEMORY_SIZE)) start_is one
+        image.start ≡ (piece_base (plan_of plan) module_is.at.linked.start segments.Code + offset)
+        % MEMORY_SIZE)) start_is one
         ∙ ap (λ (start : Option ℕ).
-        wrap (option_map_or (λ offset. piece_base (plan_of plan) module_is.at.linked.start segments.Code + offset) start 0))
+        wrap (option_map_or (λ offset. piece_base (plan_of plan) module_is.at.linked.start segments.Code
+        + offset) start 0))
         (sym start_is)
 
     main : FirstThat is_main modules
@@ -150,7 +159,8 @@ module _
 
     number_is : number_of_main modules ≡ position_or_len is_main modules
     number_is =
-        ap (λ (test : Bool). option_map_or (λ at. at) (if test then Some (position_or_len is_main modules) else None) 0)
+        ap (λ (test : Bool). option_map_or (λ at. at)
+        (if test then Some (position_or_len is_main modules) else None) 0)
         (lt-ltb (position_or_len is_main modules) (length modules) main.within)
 
     start_state : (budget : ℕ) → SourceState
@@ -163,7 +173,8 @@ module _
 
     abbrev runs : (budget : ℕ) → Run
     runs budget =
-        source_run modules (placement_of plan modules objects) (placement_of plan modules objects).stack.len before script events
+        source_run modules (placement_of plan modules objects) (placement_of plan modules objects).stack.len
+        before script events
         budget
 
     -- what the main program is carried out in, by a number of its module
@@ -178,25 +189,36 @@ module _
         let number : ℕ = position_or_len is_main modules in
         let one = modules_are.all number main.one main_at in
         let module_is = one.0 in
-        let same : main.one ≡ module_is.typed = same_Some main.one module_is.typed (sym main_at ∙ module_is.found) in
-        let is_main_module : is_main module_is.typed ≡ true = subst (λ (typed : TypedModule). is_main typed ≡ true) same main.holds in
+        let same : main.one ≡ module_is.typed =
+        same_Some main.one module_is.typed (sym main_at ∙ module_is.found) in
+        let is_main_module : is_main module_is.typed ≡ true =
+        subst (λ (typed : TypedModule). is_main typed ≡ true) same main.holds in
         let ends = (does_at number module_is one.1).main budget (placement_of plan modules objects).stack.len
-        (start_state budget) r after is_main_module (all_known (suc budget) budget (omega arith)) refl refl (omega arith) shares registers in
-        let run_is : runs budget ≡ run_of (main_done budget module_is.typed (around number) (start_state budget)) =
+        (start_state budget) r after is_main_module (all_known (suc budget) budget (omega arith)) refl refl
+        (omega arith) shares registers in
+        let run_is : runs budget
+        ≡ run_of (main_done budget module_is.typed (around number) (start_state budget)) =
         ap (λ (found : Option TypedModule).
-        run_of (option_map_or (λ (typed : TypedModule). main_done budget typed (around (number_of_main modules)) (start_state budget))
-        found (Gave Onward (start_state budget)))) (main.found ∙ ap (λ (typed : TypedModule). Some typed) same)
-        ∙ ap (λ (at : ℕ). run_of (main_done budget module_is.typed (around at) (start_state budget))) number_is in
+        run_of (option_map_or (λ (typed : TypedModule). main_done budget typed
+        (around (number_of_main modules)) (start_state budget))
+        found (Gave Onward (start_state budget))))
+        (main.found ∙ ap (λ (typed : TypedModule). Some typed) same)
+        ∙ ap (λ (at : ℕ). run_of (main_done budget module_is.typed (around at) (start_state budget)))
+        number_is in
         performs script (running (record r { pc = image.start }) after events) budget (runs budget)
-        (subst (λ (run : Run). EndsAs script budget (running (record r { pc = image.start }) after events) run.end run.events) (sym run_is)
+        (subst (λ (run : Run). EndsAs script budget (running (record r { pc = image.start }) after events)
+        run.end run.events) (sym run_is)
         (subst (λ (pc : ℕ).
         EndsAs script budget (running (record r { pc = pc }) after events)
         (run_of (main_done budget module_is.typed (around number) (start_state budget))).end
         (run_of (main_done budget module_is.typed (around number) (start_state budget))).events)
         (sym (starts number module_is is_main_module)) ends))
 
-    -- The image on the machine performs exactly the source's port reads and writes, and halts exactly if the source ends.
+    -- The image on the machine performs exactly the source's port reads and writes, and halts exactly if the
+    -- source ends.
     pub program_does :
         NeverOutside runs
-        → Agrees runs (λ (steps : ℕ). state_after script steps (running (record r { pc = image.start }) after events))
-    program_does never = agrees script (running (record r { pc = image.start }) after events) runs each_run never
+        → Agrees runs
+        (λ (steps : ℕ). state_after script steps (running (record r { pc = image.start }) after events))
+    program_does never =
+        agrees script (running (record r { pc = image.start }) after events) runs each_run never

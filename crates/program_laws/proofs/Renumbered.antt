@@ -7,7 +7,8 @@ pub record LaysOut (written : Written) (own layout : Layout) : Type 0 where
       → own.place_of label ≡ layout.place_of number
   pub names : (name number : ℕ) → entry written.externals name ≡ Some number
       → wrap (own.address_of (External name)) ≡ wrap (layout.address_of (External number))
-  pub starts : (segment : Segment) → own.address_of (InSegment segment) ≡ layout.address_of (InSegment segment)
+  pub starts : (segment : Segment) → own.address_of (InSegment segment)
+      ≡ layout.address_of (InSegment segment)
 
 -- what a list that begins with an item begins with
 pub record InFront (item : Option Item) (others : Option (List Item)) (made : List Item) : Type 0 where
@@ -17,7 +18,8 @@ pub record InFront (item : Option Item) (others : Option (List Item)) (made : Li
   pub others_are : others ≡ Some more
   pub made_is : made ≡ first ∷ more
 
-pub front_of : (item : Option Item) (others : Option (List Item)) (made : List Item) → in_front item others ≡ Some made
+pub front_of : (item : Option Item) (others : Option (List Item)) (made : List Item)
+    → in_front item others ≡ Some made
     → InFront item others made
 front_of (Some item) (Some others) made is =
     record { first = item; more = others; item_is = refl; others_are = refl; made_is = cc }
@@ -29,7 +31,8 @@ pub record Mapped {A B : Type 0} (f : A → B) (found : Option A) (made : B) : T
   pub found_is : found ≡ Some given
   pub made_is : made ≡ f given
 
-pub mapped : {A B : Type 0} (f : A → B) (found : Option A) (made : B) → option_map f found ≡ Some made → Mapped f found made
+pub mapped : {A B : Type 0} (f : A → B) (found : Option A) (made : B) → option_map f found ≡ Some made
+    → Mapped f found made
 mapped f (Some given) made is = record { given = given; found_is = refl; made_is = cc }
 mapped f None made is = absurd (cc)
 
@@ -64,12 +67,18 @@ module _ (written : Written) (own layout : Layout) (lays : LaysOut written own l
   stands_so memory (Plain instruction ∷ others) made from to is stands =
       let front = front_of (Some (Plain instruction)) (numbered written others) made is in
       let first : front.first ≡ Plain instruction = let same = front.item_is in cc in
-      let here = subst (λ list. Stands layout memory list from to) (front.made_is ∙ ap (λ one. one ∷ front.more) first) stands in
+      let here =
+      subst (λ list. Stands layout memory list from to)
+      (front.made_is ∙ ap (λ one. one ∷ front.more) first) stands in
       (here.0, stands_so memory others front.more (from + _) to front.others_are here.1)
   stands_so memory (WithWord form reference ∷ others) made from to is stands =
-      let front = front_of (option_map (WithWord form) (numbered_reference written reference)) (numbered written others) made is in
+      let front =
+      front_of (option_map (WithWord form) (numbered_reference written reference))
+      (numbered written others) made is in
       let word = mapped (WithWord form) (numbered_reference written reference) front.first front.item_is in
-      let here = subst (λ list. Stands layout memory list from to) (front.made_is ∙ ap (λ one. one ∷ front.more) word.made_is) stands in (
+      let here =
+      subst (λ list. Stands layout memory list from to)
+      (front.made_is ∙ ap (λ one. one ∷ front.more) word.made_is) stands in (
         subst (λ number. BytesStand memory from (bytes_of (instruction_with form number)))
             (sym (same_word reference word.given word.found_is)) here.0,
         stands_so memory others front.more (from + 3) to front.others_are here.1,
@@ -77,12 +86,18 @@ module _ (written : Written) (own layout : Layout) (lays : LaysOut written own l
   stands_so memory (Byte value ∷ others) made from to is stands =
       let front = front_of (Some (Byte value)) (numbered written others) made is in
       let first : front.first ≡ Byte value = let same = front.item_is in cc in
-      let here = subst (λ list. Stands layout memory list from to) (front.made_is ∙ ap (λ one. one ∷ front.more) first) stands in
+      let here =
+      subst (λ list. Stands layout memory list from to)
+      (front.made_is ∙ ap (λ one. one ∷ front.more) first) stands in
       (here.0, stands_so memory others front.more (from + 1) to front.others_are here.1)
   stands_so memory (Address reference ∷ others) made from to is stands =
-      let front = front_of (option_map Address (numbered_reference written reference)) (numbered written others) made is in
+      let front =
+      front_of (option_map Address (numbered_reference written reference))
+      (numbered written others) made is in
       let word = mapped Address (numbered_reference written reference) front.first front.item_is in
-      let here = subst (λ list. Stands layout memory list from to) (front.made_is ∙ ap (λ one. one ∷ front.more) word.made_is) stands in (
+      let here =
+      subst (λ list. Stands layout memory list from to)
+      (front.made_is ∙ ap (λ one. one ∷ front.more) word.made_is) stands in (
         subst (λ number. BytesStand memory from (low_byte number ∷ high_byte number ∷ []))
             (sym (same_word reference word.given word.found_is)) here.0,
         stands_so memory others front.more (from + 2) to front.others_are here.1,
@@ -90,12 +105,16 @@ module _ (written : Written) (own layout : Layout) (lays : LaysOut written own l
   stands_so memory (Gap count ∷ others) made from to is stands =
       let front = front_of (Some (Gap count)) (numbered written others) made is in
       let first : front.first ≡ Gap count = let same = front.item_is in cc in
-      let here = subst (λ list. Stands layout memory list from to) (front.made_is ∙ ap (λ one. one ∷ front.more) first) stands in
+      let here =
+      subst (λ list. Stands layout memory list from to)
+      (front.made_is ∙ ap (λ one. one ∷ front.more) first) stands in
       stands_so memory others front.more (from + count) to front.others_are here
   stands_so memory (Mark label ∷ others) made from to is stands =
       let front = front_of (option_map Mark (entry written.labels label)) (numbered written others) made is in
       let mark = mapped Mark (entry written.labels label) front.first front.item_is in
-      let here = subst (λ list. Stands layout memory list from to) (front.made_is ∙ ap (λ one. one ∷ front.more) mark.made_is) stands in (
+      let here =
+      subst (λ list. Stands layout memory list from to)
+      (front.made_is ∙ ap (λ one. one ∷ front.more) mark.made_is) stands in (
         lays.labels label mark.given mark.found_is ∙ here.0,
         stands_so memory others front.more from to front.others_are here.1,
       )

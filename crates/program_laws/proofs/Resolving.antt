@@ -15,7 +15,8 @@ after_place layout (places.Code offset) distance = omega arith
 after_place layout (places.Data offset) distance = omega arith
 after_place layout (places.External offset name) distance = omega arith
 
-below_memory : (layout : Layout) (place : Place) → number_of_place place ≡ None → place_at layout place < 65536
+below_memory : (layout : Layout) (place : Place) → number_of_place place ≡ None
+    → place_at layout place < 65536
 below_memory layout (places.Number number) none = absurd (cc)
 below_memory layout (places.Code offset) none = omega arith
 below_memory layout (places.Data offset) none = omega arith
@@ -86,7 +87,8 @@ module _
     -- what has a place of its own is neither BASED nor in a frame
     static_in_module : (object : ℕ) (place : Place) → home_at starts object ≡ Static place
         → home_at (homes_of typed storage) object ≡ Static place
-    static_in_module object place static = ap (λ homes. home_at homes object) (sym sound.made.lowered.homes) ∙ static
+    static_in_module object place static =
+        ap (λ homes. home_at homes object) (sym sound.made.lowered.homes) ∙ static
 
     static_home : (index : ℕ) (found : TypedObject) (place : Place)
         → slice_get typed.objects index ≡ Some found
@@ -99,7 +101,8 @@ module _
         by (InConstants values) same = tt
         by (Placed at) same = tt
         by (BasedOn base) same = absurd (not_based typed storage index base found place is same static)
-        by (InFrame procedure) same = absurd (not_in_frame typed storage index procedure found place is same static)
+        by (InFrame procedure) same =
+            absurd (not_in_frame typed storage index procedure found place is same static)
         by Elsewhere same = tt
         by Nowhere same = tt
 
@@ -107,12 +110,17 @@ module _
     object_begins : (object : ℕ) (place : Place) → home_at starts object ≡ Static place
         → object_address around object ≡ place_at own place
     object_begins object_number place static =
-        module_there (λ typed. address_of_object program.modules program.placement number typed object_number) 0
-        ∙ object_lies program number typed object address_of address_of_name memory sound.made.laid.storable lies
-        object_number (λ found is. static_home object_number found place is (static_in_module object_number place static))
+        module_there (λ typed. address_of_object program.modules program.placement number typed object_number)
+        0
+        ∙ object_lies program number typed object address_of address_of_name memory
+        sound.made.laid.storable lies
+        object_number
+        (λ found is. static_home object_number found place is
+        (static_in_module object_number place static))
         ∙ ap (address_of_location (address_for address_of address_of_name))
         (sym (any_lies typed storage object_number sound.made.laid)
-        ∙ ap (λ externals. location_of_place externals (static_place (home_at (homes_of typed storage) object_number)))
+        ∙ ap (λ externals. location_of_place externals
+        (static_place (home_at (homes_of typed storage) object_number)))
         (sym sound.made.lowered.externals)
         ∙ ap (λ home. location_of_place names (static_place home))
         (ap (λ homes. home_at homes object_number) (sym sound.made.lowered.homes) ∙ static))
@@ -129,15 +137,18 @@ module _
         → Gave (InMemory ((object_address around object + bytes) % MEMORY_SIZE)) s
         ≡ Gave (InMemory ((place_at own place + bytes) % MEMORY_SIZE)) s
     in_memory object place static bytes s =
-        ap (λ address. Gave (InMemory ((address + bytes) % MEMORY_SIZE)) s) (object_begins object place static)
+        ap (λ address. Gave (InMemory ((address + bytes) % MEMORY_SIZE)) s)
+        (object_begins object place static)
 
     by_home :
         (home : TypedHome) (object : ℕ) (place : Place)
         → home_in typed object ≡ home
         → home_at starts object ≡ Static place
         → IsAt home object place
-    by_home (InData values) object place is_home static bytes is_inside s = in_memory object place static bytes s
-    by_home (InConstants values) object place is_home static bytes is_inside s = in_memory object place static bytes s
+    by_home (InData values) object place is_home static bytes is_inside s =
+        in_memory object place static bytes s
+    by_home (InConstants values) object place is_home static bytes is_inside s =
+        in_memory object place static bytes s
     by_home (Placed at) object place is_home static bytes is_inside s = in_memory object place static bytes s
     by_home Elsewhere object place is_home static bytes is_inside s = in_memory object place static bytes s
     by_home Nowhere object place is_home static bytes is_inside s = in_memory object place static bytes s
@@ -152,7 +163,9 @@ module _
             (sym (ap (λ given. option_map_or (λ (x : TypedObject). x.home) given Nowhere) there) ∙ is_home)
             (static_in_module object place static))
         found None there =
-            let bad : Nowhere ≡ BasedOn base = sym (ap (λ given. option_map_or (λ (x : TypedObject). x.home) given Nowhere) there) ∙ is_home in
+            let bad : Nowhere ≡ BasedOn base =
+            sym (ap (λ given. option_map_or (λ (x : TypedObject). x.home) given Nowhere) there)
+            ∙ is_home in
             absurd (cc)
     by_home (InFrame procedure) object place is_home static bytes is_inside s =
         found (slice_get typed.objects object) refl
@@ -165,7 +178,9 @@ module _
             (sym (ap (λ given. option_map_or (λ (x : TypedObject). x.home) given Nowhere) there) ∙ is_home)
             (static_in_module object place static))
         found None there =
-            let bad : Nowhere ≡ InFrame procedure = sym (ap (λ given. option_map_or (λ (x : TypedObject). x.home) given Nowhere) there) ∙ is_home in
+            let bad : Nowhere ≡ InFrame procedure =
+            sym (ap (λ given. option_map_or (λ (x : TypedObject). x.home) given Nowhere) there)
+            ∙ is_home in
             absurd (cc)
 
     home_is : (object : ℕ) → home_of around object ≡ home_in typed object
@@ -178,7 +193,8 @@ module _
         some_within typed.constants.lists list short (λ bytes found. by bytes found)
       where
         short : list < length typed.constants.lists
-        short = let counted = lists_counted typed storage sound.made.laid.stored in omega (arith, within, counted)
+        short = let counted =
+            lists_counted typed storage sound.made.laid.stored in omega (arith, within, counted)
 
         by : (bytes : List ℕ) → slice_get typed.constants.lists list ≡ Some bytes
             → address_of_list around list ≡ place_at own (places.Code (offset_of_list storage list))
@@ -186,7 +202,9 @@ module _
             let slot : Slot = slot_of_list typed list bytes in
             let placed : ModulePlacement = lies.placed in
             let address : ℕ = slice_index placed.lists list in
-            let addresses = has_addresses program number typed object address_of address_of_name memory sound.made.laid.storable lies in
+            let addresses =
+            has_addresses program number typed object address_of address_of_name memory
+            sound.made.laid.storable lies in
             let count = addresses.lists in
             let in_slot : address ≡ address_of_slot (bases_at address_of) slot =
             of_all (λ (one : Slot × ℕ). one.1 ≡ address_of_slot (bases_at address_of) one.0)
@@ -197,7 +215,8 @@ module _
             (got_numbered (λ (numbered : ℕ × List ℕ). slot_of_list typed numbered.0 numbered.1)
             typed.constants.lists 0 list list bytes found (omega arith))
             (slice_get-get_or placed.lists list 0 (omega (arith, short, count)))) in
-            ap (λ (one : Option ModulePlacement). option_map_or (λ (given : ModulePlacement). slice_index given.lists list % MEMORY_SIZE) one 0)
+            ap (λ (one : Option ModulePlacement). option_map_or
+            (λ (given : ModulePlacement). slice_index given.lists list % MEMORY_SIZE) one 0)
             lies.is_placed
             ∙ ap (λ n. n % MEMORY_SIZE) in_slot
             ∙ twice (base_of (bases_at address_of) slots.Code + slot.offset)

@@ -1,5 +1,5 @@
--- The object module of a module has its segments: the code begins with the constants, the data are the variables, and
--- each PUBLIC object is a public where it lies.
+-- The object module of a module has its segments: the code begins with the constants, the data are the
+-- variables, and each PUBLIC object is a public where it lies.
 use Rattle.program_laws.proofs.Prelude.{◌≡◌, ℕ, zero, suc, true, List, [], ◌∷◌, ◌++◌, length, map, Some, refl, sym, ap, subst, ◌∙◌, append-nil, slice_get, AllByRecursion, recursion_from_All, none-some, same_Some, IsObjectModule, ObjectModule, Public, GlobalItem, GlobalObject, IsHereIfPublic, is_shared, TypedHome, InData, InConstants, Placed, BasedOn, Elsewhere, Nowhere, InFrame, TypedObject, TypedModule, of_all, Location, Places, constant_places, data_places, location_of, Storage, Item, Assembled, layout_at, set_of_items, ExternalName, PublicName, TreeModule, Home, Place, public_item, publics_of, externals_of, homes_of, IsLowered, Written, numbered, ArePublicsOf, IsAtPlace, IsGenerated, IsOwnCode, IsPublicOf, contents_items, KeepWords, location_of_place, places_of_contents, IsLaidOut, code_is, data_is, BeginWith, HasPublic, HasSegments, IsPublicAt}
 use Rattle.treecode.specs.declared.module.PublicPlace.TheVariants as public_places
 use Rattle.treecode.specs.declared.place.Place.TheVariants as places
@@ -20,7 +20,8 @@ module _
   own = is.code_is.own_is
 
   code_same : object.code.places
-      ≡ map (place_to is.to) (set_of_items (layout_at at_zero is.code.code) (is.code_is.made ++ is.code_is.listed))
+      ≡ map (place_to is.to)
+      (set_of_items (layout_at at_zero is.code.code) (is.code_is.made ++ is.code_is.listed))
   code_same =
       segment_is is.code is.code_bytes is.to object.code (length object.externals) is.code_segment valid.code
       ∙ ap (λ (items : List Item). map (place_to is.to) (set_of_items (layout_at at_zero is.code.code) items))
@@ -35,7 +36,8 @@ module _
       contents_keep object is.code is.code.code tree.externals.items is.variables.externals is.to
       (own.main ++ own.procedures) is.code_is.listed is.targets is.grown tree.constants.items is.code_is.made
       code_numbered
-      (subst (AllByRecursion HasByte) code_same (segment_bytes (length object.externals) object.code valid.code))
+      (subst (AllByRecursion HasByte) code_same
+      (segment_bytes (length object.externals) object.code valid.code))
 
   -- the code begins with the constants
   code_begins : BeginWith object (constant_places typed) object.code.places
@@ -45,23 +47,30 @@ module _
       (subst (BeginWith object (places_of_contents tree.externals.items tree.constants.items)) (sym code_same)
       (contents_begin object is.code is.code.code tree.externals.items is.variables.externals is.to
       (own.main ++ own.procedures) is.code_is.listed is.targets is.grown tree.constants.items is.code_is.made
-      (subst (AllByRecursion IsWordContent) (sym lowered.constants) (constants_are_words typed tree.homes.items))
+      (subst (AllByRecursion IsWordContent) (sym lowered.constants)
+      (constants_are_words typed tree.homes.items))
       code_numbered))
 
   data_same : object.data_places.places
-      ≡ map (place_to is.to) (set_of_items (layout_at at_zero is.variables.code) (is.variables.code.items ++ []))
+      ≡ map (place_to is.to)
+      (set_of_items (layout_at at_zero is.variables.code) (is.variables.code.items ++ []))
   data_same =
-      segment_is is.variables is.variable_bytes is.to object.data_places (length object.externals) is.data_segment
+      segment_is is.variables is.variable_bytes is.to object.data_places
+      (length object.externals) is.data_segment
       valid.data_places
-      ∙ ap (λ (items : List Item). map (place_to is.to) (set_of_items (layout_at at_zero is.variables.code) items))
+      ∙ ap (λ (items : List Item). map (place_to is.to)
+      (set_of_items (layout_at at_zero is.variables.code) items))
       (sym (append-nil is.variables.code.items))
 
-  data_numbered : numbered is.variables (contents_items tree.variables.items ++ []) ≡ Some is.variables.code.items
-  data_numbered = ap (numbered is.variables) (append-nil (contents_items tree.variables.items)) ∙ is.variables_are
+  data_numbered : numbered is.variables (contents_items tree.variables.items ++ [])
+      ≡ Some is.variables.code.items
+  data_numbered =
+      ap (numbered is.variables) (append-nil (contents_items tree.variables.items)) ∙ is.variables_are
 
   pub data_keep : KeepWords tree.variables.items
   data_keep =
-      contents_keep object is.variables is.variables.code tree.externals.items is.variables.externals is.to [] []
+      contents_keep object is.variables is.variables.code tree.externals.items
+      is.variables.externals is.to [] []
       is.targets (λ number found at. at) tree.variables.items is.variables.code.items data_numbered
       (subst (AllByRecursion HasByte) data_same
       (segment_bytes (length object.externals) object.data_places valid.data_places))
@@ -72,13 +81,16 @@ module _
       subst (λ (bytes : Places). BeginWith object bytes object.data_places.places)
       (data_is typed storage tree laid data_keep lowered)
       (subst (BeginWith object (places_of_contents tree.externals.items tree.variables.items)) (sym data_same)
-      (contents_begin object is.variables is.variables.code tree.externals.items is.variables.externals is.to [] []
+      (contents_begin object is.variables is.variables.code tree.externals.items
+      is.variables.externals is.to [] []
       is.targets (λ number found at. at) tree.variables.items is.variables.code.items
-      (subst (AllByRecursion IsWordContent) (sym lowered.variables) (variables_are_words typed tree.homes.items))
+      (subst (AllByRecursion IsWordContent) (sym lowered.variables)
+      (variables_are_words typed tree.homes.items))
       data_numbered))
 
 -- a public of a name
-record PublicAt (written : Written) (bytes : Assembled) (name : PublicName) (index : ℕ) (publics : List Public) :
+record PublicAt (written : Written) (bytes : Assembled) (name : PublicName) (index : ℕ)
+    (publics : List Public) :
     Type 0 where
   public : Public
   found : slice_get publics index ≡ Some public

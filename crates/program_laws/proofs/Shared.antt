@@ -4,7 +4,8 @@ use Rattle.typed_trees.specs.declared.parts.Visibility.TheVariants as visibiliti
 use Rattle.program_laws.proofs.Listed.{InList, kept_in, came_from, numbered_in}
 
 -- the number of a procedure that is kept is the procedure's
-shared_is : (item : GlobalItem) (number : ℕ) → shared_procedure item ≡ Some number → item ≡ GlobalProcedure number
+shared_is : (item : GlobalItem) (number : ℕ) → shared_procedure item ≡ Some number
+    → item ≡ GlobalProcedure number
 shared_is (GlobalObject other) number is = absurd (none-some number is)
 shared_is (GlobalProcedure other) number is = ap GlobalProcedure (same_Some other number is)
 
@@ -18,7 +19,9 @@ pub procedure_shared :
 procedure_shared typed number procedure lists found shared =
     let at = numbered_in 0 typed.procedures number procedure found in
     let zero_more : 0 + number ≡ number = omega arith in
-    let in_numbers = kept_in global_procedure (enumerate_from 0 typed.procedures) at.index (0 + number, procedure) number at.found
+    let in_numbers =
+    kept_in global_procedure (enumerate_from 0 typed.procedures) at.index
+    (0 + number, procedure) number at.found
     (ap (λ (is : Bool). cond is (Some (0 + number)) None) shared ∙ ap Some zero_more) in
     let came = came_from shared_procedure typed.globals in_numbers.index number
     (ap (λ (numbers : List ℕ). slice_get numbers in_numbers.index) lists.procedures ∙ in_numbers.found) in
@@ -50,7 +53,8 @@ any_of : (number index : ℕ) (items : List GlobalItem) → slice_get items inde
 any_of number index [] found = absurd (none-some (GlobalProcedure number) found)
 any_of number zero (first ∷ others) found =
     ap (λ (is : Bool). is || list_any (is_global_procedure number) others)
-    (ap (is_global_procedure number) (same_Some first (GlobalProcedure number) found) ∙ eq-eqb number number refl)
+    (ap (is_global_procedure number) (same_Some first (GlobalProcedure number) found)
+    ∙ eq-eqb number number refl)
 any_of number (suc index) (first ∷ others) found =
     either (is_global_procedure number first) (any_of number index others found)
   where
@@ -78,7 +82,8 @@ pub external_named :
     → ListsGlobals typed
     → slice_get typed.procedures number ≡ Some procedure
     → procedure.visibility ≡ visibilities.External
-    → name_at (externals_of typed) (unwrap_or (external_number typed (is_global_procedure number)) 0) ≡ procedure.name
+    → name_at (externals_of typed) (unwrap_or (external_number typed (is_global_procedure number)) 0)
+    ≡ procedure.name
 external_named typed number procedure lists found is =
     by (external_number typed (is_global_procedure number)) refl
     (finds_external typed (is_global_procedure number) (record { name = procedure.name })
@@ -99,4 +104,5 @@ external_named typed number procedure lists found is =
     by (Some index) e at =
         let same : index ≡ at.index = let is = at.number_is in omega (arith, is) in
         ap (name_at (externals_of typed)) same
-        ∙ ap (λ (one : Option ExternalName). option_map_or (λ (external : ExternalName). external.name) one []) at.name_is
+        ∙ ap (λ (one : Option ExternalName). option_map_or
+        (λ (external : ExternalName). external.name) one []) at.name_is

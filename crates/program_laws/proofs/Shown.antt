@@ -3,7 +3,8 @@ use Rattle.program_laws.proofs.Prelude.{◌≡◌, ℕ, zero, suc, List, [], ◌
 use Rattle.program_laws.proofs.Shared.{public_in}
 
 -- the public that a PUBLIC name is
-record PublicFound (written : Written) (bytes : Assembled) (name : PublicName) (publics : List Public) : Type 0 where
+record PublicFound (written : Written) (bytes : Assembled) (name : PublicName)
+    (publics : List Public) : Type 0 where
   at : ℕ
   public : Public
   found : slice_get publics at ≡ Some public
@@ -36,8 +37,11 @@ pub shows_procedures :
 shows_procedures typed object sound index found there visible =
     let is = sound.made.generated in
     let name : PublicName = record { name = found.name; place = Procedure index } in
-    let named = public_in typed sound.made.tree.homes.items index found sound.made.laid.globals there visible in
+    let named =
+    public_in typed sound.made.tree.homes.items index found sound.made.laid.globals there visible in
     let in_tree : slice_get sound.made.tree.publics.items named.index ≡ Some name =
     ap (λ (names : List PublicName). slice_get names named.index) sound.made.lowered.publics ∙ named.found in
-    let one = public_found is.code is.code_bytes sound.made.tree.publics.items object.publics named.index name is.publics in_tree in
+    let one =
+    public_found is.code is.code_bytes sound.made.tree.publics.items object.publics named.index name
+    is.publics in_tree in
     record { place = one.at; public = one.public; found = one.found; is = one.is }

@@ -18,7 +18,8 @@ before (first ∷ others) zero (suc other) found less there =
 before (first ∷ others) (suc one) zero found less there = absurd (omega (arith, less))
 before (first ∷ others) (suc one) (suc other) found less there =
     let rest = before others one other found (omega (arith, less)) there in
-    let few = sum_by-cons (λ (object : TypedObject). bytes_in_data object.home object) first (take one others) in
+    let few =
+    sum_by-cons (λ (object : TypedObject). bytes_in_data object.home object) first (take one others) in
     let more =
     sum_by-cons (λ (object : TypedObject). bytes_in_data object.home object) first (take other others) in
     omega (arith, rest, few, more)
@@ -87,21 +88,26 @@ module _ (code : ModuleCode) (laid : IsLaidOut code.typed code.storage)
       → distance < size_of_object second
       → wrap (place_at code.layout left + offset) ≡ wrap (place_at code.layout right + distance)
       → ⊥
-  ordered one other first second left right offset distance less first_is second_is first_home second_home left_is right_is within inside same =
-      bytes_differ (code.layout.address_of (InSegment segments.Data)) (data_bytes (take one code.typed.objects))
-      (size_of_object first) offset (data_bytes (take other code.typed.objects)) (size_of_object second) distance within
+  ordered one other first second left right offset distance less first_is second_is first_home second_home
+      left_is right_is within inside same =
+      bytes_differ (code.layout.address_of (InSegment segments.Data))
+      (data_bytes (take one code.typed.objects))
+      (size_of_object first) offset (data_bytes (take other code.typed.objects))
+      (size_of_object second) distance within
       (omega (arith, beyond, first_size)) inside (omega (arith, last, second_size, fits))
       (ap (λ (place : Place). wrap (place_at code.layout place + offset)) (sym left_place)
       ∙ same ∙ ap (λ (place : Place). wrap (place_at code.layout place + distance)) right_place)
     where
       left_place : left ≡ places.Data (data_bytes (take one code.typed.objects))
       left_place =
-          in_data code.typed code.storage code.tree.now.homes.items one first left laid homes_are first_is first_home
+          in_data code.typed code.storage code.tree.now.homes.items one first left laid
+          homes_are first_is first_home
           left_is
 
       right_place : right ≡ places.Data (data_bytes (take other code.typed.objects))
       right_place =
-          in_data code.typed code.storage code.tree.now.homes.items other second right laid homes_are second_is
+          in_data code.typed code.storage code.tree.now.homes.items other second right
+          laid homes_are second_is
           second_home right_is
 
       first_size : bytes_in_data first.home first ≡ size_of_object first
@@ -122,12 +128,15 @@ module _ (code : ModuleCode) (laid : IsLaidOut code.typed code.storage)
       fits = data_offset code.typed code.storage (suc other) laid.stored
 
   pub variables_apart : VariablesAreApart code
-  variables_apart one other first second left right offset distance differ first_is second_is first_home second_home left_is right_is within inside same =
+  variables_apart one other first second left right offset distance differ first_is second_is first_home
+      second_home left_is right_is within inside same =
       elim (order one other differ) [
         | inl less ↦
-            ordered one other first second left right offset distance less first_is second_is first_home second_home
+            ordered one other first second left right offset distance less first_is second_is
+            first_home second_home
             left_is right_is within inside same
         | inr more ↦
-            ordered other one second first right left distance offset more second_is first_is second_home first_home
+            ordered other one second first right left distance offset more second_is first_is
+            second_home first_home
             right_is left_is inside within (sym same)
       ]

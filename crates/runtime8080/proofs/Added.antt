@@ -15,7 +15,8 @@ record HasLabels (routine : Routine) (first : ℕ) : Type 0 where
   known : AllKnown (first + labels_of routine) (listing routine first)
   differ : AllDiffer (bound_by (listing routine first))
   from : AllFrom first (bound_by (listing routine first))
-  all : (label : ℕ) → first ≤ label → label < first + labels_of routine → Differs label (bound_by (listing routine first)) → ⊥
+  all : (label : ℕ) → first ≤ label → label < first + labels_of routine
+      → Differs label (bound_by (listing routine first)) → ⊥
   new : (label : ℕ) → label < first → Differs label (bound_by (listing routine first))
   own : AllOwn first (first + labels_of routine) (listing routine first)
 
@@ -53,7 +54,8 @@ fits :
 unfolding Fits
 fits routine before with_labels has fresh labels =
     subst (λ (a : Assembly). Fits a (listing routine before.labels)) (sym labels)
-    (fit_items (before.labels + labels_of routine) before.items (listing routine before.labels) has.known has.differ
+    (fit_items (before.labels + labels_of routine) before.items (listing routine before.labels)
+    has.known has.differ
     (none_bound before.items before.labels (bound_by (listing routine before.labels))
     (λ label from. unbound_from before label fresh from) has.from))
 
@@ -118,7 +120,8 @@ labels_of_rotate_right first =
 pub adds_rotate_right :
     (before after : Assembly) → after ≡ with_routine RotateRight before → AddsRoutine RotateRight before after
 adds_rotate_right before after same =
-    adds RotateRight before after (labels_of_rotate_right before.labels) refl (rotates_right before.labels) same
+    adds RotateRight before after (labels_of_rotate_right before.labels) refl
+    (rotates_right before.labels) same
 
 pub fits_rotate_right :
     (before with_label : Assembly) (label : ℕ)
@@ -143,9 +146,11 @@ labels_of_shift_left_byte first =
     record { known = omega arith; differ = (tt, tt); from = omega arith; all = omega arith; new = omega arith; own = omega arith }
 
 pub adds_shift_left_byte :
-    (before after : Assembly) → after ≡ with_routine ShiftLeftByte before → AddsRoutine ShiftLeftByte before after
+    (before after : Assembly) → after ≡ with_routine ShiftLeftByte before
+    → AddsRoutine ShiftLeftByte before after
 adds_shift_left_byte before after same =
-    adds ShiftLeftByte before after (labels_of_shift_left_byte before.labels) refl (shifts_left before.labels) same
+    adds ShiftLeftByte before after (labels_of_shift_left_byte before.labels) refl
+    (shifts_left before.labels) same
 
 pub fits_shift_left_byte :
     (before with_label : Assembly) (label : ℕ)
@@ -154,7 +159,8 @@ pub fits_shift_left_byte :
     → with_label ≡ record before { labels = before.labels + 1 }
     → Fits with_label (shift_left_byte label)
 fits_shift_left_byte before with_label label fresh same labels =
-    fits_one ShiftLeftByte before with_label label (labels_of_shift_left_byte before.labels) refl fresh same labels
+    fits_one ShiftLeftByte before with_label label (labels_of_shift_left_byte before.labels)
+    refl fresh same labels
 
 pub done_shift_left_byte :
     (before with_label after : Assembly) (label : ℕ)
@@ -170,9 +176,11 @@ labels_of_shift_right_byte first =
     record { known = omega arith; differ = (tt, tt); from = omega arith; all = omega arith; new = omega arith; own = omega arith }
 
 pub adds_shift_right_byte :
-    (before after : Assembly) → after ≡ with_routine ShiftRightByte before → AddsRoutine ShiftRightByte before after
+    (before after : Assembly) → after ≡ with_routine ShiftRightByte before
+    → AddsRoutine ShiftRightByte before after
 adds_shift_right_byte before after same =
-    adds ShiftRightByte before after (labels_of_shift_right_byte before.labels) refl (shifts_right before.labels) same
+    adds ShiftRightByte before after (labels_of_shift_right_byte before.labels) refl
+    (shifts_right before.labels) same
 
 pub fits_shift_right_byte :
     (before with_label : Assembly) (label : ℕ)
@@ -181,7 +189,8 @@ pub fits_shift_right_byte :
     → with_label ≡ record before { labels = before.labels + 1 }
     → Fits with_label (shift_right_byte label)
 fits_shift_right_byte before with_label label fresh same labels =
-    fits_one ShiftRightByte before with_label label (labels_of_shift_right_byte before.labels) refl fresh same labels
+    fits_one ShiftRightByte before with_label label (labels_of_shift_right_byte before.labels)
+    refl fresh same labels
 
 pub done_shift_right_byte :
     (before with_label after : Assembly) (label : ℕ)
@@ -197,9 +206,11 @@ labels_of_shift_left_address first =
     record { known = omega arith; differ = (tt, tt); from = omega arith; all = omega arith; new = omega arith; own = omega arith }
 
 pub adds_shift_left_address :
-    (before after : Assembly) → after ≡ with_routine ShiftLeftAddress before → AddsRoutine ShiftLeftAddress before after
+    (before after : Assembly) → after ≡ with_routine ShiftLeftAddress before
+    → AddsRoutine ShiftLeftAddress before after
 adds_shift_left_address before after same =
-    adds ShiftLeftAddress before after (labels_of_shift_left_address before.labels) refl (shifts_address_left before.labels) same
+    adds ShiftLeftAddress before after (labels_of_shift_left_address before.labels) refl
+    (shifts_address_left before.labels) same
 
 pub fits_shift_left_address :
     (before with_label : Assembly) (label : ℕ)
@@ -208,7 +219,8 @@ pub fits_shift_left_address :
     → with_label ≡ record before { labels = before.labels + 1 }
     → Fits with_label (shift_left_address label)
 fits_shift_left_address before with_label label fresh same labels =
-    fits_one ShiftLeftAddress before with_label label (labels_of_shift_left_address before.labels) refl fresh same labels
+    fits_one ShiftLeftAddress before with_label label (labels_of_shift_left_address before.labels)
+    refl fresh same labels
 
 pub done_shift_left_address :
     (before with_label after : Assembly) (label : ℕ)
@@ -241,7 +253,8 @@ items_of_multiply before first second third fourth fifth is_first is_second is_t
     ∙ (ap (λ n. multiply_with before.labels n third fourth fifth) is_second
     ∙ (ap (λ n. multiply_with before.labels (before.labels + 1) n fourth fifth) is_third
     ∙ (ap (λ n. multiply_with before.labels (before.labels + 1) (before.labels + 2) n fifth) is_fourth
-    ∙ (ap (λ n. multiply_with before.labels (before.labels + 1) (before.labels + 2) (before.labels + 3) n) is_fifth))))
+    ∙ (ap (λ n. multiply_with before.labels (before.labels + 1) (before.labels + 2) (before.labels + 3) n)
+    is_fifth))))
 
 pub fits_multiply :
     (before with_labels : Assembly) (first second third fourth fifth : ℕ)
@@ -253,8 +266,11 @@ pub fits_multiply :
     → fifth ≡ before.labels + 4
     → with_labels ≡ record before { labels = before.labels + 5 }
     → Fits with_labels (multiply_with first second third fourth fifth)
-fits_multiply before with_labels first second third fourth fifth fresh is_first is_second is_third is_fourth is_fifth labels =
-    subst (λ (items : List Item). Fits with_labels items) (sym (items_of_multiply before first second third fourth fifth is_first is_second is_third is_fourth is_fifth))
+fits_multiply before with_labels first second third fourth fifth fresh is_first is_second is_third
+    is_fourth is_fifth labels =
+    subst (λ (items : List Item). Fits with_labels items)
+    (sym (items_of_multiply before first second third fourth fifth is_first is_second is_third
+    is_fourth is_fifth))
     (fits Multiply before with_labels (labels_of_multiply before.labels) fresh labels)
 
 pub done_multiply :
@@ -267,9 +283,11 @@ pub done_multiply :
     → with_labels ≡ record before { labels = before.labels + 5 }
     → after ≡ record with_labels { items = with_labels.items ++ multiply_with first second third fourth fifth }
     → after ≡ with_routine Multiply before
-done_multiply before with_labels after first second third fourth fifth is_first is_second is_third is_fourth is_fifth labels is =
+done_multiply before with_labels after first second third fourth fifth is_first is_second is_third is_fourth
+    is_fifth labels is =
     is
-    ∙ (ap (λ (a : Assembly). record a { items = a.items ++ multiply_with first second third fourth fifth }) labels
+    ∙ (ap (λ (a : Assembly). record a { items = a.items ++ multiply_with first second third fourth fifth })
+    labels
     ∙ ap (λ (items : List Item). record before { items = before.items ++ items; labels = before.labels + 5 })
     (items_of_multiply before first second third fourth fifth is_first is_second is_third is_fourth is_fifth))
 
@@ -299,7 +317,8 @@ pub fits_move :
     → with_labels ≡ record before { labels = before.labels + 2 }
     → Fits with_labels (move_bytes_with first second)
 fits_move before with_labels first second fresh is_first is_second labels =
-    subst (λ (items : List Item). Fits with_labels items) (sym (items_of_move before first second is_first is_second))
+    subst (λ (items : List Item). Fits with_labels items)
+    (sym (items_of_move before first second is_first is_second))
     (fits Move before with_labels (labels_of_move before.labels) fresh labels)
 
 pub done_move :
@@ -320,9 +339,11 @@ labels_of_shift_right_address first =
     record { known = omega arith; differ = omega arith; from = omega arith; all = omega arith; new = omega arith; own = omega arith }
 
 pub adds_shift_right_address :
-    (before after : Assembly) → after ≡ with_routine ShiftRightAddress before → AddsRoutine ShiftRightAddress before after
+    (before after : Assembly) → after ≡ with_routine ShiftRightAddress before
+    → AddsRoutine ShiftRightAddress before after
 adds_shift_right_address before after same =
-    adds ShiftRightAddress before after (labels_of_shift_right_address before.labels) refl (shifts_address_right before.labels) same
+    adds ShiftRightAddress before after (labels_of_shift_right_address before.labels) refl
+    (shifts_address_right before.labels) same
 
 items_of_shift_right_address :
     (before : Assembly) (first second third fourth fifth sixth seventh eighth : ℕ)
@@ -334,16 +355,24 @@ items_of_shift_right_address :
     → sixth ≡ before.labels + 5
     → seventh ≡ before.labels + 6
     → eighth ≡ before.labels + 7
-    → shift_right_address_with first second third fourth fifth sixth seventh eighth ≡ listing ShiftRightAddress before.labels
-items_of_shift_right_address before first second third fourth fifth sixth seventh eighth is_first is_second is_third is_fourth is_fifth is_sixth is_seventh is_eighth =
+    → shift_right_address_with first second third fourth fifth sixth seventh eighth
+    ≡ listing ShiftRightAddress before.labels
+items_of_shift_right_address before first second third fourth fifth sixth seventh eighth is_first is_second
+    is_third is_fourth is_fifth is_sixth is_seventh is_eighth =
     ap (λ n. shift_right_address_with n second third fourth fifth sixth seventh eighth) is_first
     ∙ (ap (λ n. shift_right_address_with before.labels n third fourth fifth sixth seventh eighth) is_second
-    ∙ (ap (λ n. shift_right_address_with before.labels (before.labels + 1) n fourth fifth sixth seventh eighth) is_third
-    ∙ (ap (λ n. shift_right_address_with before.labels (before.labels + 1) (before.labels + 2) n fifth sixth seventh eighth) is_fourth
-    ∙ (ap (λ n. shift_right_address_with before.labels (before.labels + 1) (before.labels + 2) (before.labels + 3) n sixth seventh eighth) is_fifth
-    ∙ (ap (λ n. shift_right_address_with before.labels (before.labels + 1) (before.labels + 2) (before.labels + 3) (before.labels + 4) n seventh eighth) is_sixth
-    ∙ (ap (λ n. shift_right_address_with before.labels (before.labels + 1) (before.labels + 2) (before.labels + 3) (before.labels + 4) (before.labels + 5) n eighth) is_seventh
-    ∙ (ap (λ n. shift_right_address_with before.labels (before.labels + 1) (before.labels + 2) (before.labels + 3) (before.labels + 4) (before.labels + 5) (before.labels + 6) n) is_eighth)))))))
+    ∙ (ap (λ n. shift_right_address_with before.labels (before.labels + 1) n fourth fifth sixth
+    seventh eighth) is_third
+    ∙ (ap (λ n. shift_right_address_with before.labels (before.labels + 1) (before.labels + 2) n fifth sixth
+    seventh eighth) is_fourth
+    ∙ (ap (λ n. shift_right_address_with before.labels (before.labels + 1) (before.labels + 2)
+    (before.labels + 3) n sixth seventh eighth) is_fifth
+    ∙ (ap (λ n. shift_right_address_with before.labels (before.labels + 1) (before.labels + 2)
+    (before.labels + 3) (before.labels + 4) n seventh eighth) is_sixth
+    ∙ (ap (λ n. shift_right_address_with before.labels (before.labels + 1) (before.labels + 2)
+    (before.labels + 3) (before.labels + 4) (before.labels + 5) n eighth) is_seventh
+    ∙ (ap (λ n. shift_right_address_with before.labels (before.labels + 1) (before.labels + 2)
+    (before.labels + 3) (before.labels + 4) (before.labels + 5) (before.labels + 6) n) is_eighth)))))))
 
 pub fits_shift_right_address :
     (before with_labels : Assembly) (first second third fourth fifth sixth seventh eighth : ℕ)
@@ -358,9 +387,11 @@ pub fits_shift_right_address :
     → eighth ≡ before.labels + 7
     → with_labels ≡ record before { labels = before.labels + 8 }
     → Fits with_labels (shift_right_address_with first second third fourth fifth sixth seventh eighth)
-fits_shift_right_address before with_labels first second third fourth fifth sixth seventh eighth fresh is_first is_second is_third is_fourth is_fifth is_sixth is_seventh is_eighth labels =
+fits_shift_right_address before with_labels first second third fourth fifth sixth seventh eighth fresh
+    is_first is_second is_third is_fourth is_fifth is_sixth is_seventh is_eighth labels =
     subst (λ (items : List Item). Fits with_labels items)
-    (sym (items_of_shift_right_address before first second third fourth fifth sixth seventh eighth is_first is_second is_third is_fourth is_fifth is_sixth is_seventh is_eighth))
+    (sym (items_of_shift_right_address before first second third fourth fifth sixth seventh eighth is_first
+    is_second is_third is_fourth is_fifth is_sixth is_seventh is_eighth))
     (fits ShiftRightAddress before with_labels (labels_of_shift_right_address before.labels) fresh labels)
 
 pub done_shift_right_address :
@@ -376,11 +407,13 @@ pub done_shift_right_address :
     → with_labels ≡ record before { labels = before.labels + 8 }
     → after ≡ record with_labels { items = with_labels.items ++ shift_right_address_with first second third fourth fifth sixth seventh eighth }
     → after ≡ with_routine ShiftRightAddress before
-done_shift_right_address before with_labels after first second third fourth fifth sixth seventh eighth is_first is_second is_third is_fourth is_fifth is_sixth is_seventh is_eighth labels is =
+done_shift_right_address before with_labels after first second third fourth fifth sixth seventh eighth
+    is_first is_second is_third is_fourth is_fifth is_sixth is_seventh is_eighth labels is =
     is
     ∙ (ap (λ (a : Assembly). record a { items = a.items ++ shift_right_address_with first second third fourth fifth sixth seventh eighth }) labels
     ∙ ap (λ (items : List Item). record before { items = before.items ++ items; labels = before.labels + 8 })
-    (items_of_shift_right_address before first second third fourth fifth sixth seventh eighth is_first is_second is_third is_fourth is_fifth is_sixth is_seventh is_eighth))
+    (items_of_shift_right_address before first second third fourth fifth sixth seventh eighth is_first
+    is_second is_third is_fourth is_fifth is_sixth is_seventh is_eighth))
 
 one_more : (labels count : ℕ) → labels + count + 1 ≡ labels + (count + 1)
 one_more labels count = omega arith
@@ -406,7 +439,8 @@ pub five_more :
     → five ≡ record before { labels = before.labels + 5 }
 five_more before one two three four five a b c d e =
     let next = λ (x : Assembly). record x { labels = x.labels + 1 } in
-    e ∙ (ap next d ∙ (ap next (ap next c) ∙ (ap next (ap next (ap next b)) ∙ (ap next (ap next (ap next (ap next a)))
+    e ∙ (ap next d ∙ (ap next (ap next c)
+    ∙ (ap next (ap next (ap next b)) ∙ (ap next (ap next (ap next (ap next a)))
     ∙ ap (λ n. record before { labels = n }) (five_ones before.labels)))))
   where
     five_ones : (labels : ℕ) → labels + 1 + 1 + 1 + 1 + 1 ≡ labels + 5
@@ -431,22 +465,31 @@ items_of_divide :
     → sixth ≡ before.labels + 5
     → seventh ≡ before.labels + 6
     → divide_with first second third fourth fifth sixth seventh ≡ listing Divide before.labels
-items_of_divide before first second third fourth fifth sixth seventh is_first is_second is_third is_fourth is_fifth is_sixth is_seventh =
+items_of_divide before first second third fourth fifth sixth seventh is_first is_second is_third is_fourth
+    is_fifth is_sixth is_seventh =
     ap (λ n. divide_with n second third fourth fifth sixth seventh) is_first
     ∙ (ap (λ n. divide_with before.labels n third fourth fifth sixth seventh) is_second
     ∙ (ap (λ n. divide_with before.labels (before.labels + 1) n fourth fifth sixth seventh) is_third
-    ∙ (ap (λ n. divide_with before.labels (before.labels + 1) (before.labels + 2) n fifth sixth seventh) is_fourth
-    ∙ (ap (λ n. divide_with before.labels (before.labels + 1) (before.labels + 2) (before.labels + 3) n sixth seventh) is_fifth
-    ∙ (ap (λ n. divide_with before.labels (before.labels + 1) (before.labels + 2) (before.labels + 3) (before.labels + 4) n seventh) is_sixth
-    ∙ (ap (λ n. divide_with before.labels (before.labels + 1) (before.labels + 2) (before.labels + 3) (before.labels + 4) (before.labels + 5) n) is_seventh))))))
+    ∙ (ap (λ n. divide_with before.labels (before.labels + 1) (before.labels + 2) n fifth sixth seventh)
+    is_fourth
+    ∙ (ap (λ n. divide_with before.labels (before.labels + 1) (before.labels + 2) (before.labels + 3) n
+    sixth seventh) is_fifth
+    ∙ (ap (λ n. divide_with before.labels (before.labels + 1) (before.labels + 2) (before.labels + 3)
+    (before.labels + 4) n seventh) is_sixth
+    ∙ (ap (λ n. divide_with before.labels (before.labels + 1) (before.labels + 2) (before.labels + 3)
+    (before.labels + 4) (before.labels + 5) n) is_seventh))))))
 
 seven_labels : (labels : ℕ) → labels + 5 + 2 ≡ labels + 7
 seven_labels labels = omega arith
 
-pub sixth_label : (before with_five : Assembly) (label : ℕ) → with_five ≡ record before { labels = before.labels + 5 } → label ≡ with_five.labels → label ≡ before.labels + 5
+pub sixth_label : (before with_five : Assembly) (label : ℕ)
+    → with_five ≡ record before { labels = before.labels + 5 } → label ≡ with_five.labels
+    → label ≡ before.labels + 5
 sixth_label before with_five label five is = is ∙ ap (λ (a : Assembly). a.labels) five
 
-pub seventh_label : (before with_five : Assembly) (label : ℕ) → with_five ≡ record before { labels = before.labels + 5 } → label ≡ with_five.labels + 1 → label ≡ before.labels + 6
+pub seventh_label : (before with_five : Assembly) (label : ℕ)
+    → with_five ≡ record before { labels = before.labels + 5 } → label ≡ with_five.labels + 1
+    → label ≡ before.labels + 6
 seventh_label before with_five label five is =
     let same : with_five.labels ≡ before.labels + 5 = ap (λ (a : Assembly). a.labels) five in omega arith
 
@@ -476,7 +519,8 @@ pub eight_more :
     → eight ≡ record seven { labels = seven.labels + 1 }
     → eight ≡ record before { labels = before.labels + 8 }
 eight_more before with_five seven eight five two one =
-    one ∙ (ap (λ (a : Assembly). record a { labels = a.labels + 1 }) (with_seven before with_five seven five two)
+    one ∙ (ap (λ (a : Assembly). record a { labels = a.labels + 1 })
+    (with_seven before with_five seven five two)
     ∙ ap (λ n. record before { labels = n }) (one_more before.labels 7))
 
 pub fits_divide :
@@ -492,10 +536,13 @@ pub fits_divide :
     → seventh ≡ with_five.labels + 1
     → with_labels ≡ record with_five { labels = with_five.labels + 2 }
     → Fits with_labels (divide_with first second third fourth fifth sixth seventh)
-fits_divide before with_five with_labels first second third fourth fifth sixth seventh fresh is_first is_second is_third is_fourth is_fifth five is_sixth is_seventh two =
+fits_divide before with_five with_labels first second third fourth fifth sixth seventh fresh is_first
+    is_second is_third is_fourth is_fifth five is_sixth is_seventh two =
     subst (λ (items : List Item). Fits with_labels items)
-    (sym (items_of_divide before first second third fourth fifth sixth seventh is_first is_second is_third is_fourth is_fifth
-    (sixth_label before with_five sixth five is_sixth) (seventh_label before with_five seventh five is_seventh)))
+    (sym (items_of_divide before first second third fourth fifth sixth seventh is_first is_second
+    is_third is_fourth is_fifth
+    (sixth_label before with_five sixth five is_sixth)
+    (seventh_label before with_five seventh five is_seventh)))
     (fits Divide before with_labels (labels_of_divide before.labels) fresh (with_seven before with_five with_labels five two))
 
 pub done_divide :
@@ -511,9 +558,12 @@ pub done_divide :
     → with_labels ≡ record with_five { labels = with_five.labels + 2 }
     → after ≡ record with_labels { items = with_labels.items ++ divide_with first second third fourth fifth sixth seventh }
     → after ≡ with_routine Divide before
-done_divide before with_five with_labels after first second third fourth fifth sixth seventh is_first is_second is_third is_fourth is_fifth five is_sixth is_seventh two is =
+done_divide before with_five with_labels after first second third fourth fifth sixth seventh is_first
+    is_second is_third is_fourth is_fifth five is_sixth is_seventh two is =
     is
     ∙ (ap (λ (a : Assembly). record a { items = a.items ++ divide_with first second third fourth fifth sixth seventh }) (with_seven before with_five with_labels five two)
     ∙ ap (λ (items : List Item). record before { items = before.items ++ items; labels = before.labels + 7 })
-    (items_of_divide before first second third fourth fifth sixth seventh is_first is_second is_third is_fourth is_fifth
-    (sixth_label before with_five sixth five is_sixth) (seventh_label before with_five seventh five is_seventh)))
+    (items_of_divide before first second third fourth fifth sixth seventh is_first is_second
+    is_third is_fourth is_fifth
+    (sixth_label before with_five sixth five is_sixth)
+    (seventh_label before with_five seventh five is_seventh)))

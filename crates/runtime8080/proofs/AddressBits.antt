@@ -1,5 +1,5 @@
--- The arithmetic of the shifts of an ADDRESS: words of two bytes, their halves and quarters, and the 24 bits of A, H
--- and L doubled.
+-- The arithmetic of the shifts of an ADDRESS: words of two bytes, their halves and quarters, and the 24 bits
+-- of A, H and L doubled.
 use Rattle.runtime8080.proofs.Prelude.{◌≡◌, ℕ, suc, ◌+◌, ◌*◌, ◌/◌, ◌%◌, ◌^◌, ◌<◌, ◌≤◌, ◌==◌, Bool, true, false, not, nat_le, refl, sym, ap, ◌∙◌, arith, pow-add, bit_and, bit_xor, xor_assoc, xor_self, xor_zero_l, xor_zero_r, ones, div-div-eq-div-mul, div-eq_of_lt, mod-eq_of_lt, mul-div-mul_right, pow-le-pow_right, pow-suc, mul-mod_first, pow_pos, xor_mod, xor_of_8, xor_shr, leb-false, leb-true, bit, has_even_parity, word}
 use Rattle.runtime8080.proofs.Bits.{equal_below, turn_right}
 use Rattle.runtime8080.proofs.Numbers.{product_at_most}
@@ -41,8 +41,8 @@ pub half_small : (n : ℕ) (carry : Bool) → n < 256 → n / 2 + 128 * bit carr
 half_small n true small = omega arith
 half_small n false small = omega arith
 
--- the quarter of a word: A has the upper six bits of the low byte and the lower two of the high one, and is turned
--- twice
+-- the quarter of a word: A has the upper six bits of the low byte and the lower two of the high one, and is
+-- turned twice
 abbrev pub joined : (h l : ℕ) → ℕ
 joined h l = bit_xor (bit_and (bit_xor l h) 252) h
 
@@ -103,14 +103,16 @@ pub quarter_low_small : (h l : ℕ) → h < 256 → l < 256 → turn_right (turn
 quarter_low_small h l small_h small_l = let is = quarter_low h l small_h small_l in omega arith
 
 -- 24 bits doubled: those of a byte above a word
-pub not_doubled : (a h l : ℕ) → a < 256 → h < 256 → l < 256 → 65536 * a + word h l ≡ ((65536 * a + word h l) * 1) % 16777216
+pub not_doubled : (a h l : ℕ) → a < 256 → h < 256 → l < 256
+    → 65536 * a + word h l ≡ ((65536 * a + word h l) * 1) % 16777216
 not_doubled a h l small_a small_h small_l = omega arith
 
 pub turned_small : (a : ℕ) (carry : Bool) → a < 256 → a * 2 % 256 + bit carry < 256
 turned_small a true h = omega arith
 turned_small a false h = omega arith
 
-pub turned : (a x : ℕ) (carry : Bool) → nat_le 65536 (x + x) ≡ carry → a < 256 → x < 65536 → 65536 * (a * 2 % 256 + bit carry) + (x + x) % 65536 ≡ (65536 * a + x + (65536 * a + x)) % 16777216
+pub turned : (a x : ℕ) (carry : Bool) → nat_le 65536 (x + x) ≡ carry → a < 256 → x < 65536
+    → 65536 * (a * 2 % 256 + bit carry) + (x + x) % 65536 ≡ (65536 * a + x + (65536 * a + x)) % 16777216
 turned a x true h small_a small_x = let large : 65536 ≤ x + x = leb-true 65536 (x + x) h in omega arith
 turned a x false h small_a small_x = let less : x + x < 65536 = leb-false 65536 (x + x) h in omega arith
 
@@ -131,7 +133,8 @@ below_limit x k small few =
 not_cut : (x k : ℕ) → x < 65536 → k ≤ 8 → (x * 2 ^ k) % 16777216 ≡ x * 2 ^ k
 not_cut x k small few = mod-eq_of_lt (below_limit x k small few)
 
--- bits doubled so often that 8 are missing by a count, without the lowest byte, are those moved to the right by it
+-- bits doubled so often that 8 are missing by a count, without the lowest byte, are those moved to the right
+-- by it
 to_the_right : (x n k : ℕ) → n + k ≡ 8 → x * 2 ^ k / 256 ≡ x / 2 ^ n
 to_the_right x n k h =
     ap (λ m. x * 2 ^ k / m) (ap (λ m. 2 ^ m) (sym h) ∙ pow-add 2 n k)

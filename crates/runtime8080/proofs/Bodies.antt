@@ -48,7 +48,8 @@ bytes_where r sp pc h =
 pub bytes_with_sp : (r : Registers) (sp : ℕ) → HoldBytes r → HoldBytes (record r { sp = sp })
 bytes_with_sp r sp h = record { a = h.a; b = h.b; c = h.c; d = h.d; e = h.e; h = h.h; l = h.l }
 
-pub in_spare : (level address : ℕ) → CALL_BYTES ≤ level → level ≤ MEMORY_SIZE → level - 2 ≤ address → address < level → IsIn address (below level CALL_BYTES)
+pub in_spare : (level address : ℕ) → CALL_BYTES ≤ level → level ≤ MEMORY_SIZE → level - 2 ≤ address
+    → address < level → IsIn address (below level CALL_BYTES)
 in_spare level address room limit low high = (omega arith, omega arith)
 
 -- the code is apart from the return address
@@ -106,10 +107,13 @@ has_returned :
     → memory ≡ pushed level (wrap (s.registers.pc + 3)) s.memory
     → (body : Body script routine from (record s.registers { sp = level - 2 }) memory s.events)
     → HasReturned routine level s
-    (at (wrap (s.registers.pc + 3)) (record body.after { sp = wrap level }) (pushed level (wrap (s.registers.pc + 3)) s.memory) s.events)
+    (at (wrap (s.registers.pc + 3)) (record body.after { sp = wrap level })
+    (pushed level (wrap (s.registers.pc + 3)) s.memory) s.events)
 has_returned script routine from to level s memory may quiet same body =
     let word = wrap (s.registers.pc + 3) in
-    let outer = length-set (slice_set s.memory (level - 1) (high_byte word)) (level - 2) (Rattle.isa8080.specs.State.low_byte word) in
+    let outer =
+    length-set (slice_set s.memory (level - 1) (high_byte word)) (level - 2)
+    (Rattle.isa8080.specs.State.low_byte word) in
     let inner = length-set s.memory (level - 1) (high_byte word) in
     record {
       running = refl;
@@ -120,7 +124,9 @@ has_returned script routine from to level s memory may quiet same body =
       computes = computes_where routine s.registers body.after (level - 2) (wrap level) word body.computes;
       leaves = leaves_where routine s.registers body.after (level - 2) (wrap level) word body.leaves;
       memory_is = pushed_is_memory level word s.memory (wrapped_small (s.registers.pc + 3)) may.memory;
-      memory = subst (λ (m : List ℕ). Keeps (λ address. IsIn address (below level CALL_BYTES)) m (pushed level word s.memory))
+      memory =
+          subst (λ (m : List ℕ). Keeps (λ address. IsIn address (below level CALL_BYTES)) m
+          (pushed level word s.memory))
           (sym quiet)
           (record {
             size = outer ∙ inner;
@@ -147,9 +153,11 @@ returns_quietly script routine from to level s may quiet does =
       count = suc body.count;
       after = after;
       run =
-          step_then script body.count s (at from (record s.registers { sp = level - 2 }) memory s.events) after
+          step_then script body.count s (at from (record s.registers { sp = level - 2 }) memory s.events)
+          after
           (called script from level s may.running may.place may.stack (two_fit level may.room) may.call)
-          (sym (returned_is level word body.after memory s.events body.sp (two_fit level may.room) may.stack.limit
+          (sym (returned_is level word body.after memory s.events body.sp
+          (two_fit level may.room) may.stack.limit
           (pushed_is_pushed level word s.memory (two_fit level may.room) may.stack.limit may.memory.size))
           ∙ body.run);
       some_steps = omega arith;

@@ -62,10 +62,13 @@ shift_body script routine body f is layout first from to r memory events stands 
       count = steps_of head (suc (steps_below body r.e));
       after = after;
       run =
-          straight script layout head (rest body first) from to r memory events (suc (steps_below body r.e)) u refl stands (omega arith)
-          (jumps_where script (steps_below body r.e) Carry (wrap (layout.place_of first)) (past from head) top r1 memory events u more.0 (omega arith) below
+          straight script layout head (rest body first) from to r memory events (suc (steps_below body r.e)) u
+          refl stands (omega arith)
+          (jumps_where script (steps_below body r.e) Carry (wrap (layout.place_of first)) (past from head) top
+          r1 memory events u more.0 (omega arith) below
           (word_is (layout.place_of first) top more.1.1.1.0 (omega arith))
-          (loop_before script layout body first top to [] memory events is.touches is.changes.e loop (omega arith) more.1.1.1.0 r.e r1 refl (omega arith)));
+          (loop_before script layout body first top to [] memory events is.touches is.changes.e loop
+          (omega arith) more.1.1.1.0 r.e r1 refl (omega arith)));
       few = six_more (steps_below body r.e) (most_steps routine r) (is.most r r.e less);
       sp = changed.sp;
       bytes = changed_bytes r r1 after (times f r.e r.a) are changed refl refl refl refl refl;
@@ -85,8 +88,10 @@ shift_body script routine body f is layout first from to r memory events stands 
       after = after;
       run =
           straight script layout head (rest body first) from to r memory events 3 u refl stands (omega arith)
-          (goes_past script 2 Carry (wrap (layout.place_of first)) (past from head) r1 memory events u more.0 (omega arith) below
-          (straight script layout (Mvi (Of A) 0 ∷ []) (Plain Ret ∷ Mark first ∷ tested_before body first []) (past from head + 3) to r1 memory events 1 u refl more.1 (omega arith)
+          (goes_past script 2 Carry (wrap (layout.place_of first)) (past from head) r1 memory events u
+          more.0 (omega arith) below
+          (straight script layout (Mvi (Of A) 0 ∷ []) (Plain Ret ∷ Mark first ∷ tested_before body first [])
+          (past from head + 3) to r1 memory events 1 u refl more.1 (omega arith)
           (returns script (past from head + 3 + 2) after memory events more.1.1.0 (omega arith))));
       few = is.most_none r;
       sp = refl;
@@ -104,7 +109,8 @@ shifts :
 shifts routine body f is first quiet layout from to script level s limit stands may =
     returns_quietly script routine from to level s may (quiet s)
     (λ memory alike.
-    shift_body script routine body f is layout first from to (record s.registers { sp = level - 2 }) memory s.events
+    shift_body script routine body f is layout first from to
+    (record s.registers { sp = level - 2 }) memory s.events
     (stands_still layout s.memory memory (plain head (rest body first)) from to limit alike stands) limit
     (bytes_with_sp s.registers (level - 2) may.registers) (nat_lt (s.registers.e + 247 + 1) 256) refl)
 

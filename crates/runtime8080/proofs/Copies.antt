@@ -16,7 +16,8 @@ next_wrapped start k = omega arith
 
 -- the others
 pub others_missed :
-    (count start : ℕ) (range : Range) → BlockMisses (suc count) start range → BlockMisses count (start + 1) range
+    (count start : ℕ) (range : Range) → BlockMisses (suc count) start range
+    → BlockMisses count (start + 1) range
 others_missed count start range misses address block inside =
     misses address (suc block.0, omega (arith, block.1), block.2 ∙ next_wrapped start block.0) inside
 
@@ -60,7 +61,8 @@ put_both :
     → DifferIn range (slice_set memory place value) (slice_set other place value')
 put_both range memory other place value value' fits fits' differ same address out = go (address == place) refl
   where
-    go : (test : Bool) → (address == place) ≡ test → byte_at (slice_set other place value') address ≡ byte_at (slice_set memory place value) address
+    go : (test : Bool) → (address == place) ≡ test
+        → byte_at (slice_set other place value') address ≡ byte_at (slice_set memory place value) address
     go true h =
         let e = eqb-true address place h in
         ap (byte_at (slice_set other place value')) e

@@ -39,10 +39,12 @@ not_both : (right : ℕ) → (right == 0) ≡ false → right ≡ 0 → ⊥
 not_both right e z = let bad : true ≡ false = sym (eq-eqb right 0 z) ∙ e in cc
 
 -- a quotient is given where the divisor is not 0
-given : (left right result : ℕ) → (if right == 0 then None else Some result) ≡ Some left → (right ≢ 0) × (result ≡ left)
+given : (left right result : ℕ) → (if right == 0 then None else Some result) ≡ Some left
+    → (right ≢ 0) × (result ≡ left)
 given left right result h = go (right == 0) refl h
   where
-    go : (test : Bool) → (right == 0) ≡ test → (if test then None else Some result) ≡ Some left → (right ≢ 0) × (result ≡ left)
+    go : (test : Bool) → (right == 0) ≡ test → (if test then None else Some result) ≡ Some left
+        → (right ≢ 0) × (result ≡ left)
     go true e h = let bad : None ≡ Some left = h in cc
     go false e h = ((λ z. not_both right e z), cc)
 
@@ -90,7 +92,8 @@ narrow_body script layout first from to r memory events stands limit are none =
     let top = from + 1 + 1 + 3 + 2 in
     let exit = top + 1 + 1 + 3 + 1 + 3 + 1 + 1 + 1 + 3 in
     let taken =
-    Narrow.takes_bits script layout first (first + 1) (first + 2) top to (after_narrow first) memory events more.1.1.1 limit (omega arith) more.1.1.0 15 r2 refl (omega arith)
+    Narrow.takes_bits script layout first (first + 1) (first + 2) top to (after_narrow first) memory events
+    more.1.1.1 limit (omega arith) more.1.1.0 15 r2 refl (omega arith)
     (or_small r.d are.d) are.e are.h are.l in
     let r3 = taken.after in
     let bits = taken.bits in
@@ -104,11 +107,16 @@ narrow_body script layout first from to r memory events stands limit are none =
       count = steps_of head (suc (suc (2 + taken.steps)));
       after = after;
       run =
-          straight script layout head (after_head first) from to r memory events (suc (suc (2 + taken.steps))) u refl stands (omega arith)
-          (goes_past script (suc (2 + taken.steps)) NotZero (wrap (layout.place_of (first + 3))) (from + 1 + 1) r1 memory events u more.0 (omega arith) (ap not none)
-          (straight script layout counting (Mark first ∷ narrow first (first + 1) (first + 2) (after_narrow first)) (from + 1 + 1 + 3) to r1 memory events (2 + taken.steps) u refl more.1 (omega arith)
+          straight script layout head (after_head first) from to r memory events (suc (suc (2 + taken.steps)))
+          u refl stands (omega arith)
+          (goes_past script (suc (2 + taken.steps)) NotZero (wrap (layout.place_of (first + 3)))
+          (from + 1 + 1) r1 memory events u more.0 (omega arith) (ap not none)
+          (straight script layout counting (Mark first
+          ∷ narrow first (first + 1) (first + 2) (after_narrow first)) (from + 1 + 1 + 3) to r1 memory
+          events (2 + taken.steps) u refl more.1 (omega arith)
           (comes_on script taken.steps 2 (at top r2 memory events) (at exit r3 memory events) u taken.run
-          (straight script layout (Mov E (Of A) ∷ []) (Plain Ret ∷ Mark (first + 3) ∷ wide_items first) exit to r3 memory events 1 u refl last (omega arith)
+          (straight script layout (Mov E (Of A) ∷ []) (Plain Ret ∷ Mark (first + 3) ∷ wide_items first) exit
+          to r3 memory events 1 u refl last (omega arith)
           (returns script (exit + 1) after memory events last.1.0 (omega arith))))));
       few = let count = taken.few in omega arith;
       sp = bits.sp;
@@ -129,7 +137,8 @@ narrow_body script layout first from to r memory events stands limit are none =
           let divided =
           sixteen_bits r.e r3.a (word r3.h r3.l) v (word_small r3.h r3.l bits.h bits.l)
           (bits.less less)
-          (subst (λ n. Quotient (r.e * 65536) 16 (65536 * n + v) (65536 * r3.a + word r3.h r3.l)) a (bits.divides less)) in
+          (subst (λ n. Quotient (r.e * 65536) 16 (65536 * n + v) (65536 * r3.a + word r3.h r3.l)) a
+          (bits.divides less)) in
           let divisor : word r.d r.e ≡ r.e = ap (λ n. word n r.e) d ∙ word_of_low r.e in
           let rest : word after.d after.e ≡ r3.a = ap (λ n. word n r3.a) bits.d ∙ word_of_low r3.a in
           (ap (λ n. v / n) divisor ∙ divided.0, ap (λ n. v % n) divisor ∙ (divided.1 ∙ sym rest)));
@@ -169,7 +178,8 @@ wide_body script layout first from to r memory events stands limit are some =
     let end = top + 1 + 1 + 1 + 1 + 3 + 1 + 1 + 1 + 1 + 1 + 3 + 1 + 1 + 1 + 1 + 1 + 1 + 3 in
     let items : Stands layout memory (wide_items first) place to = last.1.1.1 in
     let taken =
-    Wide.takes_bits script layout (first + 4) (first + 5) (first + 6) top to (plain settled (Plain Ret ∷ [])) memory events items.1.1.1.1.1 limit (omega arith) items.1.1.1.1.0 7 r2 refl (omega arith)
+    Wide.takes_bits script layout (first + 4) (first + 5) (first + 6) top to (plain settled (Plain Ret ∷ []))
+    memory events items.1.1.1.1.1 limit (omega arith) items.1.1.1.1.0 7 r2 refl (omega arith)
     (record {
       b = are.l;
       d = are.d;
@@ -190,12 +200,18 @@ wide_body script layout first from to r memory events stands limit are some =
       count = steps_of head (suc (steps_of setting (4 + taken.steps)));
       after = after;
       run =
-          straight script layout head (after_head first) from to r memory events (suc (steps_of setting (4 + taken.steps))) u refl stands (omega arith)
-          (jumps_where script (steps_of setting (4 + taken.steps)) NotZero (wrap (layout.place_of (first + 3))) (from + 1 + 1) place r1 memory events u more.0 (omega arith) (ap not some)
+          straight script layout head (after_head first) from to r memory events
+          (suc (steps_of setting (4 + taken.steps))) u refl stands (omega arith)
+          (jumps_where script (steps_of setting (4 + taken.steps)) NotZero
+          (wrap (layout.place_of (first + 3))) (from + 1 + 1) place r1 memory events u more.0
+          (omega arith) (ap not some)
           (word_is (layout.place_of (first + 3)) place last.1.1.0 (omega arith))
-          (straight script layout setting (Mark (first + 4) ∷ wide (first + 4) (first + 5) (first + 6) (plain settled (Plain Ret ∷ []))) place to r1 memory events (4 + taken.steps) u refl items (omega arith)
+          (straight script layout setting (Mark (first + 4)
+          ∷ wide (first + 4) (first + 5) (first + 6) (plain settled (Plain Ret ∷ []))) place to r1 memory
+          events (4 + taken.steps) u refl items (omega arith)
           (comes_on script taken.steps 4 (at top r2 memory events) (at end r3 memory events) u taken.run
-          (straight script layout settled (Plain Ret ∷ []) end to r3 memory events 1 u refl ending (omega arith)
+          (straight script layout settled (Plain Ret ∷ []) end to r3 memory events 1 u refl
+          ending (omega arith)
           (returns script (end + 1 + 1 + 2) after memory events ending.1.1.1.0 (omega arith))))));
       few = let count = taken.few in omega arith;
       sp = bits.sp;
@@ -213,7 +229,8 @@ wide_body script layout first from to r memory events stands limit are some =
           (λ other.
           let divided =
           eight_bits (word r.d r.e) (word r3.h r3.l) r3.b v bits.b bits.less
-          (subst (λ n. Quotient (word r.d r.e * 256) 8 n (256 * word r3.h r3.l + r3.b)) (both_bytes r.h r.l) bits.divides) in
+          (subst (λ n. Quotient (word r.d r.e * 256) 8 n (256 * word r3.h r3.l + r3.b))
+          (both_bytes r.h r.l) bits.divides) in
           (divided.0 ∙ byte_alone r3.b, divided.1));
       leaves = tt;
     }

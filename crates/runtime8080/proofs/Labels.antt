@@ -29,7 +29,8 @@ abbrev pub AllOwn : (first past : ℕ) → List Item → Type 0
 AllOwn first past [] = Unit {0}
 AllOwn first past (item ∷ others) = HasOwnLabels first past item × AllOwn first past others
 
-pub all_own : (first past : ℕ) (items : List Item) → AllOwn first past items → All (HasOwnLabels first past) items
+pub all_own : (first past : ℕ) (items : List Item) → AllOwn first past items
+    → All (HasOwnLabels first past) items
 all_own first past [] own = All-nil (HasOwnLabels first past)
 all_own first past (item ∷ others) own =
     All-cons (HasOwnLabels first past) item others own.0 (all_own first past others own.1)
@@ -87,27 +88,32 @@ fit_items labels items (Mark label ∷ others) known differ none = (
 fit_items labels items (Plain i ∷ others) known differ none = (
   known.0,
   (λ label m. no_mark label items m),
-  fit_items labels (items ++ Plain i ∷ []) others known.1 differ (still_none items (Plain i) (bound_by others) (λ label. refl) none),
+  fit_items labels (items ++ Plain i ∷ []) others known.1 differ
+      (still_none items (Plain i) (bound_by others) (λ label. refl) none),
 )
 fit_items labels items (WithWord form reference ∷ others) known differ none = (
   known.0,
   (λ label m. no_mark label items m),
-  fit_items labels (items ++ WithWord form reference ∷ []) others known.1 differ (still_none items (WithWord form reference) (bound_by others) (λ label. refl) none),
+  fit_items labels (items ++ WithWord form reference ∷ []) others known.1 differ
+      (still_none items (WithWord form reference) (bound_by others) (λ label. refl) none),
 )
 fit_items labels items (Byte value ∷ others) known differ none = (
   known.0,
   (λ label m. no_mark label items m),
-  fit_items labels (items ++ Byte value ∷ []) others known.1 differ (still_none items (Byte value) (bound_by others) (λ label. refl) none),
+  fit_items labels (items ++ Byte value ∷ []) others known.1 differ
+      (still_none items (Byte value) (bound_by others) (λ label. refl) none),
 )
 fit_items labels items (Address reference ∷ others) known differ none = (
   known.0,
   (λ label m. no_mark label items m),
-  fit_items labels (items ++ Address reference ∷ []) others known.1 differ (still_none items (Address reference) (bound_by others) (λ label. refl) none),
+  fit_items labels (items ++ Address reference ∷ []) others known.1 differ
+      (still_none items (Address reference) (bound_by others) (λ label. refl) none),
 )
 fit_items labels items (Gap count ∷ others) known differ none = (
   known.0,
   (λ label m. no_mark label items m),
-  fit_items labels (items ++ Gap count ∷ []) others known.1 differ (still_none items (Gap count) (bound_by others) (λ label. refl) none),
+  fit_items labels (items ++ Gap count ∷ []) others known.1 differ
+      (still_none items (Gap count) (bound_by others) (λ label. refl) none),
 )
 
 -- a label that differs from those that are bound is not bound

@@ -118,10 +118,13 @@ shift_body script layout first from to r memory events stands limit are true bel
       count = steps_of head (suc (steps_below twice r.a));
       after = after;
       run =
-          straight script layout head (rest first) from to r memory events (suc (steps_below twice r.a)) u refl stands (omega arith)
-          (jumps_where script (steps_below twice r.a) Carry (wrap (layout.place_of first)) (past from head) top r1 memory events u more.0 (omega arith) below
+          straight script layout head (rest first) from to r memory events (suc (steps_below twice r.a)) u
+          refl stands (omega arith)
+          (jumps_where script (steps_below twice r.a) Carry (wrap (layout.place_of first)) (past from head)
+          top r1 memory events u more.0 (omega arith) below
           (word_is (layout.place_of first) top more.1.1.1.0 (omega arith))
-          (loop_before script layout twice first top to [] memory events refl (λ r. refl) loop (omega arith) more.1.1.1.0 r.a r1 refl (omega arith)));
+          (loop_before script layout twice first top to [] memory events refl (λ r. refl) loop (omega arith)
+          more.1.1.1.0 r.a r1 refl (omega arith)));
       few = few (steps_below twice r.a) r.a (steps_is r.a) less;
       sp = changed.sp;
       bytes = record {
@@ -149,8 +152,10 @@ shift_body script layout first from to r memory events stands limit are false be
       after = after;
       run =
           straight script layout head (rest first) from to r memory events 3 u refl stands (omega arith)
-          (goes_past script 2 Carry (wrap (layout.place_of first)) (past from head) r1 memory events u more.0 (omega arith) below
-          (straight script layout (Lxi Hl 0 ∷ []) (Plain Ret ∷ Mark first ∷ tested_before twice first []) (past from head + 3) to r1 memory events 1 u refl more.1 (omega arith)
+          (goes_past script 2 Carry (wrap (layout.place_of first)) (past from head) r1 memory events u
+          more.0 (omega arith) below
+          (straight script layout (Lxi Hl 0 ∷ []) (Plain Ret ∷ Mark first ∷ tested_before twice first [])
+          (past from head + 3) to r1 memory events 1 u refl more.1 (omega arith)
           (returns script (past from head + 3 + 3) after memory events more.1.1.0 (omega arith))));
       few = omega arith;
       sp = refl;

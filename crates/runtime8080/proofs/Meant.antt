@@ -44,7 +44,8 @@ move_copies program (suc count) source destination before after h =
   where
     next : State
     next = record before {
-      memory = slice_set before.memory (destination % MEMORY_SIZE) (byte_at before.memory (source % MEMORY_SIZE));
+      memory =
+          slice_set before.memory (destination % MEMORY_SIZE) (byte_at before.memory (source % MEMORY_SIZE));
     }
 
     step : (readable declared constant : Bool) → Outcome (Unit {0})
@@ -78,5 +79,6 @@ move_copies program (suc count) source destination before after h =
           variable = in_block (is_constant program) false count destination varies rest.variable;
         }
     go true true true reads declares varies given later = let bad : false ≡ true = ap is_given given in cc
-    go true false constant reads declares varies given later = let bad : false ≡ true = ap is_given given in cc
+    go true false constant reads declares varies given later =
+        let bad : false ≡ true = ap is_given given in cc
     go false declared constant reads declares varies given later = let bad : false ≡ true = ap is_given given in cc

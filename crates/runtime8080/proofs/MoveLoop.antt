@@ -61,11 +61,13 @@ next_bytes r memory is are = record {
     low_small n = omega arith
 
 -- the address in a pair counts on
-counts_on : (high low place : ℕ) → word high low ≡ wrap place → word (wrap (word high low + 1) / 256) (wrap (word high low + 1) % 256) ≡ wrap (place + 1)
+counts_on : (high low place : ℕ) → word high low ≡ wrap place
+    → word (wrap (word high low + 1) / 256) (wrap (word high low + 1) % 256) ≡ wrap (place + 1)
 counts_on high low place h =
     word_of_halves (wrap (word high low + 1)) ∙ (ap (λ n. wrap (n + 1)) h ∙ wrapped_next place)
 
-is_in : (start to address : ℕ) → start ≤ address → address < to → IsIn address (record { start = start; len = to - start })
+is_in : (start to address : ℕ) → start ≤ address → address < to
+    → IsIn address (record { start = start; len = to - start })
 is_in start to address low high = (omega arith, omega arith)
 
 -- the code stands once the byte is put
@@ -95,9 +97,12 @@ copies_one :
     → Comes script (suc (suc (suc (suc (suc k))))) (at top r memory events) u
 copies_one script layout first top to r memory events k u limit before stands more =
     let size = stands_size layout memory (one_byte first) top to before in
-    runs_from_instruction script (suc (suc (suc (suc k)))) (Ldax IndexDe) top r memory events u before.0 (omega arith)
-    (runs_from_instruction script (suc (suc (suc k))) (MovToMemory A) (top + 1) (loaded r memory) memory events u before.1.0 (omega arith)
-    (straight script layout forward (after_byte first) (top + 1 + 1) to (loaded r memory) (put r memory) events k u refl stands.1.1 (omega arith) more))
+    runs_from_instruction script (suc (suc (suc (suc k)))) (Ldax IndexDe) top r memory events u
+    before.0 (omega arith)
+    (runs_from_instruction script (suc (suc (suc k))) (MovToMemory A) (top + 1) (loaded r memory) memory
+    events u before.1.0 (omega arith)
+    (straight script layout forward (after_byte first) (top + 1 + 1) to (loaded r memory) (put r memory)
+    events k u refl stands.1.1 (omega arith) more))
 
 byte_of : (n c : ℕ) → c ≡ suc n % 256 → n < 256 → (c + 254 + 1) % 256 ≡ n
 byte_of n c h small = omega arith
@@ -112,10 +117,13 @@ same_copies :
     (count source destination : ℕ) (r : Registers) (memory : List ℕ)
     → word r.d r.e ≡ wrap source
     → word r.h r.l ≡ wrap destination
-    → copied count (source + 1) (destination + 1) (put r memory) ≡ copied (suc count) source destination memory
+    → copied count (source + 1) (destination + 1) (put r memory)
+    ≡ copied (suc count) source destination memory
 same_copies count source destination r memory de hl =
-    ap (λ n. copied count (source + 1) (destination + 1) (slice_set memory n (byte_at memory (word r.d r.e)))) hl
-    ∙ ap (λ n. copied count (source + 1) (destination + 1) (slice_set memory (wrap destination) (byte_at memory n))) de
+    ap (λ n. copied count (source + 1) (destination + 1) (slice_set memory n (byte_at memory (word r.d r.e))))
+    hl
+    ∙ ap (λ n. copied count (source + 1) (destination + 1)
+    (slice_set memory (wrap destination) (byte_at memory n))) de
 
 none : (page left : ℕ) → 0 ≡ 256 * page + left → page ≡ 0
 none page left h = omega arith
@@ -146,7 +154,8 @@ last_byte :
     → to ≤ MEMORY_SIZE
     → (page left : ℕ)
     → Loop script layout first top to events zero page left
-last_byte script layout first top to events limit page left source destination r memory all few_pages few_left b c de hl is are misses stands =
+last_byte script layout first top to events limit page left source destination r memory all few_pages few_left
+    b c de hl is are misses stands =
     let still = code_stands layout first top to r memory 0 destination limit hl misses stands in
     let size = stands_size layout memory (one_byte first) top to stands in
     let r1 = next r memory in
@@ -161,10 +170,14 @@ last_byte script layout first top to events limit page left source destination r
       after = r2;
       run =
           copies_one script layout first top to r memory events 4 u limit stands still
-          (goes_past script 3 NotZero (wrap (layout.place_of first)) place r1 m1 events u still.1.1.1.1.1.0 (omega arith)
+          (goes_past script 3 NotZero (wrap (layout.place_of first)) place r1 m1 events u
+          still.1.1.1.1.1.0 (omega arith)
           (is_zero ((r.c + 254 + 1) % 256) (byte_of left r.c c few_left ∙ none_left page left all))
-          (straight script layout (Dcr (Of B) ∷ []) (WithWord (JumpWhere NotZero) (AtLabel first) ∷ Plain Ret ∷ whole first) (place + 3) to r1 m1 events 2 u refl still.1.1.1.1.1.1 (omega arith)
-          (goes_past script 1 NotZero (wrap (layout.place_of first)) (place + 3 + 1) r2 m1 events u still.1.1.1.1.1.1.1.0 (omega arith)
+          (straight script layout (Dcr (Of B) ∷ [])
+          (WithWord (JumpWhere NotZero) (AtLabel first) ∷ Plain Ret ∷ whole first) (place + 3) to r1 m1
+          events 2 u refl still.1.1.1.1.1.1 (omega arith)
+          (goes_past script 1 NotZero (wrap (layout.place_of first)) (place + 3 + 1) r2 m1 events u
+          still.1.1.1.1.1.1.1.0 (omega arith)
           (is_zero ((r.b + 254 + 1) % 256) (byte_of page r.b b few_pages ∙ none page left all))
           (ap (λ m. returned r2 m events) (sym same)
           ∙ returns script (place + 3 + 1 + 3) r2 m1 events still.1.1.1.1.1.1.1.1.0 (omega arith)))));
@@ -173,10 +186,12 @@ last_byte script layout first top to events limit page left source destination r
       sp = refl;
     }
 
-few_more : (steps count page : ℕ) → steps ≤ 6 * suc count + 2 * page + 3 → suc (suc (suc (suc (suc (suc steps))))) ≤ 6 * suc (suc count) + 2 * page + 3
+few_more : (steps count page : ℕ) → steps ≤ 6 * suc count + 2 * page + 3
+    → suc (suc (suc (suc (suc (suc steps))))) ≤ 6 * suc (suc count) + 2 * page + 3
 few_more steps count page h = omega arith
 
-few_more_page : (steps count page : ℕ) → steps ≤ 6 * suc count + 2 * page + 3 → suc (suc (suc (suc (suc (suc (suc (suc steps))))))) ≤ 6 * suc (suc count) + 2 * suc page + 3
+few_more_page : (steps count page : ℕ) → steps ≤ 6 * suc count + 2 * page + 3
+    → suc (suc (suc (suc (suc (suc (suc (suc steps))))))) ≤ 6 * suc (suc count) + 2 * suc page + 3
 few_more_page steps count page h = omega arith
 
 byte_same : (n : ℕ) → n < 255 → suc n ≡ suc n % 256
@@ -194,11 +209,15 @@ pub move_loop :
     → layout.place_of first ≡ top
     → (count page left : ℕ)
     → Loop script layout first top to events count page left
-move_loop script layout first top to events limit bound zero page left source destination r memory all few_pages few_left b c de hl is are misses stands =
-    last_byte script layout first top to events limit page left source destination r memory all few_pages few_left b c de hl is are misses stands
-move_loop script layout first top to events limit bound (suc count) zero zero source destination r memory all few_pages few_left b c de hl is are misses stands =
+move_loop script layout first top to events limit bound zero page left source destination r memory all
+    few_pages few_left b c de hl is are misses stands =
+    last_byte script layout first top to events limit page left source destination r memory all few_pages
+    few_left b c de hl is are misses stands
+move_loop script layout first top to events limit bound (suc count) zero zero source destination r memory all
+    few_pages few_left b c de hl is are misses stands =
     absurd (no_count count all)
-move_loop script layout first top to events limit bound (suc count) (suc page) zero source destination r memory all few_pages few_left b c de hl is are misses stands =
+move_loop script layout first top to events limit bound (suc count) (suc page) zero source destination r
+    memory all few_pages few_left b c de hl is are misses stands =
     let still = code_stands layout first top to r memory (suc count) destination limit hl misses stands in
     let size = stands_size layout memory (one_byte first) top to stands in
     let r1 = next r memory in
@@ -209,9 +228,11 @@ move_loop script layout first top to events limit bound (suc count) (suc page) z
     let counted = byte_of 0 r.c c few_left in
     let pages = byte_of (suc page) r.b b few_pages in
     let m1_is = memory_put memory (word r.h r.l) (byte_at memory (word r.d r.e)) is bytes.a in
-    let are2 : HoldBytes r2 = record { a = bytes.a; b = omega arith; c = bytes.c; d = bytes.d; e = bytes.e; h = bytes.h; l = bytes.l } in
+    let are2 : HoldBytes r2 =
+    record { a = bytes.a; b = omega arith; c = bytes.c; d = bytes.d; e = bytes.e; h = bytes.h; l = bytes.l } in
     let more =
-    move_loop script layout first top to events limit bound count page 255 (source + 1) (destination + 1) r2 m1
+    move_loop script layout first top to events limit bound count page 255 (source + 1)
+    (destination + 1) r2 m1
     (omega arith) (omega arith) (omega arith) (omega arith) (counted ∙ wraps_to_zero)
     (counts_on r.d r.e source de) (counts_on r.h r.l destination hl) m1_is are2
     (others_missed (suc count) destination (record { start = top; len = to - top }) misses) still in
@@ -220,19 +241,26 @@ move_loop script layout first top to events limit bound (suc count) (suc page) z
       steps = suc (suc (suc (suc (suc (suc (suc (suc more.steps)))))));
       after = more.after;
       run =
-          copies_one script layout first top to r memory events (suc (suc (suc more.steps))) u limit stands still
-          (goes_past script (suc (suc more.steps)) NotZero (wrap (layout.place_of first)) place r1 m1 events u still.1.1.1.1.1.0 (omega arith)
+          copies_one script layout first top to r memory events (suc (suc (suc more.steps)))
+          u limit stands still
+          (goes_past script (suc (suc more.steps)) NotZero (wrap (layout.place_of first)) place r1 m1 events u
+          still.1.1.1.1.1.0 (omega arith)
           (is_zero ((r.c + 254 + 1) % 256) counted)
-          (straight script layout (Dcr (Of B) ∷ []) (WithWord (JumpWhere NotZero) (AtLabel first) ∷ Plain Ret ∷ whole first) (place + 3) to r1 m1 events (suc more.steps) u refl still.1.1.1.1.1.1 (omega arith)
-          (jumps_where script more.steps NotZero (wrap (layout.place_of first)) (place + 3 + 1) top r2 m1 events u still.1.1.1.1.1.1.1.0 (omega arith)
+          (straight script layout (Dcr (Of B) ∷ [])
+          (WithWord (JumpWhere NotZero) (AtLabel first) ∷ Plain Ret ∷ whole first) (place + 3) to r1 m1
+          events (suc more.steps) u refl still.1.1.1.1.1.1 (omega arith)
+          (jumps_where script more.steps NotZero (wrap (layout.place_of first)) (place + 3 + 1) top r2 m1
+          events u still.1.1.1.1.1.1.1.0 (omega arith)
           (not_zero_not ((r.b + 254 + 1) % 256) page pages)
           (word_is (layout.place_of first) top bound (omega arith))
-          (ap (λ m. returned more.after m events) (sym (same_copies (suc count) source destination r memory de hl)) ∙ more.run))));
+          (ap (λ m. returned more.after m events)
+          (sym (same_copies (suc count) source destination r memory de hl)) ∙ more.run))));
       few = few_more_page more.steps count page more.few;
       bytes = more.bytes;
       sp = more.sp;
     }
-move_loop script layout first top to events limit bound (suc count) page (suc left) source destination r memory all few_pages few_left b c de hl is are misses stands =
+move_loop script layout first top to events limit bound (suc count) page (suc left) source destination r
+    memory all few_pages few_left b c de hl is are misses stands =
     let still = code_stands layout first top to r memory (suc count) destination limit hl misses stands in
     let size = stands_size layout memory (one_byte first) top to stands in
     let r1 = next r memory in
@@ -242,7 +270,8 @@ move_loop script layout first top to events limit bound (suc count) page (suc le
     let counted = byte_of (suc left) r.c c few_left in
     let m1_is = memory_put memory (word r.h r.l) (byte_at memory (word r.d r.e)) is bytes.a in
     let more =
-    move_loop script layout first top to events limit bound count page left (source + 1) (destination + 1) r1 m1
+    move_loop script layout first top to events limit bound count page left (source + 1)
+    (destination + 1) r1 m1
     (omega arith) few_pages (omega arith) b (counted ∙ byte_same left (omega arith))
     (counts_on r.d r.e source de) (counts_on r.h r.l destination hl) m1_is bytes
     (others_missed (suc count) destination (record { start = top; len = to - top }) misses) still in
@@ -252,10 +281,12 @@ move_loop script layout first top to events limit bound (suc count) page (suc le
       after = more.after;
       run =
           copies_one script layout first top to r memory events (suc more.steps) u limit stands still
-          (jumps_where script more.steps NotZero (wrap (layout.place_of first)) place top r1 m1 events u still.1.1.1.1.1.0 (omega arith)
+          (jumps_where script more.steps NotZero (wrap (layout.place_of first)) place top r1 m1 events u
+          still.1.1.1.1.1.0 (omega arith)
           (not_zero_not ((r.c + 254 + 1) % 256) left counted)
           (word_is (layout.place_of first) top bound (omega arith))
-          (ap (λ m. returned more.after m events) (sym (same_copies (suc count) source destination r memory de hl)) ∙ more.run));
+          (ap (λ m. returned more.after m events)
+          (sym (same_copies (suc count) source destination r memory de hl)) ∙ more.run));
       few = few_more more.steps count page more.few;
       bytes = more.bytes;
       sp = more.sp;

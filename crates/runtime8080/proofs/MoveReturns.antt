@@ -48,10 +48,12 @@ record Copied
   bytes : HoldBytes after
   sp : after.sp ≡ r.sp
 
-few_with_rest : (steps b left : ℕ) → steps ≤ 6 * suc (256 * b + left) + 2 * b + 3 → suc (suc (suc (suc (suc steps)))) ≤ 8 + 7 * word b (suc left)
+few_with_rest : (steps b left : ℕ) → steps ≤ 6 * suc (256 * b + left) + 2 * b + 3
+    → suc (suc (suc (suc (suc steps)))) ≤ 8 + 7 * word b (suc left)
 few_with_rest steps b left h = omega arith
 
-few_whole : (steps b : ℕ) → steps ≤ 6 * suc (256 * b + 255) + 2 * b + 3 → suc (suc (suc (suc (suc (suc (suc steps)))))) ≤ 8 + 7 * word (suc b) 0
+few_whole : (steps b : ℕ) → steps ≤ 6 * suc (256 * b + 255) + 2 * b + 3
+    → suc (suc (suc (suc (suc (suc (suc steps)))))) ≤ 8 + 7 * word (suc b) 0
 few_whole steps b h = omega arith
 
 count_with_rest : (b left : ℕ) → word b (suc left) ≡ suc (256 * b + left)
@@ -88,21 +90,27 @@ with_rest script layout first from to memory events r left c limit bound stands 
     let hl = word r.h r.l in
     let de = word r.d r.e in
     let count : word r.b r.c ≡ suc (256 * r.b + left) = ap (word r.b) c ∙ count_with_rest r.b left in
-    let are2 : HoldBytes r2 = record { a = are.a; b = omega arith; c = omega arith; d = are.d; e = are.e; h = are.h; l = are.l } in
+    let are2 : HoldBytes r2 =
+    record { a = are.a; b = omega arith; c = omega arith; d = are.d; e = are.e; h = are.h; l = are.l } in
     let moved =
     move_loop script layout first top to events limit bound (256 * r.b + left) r.b left de hl r2 memory
     refl are.b (omega arith) (next_byte r.b) (same ∙ omega arith)
-    (equals_wrapped de (word_in_memory r.d r.e are.d are.e)) (equals_wrapped hl (word_in_memory r.h r.l are.h are.l)) is are2
-    (narrowed (word r.b r.c) (suc (256 * r.b + left)) hl from top to count (omega arith) (omega arith) misses) more.1.1.1 in
+    (equals_wrapped de (word_in_memory r.d r.e are.d are.e))
+    (equals_wrapped hl (word_in_memory r.h r.l are.h are.l)) is are2
+    (narrowed (word r.b r.c) (suc (256 * r.b + left)) hl from top to count (omega arith) (omega arith) misses)
+    more.1.1.1 in
     let u = returned moved.after (copied (word r.b r.c) de hl memory) events in
     record {
       steps = suc (suc (suc (suc moved.steps)));
       after = moved.after;
       run =
-          straight script layout testing (entered first) from to r memory events (suc (suc moved.steps)) u refl stands (omega arith)
-          (goes_past script (suc moved.steps) Zero (wrap (layout.place_of (first + 1))) (from + 1 + 1) r1 memory events u more.0 (omega arith)
+          straight script layout testing (entered first) from to r memory events (suc (suc moved.steps)) u
+          refl stands (omega arith)
+          (goes_past script (suc moved.steps) Zero (wrap (layout.place_of (first + 1))) (from + 1 + 1) r1
+          memory events u more.0 (omega arith)
           (not_zero (((r.c + 1) % 256 + 254 + 1) % 256) left (same ∙ c))
-          (straight script layout (Inr (Of B) ∷ []) (Mark first ∷ one_byte first) (from + 1 + 1 + 3) to r1 memory events moved.steps u refl more.1 (omega arith)
+          (straight script layout (Inr (Of B) ∷ []) (Mark first ∷ one_byte first) (from + 1 + 1 + 3) to r1
+          memory events moved.steps u refl more.1 (omega arith)
           (ap (λ n. returned moved.after (copied n de hl memory) events) count ∙ moved.run)));
       few = subst (λ n. suc (suc (suc (suc (suc moved.steps)))) ≤ 8 + 7 * word r.b n) (sym c)
           (few_with_rest moved.steps r.b left moved.few);
@@ -129,24 +137,32 @@ with_pages script layout first from to memory events r page c b limit bound stan
     let same_b = byte_again r.b are.b in
     let hl = word r.h r.l in
     let de = word r.d r.e in
-    let count : word r.b r.c ≡ suc (256 * page + 255) = ap (word r.b) c ∙ (ap (λ n. word n 0) b ∙ count_whole page) in
-    let are2 : HoldBytes r2 = record { a = are.a; b = omega arith; c = omega arith; d = are.d; e = are.e; h = are.h; l = are.l } in
+    let count : word r.b r.c ≡ suc (256 * page + 255) =
+    ap (word r.b) c ∙ (ap (λ n. word n 0) b ∙ count_whole page) in
+    let are2 : HoldBytes r2 =
+    record { a = are.a; b = omega arith; c = omega arith; d = are.d; e = are.e; h = are.h; l = are.l } in
     let moved =
     move_loop script layout first top to events limit bound (256 * page + 255) page 255 de hl r2 memory
     refl (omega arith) (omega arith) (same_b ∙ omega arith) (same ∙ omega arith)
-    (equals_wrapped de (word_in_memory r.d r.e are.d are.e)) (equals_wrapped hl (word_in_memory r.h r.l are.h are.l)) is are2
-    (narrowed (word r.b r.c) (suc (256 * page + 255)) hl from top to count (omega arith) (omega arith) misses) more.1.1.1 in
+    (equals_wrapped de (word_in_memory r.d r.e are.d are.e))
+    (equals_wrapped hl (word_in_memory r.h r.l are.h are.l)) is are2
+    (narrowed (word r.b r.c) (suc (256 * page + 255)) hl from top to count (omega arith) (omega arith) misses)
+    more.1.1.1 in
     let u = returned moved.after (copied (word r.b r.c) de hl memory) events in
     record {
       steps = suc (suc (suc (suc (suc (suc moved.steps)))));
       after = moved.after;
       run =
-          straight script layout testing (entered first) from to r memory events (suc (suc (suc (suc moved.steps)))) u refl stands (omega arith)
-          (jumps_where script (suc (suc (suc moved.steps))) Zero (wrap (layout.place_of (first + 1))) (from + 1 + 1) place r1 memory events u more.0 (omega arith)
+          straight script layout testing (entered first) from to r memory events
+          (suc (suc (suc (suc moved.steps)))) u refl stands (omega arith)
+          (jumps_where script (suc (suc (suc moved.steps))) Zero (wrap (layout.place_of (first + 1)))
+          (from + 1 + 1) place r1 memory events u more.0 (omega arith)
           (eq-eqb (((r.c + 1) % 256 + 254 + 1) % 256) 0 (same ∙ c))
           (word_is (layout.place_of (first + 1)) place last.0 (omega arith))
-          (straight script layout pages (WithWord (JumpWhere NotZero) (AtLabel first) ∷ Plain Ret ∷ []) place to r1 memory events (suc moved.steps) u refl last.1 (omega arith)
-          (jumps_where script moved.steps NotZero (wrap (layout.place_of first)) (place + 1 + 1) top r2 memory events u last.1.1.1.0 (omega arith)
+          (straight script layout pages (WithWord (JumpWhere NotZero) (AtLabel first) ∷ Plain Ret ∷ []) place
+          to r1 memory events (suc moved.steps) u refl last.1 (omega arith)
+          (jumps_where script moved.steps NotZero (wrap (layout.place_of first)) (place + 1 + 1) top r2 memory
+          events u last.1.1.1.0 (omega arith)
           (ap not (not_zero (((r.b + 1) % 256 + 254 + 1) % 256) page (same_b ∙ b)))
           (word_is (layout.place_of first) top bound (omega arith))
           (ap (λ n. returned moved.after (copied n de hl memory) events) count ∙ moved.run))));
@@ -183,11 +199,14 @@ with_none script layout first from to memory events r c b limit bound stands is 
       after = r2;
       run =
           straight script layout testing (entered first) from to r memory events 5 u refl stands (omega arith)
-          (jumps_where script 4 Zero (wrap (layout.place_of (first + 1))) (from + 1 + 1) place r1 memory events u more.0 (omega arith)
+          (jumps_where script 4 Zero (wrap (layout.place_of (first + 1))) (from + 1 + 1) place r1 memory
+          events u more.0 (omega arith)
           (eq-eqb (((r.c + 1) % 256 + 254 + 1) % 256) 0 (same ∙ c))
           (word_is (layout.place_of (first + 1)) place last.0 (omega arith))
-          (straight script layout pages (WithWord (JumpWhere NotZero) (AtLabel first) ∷ Plain Ret ∷ []) place to r1 memory events 2 u refl last.1 (omega arith)
-          (goes_past script 1 NotZero (wrap (layout.place_of first)) (place + 1 + 1) r2 memory events u last.1.1.1.0 (omega arith)
+          (straight script layout pages (WithWord (JumpWhere NotZero) (AtLabel first) ∷ Plain Ret ∷ []) place
+          to r1 memory events 2 u refl last.1 (omega arith)
+          (goes_past script 1 NotZero (wrap (layout.place_of first)) (place + 1 + 1) r2 memory events u
+          last.1.1.1.0 (omega arith)
           (ap not (eq-eqb (((r.b + 1) % 256 + 254 + 1) % 256) 0 (same_b ∙ b)))
           (ap (λ n. returned r2 (copied n de hl memory) events) count
           ∙ returns script (place + 1 + 1 + 3) r2 memory events last.1.1.1.1.0 (omega arith)))));
@@ -244,7 +263,8 @@ moves_bytes first layout from to script level s limit stands may =
     let still = stands_still layout s.memory memory (move_bytes first) from to limit
     (code_stays routines.Move from to level there s may) stands in
     let done =
-    copies script layout first from to memory s.events (record r { sp = level - 2 }) r.c r.b refl refl limit still.1.1.1.1.0 still memory_is
+    copies script layout first from to memory s.events (record r { sp = level - 2 }) r.c r.b refl refl limit
+    still.1.1.1.1.0 still memory_is
     (bytes_with_sp r (level - 2) may.registers) may.copy_misses_code in
     let after = at there (record done.after { sp = wrap level }) left s.events in
     let on_top =
@@ -257,7 +277,8 @@ moves_bytes first layout from to script level s limit stands may =
       run =
           step_then script done.steps s (at from (record r { sp = level - 2 }) memory s.events) after
           (called script from level s may.running may.place may.stack two may.call)
-          (sym (returned_is level there done.after left s.events done.sp two may.stack.limit on_top) ∙ done.run);
+          (sym (returned_is level there done.after left s.events done.sp two may.stack.limit on_top)
+          ∙ done.run);
       some_steps = omega arith;
       few_steps = done.few;
       returned = record {
@@ -271,7 +292,8 @@ moves_bytes first layout from to script level s limit stands may =
         memory_is = copied_is_memory count source destination memory memory_is;
         memory = record {
           size = copied_size count source destination s.memory memory may.memory memory_is;
-          bytes = copied_differ (below level CALL_BYTES) count source destination s.memory memory may.memory.size memory_is.size
+          bytes = copied_differ (below level CALL_BYTES) count source destination s.memory memory
+              may.memory.size memory_is.size
               may.blocks_miss_stack.0
               (λ address out.
               pushed_elsewhere level there s.memory address may.room

@@ -161,8 +161,10 @@ takes_fit script layout first third place to others r memory events stands limit
     let r1 = effect taking r in
     let r2 = effect counting r1 in
     let u = at (place + 1 + 1 + 1) r2 memory events in
-    straight script layout taking (Mark third ∷ at_skip first others) place to r memory events 1 u refl stands (omega arith)
-    (straight script layout counting (WithWord (JumpWhere NotZero) (AtLabel first) ∷ others) (place + 1 + 1) to r1 memory events 0 u refl stands.1.1.1 (omega arith)
+    straight script layout taking (Mark third ∷ at_skip first others) place to r memory events 1 u refl
+    stands (omega arith)
+    (straight script layout counting (WithWord (JumpWhere NotZero) (AtLabel first) ∷ others) (place + 1 + 1)
+    to r1 memory events 0 u refl stands.1.1.1 (omega arith)
     (same_after script u))
 
 takes_bit :
@@ -176,7 +178,8 @@ takes_bit :
     → nat_le 128 r.a ≡ past
     → nat_lt (doubled_a r + (255 - r.e) + 1) 256 ≡ fit
     → TakesBit script top r memory events
-takes_bit script layout first second third top to others r memory events stands limit fits are true fit past less =
+takes_bit script layout first second third top to others r memory events stands limit fits are
+    true fit past less =
     let r1 = effect doubling r in
     let r2 = effect counting (effect taking r1) in
     let place = top + 1 + 1 + 3 + 1 + 3 in
@@ -186,10 +189,14 @@ takes_bit script layout first second third top to others r memory events stands 
       steps = 6;
       after = r2;
       run =
-          straight script layout doubling (WithWord (JumpWhere Carry) (AtLabel second) ∷ at_compare first second third others) top to r memory events 4 u refl stands (omega arith)
-          (jumps_where script 3 Carry (wrap (layout.place_of second)) (top + 1 + 1) place r1 memory events u stands.1.1.0 (omega arith) past
+          straight script layout doubling
+          (WithWord (JumpWhere Carry) (AtLabel second) ∷ at_compare first second third others) top to r
+          memory events 4 u refl stands (omega arith)
+          (jumps_where script 3 Carry (wrap (layout.place_of second)) (top + 1 + 1) place r1 memory events u
+          stands.1.1.0 (omega arith) past
           (word_is (layout.place_of second) place stands.1.1.1.1.1.0 (omega arith))
-          (takes_fit script layout first third place to others r1 memory events stands.1.1.1.1.1.1 limit (omega arith)));
+          (takes_fit script layout first third place to others r1 memory events stands.1.1.1.1.1.1
+          limit (omega arith)));
       few = omega arith;
       bit = record {
         a = low_small (doubled_a r + (255 - r.e) + 1);
@@ -202,17 +209,20 @@ takes_bit script layout first second third top to others r memory events stands 
         sp = refl;
         z = refl;
         less = λ small.
-            (past_byte r.a r.e v (doubled_a r) (nat_le 65536 (v + v)) refl past small are.e (word_small r.h r.l are.h are.l) refl).0;
+            (past_byte r.a r.e v (doubled_a r) (nat_le 65536 (v + v)) refl past small are.e
+            (word_small r.h r.l are.h are.l) refl).0;
         divides = λ small. record {
           bit = 1;
           small = omega arith;
           same =
               ap (λ n. 65536 * ((doubled_a r + (255 - r.e) + 1) % 256) + n + r.e * 65536 * 1) (one_more v)
-              ∙ (past_byte r.a r.e v (doubled_a r) (nat_le 65536 (v + v)) refl past small are.e (word_small r.h r.l are.h are.l) refl).1;
+              ∙ (past_byte r.a r.e v (doubled_a r) (nat_le 65536 (v + v)) refl past small are.e
+              (word_small r.h r.l are.h are.l) refl).1;
         };
       };
     }
-takes_bit script layout first second third top to others r memory events stands limit fits are false false past less =
+takes_bit script layout first second third top to others r memory events stands limit fits are
+    false false past less =
     let r1 = effect doubling r in
     let r2 = effect comparing r1 in
     let r3 = effect counting (effect taking r2) in
@@ -223,11 +233,18 @@ takes_bit script layout first second third top to others r memory events stands 
       steps = 8;
       after = r3;
       run =
-          straight script layout doubling (WithWord (JumpWhere Carry) (AtLabel second) ∷ at_compare first second third others) top to r memory events 6 u refl stands (omega arith)
-          (goes_past script 5 Carry (wrap (layout.place_of second)) (top + 1 + 1) r1 memory events u stands.1.1.0 (omega arith) past
-          (straight script layout comparing (WithWord (JumpWhere Carry) (AtLabel third) ∷ Mark second ∷ at_fits first third others) (top + 1 + 1 + 3) to r1 memory events 4 u refl stands.1.1.1 (omega arith)
-          (goes_past script 3 Carry (wrap (layout.place_of third)) (top + 1 + 1 + 3 + 1) r2 memory events u stands.1.1.1.1.0 (omega arith) less
-          (takes_fit script layout first third place to others r2 memory events stands.1.1.1.1.1.1 limit (omega arith)))));
+          straight script layout doubling
+          (WithWord (JumpWhere Carry) (AtLabel second) ∷ at_compare first second third others) top to r
+          memory events 6 u refl stands (omega arith)
+          (goes_past script 5 Carry (wrap (layout.place_of second)) (top + 1 + 1) r1 memory events u
+          stands.1.1.0 (omega arith) past
+          (straight script layout comparing
+          (WithWord (JumpWhere Carry) (AtLabel third) ∷ Mark second ∷ at_fits first third others)
+          (top + 1 + 1 + 3) to r1 memory events 4 u refl stands.1.1.1 (omega arith)
+          (goes_past script 3 Carry (wrap (layout.place_of third)) (top + 1 + 1 + 3 + 1) r2 memory events u
+          stands.1.1.1.1.0 (omega arith) less
+          (takes_fit script layout first third place to others r2 memory events stands.1.1.1.1.1.1
+          limit (omega arith)))));
       few = omega arith;
       bit = record {
         a = low_small (doubled_a r + (255 - r.e) + 1);
@@ -240,17 +257,20 @@ takes_bit script layout first second third top to others r memory events stands 
         sp = refl;
         z = refl;
         less = λ small.
-            (fits_byte r.a r.e v (doubled_a r) (nat_le 65536 (v + v)) refl past less small are.e (word_small r.h r.l are.h are.l) refl).0;
+            (fits_byte r.a r.e v (doubled_a r) (nat_le 65536 (v + v)) refl past less small are.e
+            (word_small r.h r.l are.h are.l) refl).0;
         divides = λ small. record {
           bit = 1;
           small = omega arith;
           same =
               ap (λ n. 65536 * ((doubled_a r + (255 - r.e) + 1) % 256) + n + r.e * 65536 * 1) (one_more v)
-              ∙ (fits_byte r.a r.e v (doubled_a r) (nat_le 65536 (v + v)) refl past less small are.e (word_small r.h r.l are.h are.l) refl).1;
+              ∙ (fits_byte r.a r.e v (doubled_a r) (nat_le 65536 (v + v)) refl past less small are.e
+              (word_small r.h r.l are.h are.l) refl).1;
         };
       };
     }
-takes_bit script layout first second third top to others r memory events stands limit fits are false true past less =
+takes_bit script layout first second third top to others r memory events stands limit fits are
+    false true past less =
     let r1 = effect doubling r in
     let r2 = effect comparing r1 in
     let r3 = effect counting r2 in
@@ -261,12 +281,19 @@ takes_bit script layout first second third top to others r memory events stands 
       steps = 6;
       after = r3;
       run =
-          straight script layout doubling (WithWord (JumpWhere Carry) (AtLabel second) ∷ at_compare first second third others) top to r memory events 4 u refl stands (omega arith)
-          (goes_past script 3 Carry (wrap (layout.place_of second)) (top + 1 + 1) r1 memory events u stands.1.1.0 (omega arith) past
-          (straight script layout comparing (WithWord (JumpWhere Carry) (AtLabel third) ∷ Mark second ∷ at_fits first third others) (top + 1 + 1 + 3) to r1 memory events 2 u refl stands.1.1.1 (omega arith)
-          (jumps_where script 1 Carry (wrap (layout.place_of third)) (top + 1 + 1 + 3 + 1) place r2 memory events u stands.1.1.1.1.0 (omega arith) less
+          straight script layout doubling
+          (WithWord (JumpWhere Carry) (AtLabel second) ∷ at_compare first second third others) top to r
+          memory events 4 u refl stands (omega arith)
+          (goes_past script 3 Carry (wrap (layout.place_of second)) (top + 1 + 1) r1 memory events u
+          stands.1.1.0 (omega arith) past
+          (straight script layout comparing
+          (WithWord (JumpWhere Carry) (AtLabel third) ∷ Mark second ∷ at_fits first third others)
+          (top + 1 + 1 + 3) to r1 memory events 2 u refl stands.1.1.1 (omega arith)
+          (jumps_where script 1 Carry (wrap (layout.place_of third)) (top + 1 + 1 + 3 + 1) place r2 memory
+          events u stands.1.1.1.1.0 (omega arith) less
           (word_is (layout.place_of third) place stands.1.1.1.1.1.1.1.1.0 (omega arith))
-          (straight script layout counting (WithWord (JumpWhere NotZero) (AtLabel first) ∷ others) place to r2 memory events 0 u refl stands.1.1.1.1.1.1.1.1.1 (omega arith)
+          (straight script layout counting (WithWord (JumpWhere NotZero) (AtLabel first) ∷ others) place to r2
+          memory events 0 u refl stands.1.1.1.1.1.1.1.1.1 (omega arith)
           (same_after script u)))));
       few = omega arith;
       bit = record {
@@ -280,13 +307,15 @@ takes_bit script layout first second third top to others r memory events stands 
         sp = refl;
         z = refl;
         less = λ small.
-            (stays_byte r.a r.e v (doubled_a r) (nat_le 65536 (v + v)) refl past less small are.e (word_small r.h r.l are.h are.l) refl).0;
+            (stays_byte r.a r.e v (doubled_a r) (nat_le 65536 (v + v)) refl past less small are.e
+            (word_small r.h r.l are.h are.l) refl).0;
         divides = λ small. record {
           bit = 0;
           small = omega arith;
           same =
               ap (λ n. 65536 * doubled_a r + n + r.e * 65536 * 0) (word_of_halves (wrap (v + v)))
-              ∙ (stays_byte r.a r.e v (doubled_a r) (nat_le 65536 (v + v)) refl past less small are.e (word_small r.h r.l are.h are.l) refl).1;
+              ∙ (stays_byte r.a r.e v (doubled_a r) (nat_le 65536 (v + v)) refl past less small are.e
+              (word_small r.h r.l are.h are.l) refl).1;
         };
       };
     }
@@ -334,9 +363,11 @@ pub takes_bits :
     → r.h < 256
     → r.l < 256
     → TakesBits script top (top + 1 + 1 + 3 + 1 + 3 + 1 + 1 + 1 + 3) r memory events (suc n)
-takes_bits script layout first second third top to others memory events stands limit fits bound zero r counter few a e h l =
+takes_bits script layout first second third top to others memory events stands limit fits bound zero r
+    counter few a e h l =
     let taken =
-    takes_bit script layout first second third top to others r memory events stands limit fits (record { a = a; e = e; h = h; l = l })
+    takes_bit script layout first second third top to others r memory events stands limit fits
+    (record { a = a; e = e; h = h; l = l })
     (nat_le 128 r.a) (nat_lt (doubled_a r + (255 - r.e) + 1) 256) refl refl in
     let bit = taken.bit in
     let place = top + 1 + 1 + 3 + 1 + 3 + 1 + 1 + 1 in
@@ -345,9 +376,11 @@ takes_bits script layout first second third top to others memory events stands l
       steps = 1 + taken.steps;
       after = taken.after;
       run =
-          comes_on script taken.steps 1 (at top r memory events) (at place taken.after memory events) exit taken.run
+          comes_on script taken.steps 1 (at top r memory events)
+          (at place taken.after memory events) exit taken.run
           (goes_past script 0 NotZero (wrap (layout.place_of first)) place taken.after memory events exit
-          stands.1.1.1.1.1.1.1.1.1.1.0 fits (ap not bit.z ∙ counted_out r.d counter) (same_after script exit));
+          stands.1.1.1.1.1.1.1.1.1.1.0 fits (ap not bit.z ∙ counted_out r.d counter)
+          (same_after script exit));
       few = let count = taken.few in omega arith;
       bits = record {
         a = bit.a;
@@ -359,26 +392,33 @@ takes_bits script layout first second third top to others memory events stands l
         l = bit.l;
         sp = bit.sp;
         less = bit.less;
-        divides = λ small. one_bit_more (r.e * 65536) 0 (both r) (both taken.after) (both taken.after) (bit.divides small) (no_bits (r.e * 65536) (both taken.after));
+        divides =
+            λ small. one_bit_more (r.e * 65536) 0 (both r) (both taken.after) (both taken.after)
+            (bit.divides small) (no_bits (r.e * 65536) (both taken.after));
       };
     }
-takes_bits script layout first second third top to others memory events stands limit fits bound (suc n) r counter few a e h l =
+takes_bits script layout first second third top to others memory events stands limit fits bound (suc n) r
+    counter few a e h l =
     let taken =
-    takes_bit script layout first second third top to others r memory events stands limit fits (record { a = a; e = e; h = h; l = l })
+    takes_bit script layout first second third top to others r memory events stands limit fits
+    (record { a = a; e = e; h = h; l = l })
     (nat_le 128 r.a) (nat_lt (doubled_a r + (255 - r.e) + 1) 256) refl refl in
     let bit = taken.bit in
     let r1 = taken.after in
     let place = top + 1 + 1 + 3 + 1 + 3 + 1 + 1 + 1 in
     let more =
     takes_bits script layout first second third top to others memory events stands limit fits bound n r1
-    (bit.d ∙ one_less_is r.d (suc n) counter (omega arith)) (omega arith) bit.a (small_by r1.e r.e bit.e e) bit.h bit.l in
+    (bit.d ∙ one_less_is r.d (suc n) counter (omega arith)) (omega arith) bit.a
+    (small_by r1.e r.e bit.e e) bit.h bit.l in
     let exit = at (place + 3) more.after memory events in
     record {
       steps = suc more.steps + taken.steps;
       after = more.after;
       run =
-          comes_on script taken.steps (suc more.steps) (at top r memory events) (at place r1 memory events) exit taken.run
-          (jumps_where script more.steps NotZero (wrap (layout.place_of first)) place top r1 memory events exit
+          comes_on script taken.steps (suc more.steps) (at top r memory events)
+          (at place r1 memory events) exit taken.run
+          (jumps_where script more.steps NotZero (wrap (layout.place_of first)) place top
+          r1 memory events exit
           stands.1.1.1.1.1.1.1.1.1.1.0 (omega arith) (ap not bit.z ∙ counts_on r.d n counter (omega arith))
           (word_is (layout.place_of first) top bound (omega arith)) more.run);
       few = let one = taken.few in let rest = more.few in omega arith;
@@ -392,7 +432,8 @@ takes_bits script layout first second third top to others memory events stands l
         l = more.bits.l;
         sp = more.bits.sp ∙ bit.sp;
         less = λ small.
-            less_back more.after.a r.e r1.e bit.e (more.bits.less (less_than r1.a r.e r1.e bit.e (bit.less small)));
+            less_back more.after.a r.e r1.e bit.e
+            (more.bits.less (less_than r1.a r.e r1.e bit.e (bit.less small)));
         divides = λ small.
             one_bit_more (r.e * 65536) (suc n) (both r) (both r1) (both more.after) (bit.divides small)
             (subst (λ k. Quotient (k * 65536) (suc n) (both r1) (both more.after)) bit.e

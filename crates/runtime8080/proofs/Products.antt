@@ -18,7 +18,8 @@ loading = Mov A (Of E) ∷ Mvi (Of D) 8 ∷ []
 
 abbrev low : (first : ℕ) → List Item
 low first =
-    Plain (Mov A (Of E)) ∷ Plain (Mvi (Of D) 8) ∷ Mark (first + 3) ∷ bits (first + 3) (first + 4) (Plain Ret ∷ [])
+    Plain (Mov A (Of E)) ∷ Plain (Mvi (Of D) 8) ∷ Mark (first + 3)
+    ∷ bits (first + 3) (first + 4) (Plain Ret ∷ [])
 
 abbrev high : (first : ℕ) → List Item
 high first = Mark first ∷ bits first (first + 2) (Mark (first + 1) ∷ low first)
@@ -29,7 +30,8 @@ after_head first =
 
 -- a run over the bits of E to the return
 record Ends
-    (script : List (List ℕ)) (place : ℕ) (r : Registers) (memory : List ℕ) (events : List Event) : Type 0 where
+    (script : List (List ℕ)) (place : ℕ) (r : Registers) (memory : List ℕ)
+    (events : List Event) : Type 0 where
   steps : ℕ
   after : Registers
   run : Comes script steps (at place r memory events) (returned after memory events)
@@ -57,14 +59,17 @@ ends script layout first place to r memory events stands limit small =
     let exit = top + 1 + 1 + 3 + 1 + 1 + 3 in
     let r1 = effect loading r in
     let taken =
-    takes_bits script layout (first + 3) (first + 4) top to (Plain Ret ∷ []) memory events stands.1.1.1 limit (omega arith) stands.1.1.0 7 r1 refl (omega arith) small in
+    takes_bits script layout (first + 3) (first + 4) top to (Plain Ret ∷ []) memory events stands.1.1.1 limit
+    (omega arith) stands.1.1.0 7 r1 refl (omega arith) small in
     let u = returned taken.after memory events in
     record {
       steps = steps_of loading (1 + taken.steps);
       after = taken.after;
       run =
-          straight script layout loading (Mark (first + 3) ∷ bits (first + 3) (first + 4) (Plain Ret ∷ [])) place to r memory events (1 + taken.steps) u refl stands (omega arith)
-          (comes_on script taken.steps 1 (at top r1 memory events) (at exit taken.after memory events) u taken.run
+          straight script layout loading (Mark (first + 3) ∷ bits (first + 3) (first + 4) (Plain Ret ∷ []))
+          place to r memory events (1 + taken.steps) u refl stands (omega arith)
+          (comes_on script taken.steps 1 (at top r1 memory events)
+          (at exit taken.after memory events) u taken.run
           (returns script exit taken.after memory events stands.1.1.1.1.1.1.1.1.1.1.0 (omega arith)));
       few = let count = taken.few in omega arith;
       hl =
@@ -123,8 +128,10 @@ multiply_body script layout first from to r memory events stands limit are true 
       count = steps_of head (suc end.steps);
       after = end.after;
       run =
-          straight script layout head (after_head first) from to r memory events (suc end.steps) u refl stands (omega arith)
-          (jumps_where script end.steps Zero (wrap (layout.place_of (first + 1))) (past from head) place r1 memory events u more.0 (omega arith) is
+          straight script layout head (after_head first) from to r memory events (suc end.steps) u refl
+          stands (omega arith)
+          (jumps_where script end.steps Zero (wrap (layout.place_of (first + 1))) (past from head) place r1
+          memory events u more.0 (omega arith) is
           (word_is (layout.place_of (first + 1)) place last.0 (omega arith)) end.run);
       few = let count = end.few in omega arith;
       sp = end.sp;
@@ -149,19 +156,26 @@ multiply_body script layout first from to r memory events stands limit are false
     let place = bits_at + 1 + 1 + 3 + 1 + 1 + 3 in
     let last : Stands layout memory (Mark (first + 1) ∷ low first) place to = more.1.1.1.1.1.1.1.1.1.1 in
     let taken =
-    takes_bits script layout first (first + 2) bits_at to (Mark (first + 1) ∷ low first) memory events more.1.1.1 limit (omega arith) more.1.1.0 7 r2 refl (omega arith) (or_small r.d are.d) in
+    takes_bits script layout first (first + 2) bits_at to (Mark (first + 1) ∷ low first) memory events
+    more.1.1.1 limit (omega arith) more.1.1.0 7 r2 refl (omega arith) (or_small r.d are.d) in
     let r3 = taken.after in
-    let end = ends script layout first place to r3 memory events last.1 limit (small_by r3.e r.e taken.bits.e are.e) in
+    let end =
+    ends script layout first place to r3 memory events last.1 limit
+    (small_by r3.e r.e taken.bits.e are.e) in
     let u = returned end.after memory events in
     let y = word r.h r.l in
     record {
       count = steps_of head (suc (suc (end.steps + taken.steps)));
       after = end.after;
       run =
-          straight script layout head (after_head first) from to r memory events (suc (suc (end.steps + taken.steps))) u refl stands (omega arith)
-          (goes_past script (suc (end.steps + taken.steps)) Zero (wrap (layout.place_of (first + 1))) (past from head) r1 memory events u more.0 (omega arith) is
-          (straight script layout (Mvi (Of D) 8 ∷ []) (high first) (past from head + 3) to r1 memory events (end.steps + taken.steps) u refl more.1 (omega arith)
-          (comes_on script taken.steps end.steps (at bits_at r2 memory events) (at place r3 memory events) u taken.run end.run)));
+          straight script layout head (after_head first) from to r memory events
+          (suc (suc (end.steps + taken.steps))) u refl stands (omega arith)
+          (goes_past script (suc (end.steps + taken.steps)) Zero (wrap (layout.place_of (first + 1)))
+          (past from head) r1 memory events u more.0 (omega arith) is
+          (straight script layout (Mvi (Of D) 8 ∷ []) (high first) (past from head + 3) to r1 memory events
+          (end.steps + taken.steps) u refl more.1 (omega arith)
+          (comes_on script taken.steps end.steps (at bits_at r2 memory events) (at place r3 memory events) u
+          taken.run end.run)));
       few = let count = end.few in let before = taken.few in omega arith;
       sp = end.sp ∙ taken.bits.sp;
       bytes = record {
@@ -181,7 +195,8 @@ multiply_body script layout first from to r memory events stands limit are false
           ∙ (ap (λ e. (word r3.h r3.l * 256 + y * e) % MEMORY_SIZE) taken.bits.e
           ∙ product y r.d r.e (word r3.h r3.l)
           (taken.bits.hl
-          ∙ (ap (λ n. (0 * 256 + y * n) % MEMORY_SIZE) (all_bits (bit_or r.d r.d) (or_small r.d are.d) ∙ or_self r.d)
+          ∙ (ap (λ n. (0 * 256 + y * n) % MEMORY_SIZE)
+          (all_bits (bit_or r.d r.d) (or_small r.d are.d) ∙ or_self r.d)
           ∙ nothing_before y r.d)))))));
       leaves = tt;
     }

@@ -1,5 +1,5 @@
--- Division bit by bit, in numbers: a remainder and a dividend stand side by side, both are doubled, and where the
--- divisor fits into the remainder it is taken away and the quotient gains a bit.
+-- Division bit by bit, in numbers: a remainder and a dividend stand side by side, both are doubled, and where
+-- the divisor fits into the remainder it is taken away and the quotient gains a bit.
 use Rattle.runtime8080.proofs.Prelude.{◌≡◌, ℕ, zero, suc, ◌+◌, ◌*◌, ◌/◌, ◌%◌, ◌^◌, ◌<◌, ◌≤◌, sym, ap, ◌∙◌, arith, pow-suc, div-mul-add, mod-mul-add}
 
 -- one number becomes another by so many doublings, and gives so many bits of a quotient
@@ -43,17 +43,20 @@ one_bit_more divisor count z z1 to first rest =
     let p = 2 ^ count in
     record {
       bits = rest.bits + p * first.bit;
-      small = rw (pow-suc 2 count) (bits_small p rest.bits first.bit rest.small (times_bit p first.bit first.small));
+      small = rw (pow-suc 2 count)
+          (bits_small p rest.bits first.bit rest.small (times_bit p first.bit first.small));
       same =
           rw (pow-suc 2 count)
           (bits_joined divisor p rest.bits first.bit z z1 to rest.same (ap (λ n. p * n) first.same));
     }
 
 -- the quotient and the remainder that all bits of a dividend give
-split_low : (rest low x v q : ℕ) → low < 65536 → q < 65536 → 65536 * rest + low + 65536 * x ≡ 65536 * v + q → low ≡ q
+split_low : (rest low x v q : ℕ) → low < 65536 → q < 65536
+    → 65536 * rest + low + 65536 * x ≡ 65536 * v + q → low ≡ q
 split_low rest low x v q small_low small_q h = omega arith
 
-split_high : (rest low x v q : ℕ) → low < 65536 → q < 65536 → 65536 * rest + low + 65536 * x ≡ 65536 * v + q → x + rest ≡ v
+split_high : (rest low x v q : ℕ) → low < 65536 → q < 65536
+    → 65536 * rest + low + 65536 * x ≡ 65536 * v + q → x + rest ≡ v
 split_high rest low x v q small_low small_q h = omega arith
 
 pub quotient_is : (e q rest v : ℕ) → rest < e → q * e + rest ≡ v → v / e ≡ q
@@ -82,10 +85,12 @@ sixteen_bits e rest low v small less is =
     let all = split_high rest low (q * e) v q small is.small sum in
     (quotient_is e q rest v less all ∙ sym low_is, remainder_is e q rest v less all)
 
-split_low_byte : (rest low x v q : ℕ) → low < 256 → q < 256 → 256 * rest + low + 256 * x ≡ 256 * v + q → low ≡ q
+split_low_byte : (rest low x v q : ℕ) → low < 256 → q < 256
+    → 256 * rest + low + 256 * x ≡ 256 * v + q → low ≡ q
 split_low_byte rest low x v q small_low small_q h = omega arith
 
-split_high_byte : (rest low x v q : ℕ) → low < 256 → q < 256 → 256 * rest + low + 256 * x ≡ 256 * v + q → x + rest ≡ v
+split_high_byte : (rest low x v q : ℕ) → low < 256 → q < 256
+    → 256 * rest + low + 256 * x ≡ 256 * v + q → x + rest ≡ v
 split_high_byte rest low x v q small_low small_q h = omega arith
 
 regrouped_byte : (rest low e q : ℕ) → 256 * rest + low + e * 256 * q ≡ 256 * rest + low + 256 * (q * e)

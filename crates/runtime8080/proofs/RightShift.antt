@@ -1,6 +1,6 @@
 -- The shift of an ADDRESS to the right: by 1 and 2 it is halved and quartered; by 3 to 7 the 24 bits of A, H and L are
--- doubled, 8 less the count times, and the higher 16 of them are the value; by 8 or more the high byte takes the place
--- of the low one, and the rest of the count begins anew.
+-- doubled, 8 less the count times, and the higher 16 of them are the value; by 8 or more the high byte takes
+-- the place of the low one, and the rest of the count begins anew.
 use Rattle.runtime8080.proofs.Prelude.{◌≡◌, ℕ, zero, suc, ◌+◌, ◌-◌, ◌*◌, ◌/◌, ◌%◌, ◌^◌, ◌<◌, ◌≤◌, ◌==◌, min, Bool, true, false, not, nat_le, nat_lt, List, [], ◌∷◌, refl, sym, ap, ◌∙◌, arith, eq-eqb, le-leb, leb-false, leb-true, lt-leb, MEMORY_SIZE, Event, A, H, L, Of, Hl, Carry, NoCarry, ParityOdd, Zero, Add, And, Compare, ExclusiveOr, Instr, Accumulate, AccumulateImmediate, Dad, Dcr, Mov, Mvi, Ral, Rar, Ret, ReturnIf, Rrc, bit, HoldBytes, Registers, State, word, wrap, JumpWhere, AtLabel, Item, Plain, WithWord, Mark, Layout, Stands, Comes, at, goes_past, jumps_where, returned, returns, returns_where, stays_here, effect, past, plain, steps_of, straight, not_equal, not_zero, one_less_is, word_is, stands_size, stands_still, IsRoutine, shift_right_address, high_of_wrapped, word_of_halves}
 use Rattle.runtime8080.specs.declared.routine.Routine.TheVariants as routines
 use Rattle.runtime8080.proofs.AddressBits.{by_eight, even_of, half_small, halves, high_alone, low_small, none_left, not_doubled, odd_of, once_more, quarter_high_small, quarter_low_small, quarters, shifted_is, turned, turned_small, word_small}
@@ -89,7 +89,8 @@ not_none m p n is none = omega arith
 
 -- a run past tests that do not come to 0
 passes :
-    (script : List (List ℕ)) (layout : Layout) (labels : List ℕ) (others : List Item) (place to : ℕ) (r : Registers)
+    (script : List (List ℕ)) (layout : Layout) (labels : List ℕ) (others : List Item)
+    (place to : ℕ) (r : Registers)
     (memory : List ℕ) (events : List Event) (n k : ℕ) (u : State)
     → Stands layout memory (tests labels others) place to
     → place + 4 * many labels < MEMORY_SIZE
@@ -100,10 +101,13 @@ passes :
 passes script layout [] others place to r memory events n k u stands fits is small more = more
 passes script layout (label ∷ labels) others place to r memory events n k u stands fits is small more =
     let next : (r.a + 254 + 1) % 256 ≡ many labels + suc n = omega arith in
-    straight script layout counting (WithWord (JumpWhere Zero) (AtLabel label) ∷ tests labels others) place to r memory events (suc (steps_past labels k)) u refl stands (omega arith)
-    (goes_past script (steps_past labels k) Zero (wrap (layout.place_of label)) (place + 1) (effect counting r) memory events u stands.1.0 (omega arith)
+    straight script layout counting (WithWord (JumpWhere Zero) (AtLabel label) ∷ tests labels others) place to
+    r memory events (suc (steps_past labels k)) u refl stands (omega arith)
+    (goes_past script (steps_past labels k) Zero (wrap (layout.place_of label)) (place + 1)
+    (effect counting r) memory events u stands.1.0 (omega arith)
     (not_equal ((r.a + 254 + 1) % 256) 0 (not_none ((r.a + 254 + 1) % 256) (many labels) n next))
-    (passes script layout labels others (place + 1 + 3) to (effect counting r) memory events n k u stands.1.1 (omega arith) next (omega arith) more))
+    (passes script layout labels others (place + 1 + 3) to (effect counting r) memory events n k u stands.1.1
+    (omega arith) next (omega arith) more))
 
 counted_is :
     (labels : List ℕ) (n : ℕ) (r : Registers)
@@ -119,7 +123,8 @@ counted_is (label ∷ labels) n r is small =
 abbrev bits_of : Registers → ℕ
 bits_of r = 65536 * r.a + word r.h r.l
 
-one_doubling : (r : Registers) → r.a < 256 → r.h < 256 → r.l < 256 → bits_of (effect doubling r) ≡ (bits_of r + bits_of r) % 16777216
+one_doubling : (r : Registers) → r.a < 256 → r.h < 256 → r.l < 256
+    → bits_of (effect doubling r) ≡ (bits_of r + bits_of r) % 16777216
 one_doubling r a h l =
     let x = word r.h r.l in
     ap (λ n. 65536 * (r.a * 2 % 256 + bit (nat_le 65536 (x + x))) + n) (word_of_halves (wrap (x + x)))
@@ -144,29 +149,35 @@ doubled [] r a h l = record {
 doubled (label ∷ labels) r a h l =
     let x = word r.h r.l in
     let more =
-    doubled labels (effect doubling r) (turned_small r.a (nat_le 65536 (x + x)) a) (high_of_wrapped (x + x)) (low_small (wrap (x + x))) in
+    doubled labels (effect doubling r) (turned_small r.a (nat_le 65536 (x + x)) a) (high_of_wrapped (x + x))
+    (low_small (wrap (x + x))) in
     record {
       bits =
           more.bits
-          ∙ (ap (λ z. (z * 2 ^ many labels) % 16777216) (one_doubling r a h l) ∙ once_more (bits_of r) (many labels));
+          ∙ (ap (λ z. (z * 2 ^ many labels) % 16777216) (one_doubling r a h l)
+          ∙ once_more (bits_of r) (many labels));
       small = more.small;
       kept = more.kept;
     }
 
 -- a run over the doublings to the return
 from_label :
-    (script : List (List ℕ)) (layout : Layout) (labels : List ℕ) (place to : ℕ) (r : Registers) (memory : List ℕ)
+    (script : List (List ℕ)) (layout : Layout) (labels : List ℕ) (place to : ℕ)
+    (r : Registers) (memory : List ℕ)
     (events : List Event)
     → Stands layout memory (doublings labels) place to
     → place + 2 * many labels + 2 < MEMORY_SIZE
     → Comes script (steps_to_end labels) (at place r memory events)
     (returned (effect ending (doubled_by labels r)) memory events)
 from_label script layout [] place to r memory events stands fits =
-    straight script layout ending (Plain Ret ∷ []) place to r memory events 1 (returned (effect ending r) memory events) refl stands (omega arith)
+    straight script layout ending (Plain Ret ∷ []) place to r memory events 1
+    (returned (effect ending r) memory events) refl stands (omega arith)
     (returns script (place + 1 + 1) (effect ending r) memory events stands.1.1.0 (omega arith))
 from_label script layout (label ∷ labels) place to r memory events stands fits =
-    straight script layout doubling (doublings labels) place to r memory events (steps_to_end labels) (returned (effect ending (doubled_by (label ∷ labels) r)) memory events) refl stands.1 (omega arith)
-    (from_label script layout labels (place + 1 + 1) to (effect doubling r) memory events stands.1.1.1 (omega arith))
+    straight script layout doubling (doublings labels) place to r memory events (steps_to_end labels)
+    (returned (effect ending (doubled_by (label ∷ labels) r)) memory events) refl stands.1 (omega arith)
+    (from_label script layout labels (place + 1 + 1) to (effect doubling r) memory events
+    stands.1.1.1 (omega arith))
 
 no_high : (a x : ℕ) → a ≡ 0 → 65536 * a + x ≡ x
 no_high a x h = omega arith
@@ -179,7 +190,8 @@ few_more steps n few = omega arith
 
 -- a run from the tests that come to 0: A tells at which of the labels the code goes on
 reaches :
-    (script : List (List ℕ)) (layout : Layout) (labels : List ℕ) (others : List Item) (place to top bottom : ℕ)
+    (script : List (List ℕ)) (layout : Layout) (labels : List ℕ) (others : List Item)
+    (place to top bottom : ℕ)
     (r : Registers) (memory : List ℕ) (events : List Event) (n count : ℕ)
     → Stands layout memory (tests labels others) place to
     → place + 4 * many labels < MEMORY_SIZE
@@ -192,9 +204,11 @@ reaches :
     → r.h < 256
     → r.l < 256
     → Ends script place r memory events (word r.h r.l / 2 ^ count) (2 * many labels + 5)
-reaches script layout [] others place to top bottom r memory events n count stands fits below top_fits is less most sum h l =
+reaches script layout [] others place to top bottom r memory events n count stands fits below top_fits
+    is less most sum h l =
     absurd (omega arith)
-reaches script layout (label ∷ labels) others place to top bottom r memory events zero count stands fits below top_fits is less most sum h l =
+reaches script layout (label ∷ labels) others place to top bottom r memory events zero count stands fits below
+    top_fits is less most sum h l =
     let r1 = effect counting r in
     let r2 = doubled_by (label ∷ labels) r1 in
     let after = effect ending r2 in
@@ -205,30 +219,38 @@ reaches script layout (label ∷ labels) others place to top bottom r memory eve
       steps = suc (suc (steps_to_end (label ∷ labels)));
       after = after;
       run =
-          straight script layout counting (WithWord (JumpWhere Zero) (AtLabel label) ∷ tests labels others) place to r memory events (suc (steps_to_end (label ∷ labels))) u refl stands (omega arith)
-          (jumps_where script (steps_to_end (label ∷ labels)) Zero (wrap (layout.place_of label)) (place + 1) top r1 memory events u stands.1.0 (omega arith)
+          straight script layout counting (WithWord (JumpWhere Zero) (AtLabel label) ∷ tests labels others)
+          place to r memory events (suc (steps_to_end (label ∷ labels))) u refl stands (omega arith)
+          (jumps_where script (steps_to_end (label ∷ labels)) Zero (wrap (layout.place_of label)) (place + 1)
+          top r1 memory events u stands.1.0 (omega arith)
           (eq-eqb ((r.a + 254 + 1) % 256) 0 none)
           (word_is (layout.place_of label) top below.0 (omega arith))
           (from_label script layout (label ∷ labels) top bottom r1 memory events below top_fits));
       few = few_to_end (steps_to_end (label ∷ labels)) (many (label ∷ labels)) (steps_are (label ∷ labels));
       hl =
-          shifted_is r2.a r2.h r2.l (bits_of r1) (word r.h r.l) count (many (label ∷ labels)) done.small.1 done.small.2
+          shifted_is r2.a r2.h r2.l (bits_of r1) (word r.h r.l) count (many (label ∷ labels))
+          done.small.1 done.small.2
           (no_high r1.a (word r.h r.l) none) (word_small r.h r.l h l) done.bits sum;
       small = (done.small.0, done.small.0, done.small.1);
       kept = done.kept;
     }
-reaches script layout (label ∷ labels) others place to top bottom r memory events (suc n) count stands fits below top_fits is less most sum h l =
+reaches script layout (label ∷ labels) others place to top bottom r memory events (suc n) count stands fits
+    below top_fits is less most sum h l =
     let r1 = effect counting r in
     let next : (r.a + 254 + 1) % 256 ≡ suc n = omega arith in
     let end =
-    reaches script layout labels others (place + 1 + 3) to (top + 1 + 1) bottom r1 memory events n count stands.1.1 (omega arith) below.1.1.1 (omega arith) next (omega arith) (omega arith) (omega arith) h l in
+    reaches script layout labels others (place + 1 + 3) to (top + 1 + 1) bottom r1 memory events n count
+    stands.1.1 (omega arith) below.1.1.1 (omega arith) next (omega arith) (omega arith)
+    (omega arith) h l in
     let u = returned end.after memory events in
     record {
       steps = suc (suc end.steps);
       after = end.after;
       run =
-          straight script layout counting (WithWord (JumpWhere Zero) (AtLabel label) ∷ tests labels others) place to r memory events (suc end.steps) u refl stands (omega arith)
-          (goes_past script end.steps Zero (wrap (layout.place_of label)) (place + 1) r1 memory events u stands.1.0 (omega arith)
+          straight script layout counting (WithWord (JumpWhere Zero) (AtLabel label) ∷ tests labels others)
+          place to r memory events (suc end.steps) u refl stands (omega arith)
+          (goes_past script end.steps Zero (wrap (layout.place_of label)) (place + 1) r1 memory events u
+          stands.1.0 (omega arith)
           (not_zero ((r.a + 254 + 1) % 256) n next) end.run);
       few = few_more end.steps (many labels) end.few;
       hl = end.hl;
@@ -312,7 +334,8 @@ parts_of :
 parts_of layout memory first from to stands =
     let more : Stands layout memory (of_more first) (place_of_more first from) to =
     stands.1.1.1.1.1.1.1.1.1.1.1.1.1.1 in
-    let one : Stands layout memory (Mark (first + 1) ∷ Plain (ReturnIf ParityOdd) ∷ after_one first) (place_of_one first from) to =
+    let one : Stands layout memory (Mark (first + 1) ∷ Plain (ReturnIf ParityOdd) ∷ after_one first)
+    (place_of_one first from) to =
     more.1.1.1.1.1.1.1.1 in
     let two : Stands layout memory (Mark (first + 2) ∷ of_two first) (place_of_two first from) to =
     one.1.1.1.1.1.1.1.1.1 in
@@ -341,10 +364,13 @@ past_two :
 past_two script layout first from to r memory events k u parts limit large small more =
     let size = parts.size in
     let r1 = effect head r in
-    straight script layout head (after_head first) from to r memory events (suc (suc k)) u refl parts.all (omega arith)
-    (goes_past script (suc k) Zero (wrap (layout.place_of (first + 2))) (from + 2) r1 memory events u parts.all.1.0 (omega arith)
+    straight script layout head (after_head first) from to r memory events (suc (suc k)) u refl
+    parts.all (omega arith)
+    (goes_past script (suc k) Zero (wrap (layout.place_of (first + 2))) (from + 2) r1 memory events u
+    parts.all.1.0 (omega arith)
     (not_equal ((r.a + 254 + 0) % 256) 0 (not_two r.a large small))
-    (goes_past script k NoCarry (wrap (layout.place_of (first + 1))) (from + 2 + 3) r1 memory events u parts.all.1.1.0 (omega arith)
+    (goes_past script k NoCarry (wrap (layout.place_of (first + 1))) (from + 2 + 3) r1 memory events u
+    parts.all.1.1.0 (omega arith)
     (ap not (le-leb 256 (r.a + 254 + 0) (omega arith))) more))
   where
     not_two : (a : ℕ) → 3 ≤ a → a < 256 → (a + 254 + 0) % 256 ≡ 0 → ⊥
@@ -378,13 +404,17 @@ few_ends script layout first from to r memory events zero parts limit is less h 
       steps = steps_of head 3;
       after = r1;
       run =
-          straight script layout head (after_head first) from to r memory events 3 u refl parts.all (omega arith)
-          (goes_past script 2 Zero (wrap (layout.place_of (first + 2))) (from + 2) r1 memory events u parts.all.1.0 (omega arith)
+          straight script layout head (after_head first) from to r memory events 3 u refl
+          parts.all (omega arith)
+          (goes_past script 2 Zero (wrap (layout.place_of (first + 2))) (from + 2) r1 memory events u
+          parts.all.1.0 (omega arith)
           (not_equal ((r.a + 254 + 0) % 256) 0 (zero_left r.a is))
-          (jumps_where script 1 NoCarry (wrap (layout.place_of (first + 1))) (from + 2 + 3) (place_of_one first from) r1 memory events u parts.all.1.1.0 (omega arith)
+          (jumps_where script 1 NoCarry (wrap (layout.place_of (first + 1))) (from + 2 + 3)
+          (place_of_one first from) r1 memory events u parts.all.1.1.0 (omega arith)
           (ap not (lt-leb 256 (r.a + 254 + 0) (omega arith)))
           (word_is (layout.place_of (first + 1)) (place_of_one first from) parts.one (omega arith))
-          (returns_where script ParityOdd (place_of_one first from) r1 memory events parts.for_one.0 (omega arith)
+          (returns_where script ParityOdd (place_of_one first from) r1 memory events
+          parts.for_one.0 (omega arith)
           (odd_of ((r.a + 254 + 0) % 256) (omega arith)))));
       few = omega arith;
       hl = by_none (word r.h r.l);
@@ -402,16 +432,22 @@ few_ends script layout first from to r memory events (suc zero) parts limit is l
       steps = steps_of head (suc (suc (suc (steps_of halving 1))));
       after = after;
       run =
-          straight script layout head (after_head first) from to r memory events (suc (suc (suc (steps_of halving 1)))) u refl parts.all (omega arith)
-          (goes_past script (suc (suc (steps_of halving 1))) Zero (wrap (layout.place_of (first + 2))) (from + 2) r1 memory events u parts.all.1.0 (omega arith)
+          straight script layout head (after_head first) from to r memory events
+          (suc (suc (suc (steps_of halving 1)))) u refl parts.all (omega arith)
+          (goes_past script (suc (suc (steps_of halving 1))) Zero (wrap (layout.place_of (first + 2)))
+          (from + 2) r1 memory events u parts.all.1.0 (omega arith)
           (not_equal ((r.a + 254 + 0) % 256) 0 (one_left r.a is))
-          (jumps_where script (suc (steps_of halving 1)) NoCarry (wrap (layout.place_of (first + 1))) (from + 2 + 3) (place_of_one first from) r1 memory events u parts.all.1.1.0 (omega arith)
+          (jumps_where script (suc (steps_of halving 1)) NoCarry (wrap (layout.place_of (first + 1)))
+          (from + 2 + 3) (place_of_one first from) r1 memory events u parts.all.1.1.0 (omega arith)
           (ap not none)
           (word_is (layout.place_of (first + 1)) (place_of_one first from) parts.one (omega arith))
-          (stays_here script (steps_of halving 1) ParityOdd (place_of_one first from) r1 memory events u parts.for_one.0 (omega arith)
+          (stays_here script (steps_of halving 1) ParityOdd (place_of_one first from) r1 memory events u
+          parts.for_one.0 (omega arith)
           (even_of ((r.a + 254 + 0) % 256) (omega arith))
-          (straight script layout halving (Plain Ret ∷ Mark (first + 2) ∷ of_two first) (place_of_one first from + 1) to r1 memory events 1 u refl parts.for_one.1 (omega arith)
-          (returns script (past (place_of_one first from + 1) halving) after memory events parts.for_one.1.1.1.1.1.1.1.0 (omega arith))))));
+          (straight script layout halving (Plain Ret ∷ Mark (first + 2) ∷ of_two first)
+          (place_of_one first from + 1) to r1 memory events 1 u refl parts.for_one.1 (omega arith)
+          (returns script (past (place_of_one first from + 1) halving) after memory events
+          parts.for_one.1.1.1.1.1.1.1.0 (omega arith))))));
       few = omega arith;
       hl = halves r.h r.l (nat_le 256 (r.a + 254 + 0)) none;
       small = (low, half_small r.h (nat_le 256 (r.a + 254 + 0)) h, low);
@@ -426,12 +462,16 @@ few_ends script layout first from to r memory events (suc (suc zero)) parts limi
       steps = steps_of head (suc (steps_of quartering 1));
       after = after;
       run =
-          straight script layout head (after_head first) from to r memory events (suc (steps_of quartering 1)) u refl parts.all (omega arith)
-          (jumps_where script (steps_of quartering 1) Zero (wrap (layout.place_of (first + 2))) (from + 2) (place_of_two first from) r1 memory events u parts.all.1.0 (omega arith)
+          straight script layout head (after_head first) from to r memory events (suc (steps_of quartering 1))
+          u refl parts.all (omega arith)
+          (jumps_where script (steps_of quartering 1) Zero (wrap (layout.place_of (first + 2))) (from + 2)
+          (place_of_two first from) r1 memory events u parts.all.1.0 (omega arith)
           (eq-eqb ((r.a + 254 + 0) % 256) 0 (omega arith))
           (word_is (layout.place_of (first + 2)) (place_of_two first from) parts.two (omega arith))
-          (straight script layout quartering (Plain Ret ∷ doublings (exits first)) (place_of_two first from) to r1 memory events 1 u refl parts.for_two (omega arith)
-          (returns script (past (place_of_two first from) quartering) after memory events parts.for_two.1.1.1.1.1.1.1.1.1.1.1.1.0 (omega arith))));
+          (straight script layout quartering (Plain Ret ∷ doublings (exits first)) (place_of_two first from)
+          to r1 memory events 1 u refl parts.for_two (omega arith)
+          (returns script (past (place_of_two first from) quartering) after memory events
+          parts.for_two.1.1.1.1.1.1.1.1.1.1.1.1.0 (omega arith))));
       few = omega arith;
       hl = quarters r.h r.l h l;
       small = (quarter_high_small r.h h, quarter_high_small r.h h, quarter_low_small r.h r.l h l);
@@ -441,11 +481,14 @@ few_ends script layout first from to r memory events (suc (suc (suc n))) parts l
     let size = parts.size in
     let r1 = effect head r in
     let end =
-    reaches script layout (exits first) (of_more first) (from + 2 + 3 + 3) to (place_of_exits first from) to r1 memory events n (suc (suc (suc n))) parts.all.1.1.1 (omega arith) parts.at_exits (omega arith) (omega arith) (omega arith) (omega arith) (omega arith) h l in
+    reaches script layout (exits first) (of_more first) (from + 2 + 3 + 3) to (place_of_exits first from) to
+    r1 memory events n (suc (suc (suc n))) parts.all.1.1.1 (omega arith) parts.at_exits (omega arith)
+    (omega arith) (omega arith) (omega arith) (omega arith) h l in
     record {
       steps = suc (suc (suc end.steps));
       after = end.after;
-      run = past_two script layout first from to r memory events end.steps (returned end.after memory events) parts limit (omega arith) (omega arith) end.run;
+      run = past_two script layout first from to r memory events end.steps (returned end.after memory events)
+          parts limit (omega arith) (omega arith) end.run;
       few = let most = end.few in omega arith;
       hl = end.hl;
       small = end.small;
@@ -470,13 +513,17 @@ comes_down :
     → r.a ≡ 8 + n
     → r.a < 256
     → Comes script k (at (past (place_of_more first from) by_byte) (moved_down first r) memory events) u
-    → Comes script (suc (suc (suc (steps_past (exits first) (steps_of by_byte k))))) (at from r memory events) u
+    → Comes script (suc (suc (suc (steps_past (exits first) (steps_of by_byte k)))))
+    (at from r memory events) u
 comes_down script layout first from to r memory events n k u parts limit is small more =
     let size = parts.size in
     let r1 = effect head r in
-    past_two script layout first from to r memory events (steps_past (exits first) (steps_of by_byte k)) u parts limit (omega arith) small
-    (passes script layout (exits first) (of_more first) (from + 2 + 3 + 3) to r1 memory events n (steps_of by_byte k) u parts.all.1.1.1 (omega arith) (omega arith) (omega arith)
-    (straight script layout by_byte (after_byte first) (place_of_more first from) to (counted_by (exits first) r1) memory events k u refl parts.more (omega arith) more))
+    past_two script layout first from to r memory events (steps_past (exits first) (steps_of by_byte k)) u
+    parts limit (omega arith) small
+    (passes script layout (exits first) (of_more first) (from + 2 + 3 + 3) to r1 memory events n
+    (steps_of by_byte k) u parts.all.1.1.1 (omega arith) (omega arith) (omega arith)
+    (straight script layout by_byte (after_byte first) (place_of_more first from) to
+    (counted_by (exits first) r1) memory events k u refl parts.more (omega arith) more))
 
 borrows : (e n : ℕ) → e ≡ n → n < 8 → nat_lt (e + 247 + 1) 256 ≡ true
 borrows e n is less = le-leb (suc (e + 247 + 1)) 256 (omega arith)
@@ -507,8 +554,10 @@ eight_ends script layout first from to r memory events parts limit is small h l 
       steps = suc (suc (suc (steps_past (exits first) (steps_of by_byte 1))));
       after = after;
       run =
-          comes_down script layout first from to r memory events 0 1 (returned after memory events) parts limit is small
-          (returns_where script Zero (past (place_of_more first from) by_byte) after memory events parts.more.1.1.1.0 (omega arith)
+          comes_down script layout first from to r memory events 0 1 (returned after memory events)
+          parts limit is small
+          (returns_where script Zero (past (place_of_more first from) by_byte) after memory events
+          parts.more.1.1.1.0 (omega arith)
           (eq-eqb after.a 0 rest));
       few = omega arith;
       hl = high_alone r.h r.l l ∙ ap (λ n. word r.h r.l / 2 ^ n) eight;
@@ -537,14 +586,20 @@ again_ends script layout first from to r memory events n parts limit is some les
     let u = returned end.after memory events in
     let place = past (place_of_more first from) by_byte in
     record {
-      steps = suc (suc (suc (steps_past (exits first) (steps_of by_byte (suc (steps_of comparing (suc end.steps)))))));
+      steps = suc
+          (suc (suc (steps_past (exits first)
+          (steps_of by_byte (suc (steps_of comparing (suc end.steps)))))));
       after = end.after;
       run =
-          comes_down script layout first from to r memory events n (suc (steps_of comparing (suc end.steps))) u parts limit is (omega arith)
-          (stays_here script (steps_of comparing (suc end.steps)) Zero place r1 memory events u parts.more.1.1.1.0 (omega arith)
+          comes_down script layout first from to r memory events n (suc (steps_of comparing (suc end.steps)))
+          u parts limit is (omega arith)
+          (stays_here script (steps_of comparing (suc end.steps)) Zero place r1 memory events u
+          parts.more.1.1.1.0 (omega arith)
           (not_equal r1.a 0 (some_left r1.a n rest some))
-          (straight script layout comparing (after_comparing first) (place + 1) to r1 memory events (suc end.steps) u refl parts.more.1.1.1.1 (omega arith)
-          (jumps_where script end.steps Carry (wrap (layout.place_of first)) (place + 1 + 2) from r2 memory events u parts.more.1.1.1.1.1.0 (omega arith)
+          (straight script layout comparing (after_comparing first) (place + 1) to r1 memory events
+          (suc end.steps) u refl parts.more.1.1.1.1 (omega arith)
+          (jumps_where script end.steps Carry (wrap (layout.place_of first)) (place + 1 + 2) from r2 memory
+          events u parts.more.1.1.1.1.1.0 (omega arith)
           (borrows r1.a n rest less)
           (word_is (layout.place_of first) from parts.start (omega arith)) end.run)));
       few = let most = end.few in omega arith;
@@ -576,17 +631,25 @@ none_ends script layout first from to r memory events n parts limit is small man
     let u = returned after memory events in
     let place = past (place_of_more first from) by_byte in
     record {
-      steps = suc (suc (suc (steps_past (exits first) (steps_of by_byte (suc (steps_of comparing (suc (steps_of emptying 1))))))));
+      steps = suc
+          (suc (suc (steps_past (exits first)
+          (steps_of by_byte (suc (steps_of comparing (suc (steps_of emptying 1))))))));
       after = after;
       run =
-          comes_down script layout first from to r memory events n (suc (steps_of comparing (suc (steps_of emptying 1)))) u parts limit is small
-          (stays_here script (steps_of comparing (suc (steps_of emptying 1))) Zero place r1 memory events u parts.more.1.1.1.0 (omega arith)
+          comes_down script layout first from to r memory events n
+          (suc (steps_of comparing (suc (steps_of emptying 1)))) u parts limit is small
+          (stays_here script (steps_of comparing (suc (steps_of emptying 1))) Zero place r1 memory events u
+          parts.more.1.1.1.0 (omega arith)
           (not_equal r1.a 0 (some_left r1.a n rest (omega arith)))
-          (straight script layout comparing (after_comparing first) (place + 1) to r1 memory events (suc (steps_of emptying 1)) u refl parts.more.1.1.1.1 (omega arith)
-          (goes_past script (steps_of emptying 1) Carry (wrap (layout.place_of first)) (place + 1 + 2) r2 memory events u parts.more.1.1.1.1.1.0 (omega arith)
+          (straight script layout comparing (after_comparing first) (place + 1) to r1 memory events
+          (suc (steps_of emptying 1)) u refl parts.more.1.1.1.1 (omega arith)
+          (goes_past script (steps_of emptying 1) Carry (wrap (layout.place_of first)) (place + 1 + 2) r2
+          memory events u parts.more.1.1.1.1.1.0 (omega arith)
           (does_not_borrow r1.a n rest many)
-          (straight script layout emptying (after_emptying first) (place + 1 + 2 + 3) to r2 memory events 1 u refl parts.more.1.1.1.1.1.1 (omega arith)
-          (returns script (place + 1 + 2 + 3 + 2) after memory events parts.more.1.1.1.1.1.1.1.0 (omega arith))))));
+          (straight script layout emptying (after_emptying first) (place + 1 + 2 + 3) to r2 memory events 1 u
+          refl parts.more.1.1.1.1.1.1 (omega arith)
+          (returns script (place + 1 + 2 + 3 + 2) after memory events
+          parts.more.1.1.1.1.1.1.1.0 (omega arith))))));
       few = omega arith;
       hl = sym (none_left (word r.h r.l) r.a (omega arith) (word_small r.h r.l h l));
       small = (small_by r1.a n rest (omega arith), omega arith, omega arith);
@@ -608,7 +671,8 @@ large_ends :
 large_ends script layout first from to r memory events zero test below parts limit is small h l =
     eight_ends script layout first from to r memory events parts limit is small h l
 large_ends script layout first from to r memory events (suc n) true below parts limit is small h l =
-    again_ends script layout first from to r memory events (suc n) parts limit is (omega arith) (leb-true (suc (suc n)) 8 below) h l
+    again_ends script layout first from to r memory events (suc n) parts limit is (omega arith)
+    (leb-true (suc (suc n)) 8 below) h l
 large_ends script layout first from to r memory events (suc n) false below parts limit is small h l =
     let large : 8 < suc (suc n) = leb-false (suc (suc n)) 8 below in
     none_ends script layout first from to r memory events (suc n) parts limit is small (omega arith) h l
@@ -649,17 +713,20 @@ right_body :
 right_body script layout first from to r memory events true below stands limit are =
     let parts = parts_of layout memory first from to stands in
     body_of script from r memory events (min 18 (7 + 4 * r.a)) (omega arith) are
-    (few_ends script layout first from to r memory events r.a parts limit refl (leb-true (suc r.a) 8 below) are.h are.l)
+    (few_ends script layout first from to r memory events r.a parts limit refl
+    (leb-true (suc r.a) 8 below) are.h are.l)
 right_body script layout first from to r memory events false below stands limit are =
     let parts = parts_of layout memory first from to stands in
     let large : 8 < suc r.a = leb-false (suc r.a) 8 below in
     body_of script from r memory events 37 (omega arith) are
-    (large_ends script layout first from to r memory events (r.a - 8) (nat_lt (r.a - 8) 8) refl parts limit (omega arith) are.a are.h are.l)
+    (large_ends script layout first from to r memory events (r.a - 8) (nat_lt (r.a - 8) 8) refl parts limit
+    (omega arith) are.a are.h are.l)
 
 pub shifts_address_right : (first : ℕ) → IsRoutine routines.ShiftRightAddress (shift_right_address first)
 shifts_address_right first layout from to script level s limit stands may =
     returns_quietly script routines.ShiftRightAddress from to level s may refl
     (λ memory alike.
-    right_body script layout first from to (record s.registers { sp = level - 2 }) memory s.events (nat_lt s.registers.a 8) refl
+    right_body script layout first from to (record s.registers { sp = level - 2 }) memory s.events
+    (nat_lt s.registers.a 8) refl
     (stands_still layout s.memory memory (shift_right_address first) from to limit alike stands) limit
     (bytes_with_sp s.registers (level - 2) may.registers))

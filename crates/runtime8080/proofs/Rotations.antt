@@ -61,7 +61,8 @@ rotation_body script routine turn f is layout first from to r memory events stan
       count = steps_of head 1;
       after = r1;
       run =
-          straight script layout head (rest turn first) from to r memory events 1 (returned r1 memory events) refl stands (omega arith)
+          straight script layout head (rest turn first) from to r memory events 1 (returned r1 memory events)
+          refl stands (omega arith)
           (returns_where script Zero (past from head) r1 memory events more.0 (omega arith)
           (eq-eqb (bit_and r.e 7) 0 (low_is r.e 0 are.e low)));
       few = omega arith;
@@ -91,13 +92,18 @@ rotation_body script routine turn f is layout first from to r memory events stan
       count = steps_of head (suc (steps_counted (turn ∷ []) n 1));
       after = after;
       run =
-          straight script layout head (rest turn first) from to r memory events (suc (steps_counted (turn ∷ []) n 1)) u refl stands (omega arith)
-          (stays_here script (steps_counted (turn ∷ []) n 1) Zero (past from head) r1 memory events u more.0 (omega arith)
+          straight script layout head (rest turn first) from to r memory events
+          (suc (steps_counted (turn ∷ []) n 1)) u refl stands (omega arith)
+          (stays_here script (steps_counted (turn ∷ []) n 1) Zero (past from head) r1 memory events u
+          more.0 (omega arith)
           (not_zero (bit_and r.e 7) n (low_is r.e (suc n) are.e low))
-          (loop_after script layout (turn ∷ []) first top to (Plain Ret ∷ []) memory events is.touches is.changes.e more.1.1 (omega arith) more.1.0 n r1 1 u
+          (loop_after script layout (turn ∷ []) first top to (Plain Ret ∷ []) memory events is.touches
+          is.changes.e more.1.1 (omega arith) more.1.0 n r1 1 u
           (low_is r.e (suc n) are.e low) (omega arith)
-          (returns script (past top (turn ∷ []) + 1 + 3) after memory events more.1.1.1.1.1.0 (omega arith))));
-      few = few_turns (steps_counted (turn ∷ []) n 1) n (most_steps routine r) (steps_is turn n 1) (below_seven r.e n low) (is.most r);
+          (returns script (past top (turn ∷ []) + 1 + 3) after memory events
+          more.1.1.1.1.1.0 (omega arith))));
+      few = few_turns (steps_counted (turn ∷ []) n 1) n (most_steps routine r) (steps_is turn n 1)
+          (below_seven r.e n low) (is.most r);
       sp = changed.sp;
       bytes = changed_bytes r r1 after (times f (suc n) r.a) are changed refl refl refl refl refl;
       computes = is.computes r after are.a (changed.a ∙ ap (λ k. times f k r.a) (sym low));
@@ -108,12 +114,14 @@ rotates :
     (routine : Routine) (turn : Instr) (f : ℕ → ℕ)
     → Rotation routine turn f
     → (first : ℕ)
-    → ((s : Rattle.isa8080.specs.State.State) → Rattle.runtime8080.specs.Routines.memory_after routine s ≡ s.memory)
+    → ((s : Rattle.isa8080.specs.State.State)
+    → Rattle.runtime8080.specs.Routines.memory_after routine s ≡ s.memory)
     → IsRoutine routine (plain head (rest turn first))
 rotates routine turn f is first quiet layout from to script level s limit stands may =
     returns_quietly script routine from to level s may (quiet s)
     (λ memory alike.
-    rotation_body script routine turn f is layout first from to (record s.registers { sp = level - 2 }) memory s.events
+    rotation_body script routine turn f is layout first from to
+    (record s.registers { sp = level - 2 }) memory s.events
     (stands_still layout s.memory memory (plain head (rest turn first)) from to limit alike stands) limit
     (bytes_with_sp s.registers (level - 2) may.registers) (s.registers.e % 8) refl)
 

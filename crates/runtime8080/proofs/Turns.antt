@@ -80,10 +80,13 @@ takes_bit script layout label skip top to others r memory events stands limit fi
       steps = 4;
       after = r2;
       run =
-          straight script layout doubling (after_double label skip others) top to r memory events 2 u refl stands (omega arith)
-          (jumps_where script 1 NoCarry (wrap (layout.place_of skip)) (top + 1 + 1) (top + 1 + 1 + 3 + 1) r1 memory events u stands.1.1.0 (omega arith)
+          straight script layout doubling (after_double label skip others) top to r memory events 2 u refl
+          stands (omega arith)
+          (jumps_where script 1 NoCarry (wrap (layout.place_of skip)) (top + 1 + 1) (top + 1 + 1 + 3 + 1) r1
+          memory events u stands.1.1.0 (omega arith)
           (ap not bit) (word_is (layout.place_of skip) (top + 1 + 1 + 3 + 1) stands.1.1.1.1.0 (omega arith))
-          (straight script layout (Dcr (Of D) ∷ []) (WithWord (JumpWhere NotZero) (AtLabel label) ∷ others) (top + 1 + 1 + 3 + 1) to r1 memory events 0 u refl stands.1.1.1.1.1 (omega arith)
+          (straight script layout (Dcr (Of D) ∷ []) (WithWord (JumpWhere NotZero) (AtLabel label) ∷ others)
+          (top + 1 + 1 + 3 + 1) to r1 memory events 0 u refl stands.1.1.1.1.1 (omega arith)
           (same_after script u)));
       few = omega arith;
       bit = record {
@@ -111,16 +114,21 @@ takes_bit script layout label skip top to others r memory events stands limit fi
       steps = 5;
       after = r3;
       run =
-          straight script layout doubling (after_double label skip others) top to r memory events 3 u refl stands (omega arith)
-          (goes_past script 2 NoCarry (wrap (layout.place_of skip)) (top + 1 + 1) r1 memory events u stands.1.1.0 (omega arith) (ap not bit)
-          (straight script layout (Dad Bc ∷ []) (Mark skip ∷ after_skip label others) (top + 1 + 1 + 3) to r1 memory events 1 u refl stands.1.1.1 (omega arith)
-          (straight script layout (Dcr (Of D) ∷ []) (WithWord (JumpWhere NotZero) (AtLabel label) ∷ others) (top + 1 + 1 + 3 + 1) to r2 memory events 0 u refl stands.1.1.1.1.1 (omega arith)
+          straight script layout doubling (after_double label skip others) top to r memory events 3 u refl
+          stands (omega arith)
+          (goes_past script 2 NoCarry (wrap (layout.place_of skip)) (top + 1 + 1) r1 memory events u
+          stands.1.1.0 (omega arith) (ap not bit)
+          (straight script layout (Dad Bc ∷ []) (Mark skip ∷ after_skip label others) (top + 1 + 1 + 3) to r1
+          memory events 1 u refl stands.1.1.1 (omega arith)
+          (straight script layout (Dcr (Of D) ∷ []) (WithWord (JumpWhere NotZero) (AtLabel label) ∷ others)
+          (top + 1 + 1 + 3 + 1) to r2 memory events 0 u refl stands.1.1.1.1.1 (omega arith)
           (same_after script u))));
       few = omega arith;
       bit = record {
         hl =
             word_of_halves (wrap (x1 + y))
-            ∙ (ap (λ n. wrap (n + y)) (word_of_halves (wrap (x + x))) ∙ with_one x y (r.a / 128) (one_bit r.a small bit));
+            ∙ (ap (λ n. wrap (n + y)) (word_of_halves (wrap (x + x)))
+            ∙ with_one x y (r.a / 128) (one_bit r.a small bit));
         h = high_of_wrapped (x1 + y);
         l = low_small (wrap (x1 + y));
         a = without_carry r.a;
@@ -194,16 +202,21 @@ pub takes_bits :
     → n < 255
     → r.a < 256
     → TakesBits script top (top + 1 + 1 + 3 + 1 + 1 + 3) r memory events (suc n)
-takes_bits script layout label skip top to others memory events stands limit fits bound zero r counter few small =
-    let taken = takes_bit script layout label skip top to others r memory events stands limit fits small (nat_le 256 (r.a + r.a + 0)) refl in
+takes_bits script layout label skip top to others memory events stands limit fits bound zero
+    r counter few small =
+    let taken =
+    takes_bit script layout label skip top to others r memory events stands limit fits small
+    (nat_le 256 (r.a + r.a + 0)) refl in
     let bit = taken.bit in
     let exit = at (top + 1 + 1 + 3 + 1 + 1 + 3) taken.after memory events in
     record {
       steps = 1 + taken.steps;
       after = taken.after;
       run =
-          comes_on script taken.steps 1 (at top r memory events) (at (top + 1 + 1 + 3 + 1 + 1) taken.after memory events) exit taken.run
-          (goes_past script 0 NotZero (wrap (layout.place_of label)) (top + 1 + 1 + 3 + 1 + 1) taken.after memory events exit
+          comes_on script taken.steps 1 (at top r memory events)
+          (at (top + 1 + 1 + 3 + 1 + 1) taken.after memory events) exit taken.run
+          (goes_past script 0 NotZero (wrap (layout.place_of label)) (top + 1 + 1 + 3 + 1 + 1)
+          taken.after memory events exit
           stands.1.1.1.1.1.1.0 fits (ap not bit.z ∙ counted_out r.d counter) (same_after script exit));
       few = let small_count = taken.few in omega arith;
       bits = record {
@@ -218,14 +231,18 @@ takes_bits script layout label skip top to others memory events stands limit fit
         sp = bit.sp;
       };
     }
-takes_bits script layout label skip top to others memory events stands limit fits bound (suc n) r counter few small =
-    let taken = takes_bit script layout label skip top to others r memory events stands limit fits small (nat_le 256 (r.a + r.a + 0)) refl in
+takes_bits script layout label skip top to others memory events stands limit fits bound (suc n)
+    r counter few small =
+    let taken =
+    takes_bit script layout label skip top to others r memory events stands limit fits small
+    (nat_le 256 (r.a + r.a + 0)) refl in
     let bit = taken.bit in
     let r1 = taken.after in
     let place = top + 1 + 1 + 3 + 1 + 1 in
     let more =
     takes_bits script layout label skip top to others memory events stands limit fits bound n r1
-    (bit.d ∙ one_less_is r.d (suc n) counter (omega arith)) (omega arith) (low_is_byte r1.a (r.a + r.a) bit.a) in
+    (bit.d ∙ one_less_is r.d (suc n) counter (omega arith)) (omega arith)
+    (low_is_byte r1.a (r.a + r.a) bit.a) in
     let exit = at (place + 3) more.after memory events in
     let x = word r.h r.l in
     let y = word r.b r.c in
@@ -233,8 +250,10 @@ takes_bits script layout label skip top to others memory events stands limit fit
       steps = suc more.steps + taken.steps;
       after = more.after;
       run =
-          comes_on script taken.steps (suc more.steps) (at top r memory events) (at place r1 memory events) exit taken.run
-          (jumps_where script more.steps NotZero (wrap (layout.place_of label)) place top r1 memory events exit
+          comes_on script taken.steps (suc more.steps) (at top r memory events)
+          (at place r1 memory events) exit taken.run
+          (jumps_where script more.steps NotZero (wrap (layout.place_of label)) place top
+          r1 memory events exit
           stands.1.1.1.1.1.1.0 (omega arith) (ap not bit.z ∙ counts_on r.d n counter (omega arith))
           (word_is (layout.place_of label) top bound (omega arith)) more.run);
       few = let one = taken.few in let rest = more.few in omega arith;
@@ -244,7 +263,8 @@ takes_bits script layout label skip top to others memory events stands limit fit
             ∙ (ap (λ b. (word r1.h r1.l * 2 ^ suc n + word b r1.c * highest (suc n) r1.a) % MEMORY_SIZE) bit.b
             ∙ (ap (λ c. (word r1.h r1.l * 2 ^ suc n + word r.b c * highest (suc n) r1.a) % MEMORY_SIZE) bit.c
             ∙ (ap (λ a. (word r1.h r1.l * 2 ^ suc n + y * highest (suc n) a) % MEMORY_SIZE) bit.a
-            ∙ more_bits x y (r.a / 128) (suc n) (highest (suc n) ((r.a + r.a) % 256)) (word r1.h r1.l) bit.hl)));
+            ∙ more_bits x y (r.a / 128) (suc n) (highest (suc n) ((r.a + r.a) % 256))
+            (word r1.h r1.l) bit.hl)));
         h = more.bits.h;
         l = more.bits.l;
         a = more.bits.a;

@@ -1,5 +1,5 @@
--- The quotient by a divisor above a byte: HL and B are doubled together, and where DE fits into HL it is taken
--- away and B gains a bit; C counts the bits.
+-- The quotient by a divisor above a byte: HL and B are doubled together, and where DE fits into HL it is
+-- taken away and B gains a bit; C counts the bits.
 use Rattle.runtime8080.proofs.Prelude.{◌≡◌, ℕ, zero, suc, ◌+◌, ◌-◌, ◌*◌, ◌/◌, ◌%◌, ◌^◌, ◌<◌, ◌≤◌, ◌==◌, Bool, true, false, not, nat_le, nat_lt, List, [], ◌∷◌, refl, sym, ap, subst, ◌∙◌, arith, pow-suc, leb-false, leb-true, pow_pos, MEMORY_SIZE, Event, bit, A, B, C, D, E, H, L, Of, Hl, Carry, NoCarry, NotZero, Add, Subtract, SubtractWithBorrow, Instr, Accumulate, Dad, Dcr, Inr, Mov, Registers, word, wrap, JumpWhere, AtLabel, Item, Plain, WithWord, Mark, Layout, Stands, Comes, comes_on, at, goes_past, jumps_where, effect, plain, straight, counted_out, counts_on, one_less_is, word_is, high_of_wrapped, low_is_byte, same_after}
 use Rattle.runtime8080.proofs.Quotients.{Quotient, QuotientBit, no_bits, one_bit_more}
 use Rattle.runtime8080.proofs.Numbers.{product_at_most, without_carry, small_by}
@@ -54,7 +54,8 @@ low_small n = omega arith
 even_word : (v : ℕ) → 2 * v + 2 ≤ 65536 → word ((v + v) % 65536 / 256) ((v + v) % 65536 % 256) ≡ 2 * v
 even_word v h = omega arith
 
-odd_word : (v : ℕ) → 2 * v + 2 ≤ 65536 → word ((v + v) % 65536 / 256) (((v + v) % 65536 % 256 + 1) % 256) ≡ 2 * v + 1
+odd_word : (v : ℕ) → 2 * v + 2 ≤ 65536
+    → word ((v + v) % 65536 / 256) (((v + v) % 65536 % 256 + 1) % 256) ≡ 2 * v + 1
 odd_word v h = omega arith
 
 -- registers after the doubling
@@ -79,10 +80,12 @@ record Doubles
   few : steps ≤ 6
   doubled : Doubled r after
 
-sum_even : (v b w : ℕ) → nat_le 256 (b + b + 0) ≡ false → w ≡ 2 * v → 256 * w + (b + b + 0) % 256 ≡ 2 * (256 * v + b)
+sum_even : (v b w : ℕ) → nat_le 256 (b + b + 0) ≡ false → w ≡ 2 * v
+    → 256 * w + (b + b + 0) % 256 ≡ 2 * (256 * v + b)
 sum_even v b w h is = let small : b + b + 0 < 256 = leb-false 256 (b + b + 0) h in omega arith
 
-sum_odd : (v b w : ℕ) → b < 256 → nat_le 256 (b + b + 0) ≡ true → w ≡ 2 * v + 1 → 256 * w + (b + b + 0) % 256 ≡ 2 * (256 * v + b)
+sum_odd : (v b w : ℕ) → b < 256 → nat_le 256 (b + b + 0) ≡ true → w ≡ 2 * v + 1
+    → 256 * w + (b + b + 0) % 256 ≡ 2 * (256 * v + b)
 sum_odd v b w small h is = let large : 256 ≤ b + b + 0 = leb-true 256 (b + b + 0) h in omega arith
 
 at_most : (w n : ℕ) → w ≡ n → w ≤ n + 1
@@ -111,8 +114,11 @@ doubles script layout fifth sixth seventh top to others r memory events stands l
       steps = 5;
       after = r1;
       run =
-          straight script layout doubling (WithWord (JumpWhere NoCarry) (AtLabel sixth) ∷ Plain (Inr (Of L)) ∷ Mark sixth ∷ at_even fifth seventh others) top to r memory events 1 u refl stands (omega arith)
-          (jumps_where script 0 NoCarry (wrap (layout.place_of sixth)) (top + 1 + 1 + 1 + 1) place r1 memory events u stands.1.1.1.1.0 (omega arith) (ap not carry)
+          straight script layout doubling
+          (WithWord (JumpWhere NoCarry) (AtLabel sixth) ∷ Plain (Inr (Of L)) ∷ Mark sixth
+          ∷ at_even fifth seventh others) top to r memory events 1 u refl stands (omega arith)
+          (jumps_where script 0 NoCarry (wrap (layout.place_of sixth)) (top + 1 + 1 + 1 + 1) place r1 memory
+          events u stands.1.1.1.1.0 (omega arith) (ap not carry)
           (word_is (layout.place_of sixth) place stands.1.1.1.1.1.1.0 fits)
           (same_after script u));
       few = omega arith;
@@ -139,9 +145,13 @@ doubles script layout fifth sixth seventh top to others r memory events stands l
       steps = 6;
       after = r2;
       run =
-          straight script layout doubling (WithWord (JumpWhere NoCarry) (AtLabel sixth) ∷ Plain (Inr (Of L)) ∷ Mark sixth ∷ at_even fifth seventh others) top to r memory events 2 u refl stands (omega arith)
-          (goes_past script 1 NoCarry (wrap (layout.place_of sixth)) (top + 1 + 1 + 1 + 1) r1 memory events u stands.1.1.1.1.0 (omega arith) (ap not carry)
-          (straight script layout odd (Mark sixth ∷ at_even fifth seventh others) (top + 1 + 1 + 1 + 1 + 3) to r1 memory events 0 u refl stands.1.1.1.1.1 fits
+          straight script layout doubling
+          (WithWord (JumpWhere NoCarry) (AtLabel sixth) ∷ Plain (Inr (Of L)) ∷ Mark sixth
+          ∷ at_even fifth seventh others) top to r memory events 2 u refl stands (omega arith)
+          (goes_past script 1 NoCarry (wrap (layout.place_of sixth)) (top + 1 + 1 + 1 + 1) r1 memory events u
+          stands.1.1.1.1.0 (omega arith) (ap not carry)
+          (straight script layout odd (Mark sixth ∷ at_even fifth seventh others) (top + 1 + 1 + 1 + 1 + 3) to
+          r1 memory events 0 u refl stands.1.1.1.1.1 fits
           (same_after script u)));
       few = omega arith;
       doubled = record {
@@ -205,7 +215,8 @@ word_taken h l d e false low less sh sl sd se =
 record Compared (r after : Registers) : Type 0 where
   quotient : ℕ
   one : quotient ≤ 1
-  sum : 256 * word after.h after.l + after.b + word r.d r.e * 256 * quotient ≡ 256 * word r.h r.l + r.b + quotient
+  sum : 256 * word after.h after.l + after.b + word r.d r.e * 256 * quotient
+      ≡ 256 * word r.h r.l + r.b + quotient
   most : word after.h after.l ≤ word r.h r.l
   less : word r.h r.l < 2 * word r.d r.e → word after.h after.l < word r.d r.e
   a : after.a < 256
@@ -219,7 +230,8 @@ record Compared (r after : Registers) : Type 0 where
   z : after.flags.z ≡ ((r.c + 254 + 1) % 256 == 0)
 
 record Compares
-    (script : List (List ℕ)) (place : ℕ) (r : Registers) (memory : List ℕ) (events : List Event) : Type 0 where
+    (script : List (List ℕ)) (place : ℕ) (r : Registers) (memory : List ℕ)
+    (events : List Event) : Type 0 where
   steps : ℕ
   after : Registers
   run :
@@ -231,7 +243,8 @@ record Compares
 nothing_taken : (w b x : ℕ) → 256 * w + b + x * 256 * 0 ≡ 256 * w + b + 0
 nothing_taken w b x = omega arith
 
-once_taken : (w x y b half : ℕ) → w + x ≡ y → b ≡ (half + half) % 256 → 256 * w + (b + 1) % 256 + x * 256 * 1 ≡ 256 * y + b + 1
+once_taken : (w x y b half : ℕ) → w + x ≡ y → b ≡ (half + half) % 256
+    → 256 * w + (b + 1) % 256 + x * 256 * 1 ≡ 256 * y + b + 1
 once_taken w x y b half h even = omega arith
 
 taken_most : (w x y : ℕ) → w + x ≡ y → w ≤ y
@@ -266,10 +279,15 @@ compares script layout fifth seventh place to half others r memory events stands
       steps = 6;
       after = r2;
       run =
-          straight script layout comparing (WithWord (JumpWhere Carry) (AtLabel seventh) ∷ plain taking (Mark seventh ∷ at_less fifth others)) place to r memory events 2 u refl stands (omega arith)
-          (jumps_where script 1 Carry (wrap (layout.place_of seventh)) (place + 1 + 1 + 1 + 1) top r1 memory events u stands.1.1.1.1.0 (omega arith) less
+          straight script layout comparing
+          (WithWord (JumpWhere Carry) (AtLabel seventh)
+          ∷ plain taking (Mark seventh ∷ at_less fifth others)) place to r memory events 2 u refl
+          stands (omega arith)
+          (jumps_where script 1 Carry (wrap (layout.place_of seventh)) (place + 1 + 1 + 1 + 1) top r1 memory
+          events u stands.1.1.1.1.0 (omega arith) less
           (word_is (layout.place_of seventh) top stands.1.1.1.1.1.1.1.1.1.1.0 (omega arith))
-          (straight script layout counting (WithWord (JumpWhere NotZero) (AtLabel fifth) ∷ others) top to r1 memory events 0 u refl stands.1.1.1.1.1.1.1.1.1.1.1 (omega arith)
+          (straight script layout counting (WithWord (JumpWhere NotZero) (AtLabel fifth) ∷ others) top to r1
+          memory events 0 u refl stands.1.1.1.1.1.1.1.1.1.1.1 (omega arith)
           (same_after script u)));
       few = omega arith;
       compared = record {
@@ -303,10 +321,16 @@ compares script layout fifth seventh place to half others r memory events stands
       steps = 11;
       after = r3;
       run =
-          straight script layout comparing (WithWord (JumpWhere Carry) (AtLabel seventh) ∷ plain taking (Mark seventh ∷ at_less fifth others)) place to r memory events 7 u refl stands (omega arith)
-          (goes_past script 6 Carry (wrap (layout.place_of seventh)) (place + 1 + 1 + 1 + 1) r1 memory events u stands.1.1.1.1.0 (omega arith) less
-          (straight script layout taking (Mark seventh ∷ at_less fifth others) (place + 1 + 1 + 1 + 1 + 3) to r1 memory events 1 u refl stands.1.1.1.1.1 (omega arith)
-          (straight script layout counting (WithWord (JumpWhere NotZero) (AtLabel fifth) ∷ others) top to r2 memory events 0 u refl stands.1.1.1.1.1.1.1.1.1.1.1 (omega arith)
+          straight script layout comparing
+          (WithWord (JumpWhere Carry) (AtLabel seventh)
+          ∷ plain taking (Mark seventh ∷ at_less fifth others)) place to r memory events 7 u refl
+          stands (omega arith)
+          (goes_past script 6 Carry (wrap (layout.place_of seventh)) (place + 1 + 1 + 1 + 1) r1 memory events
+          u stands.1.1.1.1.0 (omega arith) less
+          (straight script layout taking (Mark seventh ∷ at_less fifth others) (place + 1 + 1 + 1 + 1 + 3) to
+          r1 memory events 1 u refl stands.1.1.1.1.1 (omega arith)
+          (straight script layout counting (WithWord (JumpWhere NotZero) (AtLabel fifth) ∷ others) top to r2
+          memory events 0 u refl stands.1.1.1.1.1.1.1.1.1.1.1 (omega arith)
           (same_after script u))));
       few = omega arith;
       compared = record {
@@ -405,7 +429,8 @@ takes_bit :
     → TakesBit script top r memory events
 takes_bit script layout fifth sixth seventh top to others r memory events stands limit fits can less =
     let first =
-    doubles script layout fifth sixth seventh top to others r memory events stands limit (omega arith) can (nat_le 256 (r.b + r.b + 0)) refl in
+    doubles script layout fifth sixth seventh top to others r memory events stands limit (omega arith) can
+    (nat_le 256 (r.b + r.b + 0)) refl in
     let r1 = first.after in
     let one = first.doubled in
     let place = top + 1 + 1 + 1 + 1 + 3 + 1 in
@@ -421,14 +446,17 @@ takes_bit script layout fifth sixth seventh top to others r memory events stands
       steps = second.steps + first.steps;
       after = r2;
       run =
-          comes_on script first.steps second.steps (at top r memory events) (at place r1 memory events) end first.run second.run;
+          comes_on script first.steps second.steps (at top r memory events) (at place r1 memory events) end
+          first.run second.run;
       few = let x = first.few in let y = second.few in omega arith;
       divides = record {
         bit = two.quotient;
         small = two.one;
         same =
-            sum_both (word r.h r.l) r.b (word r1.h r1.l) r1.b (word r2.h r2.l) r2.b (word r.d r.e) two.quotient one.sum
-            (subst (λ n. 256 * word r2.h r2.l + r2.b + n * 256 * two.quotient ≡ 256 * word r1.h r1.l + r1.b + two.quotient) divisor two.sum);
+            sum_both (word r.h r.l) r.b (word r1.h r1.l) r1.b (word r2.h r2.l) r2.b (word r.d r.e)
+            two.quotient one.sum
+            (subst (λ n. 256 * word r2.h r2.l + r2.b + n * 256 * two.quotient
+            ≡ 256 * word r1.h r1.l + r1.b + two.quotient) divisor two.sum);
       };
       less =
           subst (λ n. word r2.h r2.l < n) divisor
@@ -453,7 +481,8 @@ twice_power w p = omega arith
 -- what is left of the room after a doubling
 room_after : (w w1 n : ℕ) → (w + 1) * 2 ^ suc n ≤ 65536 → w1 ≤ 2 * w + 1 → (w1 + 1) * 2 ^ n ≤ 65536
 room_after w w1 n h most =
-    let more : (w1 + 1) * 2 ^ n ≤ (2 * w + 2) * 2 ^ n = product_at_most (w1 + 1) (2 * w + 2) (2 ^ n) (omega arith) in
+    let more : (w1 + 1) * 2 ^ n ≤ (2 * w + 2) * 2 ^ n =
+    product_at_most (w1 + 1) (2 * w + 2) (2 ^ n) (omega arith) in
     let same : (w + 1) * 2 ^ suc n ≡ (2 * w + 2) * 2 ^ n =
     ap (λ p. (w + 1) * p) (pow-suc 2 n) ∙ twice_power w (2 ^ n) in
     le_by ((w1 + 1) * 2 ^ n) ((2 * w + 2) * 2 ^ n) ((w + 1) * 2 ^ suc n) more same h
@@ -487,8 +516,10 @@ pub takes_bits :
     → r.c ≡ suc n
     → n < 255
     → CanTake (suc n) r
-    → TakesBits script top (top + 1 + 1 + 1 + 1 + 3 + 1 + 1 + 1 + 1 + 1 + 3 + 1 + 1 + 1 + 1 + 1 + 1 + 3) r memory events (suc n)
-takes_bits script layout fifth sixth seventh top to others memory events stands limit fits bound zero r counter few can =
+    → TakesBits script top (top + 1 + 1 + 1 + 1 + 3 + 1 + 1 + 1 + 1 + 1 + 3 + 1 + 1 + 1 + 1 + 1 + 1 + 3) r
+    memory events (suc n)
+takes_bits script layout fifth sixth seventh top to others memory events stands limit fits bound
+    zero r counter few can =
     let taken =
     takes_bit script layout fifth sixth seventh top to others r memory events stands limit fits
     (record { b = can.b; c = omega arith; d = can.d; e = can.e; h = can.h; l = can.l; low = room_before (word r.h r.l) 0 can.low })
@@ -499,12 +530,16 @@ takes_bits script layout fifth sixth seventh top to others memory events stands 
       steps = 1 + taken.steps;
       after = taken.after;
       run =
-          comes_on script taken.steps 1 (at top r memory events) (at place taken.after memory events) exit taken.run
+          comes_on script taken.steps 1 (at top r memory events)
+          (at place taken.after memory events) exit taken.run
           (goes_past script 0 NotZero (wrap (layout.place_of fifth)) place taken.after memory events exit
-          stands.1.1.1.1.1.1.1.1.1.1.1.1.1.1.1.1.1.1.1.0 fits (ap not taken.z ∙ counted_out r.c counter) (same_after script exit));
+          stands.1.1.1.1.1.1.1.1.1.1.1.1.1.1.1.1.1.1.1.0 fits (ap not taken.z ∙ counted_out r.c counter)
+          (same_after script exit));
       few = let count = taken.few in omega arith;
       bits = record {
-        divides = one_bit_more (word r.d r.e * 256) 0 (both r) (both taken.after) (both taken.after) taken.divides (no_bits (word r.d r.e * 256) (both taken.after));
+        divides =
+            one_bit_more (word r.d r.e * 256) 0 (both r) (both taken.after) (both taken.after) taken.divides
+            (no_bits (word r.d r.e * 256) (both taken.after));
         less = taken.less;
         a = taken.a;
         b = taken.b;
@@ -516,7 +551,8 @@ takes_bits script layout fifth sixth seventh top to others memory events stands 
         sp = taken.sp;
       };
     }
-takes_bits script layout fifth sixth seventh top to others memory events stands limit fits bound (suc n) r counter few can =
+takes_bits script layout fifth sixth seventh top to others memory events stands limit fits bound
+    (suc n) r counter few can =
     let taken =
     takes_bit script layout fifth sixth seventh top to others r memory events stands limit fits
     (record { b = can.b; c = omega arith; d = can.d; e = can.e; h = can.h; l = can.l; low = room_before (word r.h r.l) (suc n) can.low })
@@ -541,9 +577,12 @@ takes_bits script layout fifth sixth seventh top to others memory events stands 
       steps = suc more.steps + taken.steps;
       after = more.after;
       run =
-          comes_on script taken.steps (suc more.steps) (at top r memory events) (at place r1 memory events) exit taken.run
-          (jumps_where script more.steps NotZero (wrap (layout.place_of fifth)) place top r1 memory events exit
-          stands.1.1.1.1.1.1.1.1.1.1.1.1.1.1.1.1.1.1.1.0 (omega arith) (ap not taken.z ∙ counts_on r.c n counter (omega arith))
+          comes_on script taken.steps (suc more.steps) (at top r memory events)
+          (at place r1 memory events) exit taken.run
+          (jumps_where script more.steps NotZero (wrap (layout.place_of fifth)) place top
+          r1 memory events exit
+          stands.1.1.1.1.1.1.1.1.1.1.1.1.1.1.1.1.1.1.1.0 (omega arith)
+          (ap not taken.z ∙ counts_on r.c n counter (omega arith))
           (word_is (layout.place_of fifth) top bound (omega arith)) more.run);
       few = let one = taken.few in let rest = more.few in omega arith;
       bits = record {

@@ -14,7 +14,8 @@ use Rattle.typing.specs.internal.Typing.{typing_of}
 use Rattle.sources.specs.{Causes.{HasReadCause}, Reading.{IsExpansionOf, IsSource, IsSpellingOf}}
 use Rattle.sources.specs.declared.read.ReadFault.{ReadFault, TheVariants.{TooLong, Words, Expansion, Syntax, Typing, Storage}}
 
-same_ok : {A E : Type 0} (result other : Result A E) (one two : A) → result ≡ Ok one → other ≡ Ok two → result ≡ other → one ≡ two
+same_ok : {A E : Type 0} (result other : Result A E) (one two : A) → result ≡ Ok one → other ≡ Ok two
+    → result ≡ other → one ≡ two
 same_ok result other one two first second same = cc
 
 not_both_ways : {A E : Type 0} (result other : Result A E) (one : A) (fault : E)
@@ -22,23 +23,30 @@ not_both_ways : {A E : Type 0} (result other : Result A E) (one : A) (fault : E)
 not_both_ways result other one fault first second same = cc
 
 -- its words, what they expand to, the module that this derives, and its typing
-same_words : (text : List ℕ) (one other : List Lexeme) → IsSpellingOf text one → IsSpellingOf text other → one ≡ other
-same_words text one other first second = (one_reading text).one_spelling one other first.spelled second.spelled
+same_words : (text : List ℕ) (one other : List Lexeme) → IsSpellingOf text one
+    → IsSpellingOf text other → one ≡ other
+same_words text one other first second =
+    (one_reading text).one_spelling one other first.spelled second.spelled
 
-same_expansion : (text : List ℕ) (one other : List Lexeme) → IsExpansionOf text one → IsExpansionOf text other → one ≡ other
+same_expansion : (text : List ℕ) (one other : List Lexeme) → IsExpansionOf text one
+    → IsExpansionOf text other → one ≡ other
 same_expansion text one other first second =
-    let same : first.words ≡ second.words = same_words text first.words second.words first.spelling second.spelling in
-    let expanded : Expands second.words one = subst (λ (words : List Lexeme). Expands words one) same first.expanded in
+    let same : first.words ≡ second.words =
+    same_words text first.words second.words first.spelling second.spelling in
+    let expanded : Expands second.words one =
+    subst (λ (words : List Lexeme). Expands words one) same first.expanded in
     one_whole expanded second.expanded
 
 same_tree : (text : List ℕ) (one other : ModuleTree) → IsText text one → IsText text other → one ≡ other
 same_tree text one other first second =
     let same : first.output ≡ second.output =
     same_expansion text first.output second.output first.expansion second.expansion in
-    let derived : Derives second.output one = subst (λ (words : List Lexeme). Derives words one) same first.derived in
+    let derived : Derives second.output one =
+    subst (λ (words : List Lexeme). Derives words one) same first.derived in
     derives_at_most_one second.output one other derived.grammar (second.derived).grammar
 
-same_typing : (text : List ℕ) (one other : TypedModule) → HasTyping text one → HasTyping text other → one ≡ other
+same_typing : (text : List ℕ) (one other : TypedModule) → HasTyping text one
+    → HasTyping text other → one ≡ other
 same_typing text one other first second =
     same_ok (typing_of first.tree) (typing_of second.tree) one other first.typing second.typing
     (ap typing_of (same_tree text first.tree second.tree first.read second.read))
@@ -52,13 +60,15 @@ no_cause text (Words fault) cause source =
     (one_reading text).not_both _ fault spelling.spelled cause.first
 no_cause text (Expansion fault) cause source =
     let expansion = source.source.typing.read.expansion in
-    let same : cause.words ≡ expansion.words = same_words text cause.words expansion.words cause.spelling expansion.spelling in
+    let same : cause.words ≡ expansion.words =
+    same_words text cause.words expansion.words cause.spelling expansion.spelling in
     not_both (subst (λ (words : List Lexeme). IsFault words fault) same cause.wrong) expansion.expanded
 no_cause text (Syntax fault) cause source =
     let read = source.source.typing.read in
     let same : read.output ≡ cause.output =
     same_expansion text read.output cause.output read.expansion cause.expansion in
-    cause.wrong.wrong _ (subst (λ (words : List Lexeme). Derives words source.source.typing.tree) same read.derived)
+    cause.wrong.wrong _
+    (subst (λ (words : List Lexeme). Derives words source.source.typing.tree) same read.derived)
 no_cause text (Typing fault) cause source =
     let typing = source.source.typing in
     not_both_ways (typing_of typing.tree) (typing_of cause.tree) source.typed fault typing.typing cause.wrong

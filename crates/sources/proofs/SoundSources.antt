@@ -4,14 +4,16 @@ use Rattle.std.specs.Prelude.{[], ◌∷◌, All}
 use Rattle.typing_rules.proofs.ModulesTyped.{module_is}
 use Rattle.typed_laws.proofs.Formed.{derived_is_soundly_typed}
 
-pub typed_text_is_soundly_typed : (text : List ℕ) (typed : TypedModule) → HasTyping text typed → IsSoundlyTyped typed
+pub typed_text_is_soundly_typed : (text : List ℕ) (typed : TypedModule) → HasTyping text typed
+    → IsSoundlyTyped typed
 typed_text_is_soundly_typed text typed has =
     derived_is_soundly_typed has.read.output has.tree typed has.read.derived (module_is has.typing)
 
 pub source_is_soundly_typed : (text : List ℕ) (typed : TypedModule) → IsSourceOf text typed → IsSoundlyTyped typed
 source_is_soundly_typed text typed source = typed_text_is_soundly_typed text typed source.typing
 
-pub sources_are_soundly_typed : (texts : List (List ℕ)) (modules : List TypedModule) → AreSourcesOf texts modules
+pub sources_are_soundly_typed : (texts : List (List ℕ)) (modules : List TypedModule)
+    → AreSourcesOf texts modules
     → All IsSoundlyTyped modules
 sources_are_soundly_typed [] [] are = All-nil IsSoundlyTyped
 sources_are_soundly_typed [] (typed ∷ modules) are = absurd are

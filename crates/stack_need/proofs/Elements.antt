@@ -20,14 +20,19 @@ module _ (make : ℕ → Option ℕ) where
   abbrev Made : (P : (from to : ℕ) → Type 0) → List ℕ → Type 0
   Made P items = (from to : ℕ) → make from ≡ Some to → Contains (filter_map make items) to → P from to
 
-  made_more : (P : (from to : ℕ) → Type 0) (item : ℕ) (others : List ℕ) (made : Option ℕ) → make item ≡ made → (Made P others → AllMade P others) → Made P (item ∷ others) → AllMade P (item ∷ others)
+  made_more : (P : (from to : ℕ) → Type 0) (item : ℕ) (others : List ℕ) (made : Option ℕ) → make item ≡ made
+      → (Made P others → AllMade P others) → Made P (item ∷ others) → AllMade P (item ∷ others)
   made_more P item others None is rest holds = (
     (λ to same. absurd (let bad : None ≡ Some to = sym is ∙ same in let no : ⊥ = cc in no)),
-    rest (λ from to same found. holds from to same (subst (λ one. Contains (cons_option one (filter_map make others)) to) (sym is) found)),
+    rest (λ from to same found. holds from to same
+        (subst (λ one. Contains (cons_option one (filter_map make others)) to) (sym is) found)),
   )
   made_more P item others (Some one) is rest holds = (
-    (λ to same. holds item to same (subst (λ found. Contains (cons_option found (filter_map make others)) to) (sym same) (at_head to (filter_map make others)))),
-    rest (λ from to same found. holds from to same (subst (λ some. Contains (cons_option some (filter_map make others)) to) (sym is) (in_tail one (filter_map make others) to found))),
+    (λ to same. holds item to same (subst (λ found. Contains (cons_option found (filter_map make others)) to)
+        (sym same) (at_head to (filter_map make others)))),
+    rest (λ from to same found. holds from to same
+        (subst (λ some. Contains (cons_option some (filter_map make others)) to) (sym is)
+        (in_tail one (filter_map make others) to found))),
   )
 
   pub all_made : (P : (from to : ℕ) → Type 0) (items : List ℕ) → Made P items → AllMade P items

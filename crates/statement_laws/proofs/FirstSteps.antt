@@ -6,7 +6,8 @@ use Rattle.statements8080.specs.declared.plan.Planned.TheVariants as planned
 use Rattle.statements8080.specs.Plans.{plain}
 
 -- planned steps stand, where the statements and lists in them do what they say
-abbrev pub Stand : BodyContext → Here → (waiting : Option Facts) → (from : ℕ) → List Planned → Here → (to : ℕ) → Type 0
+abbrev pub Stand : BodyContext → Here → (waiting : Option Facts) → (from : ℕ) → List Planned
+    → Here → (to : ℕ) → Type 0
 Stand at here waiting from steps last to =
     PlannedStand at (StatementDoes at) (ListDoes at) here waiting from steps last to
 
@@ -28,7 +29,8 @@ steps_ended NonePlanned = record { same = refl; place = refl }
 -- steps of expressions
 pub record CarriedFirst
     (at : BodyContext) (here : Here) (waiting : Option Facts) (from : ℕ) (carried : List Step)
-    (next : (known : Facts) → Here) (waits : Option Facts) (others : List Planned) (last : Here) (to : ℕ) : Type 0 where
+    (next : (known : Facts) → Here) (waits : Option Facts) (others : List Planned) (last : Here)
+    (to : ℕ) : Type 0 where
   pub known : Facts
   pub middle : ℕ
   pub first : StepsStand at.context (PartDoes at.context) here.facts from carried known middle
@@ -36,7 +38,8 @@ pub record CarriedFirst
 
 -- one step
 pub code_first :
-    {at : BodyContext} {here last : Here} {waiting : Option Facts} {from to : ℕ} (step : Step) {others : List Planned}
+    {at : BodyContext} {here last : Here} {waiting : Option Facts} {from to : ℕ} (step : Step)
+    {others : List Planned}
     → Stand at here waiting from (planned.Code step ∷ others) last to
     → CarriedFirst at here waiting from (step ∷ []) (going here.goes_on) waiting others last to
 unfolding carried_steps here_after waiting_after
@@ -53,10 +56,12 @@ pub record PartFirst
   pub rest : Stand at (going here.goes_on known) waiting middle others last to
 
 pub part_first :
-    {at : BodyContext} {here last : Here} {waiting : Option Facts} {from to : ℕ} {task : Task} {others : List Planned}
+    {at : BodyContext} {here last : Here} {waiting : Option Facts} {from to : ℕ} {task : Task}
+    {others : List Planned}
     → Stand at here waiting from (part task 0 ∷ others) last to
     → PartFirst at here waiting from task others last to
-part_first {at = at} {here = here} {last = last} {waiting = waiting} {from = from} {to = to} {task = task} {others = others} stand =
+part_first {at = at} {here = here} {last = last} {waiting = waiting} {from = from} {to = to} {task = task}
+    {others = others} stand =
     let code = code_first (steps.Part (record { task = task; pushed = 0 })) stand in
     by code.known code.middle code.first code.rest
   where
@@ -73,13 +78,16 @@ pub record PlainFirst
     (at : BodyContext) (here : Here) (waiting : Option Facts) (from : ℕ) (i : Instr) (others : List Planned)
     (last : Here) (to : ℕ) : Type 0 where
   pub there : IsThere at.context.activation (items.Plain i ∷ []) from (from + size_of_instruction i)
-  pub rest : Stand at (going here.goes_on (after here.facts i)) waiting (from + size_of_instruction i) others last to
+  pub rest : Stand at (going here.goes_on (after here.facts i)) waiting
+      (from + size_of_instruction i) others last to
 
 pub plain_first :
-    {at : BodyContext} {here last : Here} {waiting : Option Facts} {from to : ℕ} {i : Instr} {others : List Planned}
+    {at : BodyContext} {here last : Here} {waiting : Option Facts} {from to : ℕ} {i : Instr}
+    {others : List Planned}
     → Stand at here waiting from (plain i ∷ others) last to
     → PlainFirst at here waiting from i others last to
-plain_first {at = at} {here = here} {last = last} {waiting = waiting} {from = from} {to = to} {i = i} {others = others} stand =
+plain_first {at = at} {here = here} {last = last} {waiting = waiting} {from = from} {to = to} {i = i}
+    {others = others} stand =
     let code = code_first (steps.Plain i) stand in
     by code.known code.middle code.first code.rest
   where
@@ -91,29 +99,34 @@ plain_first {at = at} {here = here} {last = last} {waiting = waiting} {from = fr
 
 -- a jump, or another instruction with the place of a label
 pub record JumpFirst
-    (at : BodyContext) (here : Here) (waiting : Option Facts) (from : ℕ) (form : WordForm) (label : LabelNumber)
+    (at : BodyContext) (here : Here) (waiting : Option Facts) (from : ℕ) (form : WordForm)
+    (label : LabelNumber)
     (others : List Planned) (last : Here) (to : ℕ) : Type 0 where
   pub there : IsThere at.context.activation (jump_item form label ∷ []) from (from + 3)
   pub rest : Stand at (going here.goes_on (after_form here.facts form)) waiting (from + 3) others last to
 
 pub jump_first :
-    {at : BodyContext} {here last : Here} {waiting : Option Facts} {from to : ℕ} {form : WordForm} {label : LabelNumber}
+    {at : BodyContext} {here last : Here} {waiting : Option Facts} {from to : ℕ} {form : WordForm}
+    {label : LabelNumber}
     {others : List Planned}
     → Stand at here waiting from (jump form label ∷ others) last to
     → JumpFirst at here waiting from form label others last to
-jump_first {at = at} {here = here} {last = last} {waiting = waiting} {from = from} {to = to} {form = form} {label = label} {others = others} stand =
+jump_first {at = at} {here = here} {last = last} {waiting = waiting} {from = from} {to = to} {form = form}
+    {label = label} {others = others} stand =
     let code = code_first (steps.Jump form label) stand in
     by code.known code.middle code.first code.rest
   where
     by : (known : Facts) (middle : ℕ)
-        → StepsStand at.context (PartDoes at.context) here.facts from (steps.Jump form label ∷ []) known middle
+        → StepsStand at.context (PartDoes at.context) here.facts from
+        (steps.Jump form label ∷ []) known middle
         → Stand at (going here.goes_on known) waiting middle others last to
         → JumpFirst at here waiting from form label others last to
     by known middle (JumpThere there NoneThere) rest = record { there = there; rest = rest }
 
 -- the place of a label
 pub record MarkFirst
-    (at : BodyContext) (next : Here) (waits : Option Facts) (from : ℕ) (label : LabelNumber) (others : List Planned)
+    (at : BodyContext) (next : Here) (waits : Option Facts) (from : ℕ) (label : LabelNumber)
+    (others : List Planned)
     (last : Here) (to : ℕ) : Type 0 where
   pub lies : at.context.activation.layout.place_of label.index ≡ from
   pub rest : Stand at next waits from others last to
@@ -147,14 +160,18 @@ meet_first {here = here} {waiting = waiting} (StepPlanned {known = known} {middl
 
 -- the place of a label that later code jumps back to
 pub again_first :
-    {at : BodyContext} {here last : Here} {waiting : Option Facts} {from to : ℕ} {label : LabelNumber} {facts : Facts}
+    {at : BodyContext} {here last : Here} {waiting : Option Facts} {from to : ℕ}
+    {label : LabelNumber} {facts : Facts}
     {is_entered : Bool} {others : List Planned}
     → Stand at here waiting from (planned.Again label facts is_entered ∷ others) last to
-    → MarkFirst at (arriving (met (if is_entered then known_here here else None) (Some facts))) waiting from label
+    → MarkFirst at (arriving (met (if is_entered then known_here here else None) (Some facts))) waiting from
+    label
     others last to
 unfolding carried_steps here_after waiting_after
-again_first {here = here} {facts = facts} {is_entered = is_entered} (StepPlanned {known = known} {middle = middle} ok first rest) =
-    marked here (λ given. arriving (met (if is_entered then known_here here else None) (Some facts))) known middle
+again_first {here = here} {facts = facts} {is_entered = is_entered}
+    (StepPlanned {known = known} {middle = middle} ok first rest) =
+    marked here (λ given. arriving (met (if is_entered then known_here here else None) (Some facts))) known
+    middle
     first rest
 
 -- a jump that waits for a label
@@ -162,7 +179,8 @@ pub jumped_first :
     {at : BodyContext} {here last : Here} {waiting : Option Facts} {from to : ℕ} {is_the_only_one : Bool}
     {others : List Planned}
     → Stand at here waiting from (planned.Jumped is_the_only_one ∷ others) last to
-    → Stand at (going here.goes_on here.facts) (Some (if is_the_only_one then here.facts else no_facts)) from others
+    → Stand at (going here.goes_on here.facts)
+    (Some (if is_the_only_one then here.facts else no_facts)) from others
     last to
 unfolding carried_steps here_after waiting_after
 jumped_first (StepPlanned ok NoneThere rest) = rest
@@ -181,7 +199,8 @@ pub jump_on_first :
     {at : BodyContext} {here last : Here} {waiting : Option Facts} {from to : ℕ} {label : LabelNumber}
     {others : List Planned}
     → Stand at here waiting from (planned.JumpOn label ∷ others) last to
-    → CarriedFirst at here waiting from (jump_on_steps here.goes_on label) (going here.goes_on) waiting others last to
+    → CarriedFirst at here waiting from (jump_on_steps here.goes_on label) (going here.goes_on)
+    waiting others last to
 unfolding carried_steps here_after waiting_after
 jump_on_first (StepPlanned {known = known} {middle = middle} ok first rest) =
     record { known = known; middle = middle; first = first; rest = rest }

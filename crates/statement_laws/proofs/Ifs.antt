@@ -17,9 +17,11 @@ pub statement_then :
     → middle.goes_on ≡ true
     → IsReady at.context.activation at.context.activation.level base u.memory u.frame r memory
     → Know at.context middle.facts r memory
-    → Does (script_of at.context) u.budget 0 (at_place place r memory u.events) (Gave Onward u) (Leaves at base to last before))
+    → Does (script_of at.context) u.budget 0 (at_place place r memory u.events) (Gave Onward u)
+    (Leaves at base to last before))
     → Does (script_of at.context) budget 0 from outcome (Leaves at base to last before)
-statement_then {at = at} {base = base} {place = place} {to = to} {before = before} {budget = budget} {middle = middle} {last = last} {outcome = outcome} does rest =
+statement_then {at = at} {base = base} {place = place} {to = to} {before = before} {budget = budget}
+    {middle = middle} {last = last} {outcome = outcome} does rest =
     gives_then outcome does (λ flow u end leaves less. by flow u end less leaves)
   where
     by : (flow : Flow) (u : SourceState) (end : State) → u.budget ≤ budget
@@ -27,7 +29,8 @@ statement_then {at = at} {base = base} {place = place} {to = to} {before = befor
         → Does (script_of at.context) u.budget 0 end (Gave flow u) (Leaves at base to last before)
     by Onward u end less leaves =
         let comes = leaves.comes in
-        subst (λ (s : State). Does (script_of at.context) u.budget 0 s (Gave Onward u) (Leaves at base to last before)) (sym comes.is_at)
+        subst (λ (s : State). Does (script_of at.context) u.budget 0 s (Gave Onward u)
+        (Leaves at base to last before)) (sym comes.is_at)
         (rest u comes.r comes.memory less leaves.goes_on comes.ready comes.holds)
     by (Returned found) u end less leaves = does_without_step leaves
     by (Jumped label) u end less leaves = does_without_step leaves
@@ -49,12 +52,16 @@ goto_form at label (statements.Goto number) bound tree same (IsGoto {label = nam
     record { number = number; name = name; is = refl; label_is = sym (same_Some (body_label at.body number) label same); names = names }
 goto_form at label statements.Null bound tree same form = let never : ⊥ = cc in absurd never
 goto_form at label (statements.Label number) bound tree same form = let never : ⊥ = cc in absurd never
-goto_form at label (statements.Assignment targets value) bound tree same form = let never : ⊥ = cc in absurd never
-goto_form at label (statements.Call procedure arguments) bound tree same form = let never : ⊥ = cc in absurd never
-goto_form at label (statements.Move count source destination) bound tree same form = let never : ⊥ = cc in absurd never
+goto_form at label (statements.Assignment targets value) bound tree same form =
+    let never : ⊥ = cc in absurd never
+goto_form at label (statements.Call procedure arguments) bound tree same form =
+    let never : ⊥ = cc in absurd never
+goto_form at label (statements.Move count source destination) bound tree same form =
+    let never : ⊥ = cc in absurd never
 goto_form at label (statements.Return value) bound tree same form = let never : ⊥ = cc in absurd never
 goto_form at label statements.Halt bound tree same form = let never : ⊥ = cc in absurd never
-goto_form at label (statements.If condition then_part else_part) bound tree same form = let never : ⊥ = cc in absurd never
+goto_form at label (statements.If condition then_part else_part) bound tree same form =
+    let never : ⊥ = cc in absurd never
 goto_form at label (statements.Do list) bound tree same form = let never : ⊥ = cc in absurd never
 goto_form at label (statements.While condition list) bound tree same form = let never : ⊥ = cc in absurd never
 goto_form at label (statements.Iterate head list) bound tree same form = let never : ⊥ = cc in absurd never
@@ -74,7 +81,8 @@ goes_to at label of bound tree sound same (IsStatementNode {statement = found} b
 
 -- what a branch to a GOTO does
 pub goes_out :
-    {at : BodyContext} {base : List ℕ} {to before : ℕ} {last : Here} {tree : TypedStatement} {label : LabelNumber}
+    {at : BodyContext} {base : List ℕ} {to before : ℕ} {last : Here} {tree : TypedStatement}
+    {label : LabelNumber}
     {t : SourceState} {end there : State} {r : Registers} {memory : List ℕ}
     → GoesTo at label tree
     → t.budget ≤ before
@@ -83,12 +91,14 @@ pub goes_out :
     → IsReady at.context.activation at.context.activation.level base t.memory t.frame r memory
     → Does (script_of at.context) t.budget 0 end (done at.context.later at.context.activation.around tree t)
     (Leaves at base to last before)
-goes_out {at = at} {base = base} {to = to} {before = before} {last = last} {t = t} {end = end} {r = r} {memory = memory} goto less step is_there ready =
+goes_out {at = at} {base = base} {to = to} {before = before} {last = last} {t = t} {end = end} {r = r}
+    {memory = memory} goto less step is_there ready =
     subst (λ (one : TypedStatement). Does (script_of at.context) t.budget 0 end
     (done at.context.later at.context.activation.around one t) (Leaves at base to last before)) (sym goto.is)
     (taking_does t (λ u. Gave (Jumped goto.name) u)
     (step ∙ is_there
-    ∙ ap (λ (one : LabelNumber). at_place (at.context.activation.layout.place_of one.index) r memory t.events) goto.label_is)
+    ∙ ap (λ (one : LabelNumber). at_place (at.context.activation.layout.place_of one.index) r memory t.events)
+    goto.label_is)
     refl refl
     (λ one_less. to_label goto.number goto.name goto.names (omega (arith, one_less, less)) ready))
 
@@ -99,7 +109,8 @@ pub record Turned (at : BodyContext) (goes_on : Bool) (other end : LabelNumber) 
 
 pub turned :
     (at : BodyContext) (facts last : Facts) (goes_on : Bool) (other end : LabelNumber) (from to : ℕ)
-    → StepsStand at.context (PartDoes at.context) facts from (jump_on_steps goes_on end ++ (steps.Mark other ∷ [])) last to
+    → StepsStand at.context (PartDoes at.context) facts from
+    (jump_on_steps goes_on end ++ (steps.Mark other ∷ [])) last to
     → Turned at goes_on other end from to
 turned at facts last true other end from to (JumpThere there (MarkThere lies NoneThere)) =
     record { lies = lies; jumps = λ goes. there }
@@ -118,7 +129,8 @@ module _
     (else_types : TypesHoldInElse at.context.typed at.context.within else_tree)
     (then_lists : ListsStand then_tree)
     (else_lists : ListsStandInElse else_tree)
-    (fits : 2 + 2 * max (height_of test) (max (height_of_statement then_tree) (height_of_else else_tree)) ≤ need)
+    (fits : 2 + 2 * max (height_of test) (max (height_of_statement then_tree) (height_of_else else_tree))
+    ≤ need)
     (base : List ℕ) (last : Here) (to : ℕ) (s : SourceState) (below : s.budget < at.context.number)
     (room : HasRoom at.context.activation at.context.activation.level 0 need)
   where
@@ -130,7 +142,8 @@ module _
 
     -- a machine after the condition
     abbrev Comes : (holds : Bool) (t : SourceState) (end : State) → Type 0
-    Comes holds t end = Does (script_of at.context) t.budget 0 end (chosen holds t) (Leaves at base to last s.budget)
+    Comes holds t end =
+        Does (script_of at.context) t.budget 0 end (chosen holds t) (Leaves at base to last s.budget)
 
     -- what is known after the condition of a machine
     stage : (t : SourceState) (known : Facts) (r : Registers) (memory : List ℕ)
@@ -138,7 +151,8 @@ module _
         → IsReady at.context.activation at.context.activation.level base t.memory t.frame r memory
         → Know at.context known r memory
         → Between at need base t known r memory
-    stage t known r memory less ready knows = record { below = omega (arith, less, below); room = room; ready = ready; known = knows }
+    stage t known r memory less ready knows =
+        record { below = omega (arith, less, below); room = room; ready = ready; known = knows }
 
     -- the first statement, where the code goes on after it
     then_goes :
@@ -152,7 +166,8 @@ module _
         → h.goes_on ≡ true
         → IsReady at.context.activation at.context.activation.level base u.memory u.frame now kept
         → Know at.context h.facts now kept
-        → Does (script_of at.context) u.budget 0 (at_place middle now kept u.events) (Gave Onward u) (Leaves at base to last s.budget))
+        → Does (script_of at.context) u.budget 0 (at_place middle now kept u.events) (Gave Onward u)
+        (Leaves at base to last s.budget))
         → Does (script_of at.context) t.budget 0 (at_place from r memory t.events)
         (done at.context.later at.context.activation.around then_tree t) (Leaves at base to last s.budget)
     then_goes known from middle h t r memory does less ready knows rest =
@@ -160,14 +175,17 @@ module _
         (does_later s.budget less
         (does bound then_tree then_is then_types then_lists base t r memory (omega (arith, less, below))
         (room_for (2 + 2 * height_of_statement then_tree) (omega (arith, fits)) room) ready knows))
-        (λ u now kept fewer goes there known_there. rest u now kept (omega (arith, fewer, less)) goes there known_there)
+        (λ u now kept fewer goes there known_there. rest u now kept (omega (arith, fewer, less))
+        goes there known_there)
 
     -- the second one
     else_goes :
-        (else_number : StatementNumber) (else_statement : TypedStatement) (known : Facts) (from middle : ℕ) (h : Here)
+        (else_number : StatementNumber) (else_statement : TypedStatement) (known : Facts)
+        (from middle : ℕ) (h : Here)
         (t : SourceState) (r : Registers) (memory : List ℕ)
         → else_tree ≡ ElseStatement else_statement
-        → IsStatement (nodes_in at.context) at.context.storage at.labels bound else_number.index else_statement
+        → IsStatement (nodes_in at.context) at.context.storage at.labels bound
+        else_number.index else_statement
         → StatementDoes at known else_number from h middle
         → t.budget ≤ s.budget
         → IsReady at.context.activation at.context.activation.level base t.memory t.frame r memory
@@ -177,21 +195,28 @@ module _
         → h.goes_on ≡ true
         → IsReady at.context.activation at.context.activation.level base u.memory u.frame now kept
         → Know at.context h.facts now kept
-        → Does (script_of at.context) u.budget 0 (at_place middle now kept u.events) (Gave Onward u) (Leaves at base to last s.budget))
+        → Does (script_of at.context) u.budget 0 (at_place middle now kept u.events) (Gave Onward u)
+        (Leaves at base to last s.budget))
         → Does (script_of at.context) t.budget 0 (at_place from r memory t.events)
-        (done_else at.context.later at.context.activation.around else_tree t) (Leaves at base to last s.budget)
-    else_goes else_number else_statement known from middle h t r memory same else_is does less ready knows rest =
+        (done_else at.context.later at.context.activation.around else_tree t)
+        (Leaves at base to last s.budget)
+    else_goes else_number else_statement known from middle h t r memory same else_is does
+        less ready knows rest =
         let types_there : TypesHoldInElse at.context.typed at.context.within (ElseStatement else_statement) =
         subst (λ (one : TypedElse). TypesHoldInElse at.context.typed at.context.within one) same else_types in
-        let lists_there : ListsStandInElse (ElseStatement else_statement) = subst (λ (one : TypedElse). ListsStandInElse one) same else_lists in
+        let lists_there : ListsStandInElse (ElseStatement else_statement) =
+        subst (λ (one : TypedElse). ListsStandInElse one) same else_lists in
         let high : height_of_else else_tree ≡ height_of_statement else_statement = ap height_of_else same in
         subst (λ (one : TypedElse). Does (script_of at.context) t.budget 0 (at_place from r memory t.events)
-        (done_else at.context.later at.context.activation.around one t) (Leaves at base to last s.budget)) (sym same)
+        (done_else at.context.later at.context.activation.around one t)
+        (Leaves at base to last s.budget)) (sym same)
         (statement_then
         (does_later s.budget less
-        (does bound else_statement else_is types_there lists_there.1 base t r memory (omega (arith, less, below))
+        (does bound else_statement else_is types_there lists_there.1 base t r memory
+        (omega (arith, less, below))
         (room_for (2 + 2 * height_of_statement else_statement) (omega (arith, fits, high)) room) ready knows))
-        (λ u now kept fewer goes there known_there. rest u now kept (omega (arith, fewer, less)) goes there known_there))
+        (λ u now kept fewer goes there known_there. rest u now kept (omega (arith, fewer, less))
+        goes there known_there))
 
     -- the second one, if there is one
     any_else_goes :
@@ -202,28 +227,36 @@ module _
         → IsReady at.context.activation at.context.activation.level base t.memory t.frame r memory
         → Know at.context known r memory
         → Does (script_of at.context) t.budget 0 (at_place from r memory t.events)
-        (done_else at.context.later at.context.activation.around else_tree t) (Leaves at base to last s.budget)
-    any_else_goes known from t r memory else_is stand less ready knows = by else_part else_tree refl else_is stand
+        (done_else at.context.later at.context.activation.around else_tree t)
+        (Leaves at base to last s.budget)
+    any_else_goes known from t r memory else_is stand less ready knows =
+        by else_part else_tree refl else_is stand
       where
         by : (part : Option StatementNumber) (tree : TypedElse)
             → else_tree ≡ tree
             → IsElse (nodes_in at.context) at.context.storage at.labels bound part tree
             → Stand at (going true known) None from (statement_if_any part) last to
             → Does (script_of at.context) t.budget 0 (at_place from r memory t.events)
-            (done_else at.context.later at.context.activation.around else_tree t) (Leaves at base to last s.budget)
+            (done_else at.context.later at.context.activation.around else_tree t)
+            (Leaves at base to last s.budget)
         by None tree same IsNoElse ends =
-            subst (λ (one : TypedElse). Does (script_of at.context) t.budget 0 (at_place from r memory t.events)
-            (done_else at.context.later at.context.activation.around one t) (Leaves at base to last s.budget)) (sym same)
+            subst (λ (one : TypedElse). Does (script_of at.context) t.budget 0
+            (at_place from r memory t.events)
+            (done_else at.context.later at.context.activation.around one t)
+            (Leaves at base to last s.budget)) (sym same)
             (ends_onward (steps_ended ends) refl (stage t known r memory less ready knows))
         by (Some part) tree same (IsSomeElse {tree = found} there) stand =
             let first = statement_first stand in
-            else_goes part found known from first.middle first.after t r memory same there first.does less ready knows
+            else_goes part found known from first.middle first.after t r memory same there
+            first.does less ready knows
             (λ u now kept fewer goes ready_there known_there.
-            ends_onward (steps_ended first.rest) goes (stage u first.after.facts now kept fewer ready_there known_there))
+            ends_onward (steps_ended first.rest) goes
+            (stage u first.after.facts now kept fewer ready_there known_there))
 
     -- the condition, and what follows it
     by_condition :
-        (label : LabelNumber) (sense : Bool) (from middle : ℕ) (known : Facts) (r : Registers) (memory : List ℕ)
+        (label : LabelNumber) (sense : Bool) (from middle : ℕ) (known : Facts)
+        (r : Registers) (memory : List ℕ)
         → BranchDoes at.context facts condition label sense 0 from known middle
         → IsReady at.context.activation at.context.activation.level base s.memory s.frame r memory
         → Know at.context facts r memory
@@ -244,7 +277,8 @@ module _
         (Leaves at base to last s.budget)
     by_condition label sense from middle known r memory does ready knows goes passes =
         then_does
-        (does _ test is types at.context.activation.level base s r memory below (room_for (2 * height_of test) (omega (arith, fits)) room)
+        (does _ test is types at.context.activation.level base s r memory below
+        (room_for (2 * height_of test) (omega (arith, fits)) room)
         ready knows)
         (λ n t end parts less. by n t end parts less)
       where
@@ -281,7 +315,8 @@ module _
     then_alone :
         (from label : ℕ) (r : Registers) (memory : List ℕ)
         → else_tree ≡ NoElse
-        → Stand at (going true facts) None from (then_steps (knowing (site_of at.body) facts) condition then_part label) last to
+        → Stand at (going true facts) None from
+        (then_steps (knowing (site_of at.body) facts) condition then_part label) last to
         → IsReady at.context.activation at.context.activation.level base s.memory s.frame r memory
         → Know at.context facts r memory
         → Goal from r memory
@@ -293,22 +328,31 @@ module _
         by_condition (label_of label) false from tested.middle tested.known r memory tested.does ready knows
         (λ t end there now kept less step is_there there_ready single.
         subst (λ (one : TypedElse). Does (script_of at.context) t.budget 0 end
-        (done_else at.context.later at.context.activation.around one t) (Leaves at base to last s.budget)) (sym no_else)
+        (done_else at.context.later at.context.activation.around one t)
+        (Leaves at base to last s.budget)) (sym no_else)
         (after_step (step ∙ is_there ∙ ap (λ (place : ℕ). at_place place now kept t.events) meets.lies)
-        (let met_there = meets_waiting at.context now kept (known_here first.after) (if once then tested.known else no_facts)
+        (let met_there = meets_waiting at.context now kept (known_here
+        first.after) (if once then tested.known else no_facts)
         (once_known tested.known now kept once refl single) in
-        ends_onward (steps_ended meets.rest) met_there.goes_on (stage t _ now kept less there_ready met_there.known))))
+        ends_onward (steps_ended meets.rest) met_there.goes_on
+        (stage t _ now kept less there_ready met_there.known))))
         (λ t now kept less there_ready known_there.
-        then_goes tested.known tested.middle first.middle first.after t now kept first.does less there_ready known_there
+        then_goes tested.known tested.middle first.middle first.after t now kept first.does less
+        there_ready known_there
         (λ u here held fewer goes ready_here known_here_too.
-        let met_there = meets_here at.context here held first.after (Some (if once then tested.known else no_facts)) goes known_here_too in
-        ends_onward (steps_ended meets.rest) met_there.goes_on (stage u _ here held fewer ready_here met_there.known)))
+        let met_there =
+        meets_here at.context here held first.after (Some (if once then tested.known else no_facts))
+        goes known_here_too in
+        ends_onward (steps_ended meets.rest) met_there.goes_on
+        (stage u _ here held fewer ready_here met_there.known)))
 
     -- one of two statements
     one_of_both :
-        (from label : ℕ) (r : Registers) (memory : List ℕ) (else_number : StatementNumber) (else_statement : TypedStatement)
+        (from label : ℕ) (r : Registers) (memory : List ℕ) (else_number : StatementNumber)
+        (else_statement : TypedStatement)
         → else_tree ≡ ElseStatement else_statement
-        → IsStatement (nodes_in at.context) at.context.storage at.labels bound else_number.index else_statement
+        → IsStatement (nodes_in at.context) at.context.storage at.labels bound
+        else_number.index else_statement
         → Stand at (going true facts) None from
         (both_steps (knowing (site_of at.body) facts) condition then_part else_number label) last to
         → IsReady at.context.activation at.context.activation.level base s.memory s.frame r memory
@@ -318,7 +362,8 @@ module _
         let tested = part_first stand in
         let first = statement_first (jumped_first tested.rest) in
         let turns = turn_first first.rest in
-        let turn = turned at first.after.facts turns.known first.after.goes_on (label_of label) (nth_label label 1)
+        let turn =
+        turned at first.after.facts turns.known first.after.goes_on (label_of label) (nth_label label 1)
         first.middle turns.middle turns.first in
         let second = statement_first turns.rest in
         let meets = meet_first second.rest in
@@ -326,27 +371,37 @@ module _
         by_condition (label_of label) false from tested.middle tested.known r memory tested.does ready knows
         (λ t end there now kept less step is_there there_ready single.
         after_step (step ∙ is_there ∙ ap (λ (place : ℕ). at_place place now kept t.events) turn.lies)
-        (else_goes else_number else_statement (if once then tested.known else no_facts) turns.middle second.middle second.after
-        t now kept same else_is second.does less there_ready (once_known tested.known now kept once refl single)
+        (else_goes else_number else_statement (if once then tested.known else no_facts) turns.middle
+        second.middle second.after
+        t now kept same else_is second.does less there_ready
+        (once_known tested.known now kept once refl single)
         (λ u here held fewer goes ready_here known_there.
-        let met_there = meets_here at.context here held second.after (known_here first.after) goes known_there in
-        ends_onward (steps_ended meets.rest) met_there.goes_on (stage u _ here held fewer ready_here met_there.known))))
+        let met_there =
+        meets_here at.context here held second.after (known_here first.after) goes known_there in
+        ends_onward (steps_ended meets.rest) met_there.goes_on
+        (stage u _ here held fewer ready_here met_there.known))))
         (λ t now kept less there_ready known_there.
-        then_goes tested.known tested.middle first.middle first.after t now kept first.does less there_ready known_there
+        then_goes tested.known tested.middle first.middle first.after t now kept first.does less
+        there_ready known_there
         (λ u here held fewer goes ready_here known_here_too.
-        let met_there = waits_here at.context here held (known_here second.after) first.after goes known_here_too in
+        let met_there =
+        waits_here at.context here held (known_here second.after) first.after goes known_here_too in
         after_step
-        (word_step (script_of at.context) at.context.activation Jump (AtLabel (nth_label label 1).index) [] first.middle (first.middle + 3)
+        (word_step (script_of at.context) at.context.activation Jump (AtLabel (nth_label label 1).index) []
+        first.middle (first.middle + 3)
         here held u.events sound.sound.lies ready_here.shares.code (turn.jumps goes)
         ∙ ap (λ (place : ℕ). at_place place here held u.events) meets.lies)
-        (ends_onward (steps_ended meets.rest) met_there.goes_on (stage u _ here held fewer ready_here met_there.known))))
+        (ends_onward (steps_ended meets.rest) met_there.goes_on
+        (stage u _ here held fewer ready_here met_there.known))))
 
     -- the second statement is a GOTO
     else_goto :
         (from : ℕ) (label : LabelNumber) (r : Registers) (memory : List ℕ) (else_statement : TypedStatement)
         → else_tree ≡ ElseStatement else_statement
         → GoesTo at label else_statement
-        → Stand at (going true facts) None from (branch condition label false ∷ Rattle.statements8080.specs.declared.plan.Planned.TheVariants.Statement then_part ∷ []) last to
+        → Stand at (going true facts) None from
+        (branch condition label false
+        ∷ Rattle.statements8080.specs.declared.plan.Planned.TheVariants.Statement then_part ∷ []) last to
         → IsReady at.context.activation at.context.activation.level base s.memory s.frame r memory
         → Know at.context facts r memory
         → Goal from r memory
@@ -356,10 +411,12 @@ module _
         by_condition label false from tested.middle tested.known r memory tested.does ready knows
         (λ t end there now kept less step is_there there_ready single.
         subst (λ (one : TypedElse). Does (script_of at.context) t.budget 0 end
-        (done_else at.context.later at.context.activation.around one t) (Leaves at base to last s.budget)) (sym same)
+        (done_else at.context.later at.context.activation.around one t)
+        (Leaves at base to last s.budget)) (sym same)
         (goes_out goto less step is_there there_ready))
         (λ t now kept less there_ready known_there.
-        then_goes tested.known tested.middle first.middle first.after t now kept first.does less there_ready known_there
+        then_goes tested.known tested.middle first.middle first.after t now kept first.does less
+        there_ready known_there
         (λ u here held fewer goes ready_here known_here_too.
         ends_onward (steps_ended first.rest) goes (stage u _ here held fewer ready_here known_here_too)))
 
@@ -368,14 +425,16 @@ module _
         (from : ℕ) (label : LabelNumber) (r : Registers) (memory : List ℕ)
         → IsElse (nodes_in at.context) at.context.storage at.labels bound else_part else_tree
         → GoesTo at label then_tree
-        → Stand at (going true facts) None from (branch condition label true ∷ statement_if_any else_part) last to
+        → Stand at (going true facts) None from
+        (branch condition label true ∷ statement_if_any else_part) last to
         → IsReady at.context.activation at.context.activation.level base s.memory s.frame r memory
         → Know at.context facts r memory
         → Goal from r memory
     then_goto from label r memory else_is goto stand ready knows =
         let tested = part_first stand in
         by_condition label true from tested.middle tested.known r memory tested.does ready knows
-        (λ t end there now kept less step is_there there_ready single. goes_out goto less step is_there there_ready)
+        (λ t end there now kept less step is_there there_ready single. goes_out goto less step
+        is_there there_ready)
         (λ t now kept less there_ready known_there.
         any_else_goes tested.known tested.middle t now kept else_is tested.rest less there_ready known_there)
 
@@ -389,7 +448,8 @@ module _
         → IsReady at.context.activation at.context.activation.level base s.memory s.frame r memory
         → Know at.context facts r memory
         → Goal from r memory
-    computed from label r memory None tree same IsNoElse stand ready knows = then_alone from label r memory same stand ready knows
+    computed from label r memory None tree same IsNoElse stand ready knows =
+        then_alone from label r memory same stand ready knows
     computed from label r memory (Some part) tree same (IsSomeElse {tree = found} there) stand ready knows =
         by (goto_label at.body part) refl stand
       where
@@ -397,18 +457,22 @@ module _
             → goto_label at.body part ≡ target
             → Stand at (going true facts) None from
             (elim target [
-              | Some given ↦ branch condition given false ∷ Rattle.statements8080.specs.declared.plan.Planned.TheVariants.Statement then_part ∷ []
+              | Some given ↦ branch condition given false
+                  ∷ Rattle.statements8080.specs.declared.plan.Planned.TheVariants.Statement then_part ∷ []
               | None ↦ both_steps (knowing (site_of at.body) facts) condition then_part part label
             ]) last to
             → Goal from r memory
-        by (Some given) target stand = else_goto from given r memory found same (goes_to at given part bound found sound target there) stand ready knows
+        by (Some given) target stand =
+            else_goto from given r memory found same
+            (goes_to at given part bound found sound target there) stand ready knows
         by None target stand = one_of_both from label r memory part found same there stand ready knows
 
     tested_if :
         (from label : ℕ) (r : Registers) (memory : List ℕ)
         → IsElse (nodes_in at.context) at.context.storage at.labels bound else_part else_tree
         → Stand at (going true facts) None from
-        (tested_if_steps at.body (knowing (site_of at.body) facts) condition then_part else_part label) last to
+        (tested_if_steps at.body (knowing (site_of at.body) facts) condition then_part else_part label) last
+        to
         → IsReady at.context.activation at.context.activation.level base s.memory s.frame r memory
         → Know at.context facts r memory
         → Goal from r memory
@@ -419,11 +483,13 @@ module _
             → Stand at (going true facts) None from
             (elim target [
               | Some given ↦ branch condition given true ∷ statement_if_any else_part
-              | None ↦ computed_if_steps at.body (knowing (site_of at.body) facts) condition then_part else_part label
+              | None ↦ computed_if_steps at.body (knowing (site_of at.body) facts) condition
+                  then_part else_part label
             ]) last to
             → Goal from r memory
         by (Some given) target stand =
-            then_goto from given r memory else_is (goes_to at given then_part bound then_tree sound target then_is) stand ready knows
+            then_goto from given r memory else_is
+            (goes_to at given then_part bound then_tree sound target then_is) stand ready knows
         by None target stand = computed from label r memory else_part else_tree refl else_is stand ready knows
 
     -- a condition that is known
@@ -432,20 +498,24 @@ module _
         → number (knowing (site_of at.body) facts) condition ≡ Some n
         → IsElse (nodes_in at.context) at.context.storage at.labels bound else_part else_tree
         → Stand at (going true facts) None from
-        (if nat_eq (n % 2) 1 then Rattle.statements8080.specs.declared.plan.Planned.TheVariants.Statement then_part ∷ [] else statement_if_any else_part) last to
+        (if nat_eq (n % 2) 1 then Rattle.statements8080.specs.declared.plan.Planned.TheVariants.Statement
+        then_part ∷ [] else statement_if_any else_part) last to
         → IsReady at.context.activation at.context.activation.level base s.memory s.frame r memory
         → Know at.context facts r memory
         → Goal from r memory
     known_if from n r memory known else_is stand ready knows =
         does_same (chosen (is_true n) s)
         (ap (λ (given : Outcome ℕ). then_do given (λ m t. chosen (is_true m) t))
-        (number_means facts n sound.sound is types (ap (λ (site : Site). number (knowing site facts) condition) sound.site ∙ known) s))
+        (number_means facts n sound.sound is types
+        (ap (λ (site : Site). number (knowing site facts) condition) sound.site ∙ known) s))
         (by (n % 2 == 1) stand)
       where
         by : (holds : Bool)
             → Stand at (going true facts) None from
-            (if holds then Rattle.statements8080.specs.declared.plan.Planned.TheVariants.Statement then_part ∷ [] else statement_if_any else_part) last to
-            → Does (script_of at.context) s.budget 0 (at_place from r memory s.events) (chosen holds s) (Leaves at base to last s.budget)
+            (if holds then Rattle.statements8080.specs.declared.plan.Planned.TheVariants.Statement then_part
+            ∷ [] else statement_if_any else_part) last to
+            → Does (script_of at.context) s.budget 0 (at_place from r memory s.events) (chosen holds s)
+            (Leaves at base to last s.budget)
         by true stand =
             let first = statement_first stand in
             then_goes facts from first.middle first.after s r memory first.does (omega arith) ready knows
@@ -461,14 +531,18 @@ module _
         → IsReady at.context.activation at.context.activation.level base s.memory s.frame r memory
         → Know at.context facts r memory
         → Goal from r memory
-    any_if from label r memory else_is stand ready knows = by (number (knowing (site_of at.body) facts) condition) refl stand
+    any_if from label r memory else_is stand ready knows =
+        by (number (knowing (site_of at.body) facts) condition) refl stand
       where
         by : (known : Option ℕ)
             → number (knowing (site_of at.body) facts) condition ≡ known
             → Stand at (going true facts) None from
             (elim known [
-              | Some n ↦ if nat_eq (n % 2) 1 then Rattle.statements8080.specs.declared.plan.Planned.TheVariants.Statement then_part ∷ [] else statement_if_any else_part
-              | None ↦ tested_if_steps at.body (knowing (site_of at.body) facts) condition then_part else_part label
+              | Some n ↦ if nat_eq (n % 2)
+                  1 then Rattle.statements8080.specs.declared.plan.Planned.TheVariants.Statement then_part
+                  ∷ [] else statement_if_any else_part
+              | None ↦ tested_if_steps at.body (knowing (site_of at.body) facts) condition
+                  then_part else_part label
             ]) last to
             → Goal from r memory
         by (Some n) known stand = known_if from n r memory known else_is stand ready knows
@@ -481,7 +555,11 @@ pub if_does :
     → StatementStands at before (statements.If condition then_part else_part) label from after to
     → FormDoes at before (statements.If condition then_part else_part) from after to
 unfolding statement_steps
-if_does at before condition then_part else_part label from after to sound stands bound _ (IsIf {test = test} {then_tree = then_tree} {else_tree = else_tree} is then_is else_is) types lists base s r memory below room ready known =
-    any_if at sound before (2 + 2 * max (height_of test) (max (height_of_statement then_tree) (height_of_else else_tree))) bound
-    condition then_part else_part test then_tree else_tree is then_is types.0 types.1 types.2 lists.1 lists.2 (omega arith)
+if_does at before condition then_part else_part label from after to sound stands bound _
+    (IsIf {test = test} {then_tree = then_tree} {else_tree = else_tree} is then_is else_is) types lists base s
+    r memory below room ready known =
+    any_if at sound before
+    (2 + 2 * max (height_of test) (max (height_of_statement then_tree) (height_of_else else_tree))) bound
+    condition then_part else_part test then_tree else_tree is then_is types.0 types.1 types.2 lists.1
+    lists.2 (omega arith)
     base after to s below room from label r memory else_is stands ready known

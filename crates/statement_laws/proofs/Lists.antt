@@ -35,16 +35,21 @@ pub goes_then :
     → middle.goes_on ≡ true
     → IsReady at.context.activation at.context.activation.level base t.memory t.frame r memory
     → Know at.context middle.facts r memory
-    → Does (script_of at.context) t.budget 0 (at_place place r memory t.events) (go t) (Leaves at base to last before))
+    → Does (script_of at.context) t.budget 0 (at_place place r memory t.events) (go t)
+    (Leaves at base to last before))
     → Does (script_of at.context) t.budget 0 end (going_on flow go t) (Leaves at base to last before)
 goes_then at base middle place last to before go Onward t end less leaves rest =
     let comes = leaves.comes in
-    subst (λ (s : State). Does (script_of at.context) t.budget 0 s (go t) (Leaves at base to last before)) (sym comes.is_at)
+    subst (λ (s : State). Does (script_of at.context) t.budget 0 s (go t) (Leaves at base to last before))
+    (sym comes.is_at)
     (rest comes.r comes.memory leaves.goes_on comes.ready comes.holds)
-goes_then at base middle place last to before go (Returned value) t end less leaves rest = does_without_step leaves
-goes_then at base middle place last to before go (Jumped label) t end less leaves rest = does_without_step leaves
+goes_then at base middle place last to before go (Returned value) t end less leaves rest =
+    does_without_step leaves
+goes_then at base middle place last to before go (Jumped label) t end less leaves rest =
+    does_without_step leaves
 
-less_left : (one other need : ℕ) → 2 + 2 * max one other ≤ need → (2 + 2 * one ≤ need) × (2 + 2 * other ≤ need)
+less_left : (one other need : ℕ) → 2 + 2 * max one other ≤ need
+    → (2 + 2 * one ≤ need) × (2 + 2 * other ≤ need)
 less_left one other need enough = (omega (arith, enough), omega (arith, enough))
 
 -- statements one after another
@@ -65,13 +70,18 @@ all_do at NoneDo AreNoStatements types lists need base s r memory goes_on fits s
       goes_on = goes_on;
       comes = record { r = r; memory = memory; is_at = refl; ready = stage.ready; holds = stage.known };
     })
-all_do at {here = here} {last = last} {to = to} {bound = bound} (MoreDo {middle = middle} {from = from} {place = place} {number = number} listed node does mark rest) (AreMoreStatements {number = other} {tree = tree} {others = others} named is are) types lists need base s r memory goes_on fits stage =
+all_do at {here = here} {last = last} {to = to} {bound = bound}
+    (MoreDo {middle = middle} {from = from} {place = place} {number = number} listed node does mark rest)
+    (AreMoreStatements {number = other} {tree = tree} {others = others} named is are) types lists need base s
+    r memory goes_on fits stage =
     let same : other ≡ number = same_Some other number (sym named ∙ listed) in
     let parts = less_left (height_of_statement tree) (height_of_statements others) need fits in
     let below = stage.below in
     then_does
-    (does bound tree (subst (λ (n : StatementNumber). IsStatement (nodes_in at.context) at.context.storage at.labels bound n.index tree) same is)
-    types.0 lists.0 base s r memory below (room_for (2 + 2 * height_of_statement tree) parts.0 stage.room) stage.ready stage.known)
+    (does bound tree (subst (λ (n : StatementNumber). IsStatement (nodes_in at.context) at.context.storage
+    at.labels bound n.index tree) same is)
+    types.0 lists.0 base s r memory below (room_for (2 + 2 * height_of_statement tree) parts.0 stage.room)
+    stage.ready stage.known)
     (λ flow t end leaves less.
     goes_then at base middle place last to s.budget
     (λ u. done_all at.context.later at.context.activation.around others u) flow t end less leaves
@@ -82,7 +92,8 @@ all_do at {here = here} {last = last} {to = to} {bound = bound} (MoreDo {middle 
 
 -- the statements of a list from a label on, after the label
 pub record FromLabel
-    (at : BodyContext) (label : ℕ) (height : ℕ) (others : TypedStatements) (last : Here) (to : ℕ) : Type 0 where
+    (at : BodyContext) (label : ℕ) (height : ℕ) (others : TypedStatements) (last : Here)
+    (to : ℕ) : Type 0 where
   pub first : ℕ
   pub count : ℕ
   pub from : ℕ
@@ -113,15 +124,20 @@ at_label :
     → slice_get (nodes_in at.context).statements number.index ≡ Some statement
     → IsMarked at statement from middle place
     → AllDo at middle first count place last to
-    → IsStatement (nodes_in at.context) at.context.storage at.labels bound_here number.index (LabelStatement label)
+    → IsStatement (nodes_in at.context) at.context.storage at.labels bound_here number.index
+    (LabelStatement label)
     → AreStatements (nodes_in at.context) at.context.storage at.labels bound first count others
     → TypesHoldInStatements at.context.typed at.context.within others
     → ListsStandInStatements others
     → height_of_statements others ≤ height
     → FromLabel at label height others last to
-at_label at {middle = middle} {last = last} {first = first} {count = count} {place = place} {to = to} {bound = bound} {label = label} {statement = statement} {others = others} from height node mark each (IsStatementNode {statement = found} below there (IsLabel {number = of} names)) are types lists fits =
-    let same : statement ≡ statements.Label of = same_Some statement (statements.Label of) (sym node ∙ there) in
-    let marked : IsMarked at (statements.Label of) from middle place = subst (λ (s : Statement). IsMarked at s from middle place) same mark in
+at_label at {middle = middle} {last = last} {first = first} {count = count} {place = place} {to = to}
+    {bound = bound} {label = label} {statement = statement} {others = others} from height node mark each
+    (IsStatementNode {statement = found} below there (IsLabel {number = of} names)) are types lists fits =
+    let same : statement ≡ statements.Label of =
+    same_Some statement (statements.Label of) (sym node ∙ there) in
+    let marked : IsMarked at (statements.Label of) from middle place =
+    subst (λ (s : Statement). IsMarked at s from middle place) same mark in
     record {
       first = first;
       count = count;
@@ -149,17 +165,26 @@ from_label at zero label height others NoneDo AreNoStatements types lists fits s
     let never : ⊥ = cc in absurd never
 from_label at (suc skipped) label height others NoneDo AreNoStatements types lists fits same =
     let never : ⊥ = cc in absurd never
-from_label at {last = last} {to = to} {bound = bound} zero label height others (MoreDo {from = from} {number = number} listed node does mark rest) (AreMoreStatements {first = first} {count = count} {number = other} {tree = tree} {others = more} named is are) types lists fits same =
+from_label at {last = last} {to = to} {bound = bound} zero label height others
+    (MoreDo {from = from} {number = number} listed node does mark rest)
+    (AreMoreStatements {first = first} {count = count} {number = other} {tree = tree} {others = more} named is
+    are) types lists fits same =
     let parts = first_of tree (LabelStatement label) more others same in
     let one : other ≡ number = same_Some other number (sym named ∙ listed) in
-    let there = subst (λ (n : StatementNumber). IsStatement (nodes_in at.context) at.context.storage at.labels bound n.index tree) one is in
+    let there =
+    subst (λ (n : StatementNumber). IsStatement (nodes_in at.context) at.context.storage at.labels bound
+    n.index tree) one is in
     at_label at from height node mark rest
-    (subst (λ (t : TypedStatement). IsStatement (nodes_in at.context) at.context.storage at.labels bound number.index t) parts.0 there)
-    (subst (λ (t : TypedStatements). AreStatements (nodes_in at.context) at.context.storage at.labels bound (suc first) count t) parts.1 are)
-    (subst (λ (t : TypedStatements). TypesHoldInStatements at.context.typed at.context.within t) parts.1 types.1)
+    (subst (λ (t : TypedStatement). IsStatement (nodes_in at.context) at.context.storage at.labels bound
+    number.index t) parts.0 there)
+    (subst (λ (t : TypedStatements). AreStatements (nodes_in at.context) at.context.storage at.labels bound
+    (suc first) count t) parts.1 are)
+    (subst (λ (t : TypedStatements). TypesHoldInStatements at.context.typed at.context.within t) parts.1
+    types.1)
     (subst (λ (t : TypedStatements). ListsStandInStatements t) parts.1 lists.1)
     (subst (λ (t : TypedStatements). height_of_statements t ≤ height) parts.1 (omega (arith, fits)))
-from_label at (suc skipped) label height others (MoreDo listed node does mark rest) (AreMoreStatements named is are) types lists fits same =
+from_label at (suc skipped) label height others (MoreDo listed node does mark rest)
+    (AreMoreStatements named is are) types lists fits same =
     from_label at skipped label height others rest are types.1 lists.1 (omega (arith, fits)) same
 
 -- a label has one place
@@ -170,7 +195,8 @@ pub same_place :
     → LabelLies at label other
     → one ≡ other
 same_place at label one other sound first second =
-    let same = same_number at.labels first.number second.number label sound.labels first.is_label second.is_label in
+    let same =
+    same_number at.labels first.number second.number label sound.labels first.is_label second.is_label in
     first.place_is
     ∙ ap (λ (n : ℕ). at.context.activation.layout.place_of (body_label at.body n).index) same
     ∙ sym second.place_is
@@ -178,7 +204,8 @@ same_place at label one other sound first second =
 -- a list from a place within it on
 module _
     (at : BodyContext) (sound : IsSoundBody at) (base : List ℕ) (last : Here) (to need : ℕ) (first_label : ℕ)
-    (places : List ℕ) (statements : TypedStatements) (lists : ListStands (ListOf first_label places statements))
+    (places : List ℕ) (statements : TypedStatements)
+    (lists : ListStands (ListOf first_label places statements))
     (fits : 2 + 2 * height_of_statements statements ≤ need)
     (at_labels : (label skipped : ℕ) (others : TypedStatements)
     → dropped skipped statements ≡ MoreStatements (LabelStatement label) others
@@ -186,7 +213,8 @@ module _
   where
     -- what follows a flow out of statements of the list
     abbrev caught : Flow → SourceState → Outcome Flow
-    caught flow t = caught_in at.context.later at.context.activation.around (ListOf first_label places statements) flow t
+    caught flow t =
+        caught_in at.context.later at.context.activation.around (ListOf first_label places statements) flow t
 
     -- the list does what it says from each of its labels on, in runs of less than a number
     abbrev FromLabels : ℕ → Type 0
@@ -197,7 +225,8 @@ module _
         → t.budget < fuel
         → Between at need base t no_facts r memory
         → Does (script_of at.context) t.budget 0 (at_place from r memory t.events)
-        (then_do (done_all at.context.later at.context.activation.around others t) caught) (Leaves at base to last t.budget)
+        (then_do (done_all at.context.later at.context.activation.around others t) caught)
+        (Leaves at base to last t.budget)
 
     landing :
         (fuel label before : ℕ) (t : SourceState) (end : State) (rest : Option TypedStatements)
@@ -209,7 +238,8 @@ module _
         → HasRoom at.context.activation at.context.activation.level 0 need
         → ComesToLabel at base before label t end
         → Does (script_of at.context) t.budget 0 end
-        (landed at.context.later at.context.activation.around (ListOf first_label places statements) label rest t)
+        (landed at.context.later at.context.activation.around
+        (ListOf first_label places statements) label rest t)
         (Leaves at base to last before)
     landing fuel label before t end None labels is below less fewer room comes = does_without_step comes
     landing fuel label before t end (Some rest) labels is below less fewer room comes =
@@ -220,16 +250,20 @@ module _
         let there = comes.comes in
         let goes : Does (script_of at.context) t.budget 0 end
         (rest_of (later_by sound.bound) (ListOf first_label places statements)
-        (MoreStatements (LabelStatement label) found.others) at.context.activation.around t) (Leaves at base to last before) =
+        (MoreStatements (LabelStatement label) found.others) at.context.activation.around t)
+        (Leaves at base to last before) =
         subst (λ (later : Later). Does (script_of at.context) t.budget 0 end
         (rest_of later (ListOf first_label places statements)
-        (MoreStatements (LabelStatement label) found.others) at.context.activation.around t) (Leaves at base to last before))
+        (MoreStatements (LabelStatement label) found.others) at.context.activation.around t)
+        (Leaves at base to last before))
         sound.later
         (subst (λ (s : State). Does (script_of at.context) t.budget 0 s
-        (then_do (done_all at.context.later at.context.activation.around found.others t) caught) (Leaves at base to last before))
+        (then_do (done_all at.context.later at.context.activation.around found.others t) caught)
+        (Leaves at base to last before))
         (sym there.is_at)
         (does_later before fewer
-        (labels label found.others t there.r there.memory (at_labels label found.count found.others equal) comes.place comes.lies
+        (labels label found.others t there.r there.memory (at_labels label found.count found.others equal)
+        comes.place comes.lies
         less
         (record {
           below = omega (arith, below);
@@ -241,10 +275,12 @@ module _
         (at.context.later.onto (ListOf first_label places statements) one at.context.activation.around t)
         (Leaves at base to last before)) (sym found.begins)
         (subst (λ (later : Later). Does (script_of at.context) t.budget 0 end
-        (later.onto (ListOf first_label places statements) (MoreStatements (LabelStatement label) found.others)
+        (later.onto (ListOf first_label places statements)
+        (MoreStatements (LabelStatement label) found.others)
         at.context.activation.around t) (Leaves at base to last before)) (sym sound.later)
         (does_same _
-        (onto_is sound.bound (ListOf first_label places statements) (MoreStatements (LabelStatement label) found.others)
+        (onto_is sound.bound (ListOf first_label places statements)
+        (MoreStatements (LabelStatement label) found.others)
         at.context.activation.around t (omega (arith, below, bound)))
         goes))
 
@@ -278,18 +314,23 @@ module _
         → height_of_statements trees ≤ height_of_statements statements
         → Between at need base s here.facts r memory
         → Does (script_of at.context) s.budget 0 (at_place from r memory s.events)
-        (then_do (done_all at.context.later at.context.activation.around trees s) caught) (Leaves at base to last s.budget)
+        (then_do (done_all at.context.later at.context.activation.around trees s) caught)
+        (Leaves at base to last s.budget)
     statements_do fuel labels each are types stand s r memory less goes_on lower stage =
-        then_does (all_do at each are types stand need base s r memory goes_on (omega (arith, lower, fits)) stage)
-        (λ flow t end leaves fewer. catching fuel s.budget flow t end labels stage.below less fewer stage.room leaves)
+        then_does
+        (all_do at each are types stand need base s r memory goes_on (omega (arith, lower, fits)) stage)
+        (λ flow t end leaves fewer. catching fuel s.budget flow t end labels stage.below less
+        fewer stage.room leaves)
 
     from_labels : (fuel : ℕ) → FromLabels fuel
     from_labels zero label others t r memory is from lies less stage = absurd (omega (arith, less))
     from_labels (suc fuel) label others t r memory is from lies less stage =
         subst (λ (place : ℕ). Does (script_of at.context) t.budget 0 (at_place place r memory t.events)
-        (then_do (done_all at.context.later at.context.activation.around others t) caught) (Leaves at base to last t.budget))
+        (then_do (done_all at.context.later at.context.activation.around others t) caught)
+        (Leaves at base to last t.budget))
         (same_place at label is.from from sound is.lies lies)
-        (statements_do fuel (from_labels fuel) is.each is.are is.types is.lists t r memory (omega (arith, less)) refl is.fits
+        (statements_do fuel (from_labels fuel) is.each is.are is.types is.lists t r memory
+        (omega (arith, less)) refl is.fits
         stage)
 
 -- a list whose statements do what they say
@@ -298,14 +339,19 @@ pub list_does :
     → IsSoundBody at
     → AllDo at (going true facts) range.first range.count from last to
     → ListDoes at facts range from last to
-list_does at facts range from last to sound each bound (ListOf first_label places statements) (IsListOf are) types lists base s r memory below room ready known =
-    statements_do at sound base last to (2 + 2 * height_of_statements statements) first_label places statements lists (omega arith)
+list_does at facts range from last to sound each bound (ListOf first_label places statements) (IsListOf are)
+    types lists base s r memory below room ready known =
+    statements_do at sound base last to (2 + 2 * height_of_statements statements) first_label places
+    statements lists (omega arith)
     (λ label skipped others same.
-    from_label at skipped label (height_of_statements statements) others each are types lists.1 (omega arith) same)
+    from_label at skipped label (height_of_statements statements) others each are types
+    lists.1 (omega arith) same)
     s.budget
-    (from_labels at sound base last to (2 + 2 * height_of_statements statements) first_label places statements lists (omega arith)
+    (from_labels at sound base last to (2 + 2 * height_of_statements statements) first_label places
+    statements lists (omega arith)
     (λ label skipped others same.
-    from_label at skipped label (height_of_statements statements) others each are types lists.1 (omega arith) same)
+    from_label at skipped label (height_of_statements statements) others each are types
+    lists.1 (omega arith) same)
     s.budget)
     each are types lists.1 s r memory (omega arith) refl (omega arith)
     (record { below = below; room = room; ready = ready; known = known })

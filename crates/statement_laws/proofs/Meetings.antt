@@ -18,13 +18,15 @@ module _ (activation : Activation) (distance : Distances) where
       → Holds None
       → Holds one
       → Holds (common_location one other)
-  common_holds_of Holds (Some one) (Some other) none here = picked Holds one other (same_location one other) (λ same. here) none
+  common_holds_of Holds (Some one) (Some other) none here =
+      picked Holds one other (same_location one other) (λ same. here) none
   common_holds_of Holds (Some one) None none here = none
   common_holds_of Holds None other none here = none
 
   common_holds_by :
       (Holds : Option Location → Type 0) (one other : Option Location)
-      → ((first second : Location) → location_at activation distance first ≡ location_at activation distance second
+      → ((first second : Location) → location_at activation distance first
+      ≡ location_at activation distance second
       → Holds (Some second) → Holds (Some first))
       → Holds None
       → Holds other
@@ -38,12 +40,14 @@ module _ (activation : Activation) (distance : Distances) where
   common_holds_by Holds (Some one) None moves none here = none
   common_holds_by Holds None other moves none here = none
 
-  zero_of : (one other : Bool) (zero_flag : Bool) (a : ℕ) → ZeroHolds one zero_flag a → ZeroHolds (one && other) zero_flag a
+  zero_of : (one other : Bool) (zero_flag : Bool) (a : ℕ) → ZeroHolds one zero_flag a
+      → ZeroHolds (one && other) zero_flag a
   zero_of true true zero_flag a holds = holds
   zero_of true false zero_flag a holds = tt
   zero_of false other zero_flag a holds = tt
 
-  zero_by : (one other : Bool) (zero_flag : Bool) (a : ℕ) → ZeroHolds other zero_flag a → ZeroHolds (one && other) zero_flag a
+  zero_by : (one other : Bool) (zero_flag : Bool) (a : ℕ) → ZeroHolds other zero_flag a
+      → ZeroHolds (one && other) zero_flag a
   zero_by true other zero_flag a holds = holds
   zero_by false other zero_flag a holds = tt
 
@@ -54,13 +58,16 @@ module _ (activation : Activation) (distance : Distances) where
       → AllHold activation distance (common one other) a h l zero_flag memory
   common_first {a = a} {h = h} {l = l} {zero_flag = zero_flag} {memory = memory} one other holds = record {
     byte_holds =
-        common_holds_of (λ location. ByteHolds activation distance location a memory) one.byte_in_a other.byte_in_a tt
+        common_holds_of (λ location. ByteHolds activation distance location a memory)
+        one.byte_in_a other.byte_in_a tt
         holds.byte_holds;
     word_holds =
-        common_holds_of (λ location. WordHolds activation distance location h l memory) one.word_in_hl other.word_in_hl tt
+        common_holds_of (λ location. WordHolds activation distance location h l memory)
+        one.word_in_hl other.word_in_hl tt
         holds.word_holds;
     address_holds =
-        common_holds_of (λ location. AddressHolds activation distance location h l) one.address_in_hl other.address_in_hl
+        common_holds_of (λ location. AddressHolds activation distance location h l)
+        one.address_in_hl other.address_in_hl
         tt holds.address_holds;
     zero_holds = zero_of one.zero_shows_a other.zero_shows_a zero_flag a holds.zero_holds;
   }
@@ -72,15 +79,20 @@ module _ (activation : Activation) (distance : Distances) where
       → AllHold activation distance (common one other) a h l zero_flag memory
   common_second {a = a} {h = h} {l = l} {zero_flag = zero_flag} {memory = memory} one other holds = record {
     byte_holds =
-        common_holds_by (λ location. ByteHolds activation distance location a memory) one.byte_in_a other.byte_in_a
-        (λ first second same here. subst (λ (address : ℕ). IsByteAt activation memory address a) (sym same) here) tt
+        common_holds_by (λ location. ByteHolds activation distance location a memory)
+        one.byte_in_a other.byte_in_a
+        (λ first second same here. subst (λ (address : ℕ). IsByteAt activation memory address a) (sym same)
+        here) tt
         holds.byte_holds;
     word_holds =
-        common_holds_by (λ location. WordHolds activation distance location h l memory) one.word_in_hl other.word_in_hl
-        (λ first second same here. subst (λ (address : ℕ). IsWordAt activation memory address h l) (sym same) here) tt
+        common_holds_by (λ location. WordHolds activation distance location h l memory)
+        one.word_in_hl other.word_in_hl
+        (λ first second same here. subst (λ (address : ℕ). IsWordAt activation memory address h l) (sym same)
+        here) tt
         holds.word_holds;
     address_holds =
-        common_holds_by (λ location. AddressHolds activation distance location h l) one.address_in_hl other.address_in_hl
+        common_holds_by (λ location. AddressHolds activation distance location h l)
+        one.address_in_hl other.address_in_hl
         (λ first second same here. here ∙ sym same) tt holds.address_holds;
     zero_holds = zero_by one.zero_shows_a other.zero_shows_a zero_flag a holds.zero_holds;
   }
@@ -90,14 +102,16 @@ pub first_meets :
     (context : Context) (r : Registers) (memory : List ℕ) (one other : Facts)
     → Know context one r memory
     → Know context (common one other) r memory
-first_meets context r memory one other known = common_first context.activation (distances_in context) one other known
+first_meets context r memory one other known =
+    common_first context.activation (distances_in context) one other known
 
 -- and so do those of the second
 pub second_meets :
     (context : Context) (r : Registers) (memory : List ℕ) (one other : Facts)
     → Know context other r memory
     → Know context (common one other) r memory
-second_meets context r memory one other known = common_second context.activation (distances_in context) one other known
+second_meets context r memory one other known =
+    common_second context.activation (distances_in context) one other known
 
 -- code comes to a place where ways meet, and what is known there holds
 pub record Meets (context : Context) (there : Here) (r : Registers) (memory : List ℕ) : Type 0 where
@@ -111,7 +125,8 @@ pub meets_here :
     → Know context here.facts r memory
     → Meets context (arriving (met (known_here here) waiting)) r memory
 meets_here context r memory here waiting goes_on known =
-    subst (λ (b : Bool). Meets context (arriving (met (if b then Some here.facts else None) waiting)) r memory) (sym goes_on)
+    subst (λ (b : Bool). Meets context (arriving (met (if b then Some here.facts else None) waiting)) r
+    memory) (sym goes_on)
     (by waiting)
   where
     by : (waiting : Option Facts) → Meets context (arriving (met (Some here.facts) waiting)) r memory
@@ -134,7 +149,8 @@ pub waits_here :
     → Know context here.facts r memory
     → Meets context (arriving (met one (known_here here))) r memory
 waits_here context r memory one here goes_on known =
-    subst (λ (b : Bool). Meets context (arriving (met one (if b then Some here.facts else None))) r memory) (sym goes_on)
+    subst (λ (b : Bool). Meets context (arriving (met one (if b then Some here.facts else None))) r memory)
+    (sym goes_on)
     (meets_waiting context r memory one here.facts known)
 
 no_and_or : (operator : BinaryOperator) → not (is_and_or_or operator) ≡ true → is_plain operator ≡ true
@@ -155,7 +171,8 @@ no_and_or operators.Modulo is = refl
 
 -- a condition that surely has one jump
 pub has_one_jump_is :
-    {context : Context} {bound : ℕ} {tree : TypedExpression} (facts : Facts) (left : ℕ) (condition : ExpressionNumber)
+    {context : Context} {bound : ℕ} {tree : TypedExpression} (facts : Facts) (left : ℕ)
+    (condition : ExpressionNumber)
     → IsSound context
     → IsExpression (nodes_in context) context.storage bound condition.index tree
     → has_one_jump_within left (knowing context.site facts) condition ≡ true
@@ -166,10 +183,12 @@ has_one_jump_is {context = context} {tree = tree} facts (suc left) condition sou
     let node = node_of sound is in
     by (λ inside below inner there single. has_one_jump_is facts left inside sound there single) node.form
     (subst (λ (found : Option Expression).
-    elim (elim found as (λ (given : Option Expression). Option ExpressionNumber) [ Some given ↦ inner_of_form given.form | None ↦ None ])
+    elim (elim found as (λ (given : Option Expression). Option
+    ExpressionNumber) [ Some given ↦ inner_of_form given.form | None ↦ None ])
     as (λ (given : Option ExpressionNumber). Bool) [
       | Some inside ↦ has_one_jump_within left (knowing context.site facts) inside
-      | None ↦ not (elim found as (λ (given : Option Expression). Bool) [ Some given ↦ may_jump_twice_by given.form | None ↦ true ])
+      | None ↦ not
+          (elim found as (λ (given : Option Expression). Bool) [ Some given ↦ may_jump_twice_by given.form | None ↦ true ])
     ] ≡ true) (node.at_site facts) one)
   where
     by : {form : ExpressionForm} {one_tree : TypedExpression} {number : ℕ}

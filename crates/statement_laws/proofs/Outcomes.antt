@@ -4,8 +4,10 @@ use Rattle.statement_laws.proofs.FirstSteps.{Ends}
 
 -- a machine of a body may go on between statements, of which this is known
 abbrev pub Between :
-    (at : BodyContext) → (need : ℕ) → (base : List ℕ) → SourceState → Facts → Registers → (memory : List ℕ) → Type 0
-Between at need base t facts r memory = Stage at.context at.context.activation.level 0 need base t facts r memory
+    (at : BodyContext) → (need : ℕ) → (base : List ℕ) → SourceState → Facts → Registers
+    → (memory : List ℕ) → Type 0
+Between at need base t facts r memory =
+    Stage at.context at.context.activation.level 0 need base t facts r memory
 
 -- what is told of an outcome is told of another predicate that follows
 pub does_good :
@@ -32,7 +34,8 @@ does_good {outcome = Stopped (Outside reason) t} follows does = record { told = 
 
 -- a way out, where more of the budget was there before
 pub leaves_later :
-    (at : BodyContext) (base : List ℕ) (to : ℕ) (after : Here) (before other : ℕ) (flow : Flow) (t : SourceState)
+    (at : BodyContext) (base : List ℕ) (to : ℕ) (after : Here) (before other : ℕ)
+    (flow : Flow) (t : SourceState)
     (end : State)
     → before ≤ other
     → Leaves at base to after before flow t end
@@ -50,7 +53,8 @@ pub does_later :
     → Does (script_of at.context) budget more from outcome (Leaves at base to after before)
     → Does (script_of at.context) budget more from outcome (Leaves at base to after other)
 does_later {at = at} {base = base} {to = to} {before = before} {after = after} other less does =
-    does_good (λ flow t end spent leaves. leaves_later at base to after before other flow t end less leaves) does
+    does_good (λ flow t end spent leaves. leaves_later at base to after before other flow t end less leaves)
+    does
 
 -- one of the budget, where the next step leads to what follows
 pub taking_does :
@@ -70,10 +74,12 @@ taking_does {A = A} {script = script} {from = from} {to = to} {Good = Good} t go
         after_step step
         (record {
           told = subst (λ (n : ℕ). Lands script n 0 to 0 (IsLeft Running t.events)) (sym zero_is)
-              (landed script 0 to (IsLeft Running t.events) (record { status_is = runs; events_are = events }));
+              (landed script 0 to (IsLeft Running t.events)
+              (record { status_is = runs; events_are = events }));
         })
 
-    some : (t.budget == 0) ≡ false → Does script t.budget 0 from (go (record t { budget = t.budget - 1 })) Good
+    some : (t.budget == 0) ≡ false → Does script t.budget 0 from
+        (go (record t { budget = t.budget - 1 })) Good
     some not_zero =
         let differs = eqb-false t.budget 0 not_zero in
         let is : suc (t.budget - 1) ≡ t.budget = omega (arith, differs) in
@@ -102,17 +108,21 @@ onward {r = r} {memory = memory} goes_on stage =
 
 -- where no step is left
 pub ends_onward :
-    {at : BodyContext} {base : List ℕ} {from to before need : ℕ} {here after : Here} {t : SourceState} {r : Registers}
+    {at : BodyContext} {base : List ℕ} {from to before need : ℕ} {here after : Here}
+    {t : SourceState} {r : Registers}
     {memory : List ℕ}
     → Ends here from after to
     → here.goes_on ≡ true
     → Between at need base t here.facts r memory
     → Does (script_of at.context) t.budget 0 (at_place from r memory t.events) (Gave Onward t)
     (Leaves at base to after before)
-ends_onward {at = at} {base = base} {from = from} {to = to} {before = before} {here = here} {after = after} {t = t} {r = r} {memory = memory} ends goes_on stage =
-    subst (λ (last : Here). Does (script_of at.context) t.budget 0 (at_place from r memory t.events) (Gave Onward t)
+ends_onward {at = at} {base = base} {from = from} {to = to} {before = before} {here = here} {after = after}
+    {t = t} {r = r} {memory = memory} ends goes_on stage =
+    subst (λ (last : Here). Does (script_of at.context) t.budget 0
+    (at_place from r memory t.events) (Gave Onward t)
     (Leaves at base to last before)) (sym ends.same)
-    (subst (λ (place : ℕ). Does (script_of at.context) t.budget 0 (at_place place r memory t.events) (Gave Onward t)
+    (subst (λ (place : ℕ). Does (script_of at.context) t.budget 0
+    (at_place place r memory t.events) (Gave Onward t)
     (Leaves at base to here before)) ends.place
     (onward goes_on stage))
 

@@ -13,14 +13,16 @@ use Rattle.statement_laws.proofs.Simple.{FormDoes}
 -- planned steps that are instructions alone
 pub data AreInstructions : List Planned → Type 0 where
   NoInstruction : AreInstructions []
-  MoreInstructions : {i : Instr} {others : List Planned} → AreInstructions others → AreInstructions (plain i ∷ others)
+  MoreInstructions : {i : Instr} {others : List Planned} → AreInstructions others
+      → AreInstructions (plain i ∷ others)
 
 -- at least one step
 abbrev pub HasOne : List Planned → Type 0
 HasOne [] = ⊥
 HasOne (first ∷ others) = Unit {0}
 
-both_are : {one other : List Planned} → AreInstructions one → AreInstructions other → AreInstructions (one ++ other)
+both_are : {one other : List Planned} → AreInstructions one → AreInstructions other
+    → AreInstructions (one ++ other)
 both_are NoInstruction second = second
 both_are (MoreInstructions first) second = MoreInstructions (both_are first second)
 
@@ -45,7 +47,8 @@ pops_are : (words : ℕ) → AreInstructions (pops_steps words)
 unfolding pops_steps
 pops_are words = repeated_are words _
 
-kept_are : (result : Option ScalarType) (instructions : List Instr) → AreInstructions (kept_steps result instructions)
+kept_are : (result : Option ScalarType) (instructions : List Instr)
+    → AreInstructions (kept_steps result instructions)
 unfolding kept_steps
 kept_are (Some scalars.Address) instructions =
     MoreInstructions (both_are (all_are instructions) (MoreInstructions NoInstruction))
@@ -61,7 +64,8 @@ over_are : (words : ℕ) (result : Option ScalarType) → AreInstructions (retur
 unfolding return_over_steps
 over_are words (Some scalars.Address) =
     MoreInstructions (both_are (pops_are words) (MoreInstructions (MoreInstructions NoInstruction)))
-over_are words (Some scalars.Byte) = MoreInstructions (both_are (pops_are words) (MoreInstructions NoInstruction))
+over_are words (Some scalars.Byte) =
+    MoreInstructions (both_are (pops_are words) (MoreInstructions NoInstruction))
 over_are words None = MoreInstructions (both_are (pops_are words) (MoreInstructions NoInstruction))
 
 over_has_one : (words : ℕ) (result : Option ScalarType) → HasOne (return_over_steps words result)
@@ -78,17 +82,23 @@ over_any_has_one : (words : ℕ) (result : Option ScalarType) → HasOne (return
 unfolding return_over_any_steps
 over_any_has_one words result = by (nat_eq words 0)
   where
-    by : (test : Bool) → HasOne (if test then plain Rattle.isa8080.specs.declared.instr.Instr.TheVariants.Ret ∷ [] else return_over_steps words result)
+    by : (test : Bool)
+        → HasOne
+        (if test then plain Rattle.isa8080.specs.declared.instr.Instr.TheVariants.Ret
+        ∷ [] else return_over_steps words result)
     by true = tt
     by false = over_has_one words result
 
 frame_are : (body : Body) → AreInstructions (return_of_frame_steps body)
 unfolding return_of_frame_steps
-frame_are body = both_are (drops_are _ body.procedure.now.result) (over_any_are (body.frame.now.parameter_count - 1) body.procedure.now.result)
+frame_are body =
+    both_are (drops_are _ body.procedure.now.result)
+    (over_any_are (body.frame.now.parameter_count - 1) body.procedure.now.result)
 
 frame_has_one : (body : Body) → HasOne (return_of_frame_steps body)
 unfolding return_of_frame_steps
-frame_has_one body = one_is_there _ _ (over_any_has_one (body.frame.now.parameter_count - 1) body.procedure.now.result)
+frame_has_one body =
+    one_is_there _ _ (over_any_has_one (body.frame.now.parameter_count - 1) body.procedure.now.result)
 
 -- the code of a return is instructions
 return_are : (kind : ProcedureKind) (body : Body) → AreInstructions (return_steps_by kind body)
@@ -113,16 +123,19 @@ instructions_there :
     (at : BodyContext) (others : List Planned) {steps : List Planned} (are : AreInstructions steps)
     {here last : Here} {from to : ℕ}
     → at.context.activation.around.program.placement.code.start ≤ from
-    → from ≤ at.context.activation.around.program.placement.code.start + at.context.activation.around.program.placement.code.len
+    → from ≤ at.context.activation.around.program.placement.code.start
+    + at.context.activation.around.program.placement.code.len
     → Stand at here None from (steps ++ others) last to
     → AreItems at here from steps
 unfolding carried_steps here_after waiting_after
 instructions_there at others NoInstruction {here = here} {from = from} low high stand =
     record { last = here; list = []; to = from; written = NoneCarriedOut; there = record { stands = refl; low = low; high = high } }
-instructions_there at others (MoreInstructions {i = i} {others = more} are) {here = here} {from = from} low high stand =
+instructions_there at others (MoreInstructions {i = i} {others = more} are) {here = here}
+    {from = from} low high stand =
     let first = plain_first stand in
     let rest = instructions_there at others are
-    (at_most_more at.context.activation.around.program.placement.code.start from (size_of_instruction i) low) first.there.high first.rest in
+    (at_most_more at.context.activation.around.program.placement.code.start from (size_of_instruction i) low)
+    first.there.high first.rest in
     record {
       last = rest.last;
       list = items.Plain i ∷ rest.list;
@@ -149,7 +162,8 @@ some_instructions_there at {from = from} others (MoreInstructions {i = i} are) h
 
 -- a machine at the code of the return
 returns :
-    {at : BodyContext} {base : List ℕ} {from to before need : ℕ} {here last : Here} {t : SourceState} {known : Facts} {r : Registers}
+    {at : BodyContext} {base : List ℕ} {from to before need : ℕ} {here last : Here} {t : SourceState}
+    {known : Facts} {r : Registers}
     {memory : List ℕ} (others : List Planned) (found : ℕ)
     → Stand at here None from (return_steps at.body ++ others) last to
     → ResultLies at.body.procedure.now.result found r memory
@@ -161,7 +175,8 @@ returns {at = at} {from = from} {here = here} {r = r} {memory = memory} others f
     (return_has_one at.body.procedure.now.kind at.body) stand in
     does_without_step (record {
       place = from;
-      stands = record { here = here; last = are.last; list = are.list; to = are.to; written = are.written; there = are.there };
+      stands =
+          record { here = here; last = are.last; list = are.list; to = are.to; written = are.written; there = are.there };
       comes = record { r = r; memory = memory; is_at = refl; ready = stage.ready; holds = lies };
     })
 
@@ -172,12 +187,14 @@ returned_steps scalars.Byte of = refl
 returned_steps scalars.Address of = refl
 
 pub return_does :
-    (at : BodyContext) (before : Facts) (given : Option ExpressionNumber) (label from : ℕ) (after : Here) (to : ℕ)
+    (at : BodyContext) (before : Facts) (given : Option ExpressionNumber) (label from : ℕ)
+    (after : Here) (to : ℕ)
     → IsSoundBody at
     → StatementStands at before (statements.Return given) label from after to
     → FormDoes at before (statements.Return given) from after to
 unfolding statement_steps return_of_steps
-return_does at before given label from after to sound stands bound _ (IsReturn {tree = tree} optional) types lists base s r memory below room ready known =
+return_does at before given label from after to sound stands bound _ (IsReturn {tree = tree} optional) types
+    lists base s r memory below room ready known =
     by at.context.within given tree refl optional
     (subst (λ (within : Within). IsWithin within at.body) refl sound.within) types
     (omega arith) stands
@@ -189,20 +206,24 @@ return_does at before given label from after to sound stands bound _ (IsReturn {
         → IsReturned at.context.typed within one
         → 2 * height_of_optional one ≤ 2 + 2 * height_of_optional tree
         → Stand at (going true before) None from
-        (returned_value_steps of at.body.procedure.now.result ++ (return_steps at.body ++ (planned.Reaches false ∷ []))) after to
+        (returned_value_steps of at.body.procedure.now.result
+        ++ (return_steps at.body ++ (planned.Reaches false ∷ []))) after to
         → Does (script_of at.context) s.budget 0 (at_place from r memory s.events)
         (returned at.context.later at.context.activation.around one s) (Leaves at base to after s.budget)
     by (WithinProcedure number None) None None same IsNoValue is types fits stand =
         returns (planned.Reaches false ∷ []) 0
         (subst (λ (result : Option ScalarType). Stand at (going true before) None from
-        (returned_value_steps None result ++ (return_steps at.body ++ (planned.Reaches false ∷ []))) after to) is stand)
+        (returned_value_steps None result ++ (return_steps at.body ++ (planned.Reaches false ∷ []))) after to)
+        is stand)
         (subst (λ (result : Option ScalarType). ResultLies result 0 r memory) (sym is) tt)
         (record { below = below; room = room; ready = ready; known = known })
-    by (WithinProcedure number (Some scalar)) (Some of) (Some one) same (IsSomeValue node) is types fits stand =
+    by (WithinProcedure number (Some scalar)) (Some of) (Some one) same (IsSomeValue node)
+        is types fits stand =
         let first = part_first
         (subst (λ (steps : List Planned). Stand at (going true before) None from
         (steps ++ (return_steps at.body ++ (planned.Reaches false ∷ []))) after to)
-        (ap (λ (result : Option ScalarType). returned_value_steps (Some of) result) is ∙ returned_steps scalar of) stand) in
+        (ap (λ (result : Option ScalarType). returned_value_steps (Some of) result) is
+        ∙ returned_steps scalar of) stand) in
         at_value scalar from first.middle of first.does node
         (subst (λ (within : Within). TypesHold at.context.typed within one) (sym same) types.0) types.1 fits
         (record { below = below; room = room; ready = ready; known = known })
@@ -210,7 +231,8 @@ return_does at before given label from after to sound stands bound _ (IsReturn {
         returns (planned.Reaches false ∷ []) found first.rest
         (subst (λ (result : Option ScalarType). ResultLies result found now memory_now) (sym is) there) next)
     by (WithinProcedure number (Some scalar)) None None same IsNoValue is types fits stand = absurd types
-    by (WithinProcedure number None) (Some of) (Some one) same (IsSomeValue node) is types fits stand = absurd types
+    by (WithinProcedure number None) (Some of) (Some one) same (IsSomeValue node) is types fits stand =
+        absurd types
     by WithinMain None None same IsNoValue is types fits stand = absurd types
     by WithinMain (Some of) (Some one) same (IsSomeValue node) is types fits stand = absurd types
     by (WithinProcedure number None) None (Some one) same node is types fits stand = elim node [ ]

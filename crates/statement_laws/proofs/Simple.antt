@@ -17,13 +17,16 @@ FormDoes at before statement from after to =
 
 -- where a statement has a form
 pub form_does :
-    (at : BodyContext) (before : Facts) (number : StatementNumber) (statement : Statement) (from : ℕ) (after : Here) (to : ℕ)
+    (at : BodyContext) (before : Facts) (number : StatementNumber) (statement : Statement) (from : ℕ)
+    (after : Here) (to : ℕ)
     → slice_get (nodes_in at.context).statements number.index ≡ Some statement
     → FormDoes at before statement from after to
     → StatementDoes at before number from after to
-form_does at before number statement from after to there does bound tree (IsStatementNode {statement = found} below is form) =
+form_does at before number statement from after to there does bound tree
+    (IsStatementNode {statement = found} below is form) =
     does number.index tree
-    (subst (λ (one : Statement). IsStatementForm (nodes_in at.context) at.context.storage at.labels number.index one tree)
+    (subst (λ (one : Statement). IsStatementForm (nodes_in at.context) at.context.storage at.labels
+    number.index one tree)
     (same_Some found statement (sym is ∙ there)) form)
 
 -- a label is a place
@@ -32,7 +35,8 @@ pub label_does :
     → StatementStands at before (statements.Label of) label from after to
     → FormDoes at before (statements.Label of) from after to
 unfolding statement_steps
-label_does at before of label from after to stands bound _ (IsLabel names) types lists base s r memory below room ready known =
+label_does at before of label from after to stands bound _ (IsLabel names) types lists base s r memory
+    below room ready known =
     ends_onward (steps_ended (mark_first stands).rest) refl
     (record { below = below; room = room; ready = ready; known = no_facts_hold })
 
@@ -42,24 +46,33 @@ pub null_does :
     → StatementStands at before statements.Null label from after to
     → FormDoes at before statements.Null from after to
 unfolding statement_steps
-null_does at before label from after to stands bound _ IsNull types lists base s r memory below room ready known =
-    ends_onward (steps_ended stands) refl (record { below = below; room = room; ready = ready; known = known })
+null_does at before label from after to stands bound _ IsNull types lists base s r memory
+    below room ready known =
+    ends_onward (steps_ended stands) refl
+    (record { below = below; room = room; ready = ready; known = known })
 
 -- a call whose result is not wanted
 pub call_does :
-    (at : BodyContext) (before : Facts) (procedure : ℕ) (arguments : Range) (label from : ℕ) (after : Here) (to : ℕ)
+    (at : BodyContext) (before : Facts) (procedure : ℕ) (arguments : Range) (label from : ℕ)
+    (after : Here) (to : ℕ)
     → StatementStands at before (statements.Call procedure arguments) label from after to
     → FormDoes at before (statements.Call procedure arguments) from after to
 unfolding statement_steps
-call_does at before procedure arguments label from after to stands bound _ (IsCall {trees = trees} are) types lists base s r memory below room ready known =
+call_does at before procedure arguments label from after to stands bound _ (IsCall {trees = trees} are) types
+    lists base s r memory below room ready known =
     let first = part_first stands in
     let later = at.context.later in
     let around = at.context.activation.around in
-    does_same _ (sym (then_again (values later around trees s) (λ given t. called_for later (callee_in around procedure) given around t) (λ found t. Gave Onward t)))
+    does_same _
+    (sym (then_again (values later around trees s)
+    (λ given t. called_for later (callee_in around procedure) given around t) (λ found t. Gave Onward t)))
     (then_does
-    (first.does _ _ trees are types.0 types.1 at.context.activation.level base s r memory below (room_for (2 * (1 + count_of_arguments trees + height_of_arguments trees)) (omega arith) room) ready known tt)
+    (first.does _ _ trees are types.0 types.1 at.context.activation.level base s r memory below
+    (room_for (2 * (1 + count_of_arguments trees + height_of_arguments trees)) (omega arith) room) ready
+    known tt)
     (λ found t end arrives less.
-    subst (λ (there : State). Does (script_of at.context) t.budget 0 there (Gave Onward t) (Leaves at base to after s.budget))
+    subst (λ (there : State). Does (script_of at.context) t.budget 0 there (Gave Onward t)
+    (Leaves at base to after s.budget))
     (sym arrives.is_at)
     (ends_onward (steps_ended first.rest) refl
     (record { below = omega (arith, less, below); room = room; ready = arrives.ready; known = (arrives.holds).known }))))
@@ -71,7 +84,8 @@ pub halt_does :
     → StatementStands at before statements.Halt label from after to
     → FormDoes at before statements.Halt from after to
 unfolding statement_steps
-halt_does at before label from after to sound stands bound _ IsHalt types lists base s r memory below room ready known =
+halt_does at before label from after to sound stands bound _ IsHalt types lists base s r memory
+    below room ready known =
     let first = plain_first stands in
     after_step
     (plain_step (script_of at.context) at.context.activation Hlt [] from (from + 1) r memory s.events sound.sound.lies
@@ -85,10 +99,12 @@ pub goto_does :
     → StatementStands at before (statements.Goto of) label from after to
     → FormDoes at before (statements.Goto of) from after to
 unfolding statement_steps
-goto_does at before of label from after to sound stands bound _ (IsGoto {label = name} names) types lists base s r memory below room ready known =
+goto_does at before of label from after to sound stands bound _ (IsGoto {label = name} names) types lists base
+    s r memory below room ready known =
     let first = jump_first stands in
     taking_does s (λ t. Gave (Jumped name) t)
-    (word_step (script_of at.context) at.context.activation Jump (AtLabel (body_label at.body of).index) [] from (from + 3) r
+    (word_step (script_of at.context) at.context.activation Jump (AtLabel (body_label at.body of).index)
+    [] from (from + 3) r
     memory s.events sound.sound.lies ready.shares.code first.there)
     refl refl
     (λ one_less. to_label of name names (omega (arith, one_less)) ready)
@@ -99,11 +115,14 @@ pub do_does :
     → StatementStands at before (statements.Do list) label from after to
     → FormDoes at before (statements.Do list) from after to
 unfolding statement_steps
-do_does at before list label from after to stands bound _ (IsDo {list = body} is) types lists base s r memory below room ready known =
+do_does at before list label from after to stands bound _ (IsDo {list = body} is) types lists base s r memory
+    below room ready known =
     let first = list_first stands in
     let ends = steps_ended first.rest in
     subst (λ (last : Here). Does (script_of at.context) s.budget 0 (at_place from r memory s.events)
-    (done at.context.later at.context.activation.around (DoStatement body) s) (Leaves at base to last s.budget)) (sym ends.same)
+    (done at.context.later at.context.activation.around (DoStatement body) s)
+    (Leaves at base to last s.budget)) (sym ends.same)
     (subst (λ (place : ℕ). Does (script_of at.context) s.budget 0 (at_place from r memory s.events)
-    (done at.context.later at.context.activation.around (DoStatement body) s) (Leaves at base place first.after s.budget)) (sym ends.place)
+    (done at.context.later at.context.activation.around (DoStatement body) s)
+    (Leaves at base place first.after s.budget)) (sym ends.place)
     (first.does bound body is types lists base s r memory below room ready known))

@@ -1,4 +1,5 @@
--- Items that are written for statements and stand in the code do what the statements say, where the steps of each do.
+-- Items that are written for statements and stand in the code do what the statements say, where the steps of
+-- each do.
 use Rattle.statement_laws.proofs.Prelude.{◌≡◌, ℕ, List, slice_get, Option, Some, refl, ap, ◌∙◌, Item, Range, Statement, StatementNumber, nodes_of, IsThere, both_there, Facts, Site, Planned, Here, AreAllCarriedOut, AreCarriedOut, IsCarriedOut, IsListCarriedOut, ListCarriedOut, NoneCarriedOut, StatementCarriedOut, StepCarriedOut, carried_steps, site_of, statement_steps, nodes_in, CarryOut, steps_stand, BodyContext, IsSoundBody, ListDoes, ListPlanned, NonePlanned, StatementDoes, StatementPlanned, StatementStands, StatementsDo, StepPlanned}
 use Rattle.treecode.specs.declared.statement.Statement.TheVariants as statements
 use Rattle.codegen8080.specs.internal.Generated as generated
@@ -33,7 +34,8 @@ is_marked at facts (statements.While condition list) label from after to stands 
 is_marked at facts (statements.Iterate head list) label from after to stands = tt
 is_marked at facts (statements.Case choice list) label from after to stands = tt
 
-module _ (at : BodyContext) (sound : IsSoundBody at) (carry : CarryOut at.context) (each_does : StatementsDo at) where
+module _ (at : BodyContext) (sound : IsSoundBody at) (carry : CarryOut at.context)
+    (each_does : StatementsDo at) where
   statement_at : (number : StatementNumber) (statement : Statement)
       → slice_get at.body.tree.now.statements.items number.index ≡ Some statement
       → slice_get (nodes_in at.context).statements number.index ≡ Some statement
@@ -57,14 +59,17 @@ module _ (at : BodyContext) (sound : IsSoundBody at) (carry : CarryOut at.contex
     planned_stand from to (StepCarriedOut {first = first} {more = more} ok written others) there =
         let parts = both_there first more there in
         StepPlanned ok
-        (steps_stand at.context (site_of at.body) at.context.called sound.site refl carry from parts.middle written parts.first)
+        (steps_stand at.context (site_of at.body) at.context.called sound.site refl carry from parts.middle
+        written parts.first)
         (planned_stand parts.middle to others parts.second)
     planned_stand from to (StatementCarriedOut {first = first} {more = more} one others) there =
         let parts = both_there first more there in
-        StatementPlanned (statement_stands from parts.middle one parts.first) (planned_stand parts.middle to others parts.second)
+        StatementPlanned (statement_stands from parts.middle one parts.first)
+        (planned_stand parts.middle to others parts.second)
     planned_stand from to (ListCarriedOut {first = first} {more = more} one others) there =
         let parts = both_there first more there in
-        ListPlanned (list_stands from parts.middle one parts.first) (planned_stand parts.middle to others parts.second)
+        ListPlanned (list_stands from parts.middle one parts.first)
+        (planned_stand parts.middle to others parts.second)
 
     -- a statement
     pub statement_stands :
@@ -72,8 +77,10 @@ module _ (at : BodyContext) (sound : IsSoundBody at) (carry : CarryOut at.contex
         → IsCarriedOut at.body at.context.called facts number list last
         → IsThere at.context.activation list from to
         → StatementDoes at facts number from last to
-    statement_stands {facts = facts} {number = number} {last = last} from to (generated.StatementPlanned {statement = statement} label is planned) there =
-        each_does facts number statement label from last to (statement_at number statement is) (planned_stand from to planned there)
+    statement_stands {facts = facts} {number = number} {last = last} from to
+        (generated.StatementPlanned {statement = statement} label is planned) there =
+        each_does facts number statement label from last to (statement_at number statement is)
+        (planned_stand from to planned there)
 
     -- a list
     pub list_stands :
@@ -90,10 +97,13 @@ module _ (at : BodyContext) (sound : IsSoundBody at) (carry : CarryOut at.contex
         → IsThere at.context.activation list from to
         → AllDo at here first count from last to
     all_stand from to NoStatements there = rw (there.stands) NoneDo
-    all_stand {here = here} {first = first} from to (MoreStatements {middle = middle} {number = number} {list = list} {more = more} listed (generated.StatementPlanned {statement = statement} label is planned) others) there =
+    all_stand {here = here} {first = first} from to
+        (MoreStatements {middle = middle} {number = number} {list = list} {more = more} listed
+        (generated.StatementPlanned {statement = statement} label is planned) others) there =
         let parts = both_there list more there in
         let stands = planned_stand from parts.middle planned parts.first in
         MoreDo (listed_at first number listed) (statement_at number statement is)
-        (each_does here.facts number statement label from middle parts.middle (statement_at number statement is) stands)
+        (each_does here.facts number statement label from middle parts.middle
+        (statement_at number statement is) stands)
         (is_marked at here.facts statement label from middle parts.middle stands)
         (all_stand parts.middle to others parts.second)

@@ -24,7 +24,8 @@ pub retyped_types :
 retyped_types at scalar there (StoredIn from to part) types = (refl, types.1, types.2)
 retyped_types at scalar there (SentTo from port) types = (refl, types.1)
 
-pub retyped_height : (tree : TypedTarget) (there : ScalarType) → height_of_target (retyped tree there) ≡ height_of_target tree
+pub retyped_height : (tree : TypedTarget) (there : ScalarType)
+    → height_of_target (retyped tree there) ≡ height_of_target tree
 retyped_height (StoredIn from to part) there = refl
 retyped_height (SentTo from port) there = refl
 
@@ -48,7 +49,8 @@ stored_alike at (SentTo from port) there number other s suits =
 pub target_stored :
     {B : Type 0} {need more bound : ℕ} {base : List ℕ} {t : SourceState} {facts found : Facts} {r : Registers}
     {memory : List ℕ} {is_wanted : Bool} {Good : B → SourceState → State → Type 0}
-    (at : BodyContext) (scalar there : ScalarType) (from middle number other : ℕ) (target : Target) (tree : TypedTarget)
+    (at : BodyContext) (scalar there : ScalarType) (from middle number other : ℕ) (target : Target)
+    (tree : TypedTarget)
     (go : Unit {0} → SourceState → Outcome B)
     → StoreDoes at.context facts (from_type target there) is_wanted 0 from found middle
     → IsTarget (nodes_in at.context) at.context.storage bound target tree
@@ -64,11 +66,14 @@ pub target_stored :
     → Does (script_of at.context) u.budget more (at_place middle now memory_now u.events) (go tt u) Good)
     → Does (script_of at.context) t.budget more (at_place from r memory t.events)
     (then_do (stored at.context.later at.context.activation.around tree number t) go) Good
-target_stored {need = need} {bound = bound} {t = t} at scalar there from middle number other target tree go does is types suits small fits has stage rest =
+target_stored {need = need} {bound = bound} {t = t} at scalar there from middle number other target tree go
+    does is types suits small fits has stage rest =
     let high = retyped_height tree there in
     does_same _
-    (ap (λ (outcome : Outcome (Unit {0})). then_do outcome go) (sym (stored_alike at tree there number other t suits)))
-    (at_store there from middle other (from_type target there) go does (retyped_is at bound target tree there is)
+    (ap (λ (outcome : Outcome (Unit {0})). then_do outcome go)
+    (sym (stored_alike at tree there number other t suits)))
+    (at_store there from middle other (from_type target there) go does
+    (retyped_is at bound target tree there is)
     (retyped_types at scalar there tree types) small (omega (arith, high, fits)) has stage rest)
 
 -- what is in a register of a value
@@ -83,7 +88,8 @@ low_small n = omega arith
 pub at_any_value :
     {B : Type 0} {need more bound : ℕ} {base : List ℕ} {t : SourceState} {facts found_facts : Facts}
     {r : Registers} {memory : List ℕ} {tree : TypedExpression} {go : ℕ → SourceState → Outcome B}
-    {Good : B → SourceState → State → Type 0} (at : BodyContext) (there : ScalarType) (from middle : ℕ) (of : ExpressionNumber)
+    {Good : B → SourceState → State → Type 0} (at : BodyContext) (there : ScalarType) (from middle : ℕ)
+    (of : ExpressionNumber)
     → TaskDoes at.context facts (value_task there of) 0 from found_facts middle
     → IsExpression (nodes_in at.context) at.context.storage bound of.index tree
     → TypesHold at.context.typed at.context.within tree
@@ -98,21 +104,26 @@ pub at_any_value :
     → Does (script_of at.context) t.budget more (at_place from r memory t.events)
     (then_do (value at.context.later at.context.activation.around tree t) go) Good
 unfolding value_task
-at_any_value {found_facts = found_facts} {r = r} {memory = memory} {tree = tree} at Byte from middle of does node types fewer stage rest =
+at_any_value {found_facts = found_facts} {r = r} {memory = memory} {tree = tree} at Byte from middle of does
+    node types fewer stage rest =
     at_byte from middle of does node types fewer stage
     (λ found u now memory_now is (given : ByteIsGiven at.context found_facts of (type_of tree) r memory found now memory_now) next.
     rest found u now memory_now given.a (low_small found) given.small next)
-at_any_value {found_facts = found_facts} {r = r} {memory = memory} {tree = tree} at Address from middle of does node types fewer stage rest =
+at_any_value {found_facts = found_facts} {r = r} {memory = memory} {tree = tree} at Address from middle of
+    does node types fewer stage rest =
     at_word from middle of does node types fewer stage
     (λ found u now memory_now is (given : WordIsGiven at.context found_facts of (type_of tree) r memory found now memory_now) next.
-    rest found u now memory_now (given.h, given.l) (value_is_word (type_of tree) found given.small) given.small next)
+    rest found u now memory_now (given.h, given.l)
+    (value_is_word (type_of tree) found given.small) given.small next)
 
--- what a register has of a value suits a target: an ADDRESS always, a BYTE where the value or the target is one
+-- what a register has of a value suits a target: an ADDRESS always, a BYTE where the value or the target is
+-- one
 pub address_suits : (tree : TypedTarget) (number : ℕ) → Suits tree number (as_register Address number)
 address_suits (StoredIn from to part) number = refl
 address_suits (SentTo from port) number = refl
 
-pub small_suits : (tree : TypedTarget) (number : ℕ) → number < 256 → Suits tree number (as_register Byte number)
+pub small_suits : (tree : TypedTarget) (number : ℕ) → number < 256
+    → Suits tree number (as_register Byte number)
 small_suits (StoredIn from to part) number small = ap (as_type to) (low_of_byte number small)
 small_suits (SentTo from port) number small = low_of_low number
 
@@ -135,7 +146,8 @@ pub target_of_index :
     → target_at at.body.tree.now targets index ≡ Some target
 target_of_index at targets index first target sound place less is =
     sym (ap (λ (site : Site). target_at site.tree.now targets index) sound.site)
-    ∙ ap (λ (b : Bool). option_and_then (λ (n : ℕ). slice_get (nodes_in at.context).targets n) (if b then Some (targets.first + index) else None))
+    ∙ ap (λ (b : Bool). option_and_then (λ (n : ℕ). slice_get (nodes_in at.context).targets n)
+    (if b then Some (targets.first + index) else None))
     (lt-ltb index targets.count less)
     ∙ ap (λ (n : ℕ). slice_get (nodes_in at.context).targets n) (sym place)
     ∙ is
@@ -162,11 +174,16 @@ pub targets_stored :
     → Stand at here None from (steps_from (store_at at.body targets there) index left) last to
     → Between at need base t here.facts r memory
     → Does (script_of at.context) t.budget 0 (at_place from r memory t.events)
-    (then_do (stored_in_each at.context.later at.context.activation.around trees number t) (λ _ u. Gave Onward u))
+    (then_do (stored_in_each at.context.later at.context.activation.around trees number t)
+    (λ _ u. Gave Onward u))
     (Leaves at base to last before)
-targets_stored scalar there targets number other NoTargets index here from t r memory sound place count types suits small fits has goes stand stage =
+targets_stored scalar there targets number other NoTargets index here from t r memory sound place count types
+    suits small fits has goes stand stage =
     ends_onward (steps_ended stand) goes stage
-targets_stored {at = at} {need = need} {base = base} {to = to} {before = before} {last = last} scalar there targets number other (MoreTargets {first = first} {count = left} {target = target} {tree = tree} {others = others} is_there is are) index here from t r memory sound place count types suits small fits has goes stand stage =
+targets_stored {at = at} {need = need} {base = base} {to = to} {before = before} {last = last} scalar there
+    targets number other
+    (MoreTargets {first = first} {count = left} {target = target} {tree = tree} {others = others} is_there is
+    are) index here from t r memory sound place count types suits small fits has goes stand stage =
     let less : index < targets.count = omega (arith, count) in
     let found = target_of_index at targets index first target sound place less is_there in
     let store = part_first
@@ -177,11 +194,15 @@ targets_stored {at = at} {need = need} {base = base} {to = to} {before = before}
     ] ++ steps_from (store_at at.body targets there) (suc index) left) last to) found stand) in
     does_same _
     (then_again (stored at.context.later at.context.activation.around tree number t)
-    (λ _ u. stored_in_each at.context.later at.context.activation.around others number u) (λ _ u. Gave Onward u))
+    (λ _ u. stored_in_each at.context.later at.context.activation.around others number u)
+    (λ _ u. Gave Onward u))
     (target_stored at scalar there from store.middle number other target tree
-    (λ _ u. then_do (stored_in_each at.context.later at.context.activation.around others number u) (λ _ v. Gave Onward v))
-    store.does is types.0 (suits _ index target tree found less is) small (omega (arith, fits)) (has (omega arith)) stage
+    (λ _ u. then_do (stored_in_each at.context.later at.context.activation.around others number u)
+    (λ _ v. Gave Onward v))
+    store.does is types.0 (suits _ index target tree found less is) small (omega (arith, fits))
+    (has (omega arith)) stage
     (λ u now memory_now wanted next.
-    targets_stored scalar there targets number other are (suc index) (going here.goes_on store.known) store.middle u now memory_now sound
+    targets_stored scalar there targets number other are (suc index) (going here.goes_on store.known)
+    store.middle u now memory_now sound
     (omega (arith, place)) (omega (arith, count)) types.1 suits small (omega (arith, fits))
     (λ some. wanted (lt-ltb index (targets.count - 1) (omega (arith, some, count)))) goes store.rest next))

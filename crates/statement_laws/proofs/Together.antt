@@ -19,20 +19,25 @@ IsThatOne at number of = slice_get (nodes_in at.context).statements number.index
 pub statements_do : (at : BodyContext) → IsSoundBody at → StatementsDo at
 statements_do at sound before number statement label from after to there stands = by statement there stands
   where
-    formed : {of : Statement} → IsThatOne at number of → FormDoes at before of from after to → StatementDoes at before number from after to
+    formed : {of : Statement} → IsThatOne at number of → FormDoes at before of from after to
+        → StatementDoes at before number from after to
     formed {of = of} there does = form_does at before number of from after to there does
 
-    by : (of : Statement) → IsThatOne at number of → StatementStands at before of label from after to → StatementDoes at before number from after to
+    by : (of : Statement) → IsThatOne at number of → StatementStands at before of label from after to
+        → StatementDoes at before number from after to
     by (statements.Label of) there stands = formed there (label_does at before of label from after to stands)
     by statements.Null there stands = formed there (null_does at before label from after to stands)
     by (statements.Assignment targets value) there stands =
         formed there (assignment_does at before targets value label from after to sound (counts_do at) stands)
-    by (statements.Call procedure arguments) there stands = formed there (call_does at before procedure arguments label from after to stands)
+    by (statements.Call procedure arguments) there stands =
+        formed there (call_does at before procedure arguments label from after to stands)
     by (statements.Move count source destination) there stands =
         move_does at before number count source destination label from after to sound there stands
-    by (statements.Return value) there stands = formed there (return_does at before value label from after to sound stands)
+    by (statements.Return value) there stands =
+        formed there (return_does at before value label from after to sound stands)
     by statements.Halt there stands = formed there (halt_does at before label from after to sound stands)
-    by (statements.Goto of) there stands = formed there (goto_does at before of label from after to sound stands)
+    by (statements.Goto of) there stands =
+        formed there (goto_does at before of label from after to sound stands)
     by (statements.If condition then_part else_part) there stands =
         formed there (if_does at before condition then_part else_part label from after to sound stands)
     by (statements.Do list) there stands = formed there (do_does at before list label from after to stands)

@@ -37,19 +37,25 @@ module _
         → middle.goes_on ≡ true
         → IsReady at.context.activation at.context.activation.level base v.memory v.frame r memory
         → Know at.context middle.facts r memory
-        → Does (script_of at.context) v.budget 0 (at_place place r memory v.events) (loop v) (Leaves at base to last before))
+        → Does (script_of at.context) v.budget 0 (at_place place r memory v.events) (loop v)
+        (Leaves at base to last before))
         → Does (script_of at.context) v.budget 0 end
-        (after_turn at.context.later at.context.activation.around (WhileTurn tree body) flow v) (Leaves at base to last before)
+        (after_turn at.context.later at.context.activation.around (WhileTurn tree body) flow v)
+        (Leaves at base to last before)
     turn_ends middle place before Onward v end below less leaves rest =
         let comes = leaves.comes in
         let number = sound.number in
         subst (λ (later : Later). Does (script_of at.context) v.budget 0 end
-        (later.again (WhileTurn tree body) at.context.activation.around v) (Leaves at base to last before)) (sym sound.later)
+        (later.again (WhileTurn tree body) at.context.activation.around v)
+        (Leaves at base to last before)) (sym sound.later)
         (does_same _
-        (again_is sound.bound (WhileTurn tree body) at.context.activation.around v (omega (arith, less, below, number)))
+        (again_is sound.bound (WhileTurn tree body) at.context.activation.around v
+        (omega (arith, less, below, number)))
         (subst (λ (later : Later). Does (script_of at.context) v.budget 0 end
-        (done later at.context.activation.around (WhileStatement tree body) v) (Leaves at base to last before)) sound.later
-        (subst (λ (s : State). Does (script_of at.context) v.budget 0 s (loop v) (Leaves at base to last before)) (sym comes.is_at)
+        (done later at.context.activation.around (WhileStatement tree body) v)
+        (Leaves at base to last before)) sound.later
+        (subst (λ (s : State). Does (script_of at.context) v.budget 0 s (loop v)
+        (Leaves at base to last before)) (sym comes.is_at)
         (rest comes.r comes.memory leaves.goes_on comes.ready comes.holds))))
     turn_ends middle place before (Returned found) v end below less leaves rest = does_without_step leaves
     turn_ends middle place before (Jumped label) v end below less leaves rest = does_without_step leaves
@@ -62,7 +68,8 @@ module _
         (branch_does : BranchDoes at.context no_facts condition label true 0 pt found pe)
         (ends : (r : Registers) (memory : List ℕ) (before : ℕ) (t : SourceState)
         → Between at need base t found r memory
-        → Does (script_of at.context) t.budget 0 (at_place pe r memory t.events) (Gave Onward t) (Leaves at base to last before))
+        → Does (script_of at.context) t.budget 0 (at_place pe r memory t.events) (Gave Onward t)
+        (Leaves at base to last before))
       where
         -- from the test on, in runs of less than a number
         abbrev FromTest : ℕ → Type 0
@@ -71,7 +78,8 @@ module _
             → s.budget < fuel
             → s.budget < at.context.number
             → IsReady at.context.activation at.context.activation.level base s.memory s.frame r memory
-            → Does (script_of at.context) s.budget 0 (at_place pt r memory s.events) (loop s) (Leaves at base to last s.budget)
+            → Does (script_of at.context) s.budget 0 (at_place pt r memory s.events) (loop s)
+            (Leaves at base to last s.budget)
 
         -- a turn, of which the budget was taken already
         turns :
@@ -81,7 +89,8 @@ module _
             → before < at.context.number
             → u.budget < before
             → IsReady at.context.activation at.context.activation.level base u.memory u.frame r memory
-            → Does (script_of at.context) u.budget 0 (at_place from r memory u.events) (turn u) (Leaves at base to last before)
+            → Does (script_of at.context) u.budget 0 (at_place from r memory u.events) (turn u)
+            (Leaves at base to last before)
         turns fuel before u r memory test less below fewer ready =
             then_does
             (list_does bound body is_list list_types lists base u r memory (omega (arith, fewer, below))
@@ -91,7 +100,8 @@ module _
             (leaves_later at base pt h u.budget before flow v end (omega (arith, fewer)) leaves)
             (λ now ended goes there known.
             does_later before (omega (arith, spent, fewer))
-            (test v now ended (omega (arith, spent, fewer, less)) (omega (arith, spent, fewer, below)) there)))
+            (test v now ended (omega (arith, spent, fewer, less))
+            (omega (arith, spent, fewer, below)) there)))
 
         tested :
             (fuel before n : ℕ) (t : SourceState) (end : State)
@@ -106,14 +116,17 @@ module _
             subst (λ (b : Bool). Does (script_of at.context) t.budget 0 end
             (if b then taking_one t turn else Gave Onward t) (Leaves at base to last before)) (sym holds)
             (taking_does t turn
-            (step ∙ arrives.is_at ∙ ap (λ (place : ℕ). at_place place arrives.r arrives.memory t.events) lies) refl refl
+            (step ∙ arrives.is_at ∙ ap (λ (place : ℕ). at_place place arrives.r arrives.memory t.events) lies)
+            refl refl
             (λ one_less.
-            turns fuel before (record t { budget = t.budget - 1 }) arrives.r arrives.memory test less below (omega (arith, one_less, fewer))
+            turns fuel before (record t { budget = t.budget - 1 }) arrives.r arrives.memory test less below
+            (omega (arith, one_less, fewer))
             arrives.ready))
         tested fuel before n t end test less below fewer (Passes holds arrives) =
             subst (λ (b : Bool). Does (script_of at.context) t.budget 0 end
             (if b then taking_one t turn else Gave Onward t) (Leaves at base to last before)) (sym holds)
-            (subst (λ (s : State). Does (script_of at.context) t.budget 0 s (Gave Onward t) (Leaves at base to last before)) (sym arrives.is_at)
+            (subst (λ (s : State). Does (script_of at.context) t.budget 0 s (Gave Onward t)
+            (Leaves at base to last before)) (sym arrives.is_at)
             (ends arrives.r arrives.memory before t
             (record { below = omega (arith, fewer, below); room = room; ready = arrives.ready; known = arrives.holds })))
 
@@ -121,23 +134,27 @@ module _
         from_test zero s r memory less below ready = absurd (omega (arith, less))
         from_test (suc fuel) s r memory less below ready =
             then_does
-            (branch_does _ tree is types at.context.activation.level base s r memory below (room_for (2 * height_of tree) fits room)
+            (branch_does _ tree is types at.context.activation.level base s r memory below
+            (room_for (2 * height_of tree) fits room)
             ready no_facts_hold)
-            (λ n t end parts spent. tested fuel s.budget n t end (from_test fuel) (omega (arith, less)) below spent parts)
+            (λ n t end parts spent. tested fuel s.budget n t end (from_test fuel)
+            (omega (arith, less)) below spent parts)
 
     -- a loop without an end
     module _
         (from place : ℕ) (label : LabelNumber) (h : Here) (n : ℕ)
         (lies : at.context.activation.layout.place_of label.index ≡ from)
         (list_does : ListDoes at no_facts list from h place)
-        (jumps : h.goes_on ≡ true → IsThere at.context.activation (jump_item Jump label ∷ []) place (place + 3))
+        (jumps : h.goes_on ≡ true → IsThere at.context.activation (jump_item Jump label
+        ∷ []) place (place + 3))
         (holds : is_true n ≡ true)
         (value_is : (s : SourceState) → value at.context.later at.context.activation.around tree s ≡ Gave n s)
       where
         -- a further turn takes one of the budget
         pub loop_is : (s : SourceState) → loop s ≡ taking_one s turn
         loop_is s =
-            ap (λ (given : Outcome ℕ). then_do given (λ m t. if is_true m then taking_one t turn else Gave Onward t)) (value_is s)
+            ap (λ (given : Outcome ℕ). then_do given
+            (λ m t. if is_true m then taking_one t turn else Gave Onward t)) (value_is s)
             ∙ ap (λ (b : Bool). if b then taking_one s turn else Gave Onward s) holds
 
         -- from a turn on, of which the budget was taken already
@@ -147,7 +164,8 @@ module _
             → before < at.context.number
             → u.budget < before
             → IsReady at.context.activation at.context.activation.level base u.memory u.frame r memory
-            → Does (script_of at.context) u.budget 0 (at_place from r memory u.events) (turn u) (Leaves at base to last before)
+            → Does (script_of at.context) u.budget 0 (at_place from r memory u.events) (turn u)
+            (Leaves at base to last before)
         from_top zero before u r memory less below fewer ready = absurd (omega (arith, less))
         from_top (suc fuel) before u r memory less below fewer ready =
             then_does
@@ -159,12 +177,14 @@ module _
             (λ now kept goes there known.
             does_same _ (loop_is v)
             (taking_does v turn
-            (word_step (script_of at.context) at.context.activation Jump (AtLabel label.index) [] place (place + 3) now kept v.events
+            (word_step (script_of at.context) at.context.activation Jump (AtLabel label.index) [] place
+            (place + 3) now kept v.events
             sound.sound.lies there.shares.code (jumps goes)
             ∙ ap (λ (one : ℕ). at_place one now kept v.events) lies)
             refl refl
             (λ one_less.
-            from_top fuel before (record v { budget = v.budget - 1 }) now kept (omega (arith, one_less, spent, less)) below
+            from_top fuel before (record v { budget = v.budget - 1 }) now kept
+            (omega (arith, one_less, spent, less)) below
             (omega (arith, one_less, spent, fewer)) there))))
 
 -- the steps of `JumpOn`
@@ -187,17 +207,20 @@ empty_list at bound range (ListOf label places trees) s none (IsListOf are) =
     by : {given : TypedStatements} (count : ℕ)
         → AreStatements (nodes_in at.context) at.context.storage at.labels bound range.first count given
         → count ≡ 0
-        → done_list at.context.later at.context.activation.around (ListOf label places given) s ≡ Gave Onward s
+        → done_list at.context.later at.context.activation.around (ListOf label places given) s
+        ≡ Gave Onward s
     by zero AreNoStatements same = refl
     by (suc count) are same = absurd (omega (arith, same))
 
 -- a loop that is tested
 tested_does :
-    (at : BodyContext) (before : Facts) (condition : ExpressionNumber) (list : Range) (label from : ℕ) (after : Here) (to : ℕ)
+    (at : BodyContext) (before : Facts) (condition : ExpressionNumber) (list : Range) (label from : ℕ)
+    (after : Here) (to : ℕ)
     → IsSoundBody at
     → Stand at (going true before) None from (tested_while_steps condition list label) after to
     → FormDoes at before (statements.While condition list) from after to
-tested_does at before condition list label from after to sound stands bound _ (IsWhile {test = test} {list = body} is is_list) types lists base s r memory below room ready known =
+tested_does at before condition list label from after to sound stands bound _
+    (IsWhile {test = test} {list = body} is is_list) types lists base s r memory below room ready known =
     by (nat_lt 0 list.count) refl stands
   where
     need : ℕ
@@ -208,7 +231,8 @@ tested_does at before condition list label from after to sound stands bound _ (I
         (here : Here) (place : ℕ)
         → here.goes_on ≡ true
         → Stand at here None place
-        (mark (label_of label) ∷ planned.List list ∷ mark (nth_label label 1) ∷ branch condition (label_of label) true
+        (mark (label_of label) ∷ planned.List list ∷ mark (nth_label label 1)
+        ∷ branch condition (label_of label) true
         ∷ planned.Reaches true ∷ []) after to
         → ((pt : ℕ) (h : Here)
         → at.context.activation.layout.place_of (nth_label label 1).index ≡ pt
@@ -217,11 +241,14 @@ tested_does at before condition list label from after to sound stands bound _ (I
         → u.budget ≤ s.budget
         → IsReady at.context.activation at.context.activation.level base u.memory u.frame now kept
         → Does (script_of at.context) u.budget 0 (at_place pt now kept u.events)
-        (done at.context.later at.context.activation.around (WhileStatement test body) u) (Leaves at base to after s.budget))
+        (done at.context.later at.context.activation.around (WhileStatement test body) u)
+        (Leaves at base to after s.budget))
         → Does (script_of at.context) s.budget 0 (at_place from r memory s.events)
-        (done at.context.later at.context.activation.around (WhileStatement test body) s) (Leaves at base to after s.budget))
+        (done at.context.later at.context.activation.around (WhileStatement test body) s)
+        (Leaves at base to after s.budget))
         → Does (script_of at.context) s.budget 0 (at_place from r memory s.events)
-        (done at.context.later at.context.activation.around (WhileStatement test body) s) (Leaves at base to after s.budget)
+        (done at.context.later at.context.activation.around (WhileStatement test body) s)
+        (Leaves at base to after s.budget)
     from_list here place goes stand rest =
         let top = mark_first stand in
         let listed = list_first top.rest in
@@ -231,40 +258,48 @@ tested_does at before condition list label from after to sound stands bound _ (I
         rest listed.middle listed.after middle.lies listed.does
         (λ u now kept fewer there.
         does_later s.budget fewer
-        (from_test at sound base after to need bound test body condition list is is_list types.0 types.1 lists (omega arith) (omega arith)
-        room place listed.middle tested.middle (label_of label) listed.after tested.known top.lies listed.does tested.does
+        (from_test at sound base after to need bound test body condition list is is_list types.0 types.1 lists
+        (omega arith) (omega arith)
+        room place listed.middle tested.middle (label_of label) listed.after tested.known top.lies
+        listed.does tested.does
         (λ last_r last_memory began t stage. ends_onward end refl stage)
         (suc u.budget) u now kept (omega arith) (omega (arith, fewer, below)) there))
 
     by : (some : Bool) → nat_lt 0 list.count ≡ some
         → Stand at (going true before) None from
         ((if some then jump Jump (nth_label label 1) ∷ [] else [])
-        ++ (mark (label_of label) ∷ planned.List list ∷ mark (nth_label label 1) ∷ branch condition (label_of label) true
+        ++ (mark (label_of label) ∷ planned.List list ∷ mark (nth_label label 1)
+        ∷ branch condition (label_of label) true
         ∷ planned.Reaches true ∷ [])) after to
         → Does (script_of at.context) s.budget 0 (at_place from r memory s.events)
-        (done at.context.later at.context.activation.around (WhileStatement test body) s) (Leaves at base to after s.budget)
+        (done at.context.later at.context.activation.around (WhileStatement test body) s)
+        (Leaves at base to after s.budget)
     by true some stand =
         let entry = jump_first stand in
         from_list (going true (after_form before Jump)) (from + 3) refl entry.rest
         (λ pt h lies list_does test_does.
         after_step
-        (word_step (script_of at.context) at.context.activation Jump (AtLabel (nth_label label 1).index) [] from (from + 3) r memory
+        (word_step (script_of at.context) at.context.activation Jump (AtLabel (nth_label label 1).index) []
+        from (from + 3) r memory
         s.events sound.sound.lies ready.shares.code entry.there
         ∙ ap (λ (one : ℕ). at_place one r memory s.events) lies)
         (test_does s r memory (omega arith) ready))
     by false none stand =
         from_list (going true before) from refl stand
         (λ pt h lies list_does test_does.
-        subst (λ (given : Outcome Flow). Does (script_of at.context) s.budget 0 (at_place from r memory s.events)
+        subst (λ (given : Outcome Flow). Does (script_of at.context) s.budget 0
+        (at_place from r memory s.events)
         (then_do given
-        (λ flow t. going_on flow (λ u. done at.context.later at.context.activation.around (WhileStatement test body) u) t))
+        (λ flow t. going_on flow (λ u. done at.context.later at.context.activation.around
+        (WhileStatement test body) u) t))
         (Leaves at base to after s.budget)) (empty_list at bound list body s none is_list)
         (then_does
         (list_does bound body is_list types.1 lists base s r memory below
         (room_for (2 + 2 * height_of_list body) (omega arith) room) ready no_facts_hold)
         (λ flow t end leaves less.
         goes_then at base h pt after to s.budget
-        (λ u. done at.context.later at.context.activation.around (WhileStatement test body) u) flow t end less leaves
+        (λ u. done at.context.later at.context.activation.around (WhileStatement test body) u)
+        flow t end less leaves
         (λ now kept goes there known. test_does t now kept less there))))
 
 -- a loop without an end
@@ -282,7 +317,8 @@ forever_does :
     → ((s : SourceState) → value at.context.later at.context.activation.around test s ≡ Gave n s)
     → Behaves at before (2 + 2 * max (height_of test) (height_of_list body)) from after to
     (done at.context.later at.context.activation.around (WhileStatement test body))
-forever_does at before list label from after to bound n condition test body sound stand is is_list types list_types lists holds value_is base s r memory below room ready known =
+forever_does at before list label from after to bound n condition test body sound stand is is_list types
+    list_types lists holds value_is base s r memory below room ready known =
     let need : ℕ = 2 + 2 * max (height_of test) (height_of_list body) in
     let entry = plain_first stand in
     let top = mark_first entry.rest in
@@ -290,7 +326,8 @@ forever_does at before list label from after to bound n condition test body soun
     let jump = jump_on_first listed.rest in
     let jumps = jumps_on at listed.after.facts jump.known listed.after.goes_on (label_of label) listed.middle jump.middle jump.first in
     does_same _
-    (loop_is at sound base after to need bound test body condition list is is_list types list_types lists (omega arith) (omega arith)
+    (loop_is at sound base after to need bound test body condition list is is_list types list_types lists
+    (omega arith) (omega arith)
     room (from + 1) listed.middle (label_of label) listed.after n top.lies listed.does jumps holds value_is s)
     (taking_does s (λ u. then_do (done_list at.context.later at.context.activation.around body u)
     (after_turn at.context.later at.context.activation.around (WhileTurn test body)))
@@ -303,12 +340,14 @@ forever_does at before list label from after to bound n condition test body soun
     s.budget s.budget (record s { budget = s.budget - 1 }) r memory (omega (arith, one_less)) below (omega (arith, one_less)) ready))
 
 pub while_does :
-    (at : BodyContext) (before : Facts) (condition : ExpressionNumber) (list : Range) (label from : ℕ) (after : Here) (to : ℕ)
+    (at : BodyContext) (before : Facts) (condition : ExpressionNumber) (list : Range) (label from : ℕ)
+    (after : Here) (to : ℕ)
     → IsSoundBody at
     → StatementStands at before (statements.While condition list) label from after to
     → FormDoes at before (statements.While condition list) from after to
 unfolding statement_steps
-while_does at before condition list label from after to sound stands bound _ (IsWhile {test = test} {list = body} is is_list) types lists base s r memory below room ready known =
+while_does at before condition list label from after to sound stands bound _
+    (IsWhile {test = test} {list = body} is is_list) types lists base s r memory below room ready known =
     by (number (knowing (site_of at.body) before) condition) refl stands
   where
     at_site : (found : Option ℕ) → number (knowing (site_of at.body) before) condition ≡ found
@@ -324,9 +363,11 @@ while_does at before condition list label from after to sound stands bound _ (Is
         → is_true n ≡ holds
         → Stand at (going true before) None from (if holds then forever_steps list label else []) after to
         → Does (script_of at.context) s.budget 0 (at_place from r memory s.events)
-        (done at.context.later at.context.activation.around (WhileStatement test body) s) (Leaves at base to after s.budget)
+        (done at.context.later at.context.activation.around (WhileStatement test body) s)
+        (Leaves at base to after s.budget)
     by_number n true same holds stand =
-        forever_does at before list label from after to bound n condition test body sound stand is is_list types.0 types.1 lists holds (given n same)
+        forever_does at before list label from after to bound n condition test body sound stand is is_list
+        types.0 types.1 lists holds (given n same)
         base s r memory below room ready known
     by_number n false same holds stand =
         does_same (Gave Onward s)
@@ -339,7 +380,8 @@ while_does at before condition list label from after to sound stands bound _ (Is
         then taking_one s (λ u. then_do (done_list at.context.later at.context.activation.around body u)
         (after_turn at.context.later at.context.activation.around (WhileTurn test body)))
         else Gave Onward s) holds)
-        (ends_onward (steps_ended stand) refl (record { below = below; room = room; ready = ready; known = known }))
+        (ends_onward (steps_ended stand) refl
+        (record { below = below; room = room; ready = ready; known = known }))
 
     by : (found : Option ℕ)
         → number (knowing (site_of at.body) before) condition ≡ found
@@ -349,8 +391,10 @@ while_does at before condition list label from after to sound stands bound _ (Is
           | None ↦ tested_while_steps condition list label
         ]) after to
         → Does (script_of at.context) s.budget 0 (at_place from r memory s.events)
-        (done at.context.later at.context.activation.around (WhileStatement test body) s) (Leaves at base to after s.budget)
+        (done at.context.later at.context.activation.around (WhileStatement test body) s)
+        (Leaves at base to after s.budget)
     by (Some n) same stand = by_number n (is_true n) same refl stand
     by None same stand =
-        tested_does at before condition list label from after to sound stand bound (WhileStatement test body) (IsWhile is is_list)
+        tested_does at before condition list label from after to sound stand bound (WhileStatement test body)
+        (IsWhile is is_list)
         types lists base s r memory below room ready known

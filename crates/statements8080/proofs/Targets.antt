@@ -15,9 +15,11 @@ pub none_passes :
 none_passes test body targets index zero place target none low high is = absurd (omega (arith, low, high))
 none_passes test body targets index (suc left) place target none low high is =
     by (nat_eq index place) refl
-    (λ more fewer. none_passes test body targets (suc index) left place target (or_parts _ _ none).1 more fewer is)
+    (λ more fewer. none_passes test body targets (suc index) left place target
+    (or_parts _ _ none).1 more fewer is)
   where
-    parts : ((elim (target_at body.tree.now targets index) as (λ (given : Option Target). Bool) [ Some found ↦ test found | None ↦ false ]) ≡ false)
+    parts : ((elim (target_at body.tree.now targets
+        index) as (λ (given : Option Target). Bool) [ Some found ↦ test found | None ↦ false ]) ≡ false)
         × (any_target test body targets (suc index) left ≡ false)
     parts = or_parts _ _ none
 

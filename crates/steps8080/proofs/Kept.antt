@@ -25,7 +25,8 @@ is_quiet_is_kept site number traits is = kept (λ it. it.is_quiet) (expression s
 pub stores_nothing_is_kept : (site : Site) (number : ExpressionNumber) (traits : Traits)
     → traits ≡ traits_at (nodes_of site.tree.now) number → traits.stores_nothing ≡ stores_nothing site number
 unfolding expression stores_nothing
-stores_nothing_is_kept site number traits is = kept (λ it. it.stores_nothing) (expression site number) traits is
+stores_nothing_is_kept site number traits is =
+    kept (λ it. it.stores_nothing) (expression site number) traits is
 
 pub is_free_is_kept : (site : Site) (number : ExpressionNumber) (traits : Traits)
     → traits ≡ traits_at (nodes_of site.tree.now) number → traits.is_free ≡ is_free site number

@@ -37,7 +37,8 @@ kept_by labels flags before after kept same count = record {
 }
 
 -- an entry of a table that is there
-entry_low : (labels : List (Option ℕ)) (number label : ℕ) → entry labels number ≡ Some label → number < length labels
+entry_low : (labels : List (Option ℕ)) (number label : ℕ) → entry labels number ≡ Some label
+    → number < length labels
 entry_low [] number label given = let bad : None ≡ Some label = given in cc
 entry_low (first ∷ others) zero label given = omega arith
 entry_low (first ∷ others) (suc number) label given =
@@ -51,13 +52,16 @@ all_clear (suc count) (suc number) = all_clear count number
 
 cut_same : (flags : List Bool) (size count number : ℕ)
     → number < size
-    → slice_index_or (take size flags ++ replicate count false) number false ≡ slice_index_or flags number false
+    → slice_index_or (take size flags ++ replicate count false) number false
+    ≡ slice_index_or flags number false
 cut_same flags zero count number low = absurd (omega (arith, low))
 cut_same [] (suc size) count number low = all_clear count number
 cut_same (flag ∷ others) (suc size) count zero low = refl
-cut_same (flag ∷ others) (suc size) count (suc number) low = cut_same others size count number (omega (arith, low))
+cut_same (flag ∷ others) (suc size) count (suc number) low =
+    cut_same others size count number (omega (arith, low))
 
-pub flags_resized : (labels : List (Option ℕ)) (flags more : List Bool) (code : Assembly) (size count newsize : ℕ)
+pub flags_resized : (labels : List (Option ℕ)) (flags more : List Bool) (code : Assembly)
+    (size count newsize : ℕ)
     → AreKept labels flags code
     → length labels ≤ size
     → more ≡ take size flags ++ replicate count false
@@ -104,7 +108,8 @@ pub table_extends : (labels more : List (Option ℕ)) (size count : ℕ)
 table_extends labels more size count least same number label given =
     ap (λ table. entry table number) same ∙ entry_in_longer labels size count number label least given
 
-pub table_resized : (labels more : List (Option ℕ)) (flags : List Bool) (code : Assembly) (size count newsize : ℕ)
+pub table_resized : (labels more : List (Option ℕ)) (flags : List Bool) (code : Assembly)
+    (size count newsize : ℕ)
     → AreKept labels flags code
     → length labels ≤ size
     → more ≡ take size labels ++ replicate count None
@@ -121,7 +126,8 @@ table_resized labels more flags code size count newsize kept least same newsized
   where
     back : (number label : ℕ) → entry more number ≡ Some label → entry labels number ≡ Some label
     back number label given =
-        entry_of_longer labels size count number label least (ap (λ table. entry table number) (sym same) ∙ given)
+        entry_of_longer labels size count number label least
+        (ap (λ table. entry table number) (sym same) ∙ given)
 
 -- a table with a label that is new
 pub label_made : (labels : List (Option ℕ)) (flags : List Bool) (before after : Assembly) (index label : ℕ)
@@ -188,7 +194,8 @@ off_of false h = refl
 off_of true h = let bad : false ≡ true = h in cc
 
 -- code with one more routine, whose labels are its own
-pub routine_added : (labels : List (Option ℕ)) (flags : List Bool) (before after : Assembly) (routine : Routine)
+pub routine_added : (labels : List (Option ℕ)) (flags : List Bool)
+    (before after : Assembly) (routine : Routine)
     → AreKept labels flags before
     → AddsRoutine routine before after
     → AreKept labels flags after

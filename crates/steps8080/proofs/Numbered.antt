@@ -128,7 +128,8 @@ pub entry_of_set : (table : List (Option ℕ)) (index added number found : ℕ)
     → entry (set table index (Some added)) number ≡ Some found
     → (entry table number ≡ Some found) ⊎ ((number ≡ index) × (found ≡ added))
 entry_of_set [] index added number found given = inl given
-entry_of_set (first ∷ others) zero added zero found given = inr (refl, ap (λ one. unwrap_or one found) (sym given))
+entry_of_set (first ∷ others) zero added zero found given =
+    inr (refl, ap (λ one. unwrap_or one found) (sym given))
 entry_of_set (first ∷ others) zero added (suc number) found given = inl given
 entry_of_set (first ∷ others) (suc index) added zero found given = inl given
 entry_of_set (first ∷ others) (suc index) added (suc number) found given =
@@ -143,7 +144,8 @@ pub different_set : (table : List (Option ℕ)) (index added : ℕ)
     → ((number : ℕ) → entry table number ≡ Some added → ⊥)
     → AreDifferent (set table index (Some added))
 different_set table index added different new number other found given also =
-    apart (entry_of_set table index added number found given) (entry_of_set table index added other found also)
+    apart (entry_of_set table index added number found given)
+    (entry_of_set table index added other found also)
   where
     At : (number : ℕ) → Type 0
     At number = (entry table number ≡ Some found) ⊎ ((number ≡ index) × (found ≡ added))
@@ -251,7 +253,8 @@ pub use_either : (name : ℕ) (items later : List Item)
     → (use_name name items ≡ true) ⊎ (use_name name later ≡ true)
     → use_name name (items ++ later) ≡ true
 use_either name items later found =
-    list_any-append (uses_name name) items later ∙ either_true (use_name name items) (use_name name later) found
+    list_any-append (uses_name name) items later
+    ∙ either_true (use_name name items) (use_name name later) found
 
 -- names that are numbered for items one after another
 pub names_then : (before between after : List (Option ℕ)) (items later : List Item)
@@ -268,8 +271,10 @@ names_then before between after items later first second = λ name number given.
     ]
 
 -- names with the same numbers
-names_same : (before after : List (Option ℕ)) (items : List Item) → after ≡ before → NumbersNames before after items
-names_same before after items same = λ name number given. inl (sym (ap (λ table. entry table name) same) ∙ given)
+names_same : (before after : List (Option ℕ)) (items : List Item) → after ≡ before
+    → NumbersNames before after items
+names_same before after items same =
+    λ name number given. inl (sym (ap (λ table. entry table name) same) ∙ given)
 
 -- a name that an item refers to
 name_used : (added : ℕ) (before after : List (Option ℕ)) (items : List Item)

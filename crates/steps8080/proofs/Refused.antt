@@ -30,5 +30,6 @@ pub refused_for :
     → IsFinished written.code (Err fault)
 refused_for inside written A result fault same is given =
     subst (λ (to : Written). IsFinished to.code (Err fault)) same
-    (subst (λ (to : Result A (Failure Fault)). IfFault to (λ (found : Fault). IsFinished inside.code (Err found))) is
+    (subst (λ (to : Result A (Failure Fault)). IfFault to
+    (λ (found : Fault). IsFinished inside.code (Err found))) is
     given)

@@ -6,13 +6,19 @@ and_regrouped : (p q r s : Bool) → q && r ≡ s → (p && q) && r ≡ p && s
 and_regrouped true q r s h = h
 and_regrouped false q r s h = refl
 
-equal_filled : (a b : List ℕ) (f : ℕ → List ℕ) → bytes_eq (a ++ f (length a)) (b ++ f (length b)) && nat_eq (length a) (length b) ≡ bytes_eq a b
+equal_filled : (a b : List ℕ) (f : ℕ → List ℕ)
+    → bytes_eq (a ++ f (length a)) (b ++ f (length b)) && nat_eq (length a) (length b) ≡ bytes_eq a b
 equal_filled [] [] f = ap (λ (same : Bool). same && true) (nat_list_eq_equiv.refl (f 0))
-equal_filled [] (y ∷ b) f = ap (λ (same : Bool). bytes_eq (f 0) (y ∷ (b ++ f (suc (length b)))) && same) (eqb-zero-suc (length b)) ∙ and-false _
-equal_filled (x ∷ a) [] f = ap (λ (same : Bool). bytes_eq (x ∷ (a ++ f (suc (length a)))) (f 0) && same) (eqb-suc-zero (length a)) ∙ and-false _
+equal_filled [] (y ∷ b) f =
+    ap (λ (same : Bool). bytes_eq (f 0) (y ∷ (b ++ f (suc (length b)))) && same) (eqb-zero-suc (length b))
+    ∙ and-false _
+equal_filled (x ∷ a) [] f =
+    ap (λ (same : Bool). bytes_eq (x ∷ (a ++ f (suc (length a)))) (f 0) && same) (eqb-suc-zero (length a))
+    ∙ and-false _
 equal_filled (x ∷ a) (y ∷ b) f =
     and_regrouped (nat_eq x y) _ _ _
-    (ap (λ (same : Bool). bytes_eq (a ++ f (suc (length a))) (b ++ f (suc (length b))) && same) (eqb-suc-suc (length a) (length b))
+    (ap (λ (same : Bool). bytes_eq (a ++ f (suc (length a))) (b ++ f (suc (length b))) && same)
+    (eqb-suc-suc (length a) (length b))
     ∙ equal_filled a b (λ n. f (suc n)))
 
 -- where the keys of a table are compared, the characters are

@@ -60,7 +60,8 @@ list_of-spelled NoArguments r = refl
 list_of-spelled (MoreArguments t others) r =
     ap (λ k. MarkSymbol marks.Comma ∷ expression_symbols t k) (list_of-spelled others r)
 
-list_of-forms : (t : ArgumentTrees) → AreArguments t → AllByRecursion (IsExpression expression_level) (list_of t)
+list_of-forms : (t : ArgumentTrees) → AreArguments t
+    → AllByRecursion (IsExpression expression_level) (list_of t)
 unfolding list_of
 list_of-forms NoArguments h = tt
 list_of-forms (MoreArguments t others) h = (h.0, list_of-forms others h.1)
@@ -96,7 +97,8 @@ some_arguments-read inner room keeps all t others r form =
   where
     each : Reads (inner expression_level) expression_symbols (IsExpression expression_level) EndsExpression
         (expression_fault room)
-    each a rest h ends = all expression_level a rest h (ends.1, ends.2) (no_operator expression_level rest ends.0)
+    each a rest h ends =
+        all expression_level a rest h (ends.1, ends.2) (no_operator expression_level rest ends.0)
 
     fault : first_fault (expression_fault room) (t ∷ list_of others)
         ≡ depth_fault (arguments_height (MoreArguments t others)) room
@@ -268,7 +270,8 @@ assignment-operand : (inner deeper : ExpressionParser) (room level : ℕ)
     → AllRead inner room
     → AllReadBelow deeper room
     → (f : ReferenceTree) (x : ExpressionTree) (r : List Symbol)
-    → IsReference f → IsExpression expression_level x → OperandRead inner deeper room level (AssignmentNode f x) r
+    → IsReference f → IsExpression expression_level x
+    → OperandRead inner deeper room level (AssignmentNode f x) r
 unfolding operand primary parenthesized
 assignment-operand inner deeper room level all below f x r target value =
     let closing : List Symbol = MarkSymbol marks.RightParenthesis ∷ r in
@@ -290,7 +293,8 @@ assignment-operand inner deeper room level all below f x r target value =
     (λ h. omega arith))
 
 -- the operators that may follow an operator before its operand
-follow_not : (o : BinaryOperator) → left_level (level_of o) ≤ negation_level → left_level (level_of o) < negation_level
+follow_not : (o : BinaryOperator) → left_level (level_of o) ≤ negation_level
+    → left_level (level_of o) < negation_level
 follow_not Or h = omega arith
 follow_not Xor h = omega arith
 follow_not And h = omega arith
@@ -558,14 +562,16 @@ expression-reads room level t r h ends =
 pub reference-reads : (room : ℕ) (t : ReferenceTree) (r : List Symbol) → IsReference t → EndsReference r
     → reference (expression room) (reference_symbols t r) ≡ gave (depth_fault (reference_height t) room) t r
 reference-reads room t r h ends =
-    reference-read (expression room) room (expression-keeps room expression_level) (expression-all room) t r h ends
+    reference-read (expression room) room (expression-keeps room expression_level)
+    (expression-all room) t r h ends
 
 pub arguments-reads : (room : ℕ) (t : ArgumentTrees) (r : List Symbol)
     → AreArguments t
     → at_mark marks.LeftParenthesis r ≡ false
     → arguments (expression room) (arguments_symbols t r) ≡ gave (depth_fault (arguments_height t) room) t r
 arguments-reads room t r h ends =
-    arguments-read (expression room) room (expression-keeps room expression_level) (expression-all room) t r h ends
+    arguments-read (expression room) room (expression-keeps room expression_level)
+    (expression-all room) t r h ends
 
 -- targets between commas, in front of what ends a reference
 reference_fault : ℕ → ReferenceTree → Option Cause

@@ -215,7 +215,8 @@ Reads {A} item spell P Follows fault =
 
 more_items-reads : {A : Type 0} (item : Parser A) (spell : A → List Symbol → List Symbol) (P : A → Type 0)
     (Follows : List Symbol → Type 0) (fault : A → Option Cause)
-    → Keeps item → Reads item spell P Follows fault → ((rest : List Symbol) → Follows (MarkSymbol Comma ∷ rest))
+    → Keeps item → Reads item spell P Follows fault
+    → ((rest : List Symbol) → Follows (MarkSymbol Comma ∷ rest))
     → (all : List A) (r : List Symbol) → AllByRecursion P all → Follows r → at_mark Comma r ≡ false
     → all_more_items item (more_after_commas spell all r) ≡ gave (first_fault fault all) all r
 more_items-reads item spell P Follows fault keeps reads comma [] r h later ends =
@@ -235,7 +236,8 @@ more_items-reads item spell P Follows fault keeps reads comma (a ∷ b ∷ all) 
 -- items that are spelled are read again
 pub items-reads : {A : Type 0} (item : Parser A) (spell : A → List Symbol → List Symbol) (P : A → Type 0)
     (Follows : List Symbol → Type 0) (fault : A → Option Cause)
-    → Keeps item → Reads item spell P Follows fault → ((rest : List Symbol) → Follows (MarkSymbol Comma ∷ rest))
+    → Keeps item → Reads item spell P Follows fault
+    → ((rest : List Symbol) → Follows (MarkSymbol Comma ∷ rest))
     → (all : List A) (r : List Symbol)
     → IsNotEmpty all
     → AllByRecursion P all

@@ -35,7 +35,8 @@ after_block : (own : Identifier) (place : Place) (inside : Reading (DeclarationT
     at_the_end (module_of own place i.0 e.0) e.1)
     ≡ (inside >>= λ (i : (DeclarationTrees × StatementTrees) × List Symbol).
     module_end own i.1 >>= λ (e : Option Identifier). Ok (module_of own place i.0 e))
-after_block own place (Ok i) = after_ending (λ (e : Option Identifier). module_of own place i.0 e) (ending true own i.1)
+after_block own place (Ok i) =
+    after_ending (λ (e : Option Identifier). module_of own place i.0 e) (ending true own i.1)
 after_block own place (Err cause) = refl
 
 after_start : (room : ℕ) (own : Identifier) (place : Place) (start : Reading Place)

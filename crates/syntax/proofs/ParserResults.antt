@@ -32,11 +32,15 @@ refused-derives_none words (Err failures.Memory) made = tt
 
 pub refused-wrong : (words : List Lexeme) (parsed : Result Module (Failure Fault))
     → MadeOf words parsed
-    → IfFault parsed (λ fault. (tree : ModuleTree) → DerivesModule (symbols_of words) tree → IsWrongWith fault tree)
+    → IfFault parsed
+    (λ fault. (tree : ModuleTree) → DerivesModule (symbols_of words) tree → IsWrongWith fault tree)
 refused-wrong words (Ok found) made = tt
-refused-wrong words (Err (failures.Fault (Word place))) made = λ tree derived. module_fails-cause words tree _ derived made
-refused-wrong words (Err (failures.Fault (End place))) made = λ tree derived. module_fails-cause words tree _ derived made
-refused-wrong words (Err (failures.Fault (Depth place))) made = λ tree derived. module_fails-cause words tree _ derived made
+refused-wrong words (Err (failures.Fault (Word place))) made =
+    λ tree derived. module_fails-cause words tree _ derived made
+refused-wrong words (Err (failures.Fault (End place))) made =
+    λ tree derived. module_fails-cause words tree _ derived made
+refused-wrong words (Err (failures.Fault (Depth place))) made =
+    λ tree derived. module_fails-cause words tree _ derived made
 refused-wrong words (Err (failures.Fault (EndName place))) made =
     λ tree derived. module_fails-cause words tree _ derived made
 refused-wrong words (Err failures.Memory) made = tt

@@ -30,7 +30,8 @@ at_semicolon-is (x ∷ rest) e = absurd cc
 
 -- what is read of expressions, arguments and targets
 expression-derives : (room : ℕ) (s : List Symbol)
-    → Gets (λ found. DerivesExpression expression_level s found.0 found.1) (expression room expression_level s)
+    → Gets (λ found. DerivesExpression expression_level s found.0 found.1)
+    (expression room expression_level s)
 expression-derives room s =
     gets_more (expression-gets room s) λ found h.
     subst (λ (k : List Symbol). DerivesExpression expression_level k found.0 found.1) (sym h.0)

@@ -35,8 +35,9 @@ pub gets_more : {A : Type 0} {P Q : A → Type 0} {r : Result A Cause}
     → Gets Q r
 gets_more h next = record { holds = λ a e. next a (h.holds a e) }
 
--- Reading gives what is wanted, if that is no deeper than the room and the names after END match where that is
--- asked. It fails for the depth only if that is over the room, and for a name after END only if one does not match.
+-- Reading gives what is wanted, if that is no deeper than the room and the names after END match where that
+-- is asked. It fails for the depth only if that is over the room, and for a name after END only if one does
+-- not match.
 pub data Verdict {A : Type 0} (read : Result A Cause) (wanted : A) (strict : Bool) (room height : ℕ)
     (Ends : Type 0) : Type 0 where
   fits : read ≡ Ok wanted

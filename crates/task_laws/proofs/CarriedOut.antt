@@ -14,13 +14,15 @@ use Rattle.task_laws.proofs.Machine.StepItems.{CarryOut, part_stands}
 
 -- The law of jumps where a condition holds.
 pub branch_does :
-    (context : Context) {facts last : Facts} {pushed from to : ℕ} (condition : ExpressionNumber) (label : LabelNumber)
+    (context : Context) {facts last : Facts} {pushed from to : ℕ} (condition : ExpressionNumber)
+    (label : LabelNumber)
     (sense : Bool) (first : ℕ)
     → IsSound context
     → StepsStand context (PartDoes context) facts from
     (branch_steps (knowing context.site facts) condition label sense pushed first) last to
     → BranchDoes context facts condition label sense pushed from last to
-branch_does context condition label sense first sound stand = branch_law first (bytes_asked context sound) sound stand
+branch_does context condition label sense first sound stand =
+    branch_law first (bytes_asked context sound) sound stand
 
 -- If parts do what they mean, so do the steps of each task: of values, effects, addresses, jumps, stores and
 -- calls.
@@ -29,14 +31,17 @@ unfolding task_steps steps_of
 carry_out context sound before after part label from to stand = by part.task part.pushed stand
   where
     by : (task : Task) (pushed : ℕ)
-        → StepsStand context (PartDoes context) before from (steps_of (knowing context.site before) task pushed label) after to
+        → StepsStand context (PartDoes context) before from
+        (steps_of (knowing context.site before) task pushed label) after to
         → TaskDoes context before task pushed from after to
     by (tasks.Byte number) pushed stands =
         byte_does context sound (bytes_asked context sound) before after number pushed from to stands
     by (tasks.Word number) pushed stands = words_do context sound before after number pushed from to stands
     by (tasks.Effects number) pushed stands = effects_done number sound stands
-    by (tasks.Address reference) pushed stands = addresses_do context sound before after reference pushed from to stands
-    by (tasks.Branch condition target sense) pushed stands = branch_does context condition target sense label sound stands
+    by (tasks.Address reference) pushed stands =
+        addresses_do context sound before after reference pushed from to stands
+    by (tasks.Branch condition target sense) pushed stands =
+        branch_does context condition target sense label sound stands
     by (tasks.Store target is_wanted) pushed stands = store_does context target is_wanted sound stands
     by (tasks.Call procedure arguments) pushed stands = call_does procedure arguments sound stands
 

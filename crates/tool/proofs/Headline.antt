@@ -12,7 +12,8 @@ loads :
     → GivesImageOfObjects plan objects image
     → (memory : List ℕ)
     → IsMemory memory
-    → AreLoaded (plan_view plan) modules objects linked.merged linked.placed.image memory (loaded image.pieces memory)
+    → AreLoaded (plan_view plan) modules objects linked.merged linked.placed.image memory
+    (loaded image.pieces memory)
 loads plan modules objects image joined lawful linked gives memory is_memory =
     let placed = linked.placed in
     record {
@@ -25,8 +26,8 @@ loads plan modules objects image joined lawful linked gives memory is_memory =
     }
 
 -- For every program whose object modules are made of its modules, every memory, every script and all events before it, if
--- the source never goes outside with the stack of the plan, the image performs exactly the port reads and writes of the
--- source, in order and with the same values, and it halts exactly if the source ends.
+-- the source never goes outside with the stack of the plan, the image performs exactly the port reads and
+-- writes of the source, in order and with the same values, and it halts exactly if the source ends.
 pub does_what_it_says :
     (plan : Plan) (modules : List TypedModule) (objects : List ObjectModule) (image : Absolute)
     → IsJoined modules
@@ -34,15 +35,19 @@ pub does_what_it_says :
     → IsLawful modules (placement_by (plan_view plan) modules (code_lengths objects))
     → IsImageOfObjects plan objects image
     → GivesImageOfObjects plan objects image
-    → DoesWhatItSays modules (placement_by (plan_view plan) modules (code_lengths objects)) plan.stack_size image
+    → DoesWhatItSays modules (placement_by (plan_view plan) modules (code_lengths objects))
+    plan.stack_size image
 unfolding machine_run placement_by
-does_what_it_says plan modules objects image joined made lawful linked gives memory script events is_memory is_script never =
+does_what_it_says plan modules objects image joined made lawful linked gives memory script events
+    is_memory is_script never =
     let placed = linked.placed in
     subst (λ (start : ℕ).
-    Agrees (source_run modules (placement_by (plan_view plan) modules (code_lengths objects)) plan.stack_size memory script events)
+    Agrees (source_run modules (placement_by (plan_view plan) modules (code_lengths objects)) plan.stack_size
+    memory script events)
     (λ (steps : ℕ). state_after script steps (initial_state (loaded image.pieces memory) events start)))
     (sym placed.start)
-    ((make_the_program modules objects made).does (plan_view plan) linked.merged placed.image memory (loaded image.pieces memory)
+    ((make_the_program modules objects made).does (plan_view plan) linked.merged placed.image memory
+    (loaded image.pieces memory)
     script events (initial_registers placed.image.start)
     (loads plan modules objects image joined lawful linked gives memory is_memory)
     (gives linked.merged linked.merge placed.image placed.found memory is_memory).is_memory
@@ -61,5 +66,6 @@ pub declared_bytes_start :
     → StartsAsItsSource modules (placement_by (plan_view plan) modules (code_lengths objects)) image
 unfolding placement_by
 declared_bytes_start plan modules objects image joined made lawful linked gives memory is_memory =
-    (make_the_program modules objects made).starts (plan_view plan) linked.merged linked.placed.image memory (loaded image.pieces memory)
+    (make_the_program modules objects made).starts (plan_view plan) linked.merged linked.placed.image memory
+    (loaded image.pieces memory)
     (loads plan modules objects image joined lawful linked gives memory is_memory)

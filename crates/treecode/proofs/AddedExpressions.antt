@@ -18,7 +18,8 @@ grows_not nodes = record {
 }
 
 pub leads_nowhere : (nodes : Nodes) → AreSound nodes → Leads nodes nodes
-leads_nowhere nodes sound = record { grows = grows_not nodes; statements = omega arith; homes = refl; sound = sound }
+leads_nowhere nodes sound =
+    record { grows = grows_not nodes; statements = omega arith; homes = refl; sound = sound }
 
 pub at_most_in_turn : (one two three : ℕ) → one ≤ two → two ≤ three → one ≤ three
 at_most_in_turn one two three first second = omega arith
@@ -31,15 +32,19 @@ leads_on {one = one} {two = two} {three = three} first second = record {
     arguments = λ index x e. second.grows.arguments index x (first.grows.arguments index x e);
     targets = λ index x e. second.grows.targets index x (first.grows.targets index x e);
     lists = λ index x e. second.grows.lists index x (first.grows.lists index x e);
-    count = at_most_in_turn (length one.expressions) (length two.expressions) (length three.expressions) first.grows.count second.grows.count;
+    count = at_most_in_turn (length one.expressions) (length two.expressions) (length three.expressions)
+        first.grows.count second.grows.count;
   };
-  statements = at_most_in_turn (length one.statements) (length two.statements) (length three.statements) first.statements second.statements;
+  statements =
+      at_most_in_turn (length one.statements) (length two.statements) (length three.statements)
+      first.statements second.statements;
   homes = second.homes ∙ first.homes;
   sound = second.sound;
 }
 
 -- the arguments of a call are also below a bound with others after them
-given_below : (before after : Nodes) → Holds before.arguments after.arguments → (bound : ℕ) (form : ExpressionForm)
+given_below : (before after : Nodes) → Holds before.arguments after.arguments
+    → (bound : ℕ) (form : ExpressionForm)
     → PartsAreBelow before bound form → PartsAreBelow after bound form
 given_below before after holds bound (forms.Number number) below = tt
 given_below before after holds bound (forms.Value reference) below = below
@@ -118,7 +123,8 @@ found_after (first ∷ before) xs index x e =
 
 mutual
   -- the parts of a form that is a tree have numbers below the bound
-  pub parts_below : {nodes : Nodes} {storage : Storage} {bound : ℕ} {form : ExpressionForm} {tree : TypedExpression}
+  pub parts_below : {nodes : Nodes} {storage : Storage} {bound : ℕ} {form : ExpressionForm}
+      {tree : TypedExpression}
       → IsForm nodes storage bound form tree → PartsAreBelow nodes bound form
   parts_below IsNumber = tt
   parts_below (IsValue reference) = reference_below reference
@@ -137,11 +143,13 @@ mutual
       → IsExpression nodes storage bound number tree → number < bound
   number_below (IsNode below at scalar form) = below
 
-  reference_below : {nodes : Nodes} {storage : Storage} {bound : ℕ} {reference : Reference} {part : TypedReference}
+  reference_below : {nodes : Nodes} {storage : Storage} {bound : ℕ} {reference : Reference}
+      {part : TypedReference}
       → IsReference nodes storage bound reference part → ReferenceIsBelow bound reference
   reference_below (IsPart first second) = (subscript_below first, subscript_below second)
 
-  subscript_below : {nodes : Nodes} {storage : Storage} {bound : ℕ} {index : Option IndexNode} {subscript : Subscript}
+  subscript_below : {nodes : Nodes} {storage : Storage} {bound : ℕ} {index : Option IndexNode}
+      {subscript : Subscript}
       → IsSubscript nodes storage bound index subscript → SubscriptIsBelow bound index
   subscript_below IsAbsent = tt
   subscript_below (IsIndex index) = number_below index
@@ -222,7 +230,8 @@ module _ (storage : Storage) where
         statements = omega arith;
         homes = refl;
         sound = record {
-          keeps = traits_kept made.0 (type_of tree) made.1 added.leads.sound.rises parts added.leads.sound.keeps;
+          keeps = traits_kept made.0 (type_of tree) made.1 added.leads.sound.rises parts
+              added.leads.sound.keeps;
           rises = numbers_rise made.0 (type_of tree) made.1 added.leads.sound.rises parts;
         };
       }
@@ -252,7 +261,8 @@ module _ (storage : Storage) where
   numbers_stand nodes after [] trees first grows stand NoNumbers = AreNone
   numbers_stand nodes after (number ∷ numbers) trees first grows stand (MoreNumbers is others) =
       AreMore
-      (subst (λ (place : ℕ). slice_get after.arguments place ≡ Some number) (omega arith) (stand 0 number refl))
+      (subst (λ (place : ℕ). slice_get after.arguments place ≡ Some number) (omega arith)
+      (stand 0 number refl))
       (expression_stays nodes after storage grows _ grows.count is)
       (numbers_stand nodes after numbers _ (suc first) grows
       (λ index one e. subst (λ (place : ℕ). slice_get after.arguments place ≡ Some one) (omega arith)
@@ -281,7 +291,8 @@ module _ (storage : Storage) where
         };
         statements = omega arith;
         homes = refl;
-        sound = sound_after made.0 after refl refl (holds_with_more (made.0).arguments made.1) added.leads.sound;
+        sound = sound_after made.0 after refl refl
+            (holds_with_more (made.0).arguments made.1) added.leads.sound;
       }
 
   mutual
@@ -290,15 +301,18 @@ module _ (storage : Storage) where
     form_added nodes (NumberNode scalar number origin) sound =
         record { leads = leads_nowhere nodes sound; is = IsNumber }
     form_added nodes (ValueNode scalar reference) sound =
-        item_added (AsForm (ValueNode scalar reference)) forms.Value nodes (reference_in storage nodes reference)
+        item_added (AsForm (ValueNode scalar reference)) forms.Value nodes
+        (reference_in storage nodes reference)
         (reference_added nodes reference sound) (λ is. IsValue is)
     form_added nodes (LocationNode reference) sound =
-        item_added (AsForm (LocationNode reference)) forms.Location nodes (reference_in storage nodes reference)
+        item_added (AsForm (LocationNode reference)) forms.Location nodes
+        (reference_in storage nodes reference)
         (reference_added nodes reference sound) (λ is. IsLocation is)
     form_added nodes (ListNode list) sound =
         record { leads = leads_nowhere nodes sound; is = IsConstantList }
     form_added nodes (ConversionNode scalar inner) sound =
-        item_added (AsForm (ConversionNode scalar inner)) forms.Conversion nodes (expression_in storage nodes inner)
+        item_added (AsForm (ConversionNode scalar inner)) forms.Conversion nodes
+        (expression_in storage nodes inner)
         (put_is nodes inner (form_in storage nodes inner) (form_added nodes inner sound))
         (λ is. IsConversion is)
     form_added nodes (AssignmentNode target value) sound =
@@ -309,9 +323,11 @@ module _ (storage : Storage) where
         one
         (target_added (expression_in storage nodes value).0 target one.leads.sound)
         (λ leads is to. IsEmbedded to (expression_stays (expression_in storage nodes value).0
-        (target_in storage (expression_in storage nodes value).0 target).0 storage leads.grows _ leads.grows.count is))
+        (target_in storage (expression_in storage nodes value).0 target).0 storage leads.grows _
+        leads.grows.count is))
     form_added nodes (UnaryNode scalar operator operand) sound =
-        item_added (AsForm (UnaryNode scalar operator operand)) (forms.Unary operator) nodes (expression_in storage nodes operand)
+        item_added (AsForm (UnaryNode scalar operator operand)) (forms.Unary operator) nodes
+        (expression_in storage nodes operand)
         (put_is nodes operand (form_in storage nodes operand) (form_added nodes operand sound))
         (λ is. IsUnary is)
     form_added nodes (BinaryNode operands operator left right) sound =
@@ -330,7 +346,8 @@ module _ (storage : Storage) where
         (arguments_put nodes values (numbers_in storage nodes values) (numbers_added nodes values sound))
         (λ is. IsCallOf is)
     form_added nodes (FunctionNode function operand) sound =
-        item_added (AsForm (FunctionNode function operand)) (forms.Function function) nodes (expression_in storage nodes operand)
+        item_added (AsForm (FunctionNode function operand)) (forms.Function function) nodes
+        (expression_in storage nodes operand)
         (put_is nodes operand (form_in storage nodes operand) (form_added nodes operand sound))
         (λ is. IsFunction is)
     form_added nodes (ShiftNode scalar function value count) sound =
@@ -352,7 +369,8 @@ module _ (storage : Storage) where
         let one : Added (AsSubscript subscript) nodes (subscript_in storage nodes subscript)
         = subscript_added nodes subscript sound in
         let given : Nodes = (subscript_in storage nodes subscript).0 in
-        both_added (AsReference (PartOf object subscript member offset member_subscript)) (part_of object offset) nodes
+        both_added (AsReference (PartOf object subscript member offset member_subscript))
+        (part_of object offset) nodes
         (subscript_in storage nodes subscript) (λ given. subscript_in storage given member_subscript)
         one
         (subscript_added given member_subscript one.leads.sound)
@@ -364,14 +382,16 @@ module _ (storage : Storage) where
     subscript_added nodes NoSubscript sound =
         record { leads = leads_nowhere nodes sound; is = IsAbsent }
     subscript_added nodes (At stride count index) sound =
-        item_added (AsSubscript (At stride count index)) (element_of stride) nodes (expression_in storage nodes index)
+        item_added (AsSubscript (At stride count index)) (element_of stride) nodes
+        (expression_in storage nodes index)
         (put_is nodes index (form_in storage nodes index) (form_added nodes index sound))
         (λ is. IsIndex is)
 
     pub target_added : (nodes : Nodes) (target : TypedTarget) → AreSound nodes
         → Added (AsTarget target) nodes (target_in storage nodes target)
     target_added nodes (StoredIn from to reference) sound =
-        item_added (AsTarget (StoredIn from to reference)) (targets.Stored from to) nodes (reference_in storage nodes reference)
+        item_added (AsTarget (StoredIn from to reference)) (targets.Stored from to) nodes
+        (reference_in storage nodes reference)
         (reference_added nodes reference sound) (λ is. IsStored is)
     target_added nodes (SentTo from port) sound =
         record { leads = leads_nowhere nodes sound; is = IsSent }

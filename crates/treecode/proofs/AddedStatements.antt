@@ -9,7 +9,8 @@ use Rattle.treecode.proofs.LabelNumbers.{AreNumbered, HasNumber, Knows, LabelIsA
 use Rattle.treecode.proofs.Maxima.{nothing_higher, two_heights}
 
 -- the numbers of labels that are known stay known
-knows_steps : {walk after : Walk} {height : ℕ} {known : List ℕ} {around : List LabelsOf} → Steps walk after height
+knows_steps : {walk after : Walk} {height : ℕ} {known : List ℕ} {around : List LabelsOf}
+    → Steps walk after height
     → Knows walk.labels walk.label_count known around → Knows after.labels after.label_count known around
 knows_steps {walk = walk} {after = after} {known = known} {around = around} steps knows =
     subst (λ (labels : List (Option ℕ)). Knows labels after.label_count known around) (sym steps.labels)
@@ -75,7 +76,8 @@ pub record StatementIs (storage : Storage) (walk : Walk) (known : List ℕ) (aro
   pub height : (made.0).height ≡ max walk.height (min (height_of_statement tree) 65535)
   pub ends : (made.1).reaches_its_end ≡ reaches_end (walk.nodes).homes storage tree
   pub is : (total : List ℕ) → Holds (known ++ labels_numbered tree) total
-      → IsStatement (made.0).nodes storage total (length ((made.0).nodes).statements) ((made.1).number).index tree
+      → IsStatement (made.0).nodes storage total (length ((made.0).nodes).statements)
+      ((made.1).number).index tree
 
 pub record ElseIs (storage : Storage) (walk : Walk) (known : List ℕ) (around : List LabelsOf)
     (made : Walk × Option AddedStatement) (tree : TypedElse) : Type 0 where
@@ -142,7 +144,8 @@ module _ (storage : Storage) where
     height = height;
     ends = ends_so;
     is = λ total holds. IsStatementNode below (got_first xs statement [])
-        (statement_form_stays now.nodes after storage put.grows total (length xs) (omega arith) (form total holds));
+        (statement_form_stays now.nodes after storage put.grows total (length xs) (omega arith)
+        (form total holds));
   }
     where
       xs : List Statement
@@ -197,15 +200,19 @@ module _ (storage : Storage) where
       steps.height ends_so
       (λ total holds. form total (subst (λ (more : List ℕ). Holds (known ++ more) total) none holds))
 
-  assigned : (walk : Walk) (known : List ℕ) (around : List LabelsOf) (trees : List TypedTarget) (tree : TypedExpression)
+  assigned : (walk : Walk) (known : List ℕ) (around : List LabelsOf) (trees : List TypedTarget)
+      (tree : TypedExpression)
       → AreSound walk.nodes → Knows walk.labels walk.label_count known around
-      → StatementIs storage walk known around (assigned_in storage walk trees tree) (AssignmentStatement trees tree)
+      → StatementIs storage walk known around (assigned_in storage walk trees tree)
+      (AssignmentStatement trees tree)
   assigned walk known around trees tree sound knows =
       plain walk (targets_in storage given trees).0 known around
       (statements.Assignment (targets_in storage given trees).1 (value_in storage walk tree).1) true
       (AssignmentStatement trees tree) refl knows
-      (same_steps (exchanged (height_of tree) (height_of_targets trees)) (steps_on value.steps range.steps)) refl
-      (λ total holds. IsAssignment range.is (expression_in_stays given.nodes _ storage range.steps.leads.grows value.is))
+      (same_steps (exchanged (height_of tree) (height_of_targets trees)) (steps_on value.steps range.steps))
+      refl
+      (λ total holds. IsAssignment range.is
+      (expression_in_stays given.nodes _ storage range.steps.leads.grows value.is))
     where
       value : Noted (AsExpression storage tree) walk (value_in storage walk tree) (height_of tree)
       value = value_added storage walk tree sound
@@ -218,7 +225,8 @@ module _ (storage : Storage) where
 
   called : (walk : Walk) (known : List ℕ) (around : List LabelsOf) (procedure : ℕ) (trees : TypedArguments)
       → AreSound walk.nodes → Knows walk.labels walk.label_count known around
-      → StatementIs storage walk known around (call_in storage walk procedure trees) (CallStatement procedure trees)
+      → StatementIs storage walk known around (call_in storage walk procedure trees)
+      (CallStatement procedure trees)
   called walk known around procedure trees sound knows =
       let added : _ = call_added storage walk trees sound in
       plain walk _ known around (statements.Call procedure _) true
@@ -226,7 +234,8 @@ module _ (storage : Storage) where
 
   moved : (walk : Walk) (known : List ℕ) (around : List LabelsOf) (bytes from to : TypedExpression)
       → AreSound walk.nodes → Knows walk.labels walk.label_count known around
-      → StatementIs storage walk known around (moved_in storage walk bytes from to) (MoveStatement bytes from to)
+      → StatementIs storage walk known around (moved_in storage walk bytes from to)
+      (MoveStatement bytes from to)
   moved walk known around bytes from to sound knows =
       plain walk (noted last.0 (height_of_move (last.0).nodes count.1 source.1 last.1)) known around
       (statements.Move count.1 source.1 last.1) true (MoveStatement bytes from to) refl knows
@@ -235,7 +244,8 @@ module _ (storage : Storage) where
         labels = steps.labels;
         count = steps.count;
         height = move_height walk.height (last.0).height (height_of bytes) (height_of from) (height_of to)
-            (height_at (last.0).nodes count.1) (height_at (last.0).nodes source.1) (height_at (last.0).nodes last.1)
+            (height_at (last.0).nodes count.1) (height_at (last.0).nodes source.1)
+            (height_at (last.0).nodes last.1)
             steps.height
             (height_kept (last.0).nodes storage keeps one_is)
             (height_kept (last.0).nodes storage keeps two_is)
@@ -280,25 +290,30 @@ module _ (storage : Storage) where
       → AreSound walk.nodes → Knows walk.labels walk.label_count known around
       → StatementIs storage walk known around (returned_in storage walk tree) (ReturnStatement tree)
   returned walk known around tree sound knows =
-      let added : Noted (AsOptional storage tree) walk (optional_in storage walk tree) (height_of_optional tree)
+      let added : Noted (AsOptional storage tree) walk (optional_in storage walk tree)
+      (height_of_optional tree)
       = optional_added storage walk tree sound in
-      plain walk (optional_in storage walk tree).0 known around (statements.Return (optional_in storage walk tree).1)
+      plain walk (optional_in storage walk tree).0 known around
+      (statements.Return (optional_in storage walk tree).1)
       false (ReturnStatement tree) refl knows added.steps refl (λ total holds. IsReturn added.is)
 
   condition_ends : (nodes : Nodes) (homes : List Home) (number : ExpressionNumber) (tree : TypedExpression)
       → AreSound nodes → nodes.homes ≡ homes → AsExpression storage tree nodes number
-      → ends_by (known_number (known_at nodes number)) ≡ ends_by (known_number (known_value homes storage tree))
+      → ends_by (known_number (known_at nodes number))
+      ≡ ends_by (known_number (known_value homes storage tree))
   condition_ends nodes homes number tree sound same is =
       ap (λ (known : Option Place). ends_by (known_number known)) (known_kept nodes storage sound.keeps is)
       ∙ ap (λ (starts : List Home). ends_by (known_number (known_value starts storage tree))) same
 
-  chosen : (walk : Walk) (known : List ℕ) (around : List LabelsOf) (test : TypedExpression) (then_tree : TypedStatement)
+  chosen : (walk : Walk) (known : List ℕ) (around : List LabelsOf) (test : TypedExpression)
+      (then_tree : TypedStatement)
       (else_tree : TypedElse) (condition : Walk × ExpressionNumber) (body : Walk × AddedStatement)
       (other : Walk × Option AddedStatement)
       → Noted (AsExpression storage test) walk condition (height_of test)
       → StatementIs storage condition.0 known around body then_tree
       → ElseIs storage body.0 (known ++ labels_numbered then_tree) around other else_tree
-      → StatementIs storage walk known around (put_if condition.1 body.1 other) (IfStatement test then_tree else_tree)
+      → StatementIs storage walk known around (put_if condition.1 body.1 other)
+      (IfStatement test then_tree else_tree)
   chosen walk known around test then_tree else_tree condition body other value first second =
       put_is walk other.0 known around (statements.If condition.1 (body.1).number (number_of_added other.1))
       (either_ends (body.1).reaches_its_end other.1) (IfStatement test then_tree else_tree)
@@ -312,11 +327,13 @@ module _ (storage : Storage) where
       ∙ ap (λ (starts : List Home). reaches_end (walk.nodes).homes storage then_tree
       || reaches_end_of_else starts storage else_tree) (first.leads.homes ∙ value.steps.leads.homes))
       (λ total holds.
-      let grouped : _ = holds_grouped known (labels_numbered then_tree) (labels_numbered_in_else else_tree) total holds in
+      let grouped : _ =
+      holds_grouped known (labels_numbered then_tree) (labels_numbered_in_else else_tree) total holds in
       IsIf
       (expression_in_stays (body.0).nodes (other.0).nodes storage second.leads.grows
       (expression_in_stays (condition.0).nodes (body.0).nodes storage first.leads.grows value.is))
-      (statement_stays (body.0).nodes (other.0).nodes storage second.leads.grows total _ second.leads.statements
+      (statement_stays (body.0).nodes (other.0).nodes storage second.leads.grows total _
+      second.leads.statements
       (first.is total
       (holds_front (known ++ labels_numbered then_tree) (labels_numbered_in_else else_tree) total grouped)))
       (second.is total grouped))
@@ -347,10 +364,12 @@ module _ (storage : Storage) where
       → ListIs storage walk known around made list
       → StatementIs storage walk known around (put_do made) (DoStatement list)
   done walk known around made list is =
-      put_is walk made.0 known around (statements.Do (made.1).range) (made.1).reaches_its_end (DoStatement list)
+      put_is walk made.0 known around (statements.Do (made.1).range)
+      (made.1).reaches_its_end (DoStatement list)
       is.leads is.knows is.height is.ends (λ total holds. IsDo (is.is total holds))
 
-  repeated : (walk : Walk) (known : List ℕ) (around : List LabelsOf) (test : TypedExpression) (list : TypedList)
+  repeated : (walk : Walk) (known : List ℕ) (around : List LabelsOf)
+      (test : TypedExpression) (list : TypedList)
       (condition : Walk × ExpressionNumber) (made : Walk × AddedList)
       → Noted (AsExpression storage test) walk condition (height_of test)
       → ListIs storage condition.0 known around made list
@@ -367,37 +386,45 @@ module _ (storage : Storage) where
       (is.leads.homes ∙ value.steps.leads.homes) here)
       (λ total holds. IsWhile here (is.is total holds))
 
-  iterated : (walk : Walk) (known : List ℕ) (around : List LabelsOf) (tree : TypedIteration) (list : TypedList)
+  iterated : (walk : Walk) (known : List ℕ) (around : List LabelsOf)
+      (tree : TypedIteration) (list : TypedList)
       (head : Walk × Iteration) (made : Walk × AddedList)
       → Noted (AsIteration storage tree) walk head (height_of_iteration tree)
       → ListIs storage head.0 known around made list
       → StatementIs storage walk known around (put_iterate head.1 made) (IterateStatement tree list)
   iterated walk known around tree list head made value is =
-      put_is walk made.0 known around (statements.Iterate head.1 (made.1).range) true (IterateStatement tree list)
+      put_is walk made.0 known around (statements.Iterate head.1 (made.1).range) true
+      (IterateStatement tree list)
       (leads_on value.steps.leads is.leads) is.knows
-      (two_heights walk.height (height_of_iteration tree) (height_of_list list) (head.0).height (made.0).height
+      (two_heights walk.height (height_of_iteration tree) (height_of_list list)
+      (head.0).height (made.0).height
       value.steps.height is.height)
       refl
-      (λ total holds. IsIterate (iteration_stays (head.0).nodes (made.0).nodes storage is.leads.grows value.is)
+      (λ total holds. IsIterate (iteration_stays (head.0).nodes (made.0).nodes storage
+      is.leads.grows value.is)
       (is.is total holds))
 
-  cased : (walk : Walk) (known : List ℕ) (around : List LabelsOf) (tree : TypedExpression) (trees : TypedStatements)
+  cased : (walk : Walk) (known : List ℕ) (around : List LabelsOf) (tree : TypedExpression)
+      (trees : TypedStatements)
       (choice : Walk × ExpressionNumber) (made : Walk × AddedList)
       → Noted (AsExpression storage tree) walk choice (height_of tree)
       → RowIs storage choice.0 known around true made trees
       → StatementIs storage walk known around (put_case choice.1 made) (CaseStatement tree trees)
   cased walk known around tree trees choice made value is =
-      put_is walk made.0 known around (statements.Case choice.1 (made.1).range) true (CaseStatement tree trees)
+      put_is walk made.0 known around (statements.Case choice.1 (made.1).range) true
+      (CaseStatement tree trees)
       (leads_on value.steps.leads is.leads) is.knows
       (two_heights walk.height (height_of tree) (height_of_statements trees) (choice.0).height (made.0).height
       value.steps.height is.height)
       refl
-      (λ total holds. IsCase (expression_in_stays (choice.0).nodes (made.0).nodes storage is.leads.grows value.is)
+      (λ total holds. IsCase (expression_in_stays (choice.0).nodes (made.0).nodes storage
+      is.leads.grows value.is)
       (is.are total holds))
 
   no_items : (walk : Walk) (known : List ℕ) (around : List LabelsOf) (ends : Bool) → AreSound walk.nodes
       → Knows walk.labels walk.label_count known around
-      → ItemsAre storage walk known around ends (walk, record { numbers = []; reaches_its_end = ends }) NoStatements
+      → ItemsAre storage walk known around ends
+      (walk, record { numbers = []; reaches_its_end = ends }) NoStatements
   no_items walk known around ends sound knows = record {
     leads = leads_nowhere walk.nodes sound;
     knows = knows_none knows;
@@ -406,8 +433,10 @@ module _ (storage : Storage) where
     are = λ total holds. NoItems;
   }
 
-  items_stay : (before after : Nodes) (total : List ℕ) (numbers : List StatementNumber) (trees : TypedStatements)
-      → Leads before after → AreItems before storage total numbers trees → AreItems after storage total numbers trees
+  items_stay : (before after : Nodes) (total : List ℕ) (numbers : List StatementNumber)
+      (trees : TypedStatements)
+      → Leads before after → AreItems before storage total numbers trees
+      → AreItems after storage total numbers trees
   items_stay before after total [] trees leads NoItems = NoItems
   items_stay before after total (number ∷ numbers) trees leads (MoreItems is others) =
       MoreItems (statement_stays before after storage leads.grows total _ leads.statements is)
@@ -430,7 +459,8 @@ module _ (storage : Storage) where
         is.leads.homes
         ∙ ap (λ (ends : Bool). reaches_end_of_statements (walk.nodes).homes storage ends others) is.ends;
     are = λ total holds.
-        let grouped : _ = holds_grouped known (labels_numbered first) (labels_numbered_in_statements others) total holds in
+        let grouped : _ =
+        holds_grouped known (labels_numbered first) (labels_numbered_in_statements others) total holds in
         MoreItems
         (statement_stays (one.0).nodes (rest.0).nodes storage more.leads.grows total _ more.leads.statements
         (is.is total
@@ -439,7 +469,8 @@ module _ (storage : Storage) where
   }
 
   -- statements are in the table of lists from a place on
-  row_stands : (nodes after : Nodes) (total : List ℕ) (numbers : List StatementNumber) (trees : TypedStatements)
+  row_stands : (nodes after : Nodes) (total : List ℕ) (numbers : List StatementNumber)
+      (trees : TypedStatements)
       (first : ℕ)
       → Leads nodes after
       → ((index : ℕ) (number : StatementNumber) → slice_get numbers index ≡ Some number
@@ -498,18 +529,21 @@ module _ (storage : Storage) where
     leads = subst (λ (nodes : Nodes). Leads nodes (made.0).nodes) numbers.nodes is.leads;
     knows = knows_after _ _ _ (labels_of_list first places) around
         (knows_grouped known (numbers_from first places) (labels_numbered_in_statements trees) is.knows);
-    height = is.height ∙ ap (λ (start : ℕ). max start (min (height_of_statements trees) 65535)) numbers.height;
+    height =
+        is.height ∙ ap (λ (start : ℕ). max start (min (height_of_statements trees) 65535)) numbers.height;
     ends = is.ends_so
         ∙ ap (λ (nodes : Nodes). reaches_end_of_statements nodes.homes storage true trees) numbers.nodes;
     is = λ total holds. IsListOf (is.are total
         (holds_grouped known (numbers_from first places) (labels_numbered_in_statements trees) total holds));
   }
     where
-      numbers : AreNumbered walk (numbered walk first (length places)) known (known ++ numbers_from first places) first
+      numbers : AreNumbered walk (numbered walk first (length places)) known
+          (known ++ numbers_from first places) first
           (length places)
       numbers = labels_numbered_from walk known first places knows.counted
 
-  sound_numbered : (walk : Walk) (known : List ℕ) (first : ℕ) (places : List ℕ) → walk.label_count ≡ length known
+  sound_numbered : (walk : Walk) (known : List ℕ) (first : ℕ) (places : List ℕ)
+      → walk.label_count ≡ length known
       → AreSound walk.nodes → AreSound (numbered walk first (length places)).nodes
   sound_numbered walk known first places counted sound =
       subst AreSound (sym (labels_numbered_from walk known first places counted).nodes) sound
@@ -520,11 +554,13 @@ module _ (storage : Storage) where
         → JumpsStay around tree → LabelIsAround around tree → ListsStand tree
         → StatementIs storage walk known around (statement_in storage walk tree) tree
     statement_added walk known around (LabelStatement label) sound knows jumps is_around stand =
-        plain walk walk known around (statements.Label (label_in walk label)) true (LabelStatement label) refl knows
+        plain walk walk known around (statements.Label (label_in walk label)) true
+        (LabelStatement label) refl knows
         (steps_nowhere walk sound) refl
         (λ total holds. IsLabel (label_at walk known around label total knows is_around holds))
     statement_added walk known around NullStatement sound knows jumps is_around stand =
-        plain walk walk known around statements.Null true NullStatement refl knows (steps_nowhere walk sound) refl
+        plain walk walk known around statements.Null true NullStatement refl knows
+        (steps_nowhere walk sound) refl
         (λ total holds. IsNull)
     statement_added walk known around (AssignmentStatement trees tree) sound knows jumps is_around stand =
         assigned walk known around trees tree sound knows
@@ -535,13 +571,16 @@ module _ (storage : Storage) where
     statement_added walk known around (ReturnStatement tree) sound knows jumps is_around stand =
         returned walk known around tree sound knows
     statement_added walk known around HaltStatement sound knows jumps is_around stand =
-        plain walk walk known around statements.Halt false HaltStatement refl knows (steps_nowhere walk sound) refl
+        plain walk walk known around statements.Halt false HaltStatement refl knows
+        (steps_nowhere walk sound) refl
         (λ total holds. IsHalt)
     statement_added walk known around (GotoStatement label) sound knows jumps is_around stand =
-        plain walk walk known around (statements.Goto (label_in walk label)) false (GotoStatement label) refl knows
+        plain walk walk known around (statements.Goto (label_in walk label)) false
+        (GotoStatement label) refl knows
         (steps_nowhere walk sound) refl
         (λ total holds. IsGoto (label_at walk known around label total knows jumps holds))
-    statement_added walk known around (IfStatement test then_tree else_tree) sound knows jumps is_around stand =
+    statement_added walk known around (IfStatement test then_tree else_tree) sound knows
+        jumps is_around stand =
         let value : _ = value_added storage walk test sound in
         let given : Walk = (value_in storage walk test).0 in
         let body : StatementIs storage given known around (statement_in storage given then_tree) then_tree
@@ -550,10 +589,12 @@ module _ (storage : Storage) where
         chosen walk known around test then_tree else_tree (value_in storage walk test)
         (statement_in storage given then_tree)
         (else_in storage (statement_in storage given then_tree).0 else_tree) value body
-        (else_added (statement_in storage given then_tree).0 (known ++ labels_numbered then_tree) around else_tree
+        (else_added (statement_in storage given then_tree).0
+        (known ++ labels_numbered then_tree) around else_tree
         body.leads.sound body.knows jumps.1 stand.2)
     statement_added walk known around (DoStatement list) sound knows jumps is_around stand =
-        done walk known around (list_in storage walk list) list (list_added walk known around list sound knows jumps stand)
+        done walk known around (list_in storage walk list) list
+        (list_added walk known around list sound knows jumps stand)
     statement_added walk known around (WhileStatement test list) sound knows jumps is_around stand =
         let value : _ = value_added storage walk test sound in
         let given : Walk = (value_in storage walk test).0 in
@@ -562,14 +603,18 @@ module _ (storage : Storage) where
     statement_added walk known around (IterateStatement tree list) sound knows jumps is_around stand =
         let value : _ = iteration_added storage walk tree sound in
         let given : Walk = (iteration_in storage walk tree).0 in
-        iterated walk known around tree list (iteration_in storage walk tree) (list_in storage given list) value
-        (list_added given known around list value.steps.leads.sound (knows_steps value.steps knows) jumps stand)
+        iterated walk known around tree list (iteration_in storage walk tree)
+        (list_in storage given list) value
+        (list_added given known around list value.steps.leads.sound
+        (knows_steps value.steps knows) jumps stand)
     statement_added walk known around (CaseStatement tree trees) sound knows jumps is_around stand =
         let value : _ = value_added storage walk tree sound in
         let given : Walk = (value_in storage walk tree).0 in
-        cased walk known around tree trees (value_in storage walk tree) (put_list (items_in storage given true trees)) value
+        cased walk known around tree trees (value_in storage walk tree)
+        (put_list (items_in storage given true trees)) value
         (row_put given known around true (items_in storage given true trees) trees
-        (items_added given known around true trees value.steps.leads.sound knows jumps (cases_stand around trees stand)))
+        (items_added given known around true trees value.steps.leads.sound knows jumps
+        (cases_stand around trees stand)))
 
     else_added : (walk : Walk) (known : List ℕ) (around : List LabelsOf) (tree : TypedElse)
         → AreSound walk.nodes → Knows walk.labels walk.label_count known around
@@ -578,9 +623,11 @@ module _ (storage : Storage) where
     else_added walk known around NoElse sound knows jumps stand = no_else walk known around sound knows
     else_added walk known around (ElseStatement tree) sound knows jumps stand =
         some_else walk known around (statement_in storage walk tree) tree
-        (statement_added walk known around tree sound knows jumps (no_label_around around tree stand.0) stand.1)
+        (statement_added walk known around tree sound knows jumps
+        (no_label_around around tree stand.0) stand.1)
 
-    items_added : (walk : Walk) (known : List ℕ) (around : List LabelsOf) (ends : Bool) (trees : TypedStatements)
+    items_added : (walk : Walk) (known : List ℕ) (around : List LabelsOf) (ends : Bool)
+        (trees : TypedStatements)
         → AreSound walk.nodes → Knows walk.labels walk.label_count known around
         → JumpsStayInStatements around trees → StandAround around trees
         → ItemsAre storage walk known around ends (items_in storage walk ends trees) trees
@@ -590,7 +637,8 @@ module _ (storage : Storage) where
         let one : StatementIs storage walk known around (statement_in storage walk first) first
         = statement_added walk known around first sound knows jumps.0 stand.0 stand.1 in
         more_items walk known around ends first others (statement_in storage walk first)
-        (items_in storage (statement_in storage walk first).0 (statement_in storage walk first).1.reaches_its_end others)
+        (items_in storage (statement_in storage walk first).0
+        (statement_in storage walk first).1.reaches_its_end others)
         one
         (items_added (statement_in storage walk first).0 (known ++ labels_numbered first) around
         (statement_in storage walk first).1.reaches_its_end others one.leads.sound one.knows jumps.1 stand.2)
@@ -604,7 +652,8 @@ module _ (storage : Storage) where
         let begun : Walk = numbered walk first (length places) in
         let all : List ℕ = known ++ numbers_from first places in
         let inside : List LabelsOf = labels_of_list first places ∷ around in
-        list_put walk known around first places trees (put_list (items_in storage begun true trees)) sound knows
+        list_put walk known around first places trees
+        (put_list (items_in storage begun true trees)) sound knows
         (row_put begun all inside true (items_in storage begun true trees) trees
         (items_added begun all inside true trees (sound_numbered walk known first places knows.counted sound)
         (knows_list walk known around first places knows) jumps

@@ -31,7 +31,8 @@ pub same_steps : {walk after : Walk} {one two : ℕ} → one ≡ two → Steps w
 same_steps {walk = walk} {after = after} e steps = subst (λ (height : ℕ). Steps walk after height) e steps
 
 -- a value that was added has the property that it must have, and its height is noted
-pub record Noted {A : Type 0} (P : Nodes → A → Type 0) (walk : Walk) (made : Walk × A) (height : ℕ) : Type 0 where
+pub record Noted {A : Type 0} (P : Nodes → A → Type 0) (walk : Walk) (made : Walk × A)
+    (height : ℕ) : Type 0 where
   pub steps : Steps walk made.0 height
   pub is : P (made.0).nodes made.1
 
@@ -157,7 +158,8 @@ module _ (storage : Storage) where
   pub call_added : (walk : Walk) (trees : TypedArguments) → AreSound walk.nodes
       → Noted (AsArguments storage trees) walk (
         noted (record walk { nodes = (arguments_in storage walk.nodes trees).0 })
-            (height_of_call (arguments_in storage walk.nodes trees).0 (arguments_in storage walk.nodes trees).1),
+            (height_of_call (arguments_in storage walk.nodes trees).0
+            (arguments_in storage walk.nodes trees).1),
         (arguments_in storage walk.nodes trees).1,
       )
       (1 + count_of_arguments trees + height_of_arguments trees)
@@ -215,17 +217,20 @@ module _ (storage : Storage) where
         height = one_noted walk.height;
       }
 
-      first : Noted (AsExpression storage head.first) start (value_in storage start head.first) (height_of head.first)
+      first : Noted (AsExpression storage head.first) start (value_in storage start head.first)
+          (height_of head.first)
       first = value_added start head.first sound
 
       given : Walk
       given = (value_in storage start head.first).0
 
-      last : Noted (AsExpression storage head.last) given (value_in storage given head.last) (height_of head.last)
+      last : Noted (AsExpression storage head.last) given (value_in storage given head.last)
+          (height_of head.last)
       last = value_added given head.last first.steps.leads.sound
 
       passed : Walk
       passed = (value_in storage given head.last).0
 
-      step : Noted (AsOptional head.step) passed (optional_in storage passed head.step) (height_of_optional head.step)
+      step : Noted (AsOptional head.step) passed (optional_in storage passed head.step)
+          (height_of_optional head.step)
       step = optional_added passed head.step last.steps.leads.sound

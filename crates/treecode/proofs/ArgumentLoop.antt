@@ -8,7 +8,8 @@ after_numbers before more = before ++ more
 
 module _ (storage : Storage) (nodes : Nodes) (numbers : List ExpressionNumber)
     (total : Nodes × List ExpressionNumber) (arguments : List TypedExpression) (i : ℕ)
-    (rest : with_item (after_numbers numbers) (numbers_in storage nodes (arguments_view (drop i arguments))) ≡ total) where
+    (rest : with_item (after_numbers numbers) (numbers_in storage nodes (arguments_view (drop i arguments)))
+    ≡ total) where
   pub argument_added : (argument : TypedExpression) (now : Nodes) (number : ExpressionNumber)
       (pushed : List ExpressionNumber)
       → i < length arguments → argument ≡ get_or arguments i argument
@@ -22,7 +23,8 @@ module _ (storage : Storage) (nodes : Nodes) (numbers : List ExpressionNumber)
       ∙ sym (ap (λ (made : Nodes × ExpressionNumber). with_item (after_numbers numbers)
       (with_both (λ one more. one ∷ more) made
       (λ (given : Nodes). numbers_in storage given (arguments_view (drop (i + 1) arguments))))) given)
-      ∙ sym (drop_item (λ all. with_item (after_numbers numbers) (numbers_in storage nodes (arguments_view all)))
+      ∙ sym (drop_item (λ all. with_item (after_numbers numbers)
+      (numbers_in storage nodes (arguments_view all)))
       arguments i argument within is)
       ∙ rest
     where

@@ -47,7 +47,8 @@ module _ {nodes : Nodes} {storage : Storage} {labels : List ℕ} where
   found_below : {bound first count : ℕ} {trees : TypedStatements}
       → AreStatements nodes storage labels bound first count trees
       → (index : ℕ) → index < count
-      → (number : StatementNumber) × (slice_get nodes.lists (first + index) ≡ Some number) × (number.index < bound)
+      → (number : StatementNumber) × (slice_get nodes.lists (first + index) ≡ Some number)
+      × (number.index < bound)
   found_below AreNoStatements index less = absurd (omega arith)
   found_below (AreMoreStatements {first = first} {number = number} at is others) zero less = (
     number,
@@ -63,11 +64,13 @@ module _ {nodes : Nodes} {storage : Storage} {labels : List ℕ} where
 
   -- the items of a list that is in tree code
   pub items_below : {bound : ℕ} {range : Range} {trees : TypedStatements}
-      → AreStatements nodes storage labels bound range.first range.count trees → ItemsAreBelow nodes bound range
+      → AreStatements nodes storage labels bound range.first range.count trees
+      → ItemsAreBelow nodes bound range
   items_below {range = range} are index less =
       let found : _ = found_below are index less in (
         found.0,
-        ap (λ (within : Bool). option_and_then (slice_get nodes.lists) (cond within (Some (range.first + index)) None))
+        ap (λ (within : Bool). option_and_then (slice_get nodes.lists)
+            (cond within (Some (range.first + index)) None))
             (lt-ltb index range.count less)
             ∙ found.1,
         found.2,
@@ -108,8 +111,10 @@ pub expressions_below : {nodes : Nodes} {storage : Storage} {bound number : ℕ}
     → IsExpression nodes storage bound number tree
     → slice_get nodes.expressions number ≡ Some expression
     → PartsAreBelow nodes number expression.form
-expressions_below {nodes} {number = number} expression (IsNode {expression = own} below at scalar form) found =
-    subst (λ (one : Expression). PartsAreBelow nodes number one.form) (same_Some own expression (sym at ∙ found))
+expressions_below {nodes} {number = number} expression
+    (IsNode {expression = own} below at scalar form) found =
+    subst (λ (one : Expression). PartsAreBelow nodes number one.form)
+    (same_Some own expression (sym at ∙ found))
     (parts_below form)
 
 -- the statements of a body are in the table

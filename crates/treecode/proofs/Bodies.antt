@@ -28,7 +28,8 @@ module _ (storage : Storage) where
       → AreSound walk.nodes → BodyIsSound tree.body → IsBody storage walk after body tree
       → Leads walk.nodes after.nodes
   body_leads walk after body tree sound jumps is =
-      (list_is walk after (record { range = body.range; reaches_its_end = body.reaches_its_end }) tree sound jumps
+      (list_is walk after (record { range = body.range; reaches_its_end = body.reaches_its_end }) tree sound
+      jumps
       is.added).leads
 
   -- a procedure that is completed has its body
@@ -36,24 +37,28 @@ module _ (storage : Storage) where
       → AreSound walk.nodes → BodyIsSound tree.body → IsBody storage walk after body tree
       → HasBody after.nodes storage (completed procedure body) tree
   body_is walk after body procedure tree sound jumps is = record {
-    parameters = is.parameters ∙ ap (λ (starts : List Home). parameters_of starts tree) (sym list.leads.homes);
+    parameters =
+        is.parameters ∙ ap (λ (starts : List Home). parameters_of starts tree) (sym list.leads.homes);
     body = list.is (labels_numbered_in_list tree.body) (λ index x e. e);
     label_count = is.label_count ∙ list.knows.counted;
     reaches_its_end = list.ends
-        ∙ ap (λ (starts : List Home). reaches_end_of_list starts storage true tree.body) (sym list.leads.homes);
+        ∙ ap (λ (starts : List Home). reaches_end_of_list starts storage true tree.body)
+        (sym list.leads.homes);
     height = is.height ∙ from_none after.height (height_of_list tree.body) list.height;
   }
     where
       list : ListIs storage (begun walk) [] []
           (after, record { range = body.range; reaches_its_end = body.reaches_its_end }) tree.body
-      list = list_is walk after (record { range = body.range; reaches_its_end = body.reaches_its_end }) tree sound
+      list = list_is walk after (record { range = body.range; reaches_its_end = body.reaches_its_end }) tree
+          sound
           jumps is.added
 
   pub body_stays : (before after : Nodes) (procedure : TreeProcedure) (tree : TypedProcedure)
       → Leads before after → HasBody before storage procedure tree → HasBody after storage procedure tree
   body_stays before after procedure tree leads has = record {
     parameters = has.parameters ∙ ap (λ (starts : List Home). parameters_of starts tree) (sym leads.homes);
-    body = list_stays before after storage leads.grows (labels_numbered_in_list tree.body) _ leads.statements has.body;
+    body = list_stays before after storage leads.grows (labels_numbered_in_list tree.body) _
+        leads.statements has.body;
     label_count = has.label_count;
     reaches_its_end = has.reaches_its_end
         ∙ ap (λ (starts : List Home). reaches_end_of_list starts storage true tree.body) (sym leads.homes);
@@ -104,9 +109,11 @@ heading_on procedures number middle now has same = record {
   };
 }
 
-module _ (storage : Storage) (first now after : Walk) (before middle : Outside) (headings : List TypedProcedure)
+module _ (storage : Storage) (first now after : Walk) (before middle : Outside)
+    (headings : List TypedProcedure)
     (count : ℕ) (done : AreComplete storage first now before middle headings count)
-    (body : Body) (tree : TypedProcedure) (jumps : BodyIsSound tree.body) (at : slice_get headings count ≡ Some tree)
+    (body : Body) (tree : TypedProcedure) (jumps : BodyIsSound tree.body)
+    (at : slice_get headings count ≡ Some tree)
     (is : IsBody storage now after body tree) where
   leads : Leads now.nodes after.nodes
   leads = body_leads storage now after body tree done.leads.sound jumps is
@@ -120,13 +127,15 @@ module _ (storage : Storage) (first now after : Walk) (before middle : Outside) 
       subst (λ (one : Outside). AreComplete storage first after before one headings (count + 1)) (sym e)
       (record {
         leads = leads_on done.leads leads;
-        others = ap (λ (one : Outside). record one { procedures = set middle.procedures count (completed procedure body) })
+        others =
+            ap (λ (one : Outside). record one { procedures = set middle.procedures count (completed procedure body) })
             done.others;
         count = length-set middle.procedures count (completed procedure body) ∙ done.count;
         headed = λ number one given.
             elim (set_found middle.procedures count number (completed procedure body) one given) [
               | inl same ↦ heading_on before.procedures number procedure one
-                  (done.headed number procedure (ap (λ (index : ℕ). slice_get middle.procedures index) same.0 ∙ found))
+                  (done.headed number procedure (ap (λ (index : ℕ). slice_get middle.procedures index) same.0
+                  ∙ found))
                   (subst (λ (made : TreeProcedure). SameHeading procedure made) same.1
                   (record { kind = refl; result = refl; frame = refl; frame_bytes = refl }))
               | inr other ↦ done.headed number one other
@@ -134,7 +143,8 @@ module _ (storage : Storage) (first now after : Walk) (before middle : Outside) 
         complete = λ number one of below given heading.
             elim (set_found middle.procedures count number (completed procedure body) one given) [
               | inl same ↦ own one of same.1
-                  (same_Some _ _ (sym at ∙ ap (λ (index : ℕ). slice_get headings index) (sym same.0) ∙ heading))
+                  (same_Some _ _ (sym at ∙ ap (λ (index : ℕ). slice_get headings index) (sym same.0)
+                  ∙ heading))
               | inr other ↦ elim (below_or_at number count below) [
                 | inl same ↦ own_again number one of same heading given
                 | inr less ↦ body_stays storage now.nodes after.nodes one of leads
@@ -163,7 +173,8 @@ module _ (storage : Storage) (first now after : Walk) (before middle : Outside) 
       own_again number one of same heading given =
           own one of
           (same_Some _ _ (sym (found_set middle.procedures count procedure (completed procedure body) found)
-          ∙ ap (λ (index : ℕ). slice_get (set middle.procedures count (completed procedure body)) index) (sym same)
+          ∙ ap (λ (index : ℕ). slice_get (set middle.procedures count (completed procedure body)) index)
+          (sym same)
           ∙ given))
           (same_Some _ _ (sym at ∙ ap (λ (index : ℕ). slice_get headings index) (sym same) ∙ heading))
 
@@ -222,7 +233,8 @@ next_complete storage first now after before middle last headings count body tre
         subst (λ (one : Outside). AreComplete storage first after before one headings (count + 1))
         (sym (e ∙ ap (λ (found : Option TreeProcedure). record middle {
           procedures = option_map_or
-              (λ (procedure : TreeProcedure). slice_set middle.procedures count (completed procedure body)) found
+              (λ (procedure : TreeProcedure). slice_set middle.procedures count (completed procedure body))
+              found
               middle.procedures;
         }) none))
         (none_more_complete storage first now after before middle headings count done body tree
@@ -232,7 +244,8 @@ next_complete storage first now after before middle last headings count body tre
         (sound_body headings count tree sound at) at is procedure last found
         (e ∙ ap (λ (one : Option TreeProcedure). record middle {
           procedures = option_map_or
-              (λ (procedure : TreeProcedure). slice_set middle.procedures count (completed procedure body)) one
+              (λ (procedure : TreeProcedure). slice_set middle.procedures count (completed procedure body))
+              one
               middle.procedures;
         }) found)
 
@@ -258,7 +271,8 @@ body_put procedures number procedure now body found e =
     (sym found)
 
 -- all are complete
-pub all_complete : {storage : Storage} {first now : Walk} {before after : Outside} {headings : List TypedProcedure}
+pub all_complete : {storage : Storage} {first now : Walk} {before after : Outside}
+    {headings : List TypedProcedure}
     (procedures : List Procedure) (count : ℕ) → length procedures ≤ count
     → AreComplete storage first now before after headings count
     → AreComplete storage first now before after headings (length procedures)

@@ -22,10 +22,12 @@ module _ (all : List TreeProcedure) (number : ℕ) where
   pub variable_numbered : (old : TreeProcedure) → number < length all → old ≡ get_or all number old
       → min (length (heading_of old).frame) 65535 ≡ variable_number (map heading_of all) number
   variable_numbered old within is =
-      sym (ap (λ (found : Option Heading). option_map_or (λ (heading : Heading). min (length heading.frame) 65535) found 0)
+      sym (ap (λ (found : Option Heading). option_map_or
+      (λ (heading : Heading). min (length heading.frame) 65535) found 0)
       (heading_found old within is))
 
   pub none_numbered : length all ≤ number → 0 ≡ variable_number (map heading_of all) number
   none_numbered past =
-      sym (ap (λ (found : Option Heading). option_map_or (λ (heading : Heading). min (length heading.frame) 65535) found 0)
+      sym (ap (λ (found : Option Heading). option_map_or
+      (λ (heading : Heading). min (length heading.frame) 65535) found 0)
       (slice_get-map heading_of all number ∙ ap (option_map heading_of) (slice_get_past all number past)))

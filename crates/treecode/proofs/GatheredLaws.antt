@@ -7,7 +7,8 @@ abbrev named : Option ExternalName → List ExternalName
 named None = []
 named (Some name) = name ∷ []
 
-named_first : (name : Option ExternalName) (rest : List ExternalName) → named name ++ rest ≡ cons_option name rest
+named_first : (name : Option ExternalName) (rest : List ExternalName)
+    → named name ++ rest ≡ cons_option name rest
 named_first None rest = refl
 named_first (Some name) rest = refl
 
@@ -65,5 +66,6 @@ found_with entries index number other = by_test (eqb_tells index other)
         elim (same_or_other entries index number other) [
           | inl same ↦ absurd (differs.1 same)
           | inr found ↦ found
-              ∙ sym (ap (λ (test : Bool). latest (number_in entries other) (cond test (Some number) None)) differs.0)
+              ∙ sym (ap (λ (test : Bool). latest (number_in entries other) (cond test (Some number) None))
+              differs.0)
         ]

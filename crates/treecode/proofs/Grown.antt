@@ -23,7 +23,8 @@ module _ (before after : Nodes) (storage : Storage) (grows : Grows before after)
         IsNode (omega arith) (grows.expressions number expression at) scalar (form_stays number
         (omega arith) form)
 
-    pub form_stays : {bound : ℕ} {form : ExpressionForm} {tree : TypedExpression} (greater : ℕ) → bound ≤ greater
+    pub form_stays : {bound : ℕ} {form : ExpressionForm} {tree : TypedExpression} (greater : ℕ)
+        → bound ≤ greater
         → IsForm before storage bound form tree → IsForm after storage greater form tree
     form_stays greater up IsNumber = IsNumber
     form_stays greater up (IsValue reference) = IsValue (reference_stays greater up reference)

@@ -35,5 +35,6 @@ pub highest_next : (nodes : Nodes) (range : Range) (index highest next height al
     → max next (height_of_arguments nodes (range.first + (index + 1)) (range.count - (index + 1))) ≡ all
 highest_next nodes range index highest next height all argument below found is_height is_next before =
     let split : _ = first_left nodes range index below in
-    let is_item : _ = is_height ∙ ap (λ (one : Option ExpressionNumber). height_of_argument nodes one) found in
+    let is_item : _ =
+    is_height ∙ ap (λ (one : Option ExpressionNumber). height_of_argument nodes one) found in
     omega arith

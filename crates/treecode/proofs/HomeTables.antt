@@ -16,7 +16,8 @@ module _ (old between new : TreeModule)
         }
     home_kept =
         second
-        ∙ ap (λ (tree : TreeModule). record tree { homes = new.homes; homes_are_words = new.homes_are_words }) first
+        ∙ ap (λ (tree : TreeModule). record tree { homes = new.homes; homes_are_words = new.homes_are_words })
+        first
         ∙ ap
         (λ procedures.
         record old {

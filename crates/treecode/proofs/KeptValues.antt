@@ -89,7 +89,8 @@ module _ (nodes : Nodes) (storage : Storage) (keeps : KeepTraits nodes) where
         → IsReference nodes storage bound reference part
         → place_of_reference nodes reference ≡ known_place nodes.homes storage part
     place_kept (IsPart {object = object} {offset = offset} first second) =
-        same_of_both (λ (one two : Option ℕ). place_of_part (home_at nodes.homes object) (offset % 65536) one two)
+        same_of_both
+        (λ (one two : Option ℕ). place_of_part (home_at nodes.homes object) (offset % 65536) one two)
         (distance_kept first) (distance_kept second)
 
     distance_kept : {bound : ℕ} {index : Option IndexNode} {subscript : Subscript}

@@ -353,7 +353,8 @@ module _ (around : Surroundings) (starts : List Home) (storage : Storage) (addre
       known_value_tells (BinaryNode operands operator left right) fit =
           tells_known operands _ _ operator (known_value starts storage left)
           (known_value starts storage right)
-          (λ s. value later around left s) (λ s. value later around right s) fit.0 fit.1 (known_value_tells left fit.2)
+          (λ s. value later around left s) (λ s. value later around right s) fit.0 fit.1
+          (known_value_tells left fit.2)
           (known_value_tells right fit.3)
       known_value_tells (CallNode procedure scalar given) fit = tt
       known_value_tells (FunctionNode function operand) fit =

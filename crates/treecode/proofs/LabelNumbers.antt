@@ -35,7 +35,8 @@ own_label : (labels : List (Option ℕ)) (known : List ℕ) (first count label :
     → first ≡ label → HasNumber (with_number labels first count) (known ++ first ∷ []) label
 own_label labels known first count label counted e = record {
   number = count;
-  is = ap (λ (one : ℕ). number_in (with_number labels first count) one) (sym e) ∙ same_number labels first count;
+  is = ap (λ (one : ℕ). number_in (with_number labels first count) one) (sym e)
+      ∙ same_number labels first count;
   at = ap (λ (one : ℕ). slice_get (known ++ first ∷ []) one) counted ∙ got_first known first [] ∙ ap Some e;
 }
 
@@ -70,7 +71,8 @@ pub record AreNumbered (walk after : Walk) (known all : List ℕ) (first count :
   pub own : (label : ℕ) → first ≤ label → label < first + count → HasNumber after.labels all label
 
 label_and_more : (walk after : Walk) (known more : List ℕ) (first count : ℕ) → walk.label_count ≡ length known
-    → AreNumbered (with_label walk first) after (known ++ first ∷ []) ((known ++ first ∷ []) ++ more) (suc first) count
+    → AreNumbered (with_label walk first) after (known ++ first ∷ [])
+    ((known ++ first ∷ []) ++ more) (suc first) count
     → AreNumbered walk after known (known ++ first ∷ more) first (suc count)
 label_and_more walk after known more first count counted rest =
     subst (λ (all : List ℕ). AreNumbered walk after known all first (suc count))
@@ -79,7 +81,9 @@ label_and_more walk after known more first count counted rest =
       nodes = rest.nodes;
       height = rest.height;
       counted = rest.counted;
-      before = λ label has. rest.before label (one_label walk.labels known first walk.label_count label counted (inr has));
+      before =
+          λ label has. rest.before label
+          (one_label walk.labels known first walk.label_count label counted (inr has));
       own = own;
     })
   where
@@ -105,7 +109,8 @@ labels_numbered_from walk known first [] counted =
       own = λ label from below. absurd (omega arith);
     })
 labels_numbered_from walk known first (place ∷ places) counted =
-    label_and_more walk (numbered walk first (suc (length places))) known (numbers_from (suc first) places) first
+    label_and_more walk (numbered walk first (suc (length places))) known
+    (numbers_from (suc first) places) first
     (length places) counted
     (labels_numbered_from (with_label walk first) (known ++ first ∷ []) (suc first) places
     (ap suc counted ∙ sym (one_more known first)))
@@ -115,13 +120,15 @@ pub first_or_later : {A : Type 0} {P : A → Type 0} (first : A) (others : List 
     → P first ⊎ Any P others
 first_or_later {P = P} first others any = by_index any.0 any.1 any.2 any.3 any.4
   where
-    by_index : (index : ℕ) (x : _) → index < length (first ∷ others) → slice_index_or (first ∷ others) index x ≡ x → P x
+    by_index : (index : ℕ) (x : _) → index < length (first ∷ others)
+        → slice_index_or (first ∷ others) index x ≡ x → P x
         → P first ⊎ Any P others
     by_index zero x below is holds = inl (subst P (sym is) holds)
     by_index (suc index) x below is holds = inr (index, x, omega arith, is, holds)
 
 -- the labels of the lists around have numbers
-pub record Knows (labels : List (Option ℕ)) (count : ℕ) (known : List ℕ) (around : List LabelsOf) : Type 0 where
+pub record Knows (labels : List (Option ℕ)) (count : ℕ) (known : List ℕ)
+    (around : List LabelsOf) : Type 0 where
   pub counted : count ≡ length known
   pub found : (label : ℕ) → Any (IsAmongLabels label) around → HasNumber labels known label
 
@@ -139,12 +146,14 @@ knows_list walk known around first places knows = record {
       ];
 }
   where
-    are : AreNumbered walk (numbered walk first (length places)) known (known ++ numbers_from first places) first
+    are : AreNumbered walk (numbered walk first (length places)) known
+        (known ++ numbers_from first places) first
         (length places)
     are = labels_numbered_from walk known first places knows.counted
 
 -- after a list those around it have their numbers
-pub knows_after : (labels : List (Option ℕ)) (count : ℕ) (known : List ℕ) (first : LabelsOf) (around : List LabelsOf)
+pub knows_after : (labels : List (Option ℕ)) (count : ℕ) (known : List ℕ) (first : LabelsOf)
+    (around : List LabelsOf)
     → Knows labels count known (first ∷ around) → Knows labels count known around
 knows_after labels count known first around knows = record {
   counted = knows.counted;
@@ -156,7 +165,8 @@ abbrev pub LabelIsAround : List LabelsOf → TypedStatement → Type 0
 LabelIsAround around (LabelStatement label) = Any (IsAmongLabels label) around
 LabelIsAround around statement = Unit {0}
 
-pub no_label_around : (around : List LabelsOf) (tree : TypedStatement) → IsNoLabel tree → LabelIsAround around tree
+pub no_label_around : (around : List LabelsOf) (tree : TypedStatement) → IsNoLabel tree
+    → LabelIsAround around tree
 no_label_around around (LabelStatement label) none = absurd none
 no_label_around around tree none = tt
 
@@ -166,7 +176,8 @@ StandAround around NoStatements = Unit {0}
 StandAround around (MoreStatements first others) =
     LabelIsAround around first × ListsStand first × StandAround around others
 
-pub cases_stand : (around : List LabelsOf) (trees : TypedStatements) → ListsStandInCases trees → StandAround around trees
+pub cases_stand : (around : List LabelsOf) (trees : TypedStatements) → ListsStandInCases trees
+    → StandAround around trees
 cases_stand around NoStatements stand = tt
 cases_stand around (MoreStatements first others) stand =
     (no_label_around around first stand.0, stand.1, cases_stand around others stand.2)
@@ -177,12 +188,14 @@ module _ (around : List LabelsOf) (from : ℕ) (all : List ℕ) where
       → from ≤ label → label + length places ≡ from + length all
       → StandAround (labels_of_list from all ∷ around) trees
   labels_stand label place places NoStatements stand lists above sum = tt
-  labels_stand label place [] (MoreStatements (LabelStatement number) others) stand lists above sum = absurd stand
-  labels_stand label place (first ∷ places) (MoreStatements (LabelStatement number) others) stand lists above sum = (
-    (0, labels_of_list from all, omega arith, refl, (is_above number stand.0, is_below number stand.0)),
-    lists.0,
-    labels_stand (label + 1) (place + 1) places others stand.2 lists.1 (omega arith) (omega arith),
-  )
+  labels_stand label place [] (MoreStatements (LabelStatement number) others) stand lists above sum =
+      absurd stand
+  labels_stand label place (first ∷ places) (MoreStatements (LabelStatement number) others)
+      stand lists above sum = (
+        (0, labels_of_list from all, omega arith, refl, (is_above number stand.0, is_below number stand.0)),
+        lists.0,
+        labels_stand (label + 1) (place + 1) places others stand.2 lists.1 (omega arith) (omega arith),
+      )
     where
       is_above : (number : ℕ) → number ≡ label → from ≤ number
       is_above number e = omega arith

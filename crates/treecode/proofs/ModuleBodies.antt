@@ -25,7 +25,8 @@ unfolding beside
 bodies_added typed storage first second third procedures same done main = record {
   leads = leads_on done.leads main.leads;
   name = ap (λ (one : Outside). one.name) main.others ∙ ap (λ (one : Outside). one.name) done.others;
-  externals = ap (λ (one : Outside). one.externals) main.others ∙ ap (λ (one : Outside). one.externals) done.others;
+  externals =
+      ap (λ (one : Outside). one.externals) main.others ∙ ap (λ (one : Outside). one.externals) done.others;
   count = ap length kept ∙ done.count;
   headed = λ number procedure at. done.headed number procedure (found number procedure at);
   complete = λ number procedure tree at heading.
@@ -40,7 +41,8 @@ bodies_added typed storage first second third procedures same done main = record
     kept : third.tree.procedures.items ≡ second.tree.procedures.items
     kept = ap (λ (one : Outside). one.procedures) main.others
 
-    found : (number : ℕ) (procedure : TreeProcedure) → slice_get third.tree.procedures.items number ≡ Some procedure
+    found : (number : ℕ) (procedure : TreeProcedure)
+        → slice_get third.tree.procedures.items number ≡ Some procedure
         → slice_get second.tree.procedures.items number ≡ Some procedure
     found number procedure at = ap (λ (all : List TreeProcedure). slice_get all number) (sym kept) ∙ at
 
@@ -61,7 +63,8 @@ as_long f (x ∷ xs) (y ∷ ys) same =
     ap suc (as_long (λ (number : ℕ). f (suc number)) xs ys (λ (number : ℕ). same (suc number)))
 
 module _ (typed : TypedModule) (storage : Storage) (before after : TreeModule)
-    (headings : HeadingsAre typed (headings_of before)) (added : BodiesAreAdded typed storage before after) where
+    (headings : HeadingsAre typed (headings_of before))
+    (added : BodiesAreAdded typed storage before after) where
   -- there are as many procedures as in the module
   pub procedures_counted : length after.procedures.items ≡ length typed.procedures
   procedures_counted =

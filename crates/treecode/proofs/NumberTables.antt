@@ -16,7 +16,8 @@ reached entries now index count counted past is =
     same_gap : (count total : ℕ) → count ≡ total → index + 1 - count ≡ suc index - total
     same_gap count total e = omega arith
 
-first_put : (index number : ℕ) → slice_set (replicate (suc index) None) index (Some number) ≡ with_number [] index number
+first_put : (index number : ℕ) → slice_set (replicate (suc index) None) index (Some number)
+    ≡ with_number [] index number
 first_put zero number = refl
 first_put (suc index) number = ap (λ (more : List (Option ℕ)). None ∷ more) (first_put index number)
 

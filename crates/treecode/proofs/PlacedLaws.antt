@@ -25,15 +25,19 @@ more_in_frame first second (Some heading) =
     (append_assoc heading.frame first second)
 
 -- a variable in the frame of one procedure
-later_variable : (first : Heading) (others : List Heading) (other : ℕ) (variable : FrameVariable) (procedure : ℕ)
+later_variable : (first : Heading) (others : List Heading) (other : ℕ)
+    (variable : FrameVariable) (procedure : ℕ)
     → slice_get (with_variable_in (first ∷ others) (suc other) variable) (suc procedure)
     ≡ slice_get (with_variable_in others other variable) procedure
 later_variable first others other variable procedure = by (slice_get others other)
   where
     by : (found : Option Heading)
-        → slice_get (option_map_or (λ (heading : Heading). first ∷ slice_set others other (with_variable variable heading))
+        → slice_get
+        (option_map_or (λ (heading : Heading). first
+        ∷ slice_set others other (with_variable variable heading))
         found (first ∷ others)) (suc procedure)
-        ≡ slice_get (option_map_or (λ (heading : Heading). slice_set others other (with_variable variable heading))
+        ≡ slice_get
+        (option_map_or (λ (heading : Heading). slice_set others other (with_variable variable heading))
         found others) procedure
     by None = refl
     by (Some heading) = refl
@@ -46,7 +50,8 @@ own_variable (first ∷ others) variable zero = refl
 own_variable (first ∷ others) variable (suc procedure) =
     later_variable first others procedure variable procedure ∙ own_variable others variable procedure
 
-no_variable : (headings : List Heading) (other : ℕ) (variable : FrameVariable) (procedure : ℕ) → procedure ≢ other
+no_variable : (headings : List Heading) (other : ℕ) (variable : FrameVariable) (procedure : ℕ)
+    → procedure ≢ other
     → slice_get (with_variable_in headings other variable) procedure ≡ slice_get headings procedure
 no_variable [] other variable procedure differs = refl
 no_variable (first ∷ others) zero variable zero differs = absurd (differs refl)
@@ -54,7 +59,9 @@ no_variable (first ∷ others) zero variable (suc procedure) differs = refl
 no_variable (first ∷ others) (suc other) variable zero differs = by (slice_get others other)
   where
     by : (found : Option Heading)
-        → slice_get (option_map_or (λ (heading : Heading). first ∷ slice_set others other (with_variable variable heading))
+        → slice_get
+        (option_map_or (λ (heading : Heading). first
+        ∷ slice_set others other (with_variable variable heading))
         found (first ∷ others)) zero
         ≡ Some first
     by None = refl
@@ -68,18 +75,22 @@ variable_at : (headings : List Heading) (other : ℕ) (variable : FrameVariable)
     ≡ option_map (with_frame (cond (procedure == other) (variable ∷ []) [])) (slice_get headings procedure)
 variable_at headings other variable procedure = by (eqb_tells procedure other)
   where
-    by : ((procedure == other) ≡ true) × (procedure ≡ other) ⊎ ((procedure == other) ≡ false) × (procedure ≢ other)
+    by : ((procedure == other) ≡ true) × (procedure ≡ other) ⊎ ((procedure == other) ≡ false)
+        × (procedure ≢ other)
         → slice_get (with_variable_in headings other variable) procedure
-        ≡ option_map (with_frame (cond (procedure == other) (variable ∷ []) [])) (slice_get headings procedure)
+        ≡ option_map (with_frame (cond (procedure == other) (variable ∷ []) []))
+        (slice_get headings procedure)
     by (inl same) =
         ap (λ (one : ℕ). slice_get (with_variable_in headings one variable) procedure) (sym same.1)
         ∙ own_variable headings variable procedure
-        ∙ ap (λ (test : Bool). option_map (with_frame (cond test (variable ∷ []) [])) (slice_get headings procedure))
+        ∙ ap (λ (test : Bool). option_map (with_frame (cond test (variable ∷ []) []))
+        (slice_get headings procedure))
         (sym same.0)
     by (inr differs) =
         no_variable headings other variable procedure differs.1
         ∙ sym (nothing_more (slice_get headings procedure))
-        ∙ ap (λ (test : Bool). option_map (with_frame (cond test (variable ∷ []) [])) (slice_get headings procedure))
+        ∙ ap (λ (test : Bool). option_map (with_frame (cond test (variable ∷ []) []))
+        (slice_get headings procedure))
         (sym differs.0)
 
 after_object : (before : List Heading) (variable : FrameVariable) (home : TypedHome) (procedure : ℕ)
@@ -114,9 +125,11 @@ module _ (externals parameters : List (Option ℕ)) (storage : Storage) where
       by : (lives : Bool)
           → cond lives (variable_of object (number_in parameters first) ∷ []) []
           ++ map (numbered_variable parameters) (rest (suc first))
-          ≡ map (numbered_variable parameters) (cond lives ((first, object) ∷ rest (first + 1)) (rest (first + 1)))
+          ≡ map (numbered_variable parameters)
+          (cond lives ((first, object) ∷ rest (first + 1)) (rest (first + 1)))
       by true =
-          ap (λ (number : ℕ). variable_of object (number_in parameters first) ∷ map (numbered_variable parameters) (rest number))
+          ap (λ (number : ℕ). variable_of object (number_in parameters first)
+          ∷ map (numbered_variable parameters) (rest number))
           (sym (add-one first))
       by false = ap (λ (number : ℕ). map (numbered_variable parameters) (rest number)) (sym (add-one first))
 
@@ -125,7 +138,8 @@ module _ (externals parameters : List (Option ℕ)) (storage : Storage) where
       ≡ option_map (with_frame (added_in procedure number objects)) (slice_get before.headings procedure)
   placed_headings before number [] procedure = sym (nothing_more (slice_get before.headings procedure))
   placed_headings before number (object ∷ others) procedure =
-      placed_headings (with_placed externals parameters storage before number object) (suc number) others procedure
+      placed_headings (with_placed externals parameters storage before number object)
+      (suc number) others procedure
       ∙ ap (option_map (with_frame (added_in procedure (suc number) others)))
       (after_object before.headings (variable_of object (number_in parameters number)) object.home procedure)
       ∙ more_in_frame (if_in_frame procedure object.home (variable_of object (number_in parameters number)))
@@ -162,24 +176,28 @@ procedures_table typed = (all_gathered typed none_gathered typed.globals).proced
 
 -- the start, before any object is placed
 abbrev nothing_placed : TypedModule → PlacedSoFar
-nothing_placed typed = record { homes = []; headings = headings_in (procedures_table typed) 0 typed.procedures }
+nothing_placed typed =
+    record { homes = []; headings = headings_in (procedures_table typed) 0 typed.procedures }
 
 abbrev placed_in_module : TypedModule → Storage → PlacedSoFar
 placed_in_module typed storage =
-    all_placed (objects_table typed) (with_all_parameters [] typed.procedures) storage (nothing_placed typed) 0
+    all_placed (objects_table typed) (with_all_parameters [] typed.procedures) storage
+    (nothing_placed typed) 0
     typed.objects
 
 -- procedures have the headings and the frames of the module
 pub headings_placed : (typed : TypedModule) (storage : Storage)
     → HeadingsAre typed (placed_in_module typed storage).headings
 headings_placed typed storage number =
-    placed_headings (objects_table typed) (with_all_parameters [] typed.procedures) storage (nothing_placed typed) 0
+    placed_headings (objects_table typed) (with_all_parameters [] typed.procedures) storage
+    (nothing_placed typed) 0
     typed.objects number
     ∙ ap (option_map (with_frame added)) (headings_found (procedures_table typed) 0 number typed.procedures)
     ∙ by (slice_get typed.procedures number)
   where
     added : List FrameVariable
-    added = added_in (objects_table typed) (with_all_parameters [] typed.procedures) storage number 0 typed.objects
+    added = added_in (objects_table typed) (with_all_parameters [] typed.procedures) storage
+        number 0 typed.objects
 
     same : 0 + number ≡ number
     same = omega arith
@@ -225,7 +243,8 @@ one_in_frame : (procedure : ℕ) (front : List TypedObject) (object : TypedObjec
 one_in_frame procedure front object variable =
     ap (λ (count : ℕ). length (in_frame procedure front) + count) (by (lives_in_frame procedure object.home))
     ∙ sym (length-append (in_frame procedure front) (in_frame procedure (object ∷ [])))
-    ∙ sym (ap length (filter-append (λ (one : TypedObject). lives_in_frame procedure one.home) front (object ∷ [])))
+    ∙ sym (ap length (filter-append (λ (one : TypedObject). lives_in_frame procedure one.home)
+    front (object ∷ [])))
   where
     by : (lives : Bool) → length (cond lives (variable ∷ []) []) ≡ length (cond lives (object ∷ []) [])
     by true = refl
@@ -236,7 +255,8 @@ next_stands : (typed : TypedModule) (externals parameters : List (Option ℕ)) (
     → StandsSoFar typed front before
     → StandsSoFar typed (front ++ object ∷ []) (with_placed externals parameters storage before number object)
 next_stands typed externals parameters storage front before number object stands = record {
-  counted = one_more before.homes (home_in externals storage before number object.home) ∙ ap suc stands.counted
+  counted =
+      one_more before.homes (home_in externals storage before number object.home) ∙ ap suc stands.counted
       ∙ sym (one_more front object);
   framed = λ procedure.
       ap (option_map frame_length) (after_object before.headings variable object.home procedure)
@@ -254,7 +274,8 @@ next_stands typed externals parameters storage front before number object stands
         (option_map (λ (heading : TypedProcedure). length (in_frame procedure front)) found)
         ≡ option_map (λ (heading : TypedProcedure). length (in_frame procedure (front ++ object ∷ []))) found
     by procedure None = refl
-    by procedure (Some heading) = ap (λ (count : ℕ). Some count) (one_in_frame procedure front object variable)
+    by procedure (Some heading) =
+        ap (λ (count : ℕ). Some count) (one_in_frame procedure front object variable)
 
 first_stands : (typed : TypedModule) → StandsSoFar typed [] (nothing_placed typed)
 first_stands typed = record {
@@ -288,7 +309,8 @@ variable_is : (typed : TypedModule) (front others : List TypedObject) (before : 
     → variable_number before.headings procedure ≡ frame_number typed procedure (length before.homes)
 variable_is typed front others before procedure split stands =
     by_length (slice_get before.headings procedure)
-    ∙ ap (λ (found : Option ℕ). option_map_or (λ (count : ℕ). min count 65535) found 0) (stands.framed procedure)
+    ∙ ap (λ (found : Option ℕ). option_map_or (λ (count : ℕ). min count 65535) found 0)
+    (stands.framed procedure)
     ∙ by_heading (slice_get typed.procedures procedure)
     ∙ ap (λ (there : Bool). cond there (min (length (in_frame procedure front)) 65535) 0)
     (is_there typed.procedures procedure)
@@ -333,14 +355,17 @@ home_is typed storage before number same variables home =
     by (Placed (AtObject object offset)) = refl
     by (BasedOn base) = refl
     by Elsewhere =
-        ap (λ (name : Option ℕ). homes.Static (external_place name)) (objects_known typed (length before.homes))
+        ap (λ (name : Option ℕ). homes.Static (external_place name))
+        (objects_known typed (length before.homes))
     by Nowhere = refl
     by (InFrame procedure) = ap (λ (variable : ℕ). homes.Frame variable) (variables procedure)
 
-homes_after : (typed : TypedModule) (storage : Storage) (front objects : List TypedObject) (before : PlacedSoFar)
+homes_after : (typed : TypedModule) (storage : Storage) (front objects : List TypedObject)
+    (before : PlacedSoFar)
     (number : ℕ)
     → typed.objects ≡ front ++ objects → number ≡ length front → StandsSoFar typed front before
-    → (all_placed (objects_table typed) (with_all_parameters [] typed.procedures) storage before number objects).homes
+    → (all_placed (objects_table typed) (with_all_parameters [] typed.procedures) storage before
+    number objects).homes
     ≡ homes_from typed storage before.homes objects
 homes_after typed storage front [] before number split same stands = refl
 homes_after typed storage front (object ∷ others) before number split same stands =
@@ -348,7 +373,8 @@ homes_after typed storage front (object ∷ others) before number split same sta
     (with_placed (objects_table typed) (with_all_parameters [] typed.procedures) storage before number object)
     (suc number) (split ∙ sym (append_assoc front (object ∷ []) others))
     (ap suc same ∙ sym (one_more front object))
-    (next_stands typed (objects_table typed) (with_all_parameters [] typed.procedures) storage front before number
+    (next_stands typed (objects_table typed) (with_all_parameters [] typed.procedures)
+    storage front before number
     object stands)
     ∙ ap (λ (home : Home). homes_from typed storage (before.homes ++ home ∷ []) others)
     (home_is typed storage before number (same ∙ sym stands.counted)
@@ -367,16 +393,19 @@ module _ (typed : TypedModule) (storage : Storage) (gathered : Gathered) (before
     (none : before.homes ≡ [])
     (headed : before.headings ≡ headings_in gathered.procedures 0 typed.procedures)
     (placed : after
-    ≡ all_placed gathered.objects (with_all_parameters [] typed.procedures) storage before 0 typed.objects) where
+    ≡ all_placed gathered.objects (with_all_parameters [] typed.procedures) storage before 0
+    typed.objects) where
   in_module : after ≡ placed_in_module typed storage
   in_module =
       placed
       ∙ ap (λ (first : PlacedSoFar).
       all_placed gathered.objects (with_all_parameters [] typed.procedures) storage first 0 typed.objects)
-      (ap₂ (λ (starts : List Home) (headings : List Heading). record { homes = starts; headings = headings }) none
+      (ap₂ (λ (starts : List Home) (headings : List Heading). record { homes = starts; headings = headings })
+      none
       (headed ∙ ap (λ (one : Gathered). headings_in one.procedures 0 typed.procedures) named))
       ∙ ap (λ (one : Gathered).
-      all_placed one.objects (with_all_parameters [] typed.procedures) storage (nothing_placed typed) 0 typed.objects)
+      all_placed one.objects (with_all_parameters [] typed.procedures) storage
+      (nothing_placed typed) 0 typed.objects)
       named
 
   pub homes_of_module : after.homes ≡ homes_of typed storage

@@ -47,7 +47,8 @@ objects_found : (typed : TypedModule) (before : Gathered) (items : List GlobalIt
     (external_from typed (is_global_object number) (length before.names) items)
 objects_found typed before [] number = refl
 objects_found typed before (GlobalObject other ∷ others) number =
-    by (external_name typed (GlobalObject other)) (λ (next : Gathered). objects_found typed next others number)
+    by (external_name typed (GlobalObject other))
+    (λ (next : Gathered). objects_found typed next others number)
   where
     later : ℕ → Option ℕ
     later count = external_from typed (is_global_object number) count others
@@ -57,16 +58,19 @@ objects_found typed before (GlobalObject other ∷ others) number =
         ≡ latest (number_in next.objects number) (later (length next.names)))
         → number_in (all_gathered typed (with_external_object before other name) others).objects number
         ≡ latest (number_in before.objects number) (cond (is_some name)
-        (latest (cond (other == number) (Some (length before.names)) None) (later (suc (length before.names))))
+        (latest (cond (other == number) (Some (length before.names)) None)
+        (later (suc (length before.names))))
         (later (length before.names)))
     by None after = after before
     by (Some name) after =
         after (with_external_object before other (Some name))
-        ∙ ap (λ (count : ℕ). latest (number_in (with_number before.objects other (length before.names)) number)
+        ∙ ap (λ (count : ℕ). latest (number_in
+        (with_number before.objects other (length before.names)) number)
         (later count)) (one_more before.names name)
         ∙ found_later before.objects other (length before.names) number (later (suc (length before.names)))
 objects_found typed before (GlobalProcedure other ∷ others) number =
-    by (external_name typed (GlobalProcedure other)) (λ (next : Gathered). objects_found typed next others number)
+    by (external_name typed (GlobalProcedure other))
+    (λ (next : Gathered). objects_found typed next others number)
   where
     later : ℕ → Option ℕ
     later count = external_from typed (is_global_object number) count others
@@ -81,8 +85,10 @@ objects_found typed before (GlobalProcedure other ∷ others) number =
     by None after = after before
     by (Some name) after =
         after (with_external_procedure before other (Some name))
-        ∙ ap (λ (count : ℕ). latest (number_in before.objects number) (later count)) (one_more before.names name)
-        ∙ ap (latest (number_in before.objects number)) (sym (nothing_before (later (suc (length before.names)))))
+        ∙ ap (λ (count : ℕ). latest (number_in before.objects number) (later count))
+        (one_more before.names name)
+        ∙ ap (latest (number_in before.objects number))
+        (sym (nothing_before (later (suc (length before.names)))))
 
 procedures_found : (typed : TypedModule) (before : Gathered) (items : List GlobalItem) (number : ℕ)
     → number_in (all_gathered typed before items).procedures number
@@ -90,7 +96,8 @@ procedures_found : (typed : TypedModule) (before : Gathered) (items : List Globa
     (external_from typed (is_global_procedure number) (length before.names) items)
 procedures_found typed before [] number = refl
 procedures_found typed before (GlobalProcedure other ∷ others) number =
-    by (external_name typed (GlobalProcedure other)) (λ (next : Gathered). procedures_found typed next others number)
+    by (external_name typed (GlobalProcedure other))
+    (λ (next : Gathered). procedures_found typed next others number)
   where
     later : ℕ → Option ℕ
     later count = external_from typed (is_global_procedure number) count others
@@ -100,16 +107,19 @@ procedures_found typed before (GlobalProcedure other ∷ others) number =
         ≡ latest (number_in next.procedures number) (later (length next.names)))
         → number_in (all_gathered typed (with_external_procedure before other name) others).procedures number
         ≡ latest (number_in before.procedures number) (cond (is_some name)
-        (latest (cond (other == number) (Some (length before.names)) None) (later (suc (length before.names))))
+        (latest (cond (other == number) (Some (length before.names)) None)
+        (later (suc (length before.names))))
         (later (length before.names)))
     by None after = after before
     by (Some name) after =
         after (with_external_procedure before other (Some name))
-        ∙ ap (λ (count : ℕ). latest (number_in (with_number before.procedures other (length before.names)) number)
+        ∙ ap (λ (count : ℕ). latest (number_in
+        (with_number before.procedures other (length before.names)) number)
         (later count)) (one_more before.names name)
         ∙ found_later before.procedures other (length before.names) number (later (suc (length before.names)))
 procedures_found typed before (GlobalObject other ∷ others) number =
-    by (external_name typed (GlobalObject other)) (λ (next : Gathered). procedures_found typed next others number)
+    by (external_name typed (GlobalObject other))
+    (λ (next : Gathered). procedures_found typed next others number)
   where
     later : ℕ → Option ℕ
     later count = external_from typed (is_global_procedure number) count others
@@ -124,8 +134,10 @@ procedures_found typed before (GlobalObject other ∷ others) number =
     by None after = after before
     by (Some name) after =
         after (with_external_object before other (Some name))
-        ∙ ap (λ (count : ℕ). latest (number_in before.procedures number) (later count)) (one_more before.names name)
-        ∙ ap (latest (number_in before.procedures number)) (sym (nothing_before (later (suc (length before.names)))))
+        ∙ ap (λ (count : ℕ). latest (number_in before.procedures number) (later count))
+        (one_more before.names name)
+        ∙ ap (latest (number_in before.procedures number))
+        (sym (nothing_before (later (suc (length before.names)))))
 
 -- the index of an object, or a procedure, among the EXTERNAL names
 pub objects_known : (typed : TypedModule) (number : ℕ)

@@ -45,19 +45,22 @@ pub beside_expressions : (lowering : Lowering) (after : TreeModule)
     }
     → beside (record lowering { tree = after }) ≡ beside lowering
 unfolding beside
-beside_expressions lowering after kept = ap (λ (tree : TreeModule). beside (record lowering { tree = tree })) kept
+beside_expressions lowering after kept =
+    ap (λ (tree : TreeModule). beside (record lowering { tree = tree })) kept
 
 pub beside_arguments : (lowering : Lowering) (after : TreeModule)
     → after ≡ record (lowering.tree) { arguments = after.arguments }
     → beside (record lowering { tree = after }) ≡ beside lowering
 unfolding beside
-beside_arguments lowering after kept = ap (λ (tree : TreeModule). beside (record lowering { tree = tree })) kept
+beside_arguments lowering after kept =
+    ap (λ (tree : TreeModule). beside (record lowering { tree = tree })) kept
 
 pub beside_statements : (lowering : Lowering) (after : TreeModule)
     → after ≡ record (lowering.tree) { statements = after.statements }
     → beside (record lowering { tree = after }) ≡ beside lowering
 unfolding beside
-beside_statements lowering after kept = ap (λ (tree : TreeModule). beside (record lowering { tree = tree })) kept
+beside_statements lowering after kept =
+    ap (λ (tree : TreeModule). beside (record lowering { tree = tree })) kept
 
 pub beside_targets : (lowering : Lowering) (after : TreeModule)
     → after ≡ record (lowering.tree) { targets = after.targets }
@@ -73,7 +76,8 @@ beside_lists lowering after kept = ap (λ (tree : TreeModule). beside (record lo
 
 range_is : (range : Range) (first count : ℕ) → range.first ≡ first → range.count ≡ count
     → record { first = first; count = count } ≡ range
-range_is range first count e f = same_of_both (λ (one two : ℕ). record { first = one; count = two }) (sym e) (sym f)
+range_is range first count e f =
+    same_of_both (λ (one two : ℕ). record { first = one; count = two }) (sym e) (sym f)
 
 module _ (old : Lowering) (after : TreeModule) where
   pub statement_put : (statement : Statement) (ends : Bool) (number : StatementNumber)
@@ -83,7 +87,8 @@ module _ (old : Lowering) (after : TreeModule) where
       → put_statement (walk_of old) statement ends
       ≡ (walk_of (record old { tree = after }), record { number = number; reaches_its_end = ends })
   statement_put statement ends number kept at added =
-      same_of_both (λ (walk : Walk) (index : ℕ). (walk, record { number = record { index = index }; reaches_its_end = ends }))
+      same_of_both
+      (λ (walk : Walk) (index : ℕ). (walk, record { number = record { index = index }; reaches_its_end = ends }))
       (same_of_both walk_with
       (ap (λ (all : List Statement). record (nodes_of old.tree) { statements = all }) (sym added)
       ∙ sym (ap nodes_of kept))

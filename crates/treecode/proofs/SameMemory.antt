@@ -296,7 +296,8 @@ module _ (before after : Nodes) (bound : ℕ)
       (cond (is_some (known_number t.known)) u.keeps keeps_none)) (traits_same left one)
       (traits_same right two)
   keeps_binary_same operators.Subtract left right one two =
-      same_of_both (λ (t u : Traits). cond (is_some (known_number u.known)) t.keeps keeps_none) (traits_same left one)
+      same_of_both (λ (t u : Traits). cond (is_some (known_number u.known)) t.keeps keeps_none)
+      (traits_same left one)
       (traits_same right two)
   keeps_binary_same operator left right one two = refl
 

@@ -52,7 +52,8 @@ module _ (before after : Nodes) (bound : ℕ)
       option_map (λ number. Number (result_of_one scalar operator number)) (known_number t.known))
       (same_traits operand below)
   same_known scalar (forms.Binary operands operator left right) below =
-      same_of_both (λ (t u : Traits). result_of_known operands operator t.known u.known) (same_traits left below.0)
+      same_of_both (λ (t u : Traits). result_of_known operands operator t.known u.known)
+      (same_traits left below.0)
       (same_traits right below.1)
   same_known scalar (forms.Call procedure arguments) below = refl
   same_known scalar (forms.Function function operand) below =
@@ -72,7 +73,8 @@ module _ (before after : Nodes) (bound : ℕ)
   same_reference_height : (reference : Reference) → ReferenceIsBelow bound reference
       → height_of_reference after reference ≡ height_of_reference before reference
   same_reference_height reference below =
-      same_of_both (λ (one two : ℕ). min (1 + max one two) 65535) (same_index_height reference.subscript below.0)
+      same_of_both (λ (one two : ℕ). min (1 + max one two) 65535)
+      (same_index_height reference.subscript below.0)
       (same_index_height reference.member_subscript below.1)
 
   pub same_target_height : (target : Target) → TargetIsBelow bound target
@@ -164,7 +166,8 @@ module _ (before after : Nodes) (bound : ℕ)
   same_quiet (forms.Unary operator operand) below =
       ap (λ (t : Traits). t.is_quiet) (same_traits operand below)
   same_quiet (forms.Binary operands operator left right) below =
-      same_of_both (λ (t u : Traits). t.is_quiet && u.is_quiet) (same_traits left below.0) (same_traits right below.1)
+      same_of_both (λ (t u : Traits). t.is_quiet && u.is_quiet) (same_traits left below.0)
+      (same_traits right below.1)
   same_quiet (forms.Call procedure arguments) below = refl
   same_quiet (forms.Function function operand) below =
       ap (λ (t : Traits). t.is_quiet) (same_traits operand below)

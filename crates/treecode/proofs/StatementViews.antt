@@ -84,7 +84,8 @@ module _ {E : Type 0} (result : Result AddedStatement E) (storage : Storage) (wa
       (put_statement made (statements.Do range.range) range.reaches_its_end)
       (do_made storage walk list made range e) put)
 
-  pub while_returned : (tree : TypedExpression) (list : TypedList) (given : Walk) (condition : ExpressionNumber)
+  pub while_returned : (tree : TypedExpression) (list : TypedList) (given : Walk)
+      (condition : ExpressionNumber)
       (made : Walk) (range : AddedList) (ends : Bool)
       → value_in storage walk tree ≡ (given, condition) → list_in storage given list ≡ (made, range)
       → ends ≡ ends_by (number_at made.nodes condition)
@@ -95,7 +96,8 @@ module _ {E : Type 0} (result : Result AddedStatement E) (storage : Storage) (wa
       (put_statement made (statements.While condition range.range) ends)
       (while_made storage walk tree list given condition made range ends e f is) put
 
-  pub iterate_returned : (tree : TypedIteration) (list : TypedList) (given : Walk) (head : Iteration) (made : Walk)
+  pub iterate_returned : (tree : TypedIteration) (list : TypedList) (given : Walk)
+      (head : Iteration) (made : Walk)
       (range : AddedList)
       → iteration_in storage walk tree ≡ (given, head) → list_in storage given list ≡ (made, range)
       → Gives result now (put_statement made (statements.Iterate head range.range) true)
@@ -105,7 +107,8 @@ module _ {E : Type 0} (result : Result AddedStatement E) (storage : Storage) (wa
       (put_statement made (statements.Iterate head range.range) true)
       (iterate_made storage walk tree list given head made range e f) put
 
-  pub case_returned : (tree : TypedExpression) (trees : TypedStatements) (given : Walk) (choice : ExpressionNumber)
+  pub case_returned : (tree : TypedExpression) (trees : TypedStatements) (given : Walk)
+      (choice : ExpressionNumber)
       (made : Walk) (range : AddedList)
       → value_in storage walk tree ≡ (given, choice) → statements_in storage given trees ≡ (made, range)
       → Gives result now (put_statement made (statements.Case choice range.range) true)

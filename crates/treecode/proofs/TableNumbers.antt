@@ -7,7 +7,8 @@ pub no_expressions : (expressions : List Expression) → expressions ≡ [] → 
 no_expressions expressions empty =
     subst ExpressionsAreWords (sym empty) (λ index number found at form. absurd (none-some found at))
 
-one_expression_more : (old new : List Expression) (added : Expression) (form : ExpressionForm) (traits : Traits)
+one_expression_more : (old new : List Expression) (added : Expression)
+    (form : ExpressionForm) (traits : Traits)
     → new ≡ old ++ added ∷ []
     → added ≡ record { form = form; traits = traits }
     → FormIsWord form
@@ -27,7 +28,8 @@ one_expression_more old new added form traits is same its words = subst Expressi
 
 -- a table to which an expression is added, if there is memory for it
 pub expression_pushed :
-    (old new : List Expression) (added : Expression) (form : ExpressionForm) (traits : Traits) (is_there : Bool)
+    (old new : List Expression) (added : Expression) (form : ExpressionForm)
+    (traits : Traits) (is_there : Bool)
     → new ≡ (if is_there then old ++ added ∷ [] else old)
     → added ≡ record { form = form; traits = traits }
     → FormIsWord form

@@ -89,7 +89,8 @@ module _ (nodes : Nodes) (scalar : ScalarType) (form : ExpressionForm) (rises : 
             (λ (one : Expression).
             PartsAreBelow (with_expression nodes (expression_of nodes scalar form)) number one.form) is.1
             (subst
-            (λ (bound : ℕ). PartsAreBelow (with_expression nodes (expression_of nodes scalar form)) bound form)
+            (λ (bound : ℕ). PartsAreBelow (with_expression nodes (expression_of nodes scalar form)) bound
+            form)
             (sym is.0)
             (parts_stay nodes (expression_of nodes scalar form) (length nodes.expressions) form below))
       ]

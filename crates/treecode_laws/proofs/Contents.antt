@@ -118,7 +118,8 @@ gap_keeps (Byte byte ∷ others) count keep = (tt, gap_keeps others count keep.1
 gap_keeps (Word place ∷ others) count keep = (keep.0, gap_keeps others count keep.1)
 gap_keeps (Gap gap ∷ next ∷ others) count keep = (tt, gap_keeps (next ∷ others) count keep.1)
 
-gap_if_any_keeps : (before : List Content) (count : ℕ) → KeepWords (with_gap_if_any before count) → KeepWords before
+gap_if_any_keeps : (before : List Content) (count : ℕ)
+    → KeepWords (with_gap_if_any before count) → KeepWords before
 gap_if_any_keeps before count = by (count == 0)
   where
     by : (none : Bool) → KeepWords (if none then before else with_gap before count) → KeepWords before
@@ -176,7 +177,8 @@ item_keeps typed starts (ConstantObject number) before = by (slice_get typed.obj
   where
     by : (found : Option TypedObject)
         → KeepWords
-        (option_map_or (λ (object : TypedObject). constant_object starts object object.home before) found before)
+        (option_map_or (λ (object : TypedObject). constant_object starts object object.home before) found
+        before)
         → KeepWords before
     by None keep = keep
     by (Some object) keep = constant_keeps starts object object.home before keep
@@ -257,7 +259,8 @@ variable_places :
     ≡ places_of_contents names before ++ places_by_home locations object kind
 variable_places names starts locations object (InData values) before is lie keep small =
     object_places names starts locations object values before lie
-    (second_keep before (map (content_of starts) values) (object_keeps starts object values before keep)) small
+    (second_keep before (map (content_of starts) values) (object_keeps starts object values before keep))
+    small
     ∙ ap (λ (kind : TypedHome).
     places_of_contents names before
     ++ (flat_map (places_of_value locations) (values_in kind)
@@ -489,7 +492,8 @@ items_places typed storage (item ∷ others) before laid keep are =
     (with_constant typed (homes_of typed storage) item before) laid keep are.1
     ∙ ap (λ (first : Places). first ++ flat_map (places_of_constant typed) others)
     (item_places typed storage item before laid
-    (constants_keep typed (homes_of typed storage) others (with_constant typed (homes_of typed storage) item before)
+    (constants_keep typed (homes_of typed storage) others
+    (with_constant typed (homes_of typed storage) item before)
     keep) are.0)
     ∙ append_assoc (places_of_contents (externals_of typed) before) (places_of_constant typed item)
     (flat_map (places_of_constant typed) others)

@@ -110,7 +110,8 @@ next typed storage before others starts locations object
           ap (λ (slot : Option Slot). location_of_place (externals_of typed) (place_of_slot slot))
           (slot_is typed storage (length before) object laid.stored found
           ∙ ap (slot_of_object typed (length before) object) is)
-          ∙ in_data (externals_of typed) (data_bytes (take (length before) typed.objects)) (size_of_object object)
+          ∙ in_data (externals_of typed) (data_bytes (take (length before) typed.objects))
+          (size_of_object object)
           (data_offset typed storage (length before) laid.stored);
     }
 next typed storage before others starts locations object

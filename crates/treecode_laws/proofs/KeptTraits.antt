@@ -38,7 +38,8 @@ module _ (nodes : Nodes) (storage : Storage) (keeps : KeepTraits nodes) where
         same_of_both (λ (one two : Bool). one && two) (quiet_kept left) (quiet_kept right)
     form_quiet (IsCallOf given) = refl
     form_quiet (IsFunction operand) = quiet_kept operand
-    form_quiet (IsShift moved by) = same_of_both (λ (one two : Bool). one && two) (quiet_kept moved) (quiet_kept by)
+    form_quiet (IsShift moved by) =
+        same_of_both (λ (one two : Bool). one && two) (quiet_kept moved) (quiet_kept by)
     form_quiet IsInput = refl
 
     -- the subscripts of a part of an object are quiet if those of its tree are

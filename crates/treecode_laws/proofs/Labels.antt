@@ -14,7 +14,8 @@ abbrev times : (number : ℕ) → List ℕ → ℕ
 times number [] = 0
 times number (first ∷ others) = once (number == first) + times number others
 
-times_both : (number : ℕ) (one other : List ℕ) → times number (one ++ other) ≡ times number one + times number other
+times_both : (number : ℕ) (one other : List ℕ)
+    → times number (one ++ other) ≡ times number one + times number other
 times_both number [] other = omega arith
 times_both number (first ∷ one) other =
     let rest = times_both number one other in omega (arith, rest)
@@ -78,8 +79,10 @@ module _ (n : ℕ) where
     statements_same NoStatements label place places labels stand =
         let none = ap (λ (places : List ℕ). times n (numbers_from label places)) labels in
         omega (arith, none)
-    statements_same (MoreStatements (LabelStatement number) others) label place [] labels stand = absurd labels
-    statements_same (MoreStatements (LabelStatement number) others) label place (first ∷ places) labels stand =
+    statements_same (MoreStatements (LabelStatement number) others) label place [] labels stand =
+        absurd labels
+    statements_same (MoreStatements (LabelStatement number) others) label place
+        (first ∷ places) labels stand =
         let next : label + 1 ≡ suc label = omega arith in
         let rest =
         subst (λ (one : ℕ).
@@ -124,11 +127,13 @@ few_by false number first others is rest none =
     let here : once (number == first) ≡ 0 = ap once is in
     omega (arith, here, rest)
 
-few : (number : ℕ) (numbers : List ℕ) → AllPairs (λ (one other : ℕ). one ≢ other) numbers → times number numbers ≤ 1
+few : (number : ℕ) (numbers : List ℕ) → AllPairs (λ (one other : ℕ). one ≢ other) numbers
+    → times number numbers ≤ 1
 few number [] differ = omega arith
 few number (first ∷ others) differ =
     few_by (number == first) number first others refl
-    (few number others (λ i j d before within. differ (suc i) (suc j) d (omega (arith, before)) (omega (arith, within))))
+    (few number others (λ i j d before within. differ (suc i) (suc j) d (omega (arith, before))
+    (omega (arith, within))))
     (λ same. absent number others
     (λ index d below other. differ 0 (suc index) d (omega arith) (omega (arith, below)) (sym same ∙ other)))
 
@@ -198,7 +203,8 @@ main_labels_differ typed jumps =
 three_ways : (one other : ℕ) → (one < other) ⊎ ((other < one) ⊎ (one ≡ other))
 three_ways one other = by (cases_lt one other) (cases_lt other one)
   where
-    by : (one < other) ⊎ (other ≤ one) → (other < one) ⊎ (one ≤ other) → (one < other) ⊎ ((other < one) ⊎ (one ≡ other))
+    by : (one < other) ⊎ (other ≤ one) → (other < one) ⊎ (one ≤ other)
+        → (one < other) ⊎ ((other < one) ⊎ (one ≡ other))
     by (inl less) second = inl less
     by (inr first) (inl more) = inr (inl more)
     by (inr first) (inr second) = inr (inr (omega (arith, first, second)))
@@ -258,4 +264,5 @@ pub main_label_has_one_number : (typed : TypedModule)
     → slice_get (labels_numbered_in_list typed.main.body) other ≡ Some label
     → one ≡ other
 main_label_has_one_number typed jumps one other label first second =
-    same_number (labels_numbered_in_list typed.main.body) one other label (main_labels_differ typed jumps) first second
+    same_number (labels_numbered_in_list typed.main.body) one other label
+    (main_labels_differ typed jumps) first second

@@ -118,7 +118,8 @@ fits_each (first ∷ others) zero object all found =
     (ap (λ (found : Option TypedObject). unwrap_or found first) found)
     (and_parts (fits_as_object first) (list_all fits_as_object others) all).0
 fits_each (first ∷ others) (suc number) object all found =
-    fits_each others number object (and_parts (fits_as_object first) (list_all fits_as_object others) all).1 found
+    fits_each others number object (and_parts (fits_as_object first) (list_all fits_as_object others) all).1
+    found
 
 pub constant_small :
     (typed : TypedModule) (storage : Storage) (number : ℕ) (object : TypedObject) (values : List InitialValue)

@@ -29,21 +29,25 @@ holds_for_item P (first ∷ others) zero one all there =
 holds_for_item P (first ∷ others) (suc index) one all there =
     holds_for_item P others index one (λ i d below. all (suc i) d (omega (arith, below))) there
 
-pub drop_item : {A B : Type 0} (view : List A → B) (items : List A) (i : ℕ) (item : A) → i < length items → item ≡ get_or items i item → view (drop i items) ≡ view (item ∷ drop (i + 1) items)
+pub drop_item : {A B : Type 0} (view : List A → B) (items : List A) (i : ℕ) (item : A) → i < length items
+    → item ≡ get_or items i item → view (drop i items) ≡ view (item ∷ drop (i + 1) items)
 drop_item view items i item within is =
     ap view (drop-cons items i item within)
     ∙ ap (λ first. view (first ∷ drop (suc i) items)) (sym is)
     ∙ ap (λ n. view (item ∷ drop n items)) (sym (add-one i))
 
-pub drop_past : {A : Type 0} (items : List A) (number : ℕ) → slice_get items number ≡ None → drop number items ≡ []
+pub drop_past : {A : Type 0} (items : List A) (number : ℕ) → slice_get items number ≡ None
+    → drop number items ≡ []
 drop_past [] zero none = refl
 drop_past [] (suc number) none = refl
 drop_past (item ∷ others) zero none = absurd (none-some item (sym none))
 drop_past (item ∷ others) (suc number) none = drop_past others number none
 
-pub any_later : {A : Type 0} {P : A → Type 0} (first : A) (others : List A) → Any P others → Any P (first ∷ others)
+pub any_later : {A : Type 0} {P : A → Type 0} (first : A) (others : List A) → Any P others
+    → Any P (first ∷ others)
 any_later first others any = (suc any.0, any.1, omega arith, any.3, any.4)
 
 -- what holds of the value that there is
-pub some_and : {X : Type 0} (P : X → Type 0) (option : Option X) (x : X) → option ≡ Some x → P x → IsSomeAnd option P
+pub some_and : {X : Type 0} (P : X → Type 0) (option : Option X) (x : X) → option ≡ Some x → P x
+    → IsSomeAnd option P
 some_and P option x is holds = subst (λ found. IsSomeAnd found P) (sym is) holds

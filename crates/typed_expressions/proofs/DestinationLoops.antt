@@ -6,7 +6,8 @@ use Rattle.typed_expressions.proofs.GivenParts.{given_is}
 
 -- one more destination at the end of those that are made
 pushed : (made : List CodeDestination) (next : CodeDestination) (rest : List Destination)
-    → map destination_view (made ++ next ∷ []) ++ rest ≡ map destination_view made ++ destination_view next ∷ rest
+    → map destination_view (made ++ next ∷ []) ++ rest
+    ≡ map destination_view made ++ destination_view next ∷ rest
 pushed [] next rest = refl
 pushed (first ∷ others) next rest = ap (λ all. destination_view first ∷ all) (pushed others next rest)
 
@@ -28,36 +29,57 @@ module _ (known : CodeKnown) where
   before made = after_destinations (map destination_view made)
 
   first_of_all : (first : Reference) (others : List Reference) (constants : Constants)
-      → all_found (first ∷ others) constants ≡ (first_found first constants >>= (λ found. all_found others found.1 >>= (λ rest. Ok (grown found.0 rest))))
+      → all_found (first ∷ others) constants
+      ≡ (first_found first constants >>= (λ found. all_found others found.1
+      >>= (λ rest. Ok (grown found.0 rest))))
   first_of_all first others constants =
-      ap (λ reference. destination_of (known_view known) reference constants >>= (λ found. all_found others found.1 >>= (λ rest. Ok (grown found.0 rest)))) (given_is known first)
+      ap (λ reference. destination_of (known_view known) reference constants
+      >>= (λ found. all_found others found.1 >>= (λ rest. Ok (grown found.0 rest))))
+      (given_is known first)
 
-  pub begins : (first : Reference) (others : List Reference) (constants after : Constants) (next : CodeDestination)
+  pub begins : (first : Reference) (others : List Reference) (constants after : Constants)
+      (next : CodeDestination)
       → first_found first constants ≡ Ok (destination_view next, after)
       → in_front (before (next ∷ [])) (all_found others after) ≡ all_found (first ∷ others) constants
-  begins first others constants after next is = sym (first_of_all first others constants ∙ ap (λ found. found >>= (λ found. all_found others found.1 >>= (λ rest. Ok (grown found.0 rest)))) is)
+  begins first others constants after next is =
+      sym (first_of_all first others constants
+      ∙ ap (λ found. found >>= (λ found. all_found others found.1 >>= (λ rest. Ok (grown found.0 rest)))) is)
 
-  pub first_fails : (first : Reference) (others : List Reference) (constants : Constants) (fault : Option Fault)
+  pub first_fails : (first : Reference) (others : List Reference) (constants : Constants)
+      (fault : Option Fault)
       → FailsBy fault (first_found first constants) → FailsBy fault (all_found (first ∷ others) constants)
   first_fails first others constants fault fails =
-      rw (first_of_all first others constants) (fails_more fault (first_found first constants) (λ found. all_found others found.1 >>= (λ rest. Ok (grown found.0 rest))) fails)
+      rw (first_of_all first others constants)
+      (fails_more fault (first_found first constants)
+      (λ found. all_found others found.1 >>= (λ rest. Ok (grown found.0 rest))) fails)
 
-  pub goes_on : (targets : List Reference) (i : ℕ) (target : Reference) (made : List CodeDestination) (now : Constants) (total : Checked (List Destination × Constants))
-      → i < length targets → target ≡ get_or targets i target → in_front (before made) (all_found (drop i targets) now) ≡ total
-      → (next : CodeDestination) (after : Constants) → first_found target now ≡ Ok (destination_view next, after)
+  pub goes_on : (targets : List Reference) (i : ℕ) (target : Reference) (made : List CodeDestination)
+      (now : Constants) (total : Checked (List Destination × Constants))
+      → i < length targets → target ≡ get_or targets i target
+      → in_front (before made) (all_found (drop i targets) now) ≡ total
+      → (next : CodeDestination) (after : Constants)
+      → first_found target now ≡ Ok (destination_view next, after)
       → in_front (before (made ++ next ∷ [])) (all_found (drop (i + 1) targets) after) ≡ total
   goes_on targets i target made now total within is left next after given =
-      made_goes_on first_found all_found grown first_of_all targets i target now after (destination_view next) (before made) (before (made ++ next ∷ [])) total
+      made_goes_on first_found all_found grown first_of_all targets i target now after (destination_view next)
+      (before made) (before (made ++ next ∷ [])) total
       within is left given (λ rest. ap (λ all. (all, rest.1)) (pushed made next rest.0))
 
-  pub destination_fails : (targets : List Reference) (i : ℕ) (target : Reference) (made : List CodeDestination) (now : Constants) (total : Checked (List Destination × Constants)) (fault : Option Fault)
-      → i < length targets → target ≡ get_or targets i target → in_front (before made) (all_found (drop i targets) now) ≡ total
+  pub destination_fails : (targets : List Reference) (i : ℕ) (target : Reference)
+      (made : List CodeDestination) (now : Constants) (total : Checked (List Destination × Constants))
+      (fault : Option Fault)
+      → i < length targets → target ≡ get_or targets i target
+      → in_front (before made) (all_found (drop i targets) now) ≡ total
       → FailsBy fault (first_found target now) → FailsBy fault total
   destination_fails targets i target made now total fault within is left given =
-      made_fails first_found all_found grown first_of_all targets i target now (before made) total fault within is left given
+      made_fails first_found all_found grown first_of_all targets i target now (before made) total fault
+      within is left given
 
-  pub destinations_ended : (targets : List Reference) (i : ℕ) (made : List CodeDestination) (now : Constants) (total : Checked (List Destination × Constants))
-      → length targets ≤ i → in_front (before made) (all_found (drop i targets) now) ≡ total → total ≡ Ok (map destination_view made, now)
+  pub destinations_ended : (targets : List Reference) (i : ℕ) (made : List CodeDestination) (now : Constants)
+      (total : Checked (List Destination × Constants))
+      → length targets ≤ i → in_front (before made) (all_found (drop i targets) now) ≡ total
+      → total ≡ Ok (map destination_view made, now)
   destinations_ended targets i made now total past left =
-      made_ended first_found all_found grown first_of_all targets i now (before made) total ([], now) (map destination_view made, now)
+      made_ended first_found all_found grown first_of_all targets i now (before made) total ([], now)
+      (map destination_view made, now)
       past left refl (ap (λ all. (all, now)) (all_made made))

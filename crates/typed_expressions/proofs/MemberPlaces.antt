@@ -2,7 +2,8 @@
 use Rattle.typed_expressions.proofs.Prelude.{◌≡◌, ℕ, Option, None, Some, ap, arith, min, option_map, FoundMember, capped}
 
 -- where it does not begin further on than the code tells, it is what the code tells
-pub uncapped : (found : FoundMember) (place : Option FoundMember) → Some found ≡ option_map capped place → (found.offset ≡ 4294967295 → ⊥) → place ≡ Some found
+pub uncapped : (found : FoundMember) (place : Option FoundMember) → Some found ≡ option_map capped place
+    → (found.offset ≡ 4294967295 → ⊥) → place ≡ Some found
 uncapped found None is other = absurd (cc)
 uncapped found (Some place) is other =
     let same : found ≡ capped place = cc in

@@ -11,7 +11,8 @@ several_indices stride (Some count) (first ∷ []) more = absurd (omega arith)
 several_indices stride (Some count) (first ∷ second ∷ others) more = refl
 
 -- no argument, or more than one, tells no port
-pub no_port : (place : Place) (trees : ArgumentTrees) → only_tree trees ≡ None → port_of place trees ≡ refuse PortNotConstant place
+pub no_port : (place : Place) (trees : ArgumentTrees) → only_tree trees ≡ None
+    → port_of place trees ≡ refuse PortNotConstant place
 no_port place NoArguments none = refl
 no_port place (MoreArguments first NoArguments) none = absurd (cc)
 no_port place (MoreArguments (ConstantLeaf (NumberConstant number)) (MoreArguments second others)) none = refl
@@ -25,12 +26,16 @@ no_port place (MoreArguments (UnaryNode operator operand) (MoreArguments second 
 no_port place (MoreArguments (BinaryNode operator left right) (MoreArguments second others)) none = refl
 
 -- an argument that stands alone, and others
-pub one_argument : (arguments : List Expression) (first : Expression) → length arguments ≡ 1 → slice_get arguments 0 ≡ Some first → argument_trees arguments ≡ MoreArguments (expression_tree first) NoArguments
+pub one_argument : (arguments : List Expression) (first : Expression) → length arguments ≡ 1
+    → slice_get arguments 0 ≡ Some first
+    → argument_trees arguments ≡ MoreArguments (expression_tree first) NoArguments
 one_argument [] first one is = absurd (omega arith)
-one_argument (argument ∷ []) first one is = let same : argument ≡ first = cc in ap (λ found. MoreArguments (expression_tree found) NoArguments) same
+one_argument (argument ∷ []) first one is =
+    let same : argument ≡ first = cc in ap (λ found. MoreArguments (expression_tree found) NoArguments) same
 one_argument (argument ∷ second ∷ others) first one is = absurd (omega arith)
 
-pub no_only : (arguments : List Expression) → (length arguments ≡ 1 → ⊥) → only_tree (argument_trees arguments) ≡ None
+pub no_only : (arguments : List Expression) → (length arguments ≡ 1 → ⊥)
+    → only_tree (argument_trees arguments) ≡ None
 no_only [] other = refl
 no_only (argument ∷ []) other = absurd (other refl)
 no_only (argument ∷ second ∷ others) other = refl

@@ -54,7 +54,8 @@ module _ (typed : TypedModule) (few : HasFewParameters typed) where
   procedures_fit from [] types frames parameters levels = All-nil _
   procedures_fit from (first ∷ others) types frames parameters levels =
       All-cons (λ (procedure : TypedProcedure). charge_of procedure ≤ charge_limit) first others
-      (charge_fits (WithinProcedure from first.result) first types.0 (frames.0).bytes (parameters.0).count levels.0)
+      (charge_fits (WithinProcedure from first.result) first types.0 (frames.0).bytes
+      (parameters.0).count levels.0)
       (procedures_fit (from + 1) others types.1 frames.1 parameters.1 levels.1)
 
 -- a module whose text nests no deeper than the limit

@@ -1,8 +1,8 @@
 -- Where objects that are declared live, and that each takes a byte or more.
 use Rattle.typed_laws.proofs.Prelude.{◌≡◌, ℕ, zero, suc, ◌+◌, ◌-◌, ◌*◌, ◌<◌, Bool, true, false, List, [], ◌∷◌, ◌++◌, length, flat_map, replicate, slice_get, Option, Some, None, nat_le, nat_lt, refl, ap, cond, length-append, arith, zero-mul, suc-mul, mod-lt, div-add-mod', All, IfSome, is_none, is_some, not, ◌&&◌, option_map_or, leb-true, flat_map-append, All-append, All-cons, All-nil, sum_by-append, sum_by-cons, slice_get_within, Dimension, Count, Implied, Member, ScalarType, Byte, Address, Sign, Plus, Minus, Identifier, Place, Number, StringTree, StringConstant, OriginTree, ConstantOrigin, LocationOrigin, OffsetTree, RestrictedTree, AtTree, ValueListTree, SubjectTree, ItemTypeTree, ScalarItem, StructureItem, ItemTree, IsNotEmpty, IsItemType, AtNumber, AtObject, AtAddress, ByteValue, WordValue, LocationValue, InitialValue, TypedMember, ObjectType, StructureObject, Home, InData, InConstants, Placed, BasedOn, Elsewhere, Nowhere, InFrame, size_of_scalar, count_of, size_of_member, size_of_element, has_member, scalars_of_member, scalars_of_element, scalars_of_elements, DeclaredTwice, NoVariable, ParameterNotScalar, NoBase, MisplacedAt, MisplacedValues, BasedParameter, ImpliedForGroup, StringNotNumber, ImpliedWithoutValues, NotByte, ◌>>=◌, require, found, number_of_characters, number_of_constant, moved_by, with_offsets, Known, place_of, bound, Owner, TheModule, OfProcedure, Block, is_external_linkage, Reach, ThisModule, OtherModulesToo, static_object, RestrictedValue, ANumber, FromObject, restricted_value, address_of, at_address, Filled, fill_scalar, fill_characters, fill_string, place_of_origin, fill_value, fill, Extents, NoArray, Elements, AsListed, Contents, enough_elements, elements_for, contents, TypedItem, base_of, is_base, is_group, place_of_item, names_parameter, object_bound, typed_base, extents_of, member_dimension, typed_members, typed_type, check_linkage, is_plain, typed_at, place_of_storage, typed_contents, is_data, home_in, home_with_values, home_of, typed_item, size_of_item, Gives, gives_ok, gives_fault, gives_after, in_turn, required, is_found, AddsWord}
 
--- Where the object of a number lives: based on one before it, or in the frame of a procedure that is REENTRANT. What is
--- added to where another lies is a word. The flags are those of the procedures so far.
+-- Where the object of a number lives: based on one before it, or in the frame of a procedure that is
+-- REENTRANT. What is added to where another lies is a word. The flags are those of the procedures so far.
 abbrev pub HomeStands : (flags : List Bool) → (number : ℕ) → Home → Type 0
 HomeStands flags number (BasedOn base) = base < number
 HomeStands flags number (InFrame procedure) = slice_get flags procedure ≡ Some true
@@ -90,14 +90,16 @@ characters_stand place (character ∷ others) (Byte ∷ left) =
 characters_stand place (character ∷ others) (Address ∷ left) = gives_fault
 characters_stand place (character ∷ others) [] = gives_fault
 
-string_stands : (string : StringTree) (scalars : List ScalarType) → Gives FilledStand (fill_string string scalars)
+string_stands : (string : StringTree) (scalars : List ScalarType)
+    → Gives FilledStand (fill_string string scalars)
 string_stands string [] = characters_stand string.place string.characters []
 string_stands string (Byte ∷ left) = characters_stand string.place string.characters (Byte ∷ left)
 string_stands string (Address ∷ left) =
     gives_after (found (number_of_characters string.characters) StringNotNumber string.place) λ number.
     gives_ok (All-cons AddsWord (WordValue number) [] tt (All-nil AddsWord))
 
-restricted_stands : (known : Known) (scalars : List ScalarType) (origin : OriginTree) (offsets : List OffsetTree)
+restricted_stands : (known : Known) (scalars : List ScalarType) (origin : OriginTree)
+    (offsets : List OffsetTree)
     → Gives FilledStand (restricted_value OtherModulesToo known origin offsets
     >>= (λ value. fill_scalar (place_of_origin origin) scalars value))
 restricted_stands known scalars origin offsets =
@@ -130,7 +132,8 @@ scalar_some : (scalar : ScalarType) → 0 < size_of_scalar scalar
 scalar_some Byte = omega arith
 scalar_some Address = omega arith
 
-dimension_some : (dimension : Option Number) → Gives (λ found. 0 < count_of found) (member_dimension dimension)
+dimension_some : (dimension : Option Number)
+    → Gives (λ found. 0 < count_of found) (member_dimension dimension)
 dimension_some None = gives_ok (omega arith)
 dimension_some (Some number) =
     in_turn (required (nat_le 1 number.value) _ _) λ _ one.
@@ -152,7 +155,8 @@ member_more before member has = record {
   );
 }
 
-one_member : (member : TypedMember) → 0 < count_of member.dimension → HasScalars (StructureObject (member ∷ []))
+one_member : (member : TypedMember) → 0 < count_of member.dimension
+    → HasScalars (StructureObject (member ∷ []))
 one_member member some = record {
   size = omega (
     arith,
@@ -170,11 +174,13 @@ members_more : (before : List TypedMember) (members : List Member) → HasScalar
     → Gives (λ found. HasScalars (StructureObject found)) (typed_members before members)
 members_more before [] has = gives_ok has
 members_more before (member ∷ others) has =
-    gives_after (require (not (has_member before member.name.name)) DeclaredTwice (place_of member.name)) λ once.
+    gives_after (require (not (has_member before member.name.name)) DeclaredTwice (place_of member.name))
+    λ once.
     gives_after (member_dimension member.dimension) λ dimension.
     members_more
     (before ++ record { name = member.name.name; dimension = dimension; scalar = member.scalar } ∷ []) others
-    (member_more before (record { name = member.name.name; dimension = dimension; scalar = member.scalar }) has)
+    (member_more before (record { name = member.name.name; dimension = dimension; scalar = member.scalar })
+    has)
 
 members_some : (members : List Member) → IsNotEmpty members
     → Gives (λ found. HasScalars (StructureObject found)) (typed_members [] members)
@@ -182,7 +188,8 @@ members_some [] is = absurd is
 members_some (member ∷ others) is =
     gives_after (require (not (has_member [] member.name.name)) DeclaredTwice (place_of member.name)) λ once.
     in_turn (dimension_some member.dimension) λ dimension some.
-    members_more (record { name = member.name.name; dimension = dimension; scalar = member.scalar } ∷ []) others
+    members_more (record { name = member.name.name; dimension = dimension; scalar = member.scalar } ∷ [])
+    others
     (one_member (record { name = member.name.name; dimension = dimension; scalar = member.scalar }) some)
 
 type_some : (block : Block) (item : ItemTree) (tree : ItemTypeTree) → IsItemType tree
@@ -190,7 +197,8 @@ type_some : (block : Block) (item : ItemTree) (tree : ItemTypeTree) → IsItemTy
 type_some block item (ScalarItem scalar) is =
     gives_ok (record { size = scalar_some scalar; count = omega arith })
 type_some block item (StructureItem members) is =
-    gives_after (require (not (names_parameter block item.subject)) ParameterNotScalar (place_of_item item)) λ plain.
+    gives_after (require (not (names_parameter block item.subject)) ParameterNotScalar (place_of_item item))
+    λ plain.
     in_turn (members_some members is) λ typed has.
     gives_ok has
 
@@ -208,7 +216,8 @@ extents_stand block item (Some (Count number)) =
     gives_after (require (not (names_parameter block item.subject)) ParameterNotScalar number.place) λ plain.
     gives_ok (omega (arith, leb-true 1 number.value one))
 extents_stand block item (Some Implied) =
-    gives_after (require (not (names_parameter block item.subject)) ParameterNotScalar (place_of_item item)) λ plain.
+    gives_after (require (not (names_parameter block item.subject)) ParameterNotScalar (place_of_item item))
+    λ plain.
     gives_after (require (not (is_group item.subject)) ImpliedForGroup (place_of_item item)) λ single.
     gives_after (require (is_some item.value_list) ImpliedWithoutValues (place_of_item item)) λ listed.
     gives_ok tt
@@ -243,7 +252,8 @@ contents_stand known place object_type (Elements count) values has stands =
     in_turn (values_stand known values (scalars_of_elements count object_type)) λ filled stand.
     gives_ok (record { values = stand; count = stands })
 contents_stand known place object_type AsListed values has stands =
-    in_turn (values_stand known values (scalars_of_elements (enough_elements values) object_type)) λ filled stand.
+    in_turn (values_stand known values (scalars_of_elements (enough_elements values) object_type))
+    λ filled stand.
     let used : ℕ =
     length (scalars_of_elements (enough_elements values) object_type) - length filled.left in
     let each : ℕ = length (scalars_of_element object_type) in
@@ -263,7 +273,8 @@ typed_contents_stand known block item object_type extents (Some list) has stands
 
 -- a base is one of the objects so far
 base_stands : (known : Known) (block : Block) (subject : SubjectTree) (base : Option Identifier)
-    → Gives (λ found. IfSome found (λ number. number < length known.objects)) (typed_base known block subject base)
+    → Gives (λ found. IfSome found (λ number. number < length known.objects))
+    (typed_base known block subject base)
 base_stands known block subject None = gives_ok tt
 base_stands known block subject (Some name) =
     gives_after (require (not (names_parameter block subject)) BasedParameter (place_of name)) λ plain.
@@ -322,7 +333,8 @@ typed_item_stands known block item flags own formed =
     in_turn (type_some block item item.item_type formed) λ object_type has.
     gives_after (check_linkage block item item.linkage) λ may_stand.
     in_turn (typed_at_stands known block item item.at) λ at placed.
-    in_turn (typed_contents_stand known block item object_type extents item.value_list has extent) λ filled made.
+    in_turn (typed_contents_stand known block item object_type extents item.value_list has extent)
+    λ filled made.
     gives_ok (record {
       home = home_stands block.owner flags (length known.objects) item base at filled.values own based placed
           made.values;

@@ -21,7 +21,8 @@ typing_stands tree formed =
 
 -- so it is at the end of a text
 flag_at : (procedures : List TypedProcedure) (number : ℕ) (heading : TypedProcedure)
-    → slice_get procedures number ≡ Some heading → slice_get (flags_of procedures) number ≡ Some heading.is_reentrant
+    → slice_get procedures number ≡ Some heading
+    → slice_get (flags_of procedures) number ≡ Some heading.is_reentrant
 flag_at [] number heading is = absurd (none-some heading is)
 flag_at (first ∷ procedures) zero heading is =
     let same : first ≡ heading = cc in ap (λ (one : TypedProcedure). Some one.is_reentrant) same
@@ -45,7 +46,8 @@ all_of : (P : TypedObject → Type 0) (objects : List TypedObject)
     → All P objects
 all_of P [] each = All-nil P
 all_of P (first ∷ objects) each =
-    All-cons P first objects (each 0 first refl) (all_of P objects (λ number object is. each (suc number) object is))
+    All-cons P first objects (each 0 first refl)
+    (all_of P objects (λ number object is. each (suc number) object is))
 
 values_add : (flags : List Bool) (number : ℕ) (home : Home) → HomeStands flags number home
     → All AddsWord (values_in home)
@@ -68,7 +70,8 @@ at_adds flags number Nowhere stands = tt
 at_adds flags number (InFrame procedure) stands = tt
 
 -- A module of trees that have the form of the grammar is soundly typed.
-pub is_soundly_typed : (tree : ModuleTree) (found : TypedModule) → ModuleIsFormed tree → typing_of tree ≡ Ok found
+pub is_soundly_typed : (tree : ModuleTree) (found : TypedModule) → ModuleIsFormed tree
+    → typing_of tree ≡ Ok found
     → IsSoundlyTyped found
 is_soundly_typed tree found formed is =
     let stands : ModuleStands found = (typing_stands tree formed).holds found is in

@@ -18,24 +18,29 @@ mutual
   kind_formed halt = tt
   kind_formed goto = tt
   kind_formed (if_then condition body) = (statement_formed body, tt)
-  kind_formed (if_then_else condition body closed otherwise) = (statement_formed body, statement_formed otherwise)
+  kind_formed (if_then_else condition body closed otherwise) =
+      (statement_formed body, statement_formed otherwise)
   kind_formed (simple_do declared body) = (declarations_formed declared, statements_formed body)
   kind_formed (do_while condition body) = statements_formed body
   kind_formed (iterative_do first last body) = statements_formed body
   kind_formed (iterative_do_by first last step body) = statements_formed body
   kind_formed (do_case choice body) = statements_formed body
 
-  statements_formed : {symbols rest : List Symbol} {tree : StatementTrees} → DerivesStatements symbols tree rest
+  statements_formed : {symbols rest : List Symbol} {tree : StatementTrees}
+      → DerivesStatements symbols tree rest
       → StatementsAreFormed tree
   statements_formed no_statement = tt
   statements_formed (next_statement first others) = (statement_formed first, statements_formed others)
 
-  declaration_formed : {symbols rest : List Symbol} {tree : DeclarationTree} → DerivesDeclaration symbols tree rest
+  declaration_formed : {symbols rest : List Symbol} {tree : DeclarationTree}
+      → DerivesDeclaration symbols tree rest
       → IsFormed tree
   declaration_formed (declare end some elements) = elements
-  declaration_formed (procedure start end declared body) = (declarations_formed declared, statements_formed body)
+  declaration_formed (procedure start end declared body) =
+      (declarations_formed declared, statements_formed body)
 
-  declarations_formed : {symbols rest : List Symbol} {tree : DeclarationTrees} → DerivesDeclarations symbols tree rest
+  declarations_formed : {symbols rest : List Symbol} {tree : DeclarationTrees}
+      → DerivesDeclarations symbols tree rest
       → AreFormed tree
   declarations_formed no_declaration = tt
   declarations_formed (next_declaration first others) = (declaration_formed first, declarations_formed others)
@@ -46,4 +51,5 @@ module_formed (whole_module end declared body) = (declarations_formed declared, 
 -- Every module that words derive and that has a typing is soundly typed.
 pub derived_is_soundly_typed : (words : List Lexeme) (tree : ModuleTree) (found : TypedModule)
     → Derives words tree → typing_of tree ≡ Ok found → IsSoundlyTyped found
-derived_is_soundly_typed words tree found derived is = is_soundly_typed tree found (module_formed derived.grammar) is
+derived_is_soundly_typed words tree found derived is =
+    is_soundly_typed tree found (module_formed derived.grammar) is

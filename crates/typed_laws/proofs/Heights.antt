@@ -1,5 +1,5 @@
--- A typed expression is at most 17 times as high as the levels that it takes in the text, and so is what is highest in a
--- statement.
+-- A typed expression is at most 17 times as high as the levels that it takes in the text, and so is what is
+-- highest in a statement.
 use Rattle.typed_laws.proofs.Prelude.{◌≡◌, ℕ, ◌+◌, ◌*◌, ◌≤◌, List, [], ◌∷◌, length, map, Option, None, Some, IsSomeAnd, slice_get, refl, ap, arith, IfSome, option_map, ScalarType, Identifier, arguments_height, else_height, expression_height, iteration_height, kind_height, optional_height, reference_height, statements_height, targets_height, FromDigits, FromString, FromMeasure, count_of_arguments, height_of, height_of_arguments, height_of_else, height_of_iteration, height_of_list, height_of_optional, height_of_reference, height_of_statement, height_of_statements, height_of_subscript, height_of_target, height_of_targets, type_of, IsInElement, IsPartOf, IsScalarOf, TypedExpression, NumberNode, ValueNode, LocationNode, ListNode, ConversionNode, CallNode, FunctionNode, ShiftNode, InputNode, TypedReference, PartOf, Subscript, NoSubscript, At, TypedTarget, StoredIn, SentTo, TypedArguments, TypedIteration, TypedStatement, LabelStatement, MoveStatement, TypedElse, TypedStatements, TypedList, ListOf, ObjectType, ScalarObject, StructureObject, TypedObject, TypedProcedure, TypedModule, HasLocation, IsReturned, IsSeen, RefersToLocation, RefersToScalar, Takes, TypesHold, TypesHoldIn, TypesHoldInArguments, TypesHoldInElse, TypesHoldInHead, TypesHoldInList, TypesHoldInReference, TypesHoldInStatements, TypesHoldInSubscript, TypesHoldInTarget, TypesHoldInTargets, Within, WithinProcedure, WithinMain, types_of, nameless, untyped_arguments, untyped_else, untyped_expression, untyped_iteration, untyped_kind, untyped_list, untyped_reference, untyped_statements, untyped_subscript, untyped_target, HasFewParameters, types_count}
 use Rattle.typed_trees.specs.TypedTrees.{AssignmentNode, UnaryNode, BinaryNode, NoArguments, MoreArguments, NullStatement, AssignmentStatement, CallStatement, ReturnStatement, HaltStatement, GotoStatement, IfStatement, DoStatement, WhileStatement, IterateStatement, CaseStatement, NoElse, ElseStatement, NoStatements, MoreStatements}
 
@@ -225,8 +225,10 @@ module _ (typed : TypedModule) (within : Within) (few : HasFewParameters typed) 
     else_within (ElseStatement statement) holds = statement_within statement holds
 
     statements_within :
-        (statements : TypedStatements) (labels : List Identifier) → TypesHoldInStatements typed within statements
-        → height_of_statements statements ≤ 17 * statements_height (untyped_statements typed statements labels)
+        (statements : TypedStatements) (labels : List Identifier)
+        → TypesHoldInStatements typed within statements
+        → height_of_statements statements ≤ 17
+        * statements_height (untyped_statements typed statements labels)
     statements_within NoStatements labels holds = omega arith
     statements_within (MoreStatements (LabelStatement label) others) labels holds =
         let rest = statements_within others (nameless ∷ labels) holds.1 in omega (arith, rest)

@@ -2,7 +2,8 @@
 use Rattle.typed_laws.proofs.Prelude.{ℕ, ◌≤◌, List, [], ◌∷◌, ◌++◌, map, Option, None, Some, arith, option_map, AllByRecursion, ExpressionTree, ConstantLeaf, ReferenceLeaf, LocationLeaf, ListLeaf, ParenthesizedNode, AssignmentNode, UnaryNode, BinaryNode, ReferenceTree, ReferenceTo, MemberTree, NoMember, MemberOf, ArgumentTrees, NoArguments, MoreArguments, IterationTree, StatementTree, LabelledStatement, StatementKindTree, NullStatement, AssignmentStatement, CallStatement, ReturnStatement, HaltStatement, GotoStatement, IfStatement, DoStatement, WhileStatement, IterateStatement, CaseStatement, ElseTree, NoElse, ElseStatement, StatementTrees, NoStatements, MoreStatements, DeclarationTree, DeclareTree, ProcedureTree, DeclarationTrees, NoDeclarations, MoreDeclarations, ModuleTree, arguments_height, declaration_height, declarations_height, else_height, expression_height, iteration_height, kind_height, member_height, module_height, optional_height, reference_height, statement_height, statements_height, targets_height, bodies_in, bodies_in_declaration, bodies_in_else, bodies_in_kind, bodies_in_statement, bodies_in_statements, plain_arguments, plain_bodies, plain_else, plain_expression, plain_iteration, plain_kind, plain_member, plain_reference, plain_statement, plain_statements}
 
 mutual
-  expression_lower : (tree : ExpressionTree) → expression_height (plain_expression tree) ≤ expression_height tree
+  expression_lower : (tree : ExpressionTree)
+      → expression_height (plain_expression tree) ≤ expression_height tree
   expression_lower (ConstantLeaf constant) = omega arith
   expression_lower (ReferenceLeaf reference) = let part = reference_lower reference in omega (arith, part)
   expression_lower (LocationLeaf reference) = let part = reference_lower reference in omega (arith, part)
@@ -35,7 +36,8 @@ mutual
       let other = arguments_lower others in
       omega (arith, one, other)
 
-targets_lower : (trees : List ReferenceTree) → targets_height (map plain_reference trees) ≤ targets_height trees
+targets_lower : (trees : List ReferenceTree)
+    → targets_height (map plain_reference trees) ≤ targets_height trees
 targets_lower [] = omega arith
 targets_lower (first ∷ others) =
     let one = reference_lower first in
@@ -91,7 +93,8 @@ mutual
   else_lower NoElse = omega arith
   else_lower (ElseStatement statement) = statement_lower statement
 
-  statements_lower : (trees : StatementTrees) → statements_height (plain_statements trees) ≤ statements_height trees
+  statements_lower : (trees : StatementTrees)
+      → statements_height (plain_statements trees) ≤ statements_height trees
   statements_lower NoStatements = omega arith
   statements_lower (MoreStatements first others) =
       let one = statement_lower first in
@@ -122,17 +125,21 @@ mutual
   within_kind levels (GotoStatement place label) below = tt
   within_kind levels (IfStatement place condition body otherwise) below =
       both_within levels (bodies_in_statement body) (bodies_in_else otherwise)
-      (within_statement levels body (omega (arith, below))) (within_else levels otherwise (omega (arith, below)))
+      (within_statement levels body (omega (arith, below)))
+      (within_else levels otherwise (omega (arith, below)))
   within_kind levels (DoStatement place declared body) below =
       both_within levels (bodies_in declared) (bodies_in_statements body)
-      (within_declarations levels declared (omega (arith, below))) (within_statements levels body (omega (arith, below)))
+      (within_declarations levels declared (omega (arith, below)))
+      (within_statements levels body (omega (arith, below)))
   within_kind levels (WhileStatement place condition body) below =
       within_statements levels body (omega (arith, below))
   within_kind levels (IterateStatement place head body) below =
       within_statements levels body (omega (arith, below))
-  within_kind levels (CaseStatement place choice body) below = within_statements levels body (omega (arith, below))
+  within_kind levels (CaseStatement place choice body) below =
+      within_statements levels body (omega (arith, below))
 
-  within_else : (levels : ℕ) (tree : ElseTree) → else_height tree ≤ levels → AreWithin levels (bodies_in_else tree)
+  within_else : (levels : ℕ) (tree : ElseTree) → else_height tree ≤ levels
+      → AreWithin levels (bodies_in_else tree)
   within_else levels NoElse below = tt
   within_else levels (ElseStatement statement) below = within_statement levels statement below
 
@@ -141,7 +148,8 @@ mutual
   within_statements levels NoStatements below = tt
   within_statements levels (MoreStatements first others) below =
       both_within levels (bodies_in_statement first) (bodies_in_statements others)
-      (within_statement levels first (omega (arith, below))) (within_statements levels others (omega (arith, below)))
+      (within_statement levels first (omega (arith, below)))
+      (within_statements levels others (omega (arith, below)))
 
   within_declaration : (levels : ℕ) (tree : DeclarationTree) → declaration_height tree ≤ levels
       → AreWithin levels (bodies_in_declaration tree)
@@ -158,7 +166,8 @@ mutual
   within_declarations levels NoDeclarations below = tt
   within_declarations levels (MoreDeclarations first others) below =
       both_within levels (bodies_in_declaration first) (bodies_in others)
-      (within_declaration levels first (omega (arith, below))) (within_declarations levels others (omega (arith, below)))
+      (within_declaration levels first (omega (arith, below)))
+      (within_declarations levels others (omega (arith, below)))
 
 plain_within : (levels : ℕ) (bodies : List StatementTrees) → AreWithin levels bodies
     → AreWithin levels (map plain_statements bodies)

@@ -19,7 +19,8 @@ pub record ObjectStands (flags : List Bool) (number : ℕ) (object : TypedObject
 
 abbrev pub ObjectsStand : List TypedObject → (flags : List Bool) → Type 0
 ObjectsStand objects flags =
-    (number : ℕ) (object : TypedObject) → slice_get objects number ≡ Some object → ObjectStands flags number object
+    (number : ℕ) (object : TypedObject) → slice_get objects number ≡ Some object
+    → ObjectStands flags number object
 
 -- a place of a text
 pub record StandsAt (owner : Owner) (progress : Progress) : Type 0 where
@@ -31,28 +32,34 @@ pub record Goes (before after : Progress) : Type 0 where
   pub flags : Keeps (flags_of before.known.procedures) (flags_of after.known.procedures)
   pub objects : ObjectsStand after.known.objects (flags_of after.known.procedures)
 
-own_later : (owner : Owner) (flags more : List Bool) → Keeps flags more → OwnerFlag owner flags → OwnerFlag owner more
+own_later : (owner : Owner) (flags more : List Bool) → Keeps flags more → OwnerFlag owner flags
+    → OwnerFlag owner more
 own_later TheModule flags more keeps own = tt
 own_later (OfProcedure number heading) flags more keeps own = keeps number (is_some heading.reentrant) own
 
 pub stands_after : {owner : Owner} {before after : Progress} → StandsAt owner before → Goes before after
     → StandsAt owner after
 stands_after {owner} {before} {after} stands goes = record {
-  own = own_later owner (flags_of before.known.procedures) (flags_of after.known.procedures) goes.flags stands.own;
+  own = own_later owner (flags_of before.known.procedures) (flags_of after.known.procedures)
+      goes.flags stands.own;
   objects = goes.objects;
 }
 
-pub goes_then : {before between after : Progress} → Goes before between → Goes between after → Goes before after
+pub goes_then : {before between after : Progress} → Goes before between
+    → Goes between after → Goes before after
 goes_then one other = record {
   flags = λ number flag is. other.flags number flag (one.flags number flag is);
   objects = other.objects;
 }
 
-goes_known : {owner : Owner} (before after : Progress) → StandsAt owner before → Same before after → Goes before after
+goes_known : {owner : Owner} (before after : Progress) → StandsAt owner before
+    → Same before after → Goes before after
 goes_known before after stands same = record {
   flags = λ number flag is.
       subst (λ (known : Known). slice_get (flags_of known.procedures) number ≡ Some flag) (sym same) is;
-  objects = subst (λ (known : Known). ObjectsStand known.objects (flags_of known.procedures)) (sym same) stands.objects;
+  objects =
+      subst (λ (known : Known). ObjectsStand known.objects (flags_of known.procedures))
+      (sym same) stands.objects;
 }
 
 goes_nowhere : {owner : Owner} (progress : Progress) → StandsAt owner progress → Goes progress progress
@@ -67,7 +74,8 @@ goes_here : {before after : Progress} (first last : Here) → Goes (with_here fi
     → Goes before (with_here last after)
 goes_here first last goes = record { flags = goes.flags; objects = goes.objects }
 
-goes_from_here : {before after : Progress} (first : Here) → Goes (with_here first before) after → Goes before after
+goes_from_here : {before after : Progress} (first : Here)
+    → Goes (with_here first before) after → Goes before after
 goes_from_here first goes = record { flags = goes.flags; objects = goes.objects }
 
 -- one more object
@@ -124,21 +132,26 @@ objects_more block item (name ∷ others) progress home size stands =
     record { flags = goes.flags; objects = goes.objects }
 
 -- what DECLARE declares
-item_goes : (block : Block) (item : ItemTree) (progress : Progress) → IsItem item → StandsAt block.owner progress
+item_goes : (block : Block) (item : ItemTree) (progress : Progress) → IsItem item
+    → StandsAt block.owner progress
     → Gives (λ after. Goes progress after) (declare_item block item progress)
 item_goes block item progress formed stands =
     gives_after (declare_names block (declared_by item.subject) progress.known.here) λ here.
-    in_turn (typed_item_stands progress.known block item (flags_of progress.known.procedures) stands.own formed.1)
+    in_turn (typed_item_stands progress.known block item (flags_of progress.known.procedures)
+    stands.own formed.1)
     λ typed is.
     gives_after (require (nat_le (size_of_item typed) OBJECT_LIMIT) TooLarge (place_of_item item)) λ small.
-    in_turn (objects_more block typed (declared_by item.subject) progress is.home is.size stands) λ after goes.
+    in_turn (objects_more block typed (declared_by item.subject) progress is.home is.size stands)
+    λ after goes.
     gives_ok (record { flags = goes.flags; objects = goes.objects })
 
 element_goes : (block : Block) (element : ElementTree) (progress : Progress) → IsElement element
     → StandsAt block.owner progress
     → Gives (λ after. Goes progress after) (declare_element block element progress)
 element_goes block (LiterallyElement name text) progress formed stands =
-    gives_after (require (not (is_declared_again progress.known.here name.name)) DeclaredTwice (place_of name)) λ once.
+    gives_after
+    (require (not (is_declared_again progress.known.here name.name)) DeclaredTwice (place_of name))
+    λ once.
     gives_after (require (not (is_external block.owner)) ExternalContents (place_of name)) λ placed.
     gives_ok (record { flags = λ number flag is. is; objects = stands.objects })
 element_goes block (ItemElement item) progress formed stands = item_goes block item progress formed stands
@@ -189,7 +202,8 @@ module _ (heading : HeadingTree) (declared : DeclarationTrees) (block : Block) (
         let before = stands.objects number object
         (subst (λ (objects : List TypedObject). slice_get objects number ≡ Some object) heads.objects is) in
         record {
-          home = flags_later its_flags (flags_of opened.known.procedures) number object.home opened_keeps before.home;
+          home = flags_later its_flags (flags_of opened.known.procedures) number object.home
+              opened_keeps before.home;
           size = before.size;
         };
   }
@@ -201,7 +215,8 @@ module _ (heading : HeadingTree) (declared : DeclarationTrees) (block : Block) (
     objects = opened_goes.objects;
   }
     where
-      there : slice_get (its_flags ++ is_some heading.reentrant ∷ []) its_number ≡ Some (is_some heading.reentrant)
+      there : slice_get (its_flags ++ is_some heading.reentrant ∷ []) its_number
+          ≡ Some (is_some heading.reentrant)
       there =
           subst
           (λ (at : ℕ).
@@ -233,8 +248,10 @@ closed_goes heading declared number parameters body before within stands goes =
     let same : flags_of (slice_set within.known.procedures number last) ≡ flags_of within.known.procedures =
     same_flags within.known.procedures number last stands.own in
     record {
-      flags = subst (λ (flags : List Bool). Keeps (flags_of before.known.procedures) flags) (sym same) goes.flags;
-      objects = subst (λ (flags : List Bool). ObjectsStand within.known.objects flags) (sym same) goes.objects;
+      flags = subst (λ (flags : List Bool). Keeps (flags_of before.known.procedures) flags)
+          (sym same) goes.flags;
+      objects =
+          subst (λ (flags : List Bool). ObjectsStand within.known.objects flags) (sym same) goes.objects;
     }
 
 -- what a statement gives
@@ -254,7 +271,8 @@ pub list_goes : (owner : Owner) (trees : StatementTrees)
     → GoesOn progress (list_of trees typed_from progress)
 list_goes owner trees typed_from progress stands each =
     let first : Here = into_list (labels_of trees) progress.known.here in
-    in_turn (each progress.known.here.labels (with_here first progress) (here_stands first stands)) λ done goes.
+    in_turn (each progress.known.here.labels (with_here first progress) (here_stands first stands))
+    λ done goes.
     gives_ok (record { flags = goes.flags; objects = goes.objects })
 
 mutual
@@ -264,7 +282,8 @@ mutual
   kind_goes block (trees.AssignmentStatement targets source) progress formed stands =
       from_same stands (assignment_same targets source progress)
   kind_goes block (trees.CallStatement place name values) progress formed stands =
-      from_same stands (call_same name (record { trees = values; typed = arguments progress.known values }) progress)
+      from_same stands
+      (call_same name (record { trees = values; typed = arguments progress.known values }) progress)
   kind_goes block (trees.ReturnStatement place result) progress formed stands =
       from_same stands (return_same place block.owner result progress)
   kind_goes block (trees.HaltStatement place) progress formed stands = gives_ok (goes_nowhere progress stands)
@@ -273,13 +292,16 @@ mutual
   kind_goes block (trees.IfStatement place condition body otherwise) progress formed stands =
       in_turn (from_same stands (value_same condition progress)) λ tested one.
       in_turn (alone_goes block body tested.1 formed.0 (stands_after stands one)) λ chosen two.
-      in_turn (else_goes block otherwise chosen.1 formed.1 (stands_after (stands_after stands one) two)) λ other three.
+      in_turn (else_goes block otherwise chosen.1 formed.1 (stands_after (stands_after stands one) two))
+      λ other three.
       gives_ok (goes_then one (goes_then two three))
   kind_goes block (trees.DoStatement place declared body) progress formed stands =
-      let at : StandsAt block.owner (entered progress) = record { own = stands.own; objects = stands.objects } in
+      let at : StandsAt block.owner (entered progress) =
+      record { own = stands.own; objects = stands.objects } in
       in_turn (declarations_go (inner_block block) declared (entered progress) formed.0 at) λ opened one.
       in_turn
-      (list_goes block.owner body (λ label. statements (inner_block block) body label) opened (stands_after at one)
+      (list_goes block.owner body (λ label. statements (inner_block block) body label) opened
+      (stands_after at one)
       (λ label inside s. statements_go (inner_block block) body label inside formed.1 s)) λ done two.
       let both : Goes (entered progress) done.1 = goes_then one two in
       gives_ok (record { flags = both.flags; objects = both.objects })
@@ -301,7 +323,8 @@ mutual
       gives_ok (goes_then one two)
 
   labelled_goes : (block : Block) (tree : StatementTree) (progress : Progress)
-      → StatementIsFormed tree → StandsAt block.owner progress → GoesOn progress (labelled block tree progress)
+      → StatementIsFormed tree → StandsAt block.owner progress
+      → GoesOn progress (labelled block tree progress)
   labelled_goes block (trees.LabelledStatement labels done) progress formed stands =
       kind_goes block done progress formed stands
 
@@ -317,7 +340,8 @@ mutual
       in_turn (alone_goes block body progress formed stands) λ done one. gives_ok one
 
   cases_go : (block : Block) (trees : StatementTrees) (progress : Progress)
-      → StatementsAreFormed trees → StandsAt block.owner progress → GoesOn progress (cases block trees progress)
+      → StatementsAreFormed trees → StandsAt block.owner progress
+      → GoesOn progress (cases block trees progress)
   cases_go block trees.NoStatements progress formed stands = gives_ok (goes_nowhere progress stands)
   cases_go block (trees.MoreStatements first others) progress formed stands =
       in_turn (alone_goes block first progress formed.0 stands) λ done one.
@@ -327,10 +351,12 @@ mutual
   pub statements_go : (block : Block) (trees : StatementTrees) (label : ℕ) (progress : Progress)
       → StatementsAreFormed trees → StandsAt block.owner progress
       → GoesOn progress (statements block trees label progress)
-  statements_go block trees.NoStatements label progress formed stands = gives_ok (goes_nowhere progress stands)
+  statements_go block trees.NoStatements label progress formed stands =
+      gives_ok (goes_nowhere progress stands)
   statements_go block (trees.MoreStatements first others) label progress formed stands =
       gives_after (declare_labels (labels_before first) progress.known.here) λ here.
-      in_turn (labelled_goes block first (with_here here progress) formed.0 (here_stands here stands)) λ done one.
+      in_turn (labelled_goes block first (with_here here progress) formed.0 (here_stands here stands))
+      λ done one.
       let after : Goes progress done.1 = goes_from_here here one in
       in_turn (statements_go block others (label + length (labels_before first)) done.1 formed.1
       (stands_after stands after)) λ rest two.
@@ -344,7 +370,8 @@ mutual
   declaration_goes block (ProcedureTree heading declared body end_name) progress formed stands =
       let own : Block = own_block heading progress in
       in_turn (opens_procedure block heading declared progress) λ opened heads.
-      let at : StandsAt own.owner opened = opened_stands heading declared block progress opened stands heads in
+      let at : StandsAt own.owner opened =
+      opened_stands heading declared block progress opened stands heads in
       let first : Goes progress opened = opened_goes heading declared block progress opened stands heads in
       in_turn (declarations_go own declared opened formed.0 at) λ within one.
       gives_after (parameter_objects within.known.here heading.parameters) λ parameters.

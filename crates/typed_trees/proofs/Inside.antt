@@ -40,13 +40,15 @@ member_within (first ∷ members) (suc position) member is =
       member_within members position member is,
     )
 
-in_member : (members : List TypedMember) (position offset : ℕ) (subscript : Subscript) (scalar : ScalarType) (bytes : ℕ)
+in_member : (members : List TypedMember) (position offset : ℕ) (subscript : Subscript)
+    (scalar : ScalarType) (bytes : ℕ)
     (found : Option TypedMember)
     → slice_get members position ≡ found
     → offset ≡ sum_by size_of_member (take position members)
     → IsSomeAnd found
     (λ (member : TypedMember). IsSubscriptOf (size_of_scalar member.scalar) member.dimension subscript)
-    → IsSomeAnd found (λ (member : TypedMember). (member.scalar ≡ scalar) × IsOneOf member.dimension subscript)
+    → IsSomeAnd found
+    (λ (member : TypedMember). (member.scalar ≡ scalar) × IsOneOf member.dimension subscript)
     → LiesAt subscript bytes
     → offset + bytes + size_of_scalar scalar ≤ sum_by size_of_member members
 in_member members position offset element scalar bytes None is begins of_it one at = absurd of_it
@@ -69,7 +71,8 @@ scalar_within (ScalarObject own) None offset element scalar bytes is scalar_is a
 scalar_within (ScalarObject own) (Some position) offset element scalar bytes is scalar_is at = absurd is
 scalar_within (StructureObject members) None offset element scalar bytes is scalar_is at = absurd scalar_is
 scalar_within (StructureObject members) (Some position) offset element scalar bytes is scalar_is at =
-    in_member members position offset element scalar bytes (slice_get members position) refl is.0 is.1 scalar_is at
+    in_member members position offset element scalar bytes (slice_get members position) refl
+    is.0 is.1 scalar_is at
 
 -- A scalar of an object, at indices below the dimensions, lies within the object's bytes.
 pub scalar_lies_within : (object : TypedObject) (scalar : ScalarType) (number : ℕ) (subscript : Subscript)

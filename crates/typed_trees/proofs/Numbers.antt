@@ -80,7 +80,8 @@ mutual
   in_else NoElse' = tt
   in_else (SomeElse' statement) = in_statement statement
 
-  in_statement_rows : {count : _} (rows : Row_of-TypedStatement count) → NumbersFitInStatements (statement_rows rows)
+  in_statement_rows : {count : _} (rows : Row_of-TypedStatement count)
+      → NumbersFitInStatements (statement_rows rows)
   in_statement_rows end_of-TypedStatement = tt
   in_statement_rows (more_of-TypedStatement first rest) = (in_statement first, in_statement_rows rest)
 
@@ -88,7 +89,8 @@ in_statements : (statements : List TypedStatement) → NumbersFitInStatements (s
 in_statements [] = tt
 in_statements (first ∷ rest) = (in_statement first, in_statements rest)
 
-in_procedures : (procedures : List TypedProcedure) → AllByRecursion NumbersFitInProcedure (map procedure_view procedures)
+in_procedures : (procedures : List TypedProcedure)
+    → AllByRecursion NumbersFitInProcedure (map procedure_view procedures)
 in_procedures [] = tt
 in_procedures (first ∷ rest) = (in_statements first.body.statements.items, in_procedures rest)
 

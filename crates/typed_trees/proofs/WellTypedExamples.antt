@@ -34,7 +34,8 @@ procedure_of frame_bytes = record {
   body = ListOf 0 [] NoStatements;
 }
 
--- a module with this procedure, its parameter, an array of three BYTEs in its frame, a W ADDRESS, and a B BASED on it
+-- a module with this procedure, its parameter, an array of three BYTEs in its frame, a W ADDRESS, and a B
+-- BASED on it
 abbrev module_with : (frame_bytes : ℕ) → List GlobalItem → TypedModule
 module_with frame_bytes globals = record {
   name = [];
@@ -79,7 +80,8 @@ abbrev is_byte : ScalarType → Bool
 is_byte Byte = true
 is_byte Address = false
 
-byte_less_address : TypesHold one WithinMain (BinaryNode Byte Subtract (byte 1) (ValueNode Address (whole 2))) → ⊥
+byte_less_address : TypesHold one WithinMain (BinaryNode Byte Subtract (byte 1) (ValueNode Address (whole 2)))
+    → ⊥
 byte_less_address is = let same : false ≡ true = ap is_byte is.2.1 in absurd cc
 
 product_of_bytes : TypesHold one WithinMain (BinaryNode Byte Multiply (byte 1) (byte 1)) → ⊥
@@ -93,7 +95,8 @@ without_argument : TypesHold one WithinMain (CallNode 0 Byte NoArguments) → �
 without_argument is = omega (arith, ap (λ (types : List ScalarType). length types) is.0.1)
 
 -- ROL of an ADDRESS
-rotated_address : TypesHold one WithinMain (ShiftNode Address RotateLeft (ValueNode Address (whole 2)) (byte 1)) → ⊥
+rotated_address : TypesHold one WithinMain
+    (ShiftNode Address RotateLeft (ValueNode Address (whole 2)) (byte 1)) → ⊥
 rotated_address is = let same : false ≡ true = ap is_byte is.0 in absurd cc
 
 -- what is BASED on W is seen everywhere; the parameter outside of its procedure is not, and has no location

@@ -6,17 +6,21 @@ use Rattle.typing.specs.{Blocks.{OfProcedure}, internal.ProcedureChecks.{check_b
 use Rattle.types.specs.internal.Walking.{procedure_closed, procedure_inside}
 
 -- three checks, and what is made of the first and the last
-in_four : {P L S Q : Type 0} (a : Checked P) (b : Checked (Unit {0})) (c : Checked (L × S)) (next : P → L → S → Checked Q)
+in_four : {P L S Q : Type 0} (a : Checked P) (b : Checked (Unit {0})) (c : Checked (L × S))
+    (next : P → L → S → Checked Q)
     → (a >>= (λ p. b >>= (λ _. c >>= (λ t. next p t.0 t.1))))
-    ≡ ((a >>= (λ p. b >>= (λ _. c >>= (λ t. Ok ((p, t.0), t.1))))) >>= (λ (inside : (P × L) × S). next inside.0.0 inside.0.1 inside.1))
+    ≡ ((a >>= (λ p. b >>= (λ _. c >>= (λ t. Ok ((p, t.0), t.1)))))
+    >>= (λ (inside : (P × L) × S). next inside.0.0 inside.0.1 inside.1))
 in_four (Err x) b c next = refl
 in_four (Ok p) (Err x) c next = refl
 in_four (Ok p) (Ok _) (Err x) next = refl
 in_four (Ok p) (Ok _) (Ok t) next = refl
 
-module _ (block : Block) (procedure : Procedure) (declared : DeclarationTrees) (same : declared ≡ block_declarations (out-Procedure procedure).body)
+module _ (block : Block) (procedure : Procedure) (declared : DeclarationTrees)
+    (same : declared ≡ block_declarations (out-Procedure procedure).body)
     (progress opened : Progress) (number : ℕ) (numbered : number ≡ length progress.known.procedures)
-    (is : open_procedure block (heading_tree (out-Procedure procedure).heading) declared progress ≡ Ok opened) where
+    (is : open_procedure block (heading_tree (out-Procedure procedure).heading) declared progress
+    ≡ Ok opened) where
   abbrev heading : HeadingTree
   heading = heading_tree (out-Procedure procedure).heading
 
@@ -51,22 +55,29 @@ module _ (block : Block) (procedure : Procedure) (declared : DeclarationTrees) (
       >>= (λ typed. Ok ((parameters, typed.0), typed.1)))))) >>= then_closed)
   inside_joined (Ok within) =
       in_four (parameter_objects within.known.here heading.parameters) (check_body heading body)
-      (list_of body (λ label. statements (own number) body label) within) (procedure_closed heading within_it number)
+      (list_of body (λ label. statements (own number) body label) within)
+      (procedure_closed heading within_it number)
   inside_joined (Err fault) = refl
 
-  procedure_in_turn : declaration block (procedure_parts procedure) progress ≡ (procedure_inside number procedure opened >>= then_closed)
+  procedure_in_turn : declaration block (procedure_parts procedure) progress
+      ≡ (procedure_inside number procedure opened >>= then_closed)
   procedure_in_turn =
-      ap (λ trees. open_procedure block heading trees progress >>= after_heading (length progress.known.procedures)) (sym same)
+      ap (λ trees. open_procedure block heading trees progress
+      >>= after_heading (length progress.known.procedures)) (sym same)
       ∙ ap (λ given. given >>= after_heading (length progress.known.procedures)) is
       ∙ ap (λ n. after_heading n opened) (sym numbered)
       ∙ inside_joined (declarations (own number) within_it opened)
 
-  pub procedure_fails : (fault : Option Fault) → FailsBy fault (procedure_inside number procedure opened) → FailsBy fault (declaration block (procedure_parts procedure) progress)
+  pub procedure_fails : (fault : Option Fault) → FailsBy fault (procedure_inside number procedure opened)
+      → FailsBy fault (declaration block (procedure_parts procedure) progress)
   procedure_fails fault fails =
-      subst (FailsBy fault) (sym procedure_in_turn) (fails_more fault (procedure_inside number procedure opened) then_closed fails)
+      subst (FailsBy fault) (sym procedure_in_turn)
+      (fails_more fault (procedure_inside number procedure opened) then_closed fails)
 
-  pub procedure_whole : (inside : List ℕ × TypedList) (after : Progress) → procedure_inside number procedure opened ≡ Ok (inside, after)
-      → procedure_closed heading declared number inside.0 inside.1 after ≡ declaration block (procedure_parts procedure) progress
+  pub procedure_whole : (inside : List ℕ × TypedList) (after : Progress)
+      → procedure_inside number procedure opened ≡ Ok (inside, after)
+      → procedure_closed heading declared number inside.0 inside.1 after
+      ≡ declaration block (procedure_parts procedure) progress
   procedure_whole inside after given =
       ap (λ trees. procedure_closed heading trees number inside.0 inside.1 after) same
       ∙ sym (procedure_in_turn ∙ ap (λ result. result >>= then_closed) given)

@@ -12,13 +12,18 @@ in_four (Err x) b c next = refl
 in_four (Ok _) (Err x) c next = refl
 in_four (Ok _) (Ok _) c next = refl
 
-pub counter_fails : (known : Known) (number : ℕ) (name : Identifier) (object : TypedObject) (fault : Option Fault)
-    → object_of known name number ≡ Ok object → FailsBy fault (counter_type object name) → FailsBy fault (counter_bound known (Declared (Object number)) name)
+pub counter_fails : (known : Known) (number : ℕ) (name : Identifier) (object : TypedObject)
+    (fault : Option Fault)
+    → object_of known name number ≡ Ok object → FailsBy fault (counter_type object name)
+    → FailsBy fault (counter_bound known (Declared (Object number)) name)
 counter_fails known number name object fault is fails =
     let counter : ScalarType → Checked Counter = λ scalar. Ok (record { object = number; scalar = scalar }) in
-    let fits : TypedObject → Checked (Unit {0}) = λ one. require (is_none one.dimension && is_not_based one.home) NoCounter (place_of name) in
-    let scalar : TypedObject → Checked ScalarType = λ one. found (scalar_of one.object_type) NoCounter (place_of name) in
+    let fits : TypedObject → Checked (Unit {0}) =
+    λ one. require (is_none one.dimension && is_not_based one.home) NoCounter (place_of name) in
+    let scalar : TypedObject → Checked ScalarType =
+    λ one. found (scalar_of one.object_type) NoCounter (place_of name) in
     subst (FailsBy fault)
-    (sym (ap (λ (given : Checked TypedObject). given >>= (λ one. is_writable one name >>= (λ _. fits one >>= (λ _. scalar one >>= counter)))) is
+    (sym (ap (λ (given : Checked TypedObject). given
+    >>= (λ one. is_writable one name >>= (λ _. fits one >>= (λ _. scalar one >>= counter)))) is
     ∙ in_four (is_writable object name) (fits object) (scalar object) counter))
     (fails_more fault (counter_type object name) counter fails)

@@ -38,7 +38,8 @@ module _ {lists : List Names} {outer : List Body} where
   declare_names_is block [] here is = is
   declare_names_is block (name ∷ others) here is =
       then_any _ (require (not (is_declared_again here name.name)) DeclaredTwice (place_of name)) _ (λ is_new.
-      then_any _ (require (not (is_external block.owner) || declares_parameter block name.name) ExternalContents
+      then_any _
+      (require (not (is_external block.owner) || declares_parameter block name.name) ExternalContents
       (place_of name)) _ (λ may_stand.
       declare_names_is block others (with_object name.name here)
       (record { lists_are = is.lists_are; outer_are = is.outer_are })))
@@ -70,7 +71,8 @@ module _ {lists : List Names} {outer : List Body} where
       → IsAt lists outer progress.known
       → IfOk (declare_definition block name progress) (λ after. IsAt lists outer after.known)
   declare_definition_is block name progress at =
-      then_any _ (require (not (is_declared_again progress.known.here name.name)) DeclaredTwice (place_of name)) _
+      then_any _
+      (require (not (is_declared_again progress.known.here name.name)) DeclaredTwice (place_of name)) _
       (λ is_new.
       then_any _ (require (not (is_external block.owner)) ExternalContents (place_of name)) _ (λ may_stand.
       record {
@@ -81,7 +83,8 @@ module _ {lists : List Names} {outer : List Body} where
   declare_element_is : (block : Block) (element : ElementTree) (progress : Progress)
       → IsAt lists outer progress.known
       → IfOk (declare_element block element progress) (λ after. IsAt lists outer after.known)
-  declare_element_is block (LiterallyElement name text) progress at = declare_definition_is block name progress at
+  declare_element_is block (LiterallyElement name text) progress at =
+      declare_definition_is block name progress at
   declare_element_is block (ItemElement item) progress at = declare_item_is block item progress at
 
   pub declare_elements_is : (block : Block) (elements : List ElementTree) (progress : Progress)
@@ -89,7 +92,8 @@ module _ {lists : List Names} {outer : List Body} where
       → IfOk (declare_elements block elements progress) (λ after. IsAt lists outer after.known)
   declare_elements_is block [] progress at = at
   declare_elements_is block (element ∷ others) progress at =
-      then_checks _ _ (declare_element block element progress) _ (declare_element_is block element progress at)
+      then_checks _ _ (declare_element block element progress) _
+      (declare_element_is block element progress at)
       (λ after at_after.
       declare_elements_is block others after at_after)
 
@@ -132,7 +136,8 @@ pub close_procedure_is : {outer : List Body} (own : List Names) (body : Body) (h
     → IsAt body.lists outer (close_procedure heading declared number parameters typed progress).known
 close_procedure_is own body heading declared number parameters typed progress is at = record {
   here = out_of_body_is body progress.known.here progress.known.here.outer_bodies at.here.outer_are;
-  procedures = All-set (λ (procedure : TypedProcedure). BodyIsSound procedure.body) progress.known.procedures number
+  procedures =
+      All-set (λ (procedure : TypedProcedure). BodyIsSound procedure.body) progress.known.procedures number
       (procedure_with heading (parameter_types declared heading.parameters) parameters progress.frame typed)
       is at.procedures;
 }

@@ -10,14 +10,16 @@ abbrev names_of : List Identifier → List (List ℕ)
 names_of identifiers = map (λ (identifier : Identifier). identifier.name) identifiers
 
 -- the names of an item
-declare_names-fit : (objects procedures : List (List ℕ)) (block : Block) (names : List Identifier) (here : Here)
+declare_names-fit : (objects procedures : List (List ℕ)) (block : Block)
+    (names : List Identifier) (here : Here)
     → Fits objects procedures here
     → Gives (Fits (objects ++ names_of names) procedures) (declare_names block names here)
 declare_names-fit objects procedures block [] here fits =
     gives_ok (subst (λ k. Fits k procedures here) (sym (append-nil objects)) fits)
 declare_names-fit objects procedures block (name ∷ others) here fits =
     gives_after (require (not (is_declared_again here name.name)) DeclaredTwice (place_of name)) λ once.
-    gives_after (require (not (is_external block.owner) || declares_parameter block name.name) ExternalContents
+    gives_after
+    (require (not (is_external block.owner) || declares_parameter block name.name) ExternalContents
     (place_of name)) λ placed.
     subst (λ k. Gives (Fits k procedures) (declare_names block others (with_object name.name here)))
     (append_assoc objects (name.name ∷ []) (names_of others))
@@ -44,7 +46,8 @@ with_objects-adds block item (name ∷ others) progress =
     let objects : List TypedObject = progress.known.objects in
     gives_after (require (nat_le (with_typed_object item.linkage object progress).frame FRAME_LIMIT) TooLarge
     (place_of name)) λ small.
-    then_more (with_objects-adds block item others (with_typed_object item.linkage object progress)) λ after rest.
+    then_more (with_objects-adds block item others (with_typed_object item.linkage object progress))
+    λ after rest.
     record {
       named = rest.named
           ∙ ap (λ k. k ++ names_of others)
@@ -62,7 +65,8 @@ Nothing tables = Unit {0}
 -- a part that adds objects, and after which these names are known
 walked_objects : (names : List Identifier) (before after : Progress) (here : Here)
     → ObjectsAdded names before after
-    → Fits (object_names before.known.objects ++ names_of names) (procedure_names before.known.procedures) here
+    → Fits (object_names before.known.objects ++ names_of names)
+    (procedure_names before.known.procedures) here
     → Walked before (with_here here after) [] Nothing
 walked_objects names before after here added fits = record {
   holds = subst (λ k. Fits k (procedure_names after.known.procedures) here) (sym added.named)
@@ -93,7 +97,9 @@ declare_item-walks block item progress holds =
 declare_definition-walks : (block : Block) (name : Identifier) (progress : Progress) → Holds progress
     → Gives (λ after. Walked progress after [] Nothing) (declare_definition block name progress)
 declare_definition-walks block name progress holds =
-    gives_after (require (not (is_declared_again progress.known.here name.name)) DeclaredTwice (place_of name)) λ once.
+    gives_after
+    (require (not (is_declared_again progress.known.here name.name)) DeclaredTwice (place_of name))
+    λ once.
     gives_after (require (not (is_external block.owner)) ExternalContents (place_of name)) λ placed.
     gives_ok
     (walked_to (with_definition name.name progress.known.here) (with_definition-fits name.name)
@@ -105,9 +111,11 @@ declare_element-walks block (LiterallyElement name text) progress holds =
     declare_definition-walks block name progress holds
 declare_element-walks block (ItemElement item) progress holds = declare_item-walks block item progress holds
 
-pub declare_elements-walk : (block : Block) (elements : List ElementTree) (progress : Progress) → Holds progress
+pub declare_elements-walk : (block : Block) (elements : List ElementTree) (progress : Progress)
+    → Holds progress
     → Gives (λ after. Walked progress after [] Nothing) (declare_elements block elements progress)
-declare_elements-walk block [] progress holds = gives_ok (walked_nothing progress holds (λ tables reaches. tt))
+declare_elements-walk block [] progress holds =
+    gives_ok (walked_nothing progress holds (λ tables reaches. tt))
 declare_elements-walk block (element ∷ others) progress holds =
     in_turn (declare_element-walks block element progress holds) λ between one.
     then_more (declare_elements-walk block others between one.holds) λ after rest.
@@ -119,7 +127,8 @@ declare_parameters-fit : (objects procedures : List (List ℕ)) (parameters : Li
     → Gives (Fits objects procedures) (declare_parameters parameters here)
 declare_parameters-fit objects procedures [] here fits = gives_ok fits
 declare_parameters-fit objects procedures (parameter ∷ others) here fits =
-    gives_after (require (not (is_parameter_again here parameter.name)) DeclaredTwice (place_of parameter)) λ once.
+    gives_after (require (not (is_parameter_again here parameter.name)) DeclaredTwice (place_of parameter))
+    λ once.
     declare_parameters-fit objects procedures others (with_parameter parameter.name here)
     (with_parameter-fits parameter.name fits)
 
@@ -134,7 +143,8 @@ procedure_names-append procedures procedure =
     map-append (λ (procedure : TypedProcedure). procedure.name) procedures (procedure ∷ [])
 
 -- at its heading a procedure is added at the end of the table
-pub record Opened (heading : HeadingTree) (declared : DeclarationTrees) (before after : Progress) : Type 0 where
+pub record Opened (heading : HeadingTree) (declared : DeclarationTrees)
+    (before after : Progress) : Type 0 where
   pub holds : Holds after
   pub reaches : (tables : TypedModule) → Reaches tables after → Reaches tables before
   pub appended : after.known.procedures ≡ before.known.procedures ++ heading_procedure heading declared ∷ []
@@ -147,7 +157,8 @@ opened_with : (heading : HeadingTree) (declared : DeclarationTrees) (progress : 
 opened_with heading declared progress here fits =
     let procedure : TypedProcedure = heading_procedure heading declared in
     let procedures : List TypedProcedure = progress.known.procedures in
-    let names : procedure_names (procedures ++ procedure ∷ []) ≡ procedure_names procedures ++ procedure.name ∷ [] =
+    let names : procedure_names (procedures ++ procedure ∷ [])
+    ≡ procedure_names procedures ++ procedure.name ∷ [] =
     procedure_names-append procedures procedure in
     record {
       holds = subst (λ k. Fits (object_names progress.known.objects) k here) (sym names) fits;
@@ -172,7 +183,8 @@ open_procedure-opens block heading declared progress holds =
     (place_of heading.name)) λ placed.
     in_turn
     (declare_parameters-fit (object_names progress.known.objects)
-    (procedure_names progress.known.procedures ++ heading.name.name ∷ []) (take PARAMETER_LIMIT heading.parameters)
+    (procedure_names progress.known.procedures ++ heading.name.name ∷ [])
+    (take PARAMETER_LIMIT heading.parameters)
     (into_body (with_procedure heading.name.name progress.known.here))
     (into_body-fits (with_procedure-fits heading.name.name holds))) λ here fits.
     gives_after (no_more_parameters (drop PARAMETER_LIMIT heading.parameters)) λ few.
@@ -180,7 +192,8 @@ open_procedure-opens block heading declared progress holds =
     gives_after (check_reentrant heading.linkage heading.reentrant) λ reentrant.
     gives_ok (opened_with heading declared progress here fits)
 
-pub same_names : (before : List TypedProcedure) (first last : TypedProcedure) (added table : List TypedProcedure)
+pub same_names : (before : List TypedProcedure) (first last : TypedProcedure)
+    (added table : List TypedProcedure)
     → first.name ≡ last.name
     → table ≡ (before ++ first ∷ []) ++ added
     → procedure_names (slice_set table (length before) last) ≡ procedure_names table
@@ -218,9 +231,11 @@ walked_procedure heading declared parameters body text texts before opened withi
       reaches.2,
     ) in
     record {
-      holds = subst (λ k. Fits (object_names within.known.objects) k (out_of_body within.known.here)) (sym names)
+      holds = subst (λ k. Fits (object_names within.known.objects) k (out_of_body within.known.here))
+          (sym names)
           (out_of_body-fits inside.holds);
-      reaches = λ tables reaches. heads.reaches tables (inside.reaches tables (reaches_inside tables reaches));
+      reaches =
+          λ tables reaches. heads.reaches tables (inside.reaches tables (reaches_inside tables reaches));
       added = last ∷ inside.added;
       appended = closed_table procedures first last inside.added within.known.procedures is;
       bodies = λ tables reaches.

@@ -6,7 +6,8 @@ use Rattle.typing.proofs.Tables.{keeps_append}
 use Rattle.typing.proofs.NamesBack.{Binds, is_object}
 
 -- a reference of the text, as it is given
-plain_member_given : (known : Known) (part : MemberTree) → plain_given_member (given_member known part) ≡ plain_member part
+plain_member_given : (known : Known) (part : MemberTree)
+    → plain_given_member (given_member known part) ≡ plain_member part
 plain_member_given known NoMember = refl
 plain_member_given known (MemberOf name trees) = refl
 
@@ -25,7 +26,8 @@ target_given known reference constants back =
 
 -- constants and constant lists
 constant_back : (constant : ConstantTree)
-    → Gives (λ node. (tables : TypedModule) → untyped_expression tables node ≡ number_leaf (number_in constant))
+    → Gives (λ node. (tables : TypedModule)
+    → untyped_expression tables node ≡ number_leaf (number_in constant))
     (number_node constant)
 constant_back (NumberConstant number) = gives_ok (λ tables. refl)
 constant_back (StringConstant string) =
@@ -39,20 +41,26 @@ list_kept known list constants = record {
   grows = λ number bytes e. keeps_append constants.lists (bytes_of_constants list ∷ []) number bytes e;
   says = λ tables agrees has.
       ap (λ found. byte_list (unwrap_or found []))
-      (has (length constants.lists) (bytes_of_constants list) (got_first constants.lists (bytes_of_constants list) []));
+      (has (length constants.lists) (bytes_of_constants list)
+      (got_first constants.lists (bytes_of_constants list) []));
 }
 
 mutual
   pub expression_kept : (known : Known) (tree : ExpressionTree) (constants : Constants)
-      → Gives (GivesTree known untyped_expression (plain_expression tree) constants) (expression known tree constants)
+      → Gives (GivesTree known untyped_expression (plain_expression tree) constants)
+      (expression known tree constants)
   expression_kept known (ConstantLeaf constant) constants =
       in_turn (constant_back constant) (λ node is.
       gives_ok (kept_at (λ tables agrees. is tables)))
   expression_kept known (ReferenceLeaf reference) constants =
-      then_more (value_back known (given_reference known reference) constants (reference_kept known reference)) (λ found kept.
+      then_more
+      (value_back known (given_reference known reference) constants (reference_kept known reference))
+      (λ found kept.
       kept_more kept (λ tables agrees is. is ∙ ap ReferenceLeaf (plain_reference_given known reference)))
   expression_kept known (LocationLeaf reference) constants =
-      then_more (location_back known (given_reference known reference) constants (reference_kept known reference)) (λ found kept.
+      then_more
+      (location_back known (given_reference known reference) constants (reference_kept known reference))
+      (λ found kept.
       kept_more kept (λ tables agrees is. is ∙ ap LocationLeaf (plain_reference_given known reference)))
   expression_kept known (ListLeaf list) constants = gives_ok (list_kept known list constants)
   expression_kept known (ParenthesizedNode inner) constants = expression_kept known inner constants
@@ -74,7 +82,8 @@ mutual
       let other_more = as_type_back tables scalar second.0 in
       cc))))
 
-  pub reference_kept : (known : Known) (reference : ReferenceTree) → ReferenceBack known (given_reference known reference)
+  pub reference_kept : (known : Known) (reference : ReferenceTree)
+      → ReferenceBack known (given_reference known reference)
   reference_kept known (ReferenceTo name trees part) = (arguments_kept known trees, member_kept known part)
 
   member_kept : (known : Known) (part : MemberTree) → MemberBack known (given_member known part)
@@ -94,17 +103,20 @@ mutual
 pub target_kept : (known : Known) (reference : ReferenceTree) (constants : Constants)
     → Gives (GivesTarget known (plain_reference reference) constants)
     (destination_of known (given_reference known reference) constants)
-target_kept known reference constants = target_given known reference constants (reference_kept known reference)
+target_kept known reference constants =
+    target_given known reference constants (reference_kept known reference)
 
 -- the arguments of a call
 abbrev pub given_arguments : Known → ArgumentTrees → Given
 given_arguments known trees = record { trees = trees; typed = arguments known trees }
 
-pub call_kept : (known : Known) (procedure : TypedProcedure) (place : Place) (trees : ArgumentTrees) (constants : Constants)
+pub call_kept : (known : Known) (procedure : TypedProcedure) (place : Place) (trees : ArgumentTrees)
+    (constants : Constants)
     → Gives (GivesTree known untyped_arguments (plain_arguments trees) constants)
     (call_arguments procedure place (given_arguments known trees) constants)
 call_kept known procedure place trees constants =
-    call_arguments_kept known procedure place (given_arguments known trees) constants (arguments_kept known trees)
+    call_arguments_kept known procedure place (given_arguments known trees) constants
+    (arguments_kept known trees)
 
 -- the variable of an iterative DO
 pub counter_named : (known : Known) (binding : Binding) (name : Identifier)
@@ -114,7 +126,8 @@ pub counter_named : (known : Known) (binding : Binding) (name : Identifier)
 counter_named known (Declared (Object number)) name bound_to =
     in_turn (is_object known name number bound_to) (λ object stands.
     in_turn (anything (is_writable object name)) (λ _ _.
-    in_turn (anything (require (is_none object.dimension && is_not_based object.home) NoCounter (place_of name))) (λ _ _.
+    in_turn (anything (require (is_none object.dimension && is_not_based object.home) NoCounter
+    (place_of name))) (λ _ _.
     in_turn (is_found (scalar_of object.object_type) _ _) (λ scalar _.
     gives_ok (λ tables agrees. (stands.in_tables tables agrees).0)))))
 counter_named known binding name bound_to = gives_fault

@@ -9,9 +9,11 @@ abbrev pub global_heading : ℕ × Heading → Option ℕ
 global_heading numbered = if is_global (numbered.1).2 then Some numbered.0 else None
 
 -- the globals so far
-pub record Listed (objects : List TypedObject) (heads : List Heading) (globals : List GlobalItem) : Type 0 where
+pub record Listed (objects : List TypedObject) (heads : List Heading)
+    (globals : List GlobalItem) : Type 0 where
   pub objects_stand : filter_map shared_object globals ≡ filter_map global_object (enumerate_from 0 objects)
-  pub procedures_stand : filter_map shared_procedure globals ≡ filter_map global_heading (enumerate_from 0 heads)
+  pub procedures_stand : filter_map shared_procedure globals
+      ≡ filter_map global_heading (enumerate_from 0 heads)
   pub here : All (λ (object : TypedObject). IsHereIfPublic object.home object.is_public) objects
 
 pub none_listed : Listed [] [] []
@@ -21,7 +23,8 @@ abbrev listed_if : Bool → ℕ → List ℕ
 listed_if is number = if is then number ∷ [] else []
 
 -- one more global in the list, and one more in a table
-shared_more : (share : GlobalItem → Option ℕ) (linkage : Option Linkage) (item : GlobalItem) (globals : List GlobalItem)
+shared_more : (share : GlobalItem → Option ℕ) (linkage : Option Linkage) (item : GlobalItem)
+    (globals : List GlobalItem)
     (number : ℕ)
     → share item ≡ Some number
     → filter_map share (with_global linkage item globals)
@@ -31,7 +34,8 @@ shared_more share (Some linkage) item globals number is =
     filter_map-append share globals (item ∷ [])
     ∙ ap (λ (found : Option ℕ). filter_map share globals ++ cons_option found []) is
 
-shared_same : (share : GlobalItem → Option ℕ) (linkage : Option Linkage) (item : GlobalItem) (globals : List GlobalItem)
+shared_same : (share : GlobalItem → Option ℕ) (linkage : Option Linkage) (item : GlobalItem)
+    (globals : List GlobalItem)
     → share item ≡ None
     → filter_map share (with_global linkage item globals) ≡ filter_map share globals
 shared_same share None item globals is = refl
@@ -51,7 +55,8 @@ global_more numbered before x is e =
     ∙ by is
   where
     by : (is : Bool)
-        → filter_map numbered (enumerate_from 0 before) ++ cons_option (if is then Some (length before) else None) []
+        → filter_map numbered (enumerate_from 0 before)
+        ++ cons_option (if is then Some (length before) else None) []
         ≡ filter_map numbered (enumerate_from 0 before) ++ listed_if is (length before)
     by true = refl
     by false = refl
@@ -59,9 +64,11 @@ global_more numbered before x is e =
 -- whether an object or a procedure is shared is what its linkage says
 abbrev pub LinkageFits : Option Linkage → Home → Type 0
 LinkageFits linkage home =
-    (is_shared home (is_public_linkage linkage) ≡ is_some linkage) × IsHereIfPublic home (is_public_linkage linkage)
+    (is_shared home (is_public_linkage linkage) ≡ is_some linkage)
+    × IsHereIfPublic home (is_public_linkage linkage)
 
-pub object_listed : {objects : List TypedObject} {heads : List Heading} {globals : List GlobalItem} (block : Block)
+pub object_listed : {objects : List TypedObject} {heads : List Heading}
+    {globals : List GlobalItem} (block : Block)
     (item : TypedItem) (name : List ℕ)
     → LinkageFits item.linkage item.home
     → Listed objects heads globals
@@ -78,7 +85,8 @@ object_listed {objects} {heads} {globals} block item name fits listed =
           (ap (λ (is : Bool). if is then Some number else None) fits.0));
       procedures_stand = shared_same shared_procedure item.linkage (GlobalObject number) globals refl
           ∙ listed.procedures_stand;
-      here = All-append IsHere objects (object ∷ []) listed.here (All-cons IsHere object [] fits.1 (All-nil IsHere));
+      here = All-append IsHere objects (object ∷ []) listed.here
+          (All-cons IsHere object [] fits.1 (All-nil IsHere));
     }
 
 visible : (linkage : Option Linkage) → is_global (visibility_of linkage) ≡ is_some linkage
@@ -95,8 +103,10 @@ procedure_listed {objects} {heads} {globals} heading head number seen is listed 
   objects_stand = shared_same shared_object heading.linkage (GlobalProcedure number) globals refl
       ∙ listed.objects_stand;
   procedures_stand = shared_more shared_procedure heading.linkage (GlobalProcedure number) globals number refl
-      ∙ ap (λ (numbers : List ℕ). numbers ++ listed_if (is_some heading.linkage) number) listed.procedures_stand
-      ∙ ap (λ (at : ℕ). filter_map global_heading (enumerate_from 0 heads) ++ listed_if (is_some heading.linkage) at) is
+      ∙ ap (λ (numbers : List ℕ). numbers ++ listed_if (is_some heading.linkage) number)
+      listed.procedures_stand
+      ∙ ap (λ (at : ℕ). filter_map global_heading (enumerate_from 0 heads)
+      ++ listed_if (is_some heading.linkage) at) is
       ∙ sym (global_more global_heading heads head (is_some heading.linkage)
       (ap (λ (is : Bool). if is then Some (length heads) else None)
       (ap is_global seen ∙ visible heading.linkage)));
@@ -142,12 +152,14 @@ rest_is_here (OfProcedure number heading) None false values =
     by false false = tt
 
 typed_base_is : (known : Known) (block : Block) (subject : SubjectTree) (base : Option Identifier)
-    → Gives (λ (found : Option ℕ). is_none base ≡ true → is_none found ≡ true) (typed_base known block subject base)
+    → Gives (λ (found : Option ℕ). is_none base ≡ true → is_none found ≡ true)
+    (typed_base known block subject base)
 typed_base_is known block subject None = gives_ok (λ is. refl)
 typed_base_is known block subject (Some name) = record { holds = λ found e is. absurd cc }
 
 linkage_is_free : (block : Block) (item : ItemTree) (linkage : Option Linkage)
-    → Gives (λ _. is_some linkage ≡ true → is_none (base_of item.subject) ≡ true) (check_linkage block item linkage)
+    → Gives (λ _. is_some linkage ≡ true → is_none (base_of item.subject) ≡ true)
+    (check_linkage block item linkage)
 linkage_is_free block item None = gives_ok (λ is. absurd cc)
 linkage_is_free block item (Some linkage) =
     then_more (required (is_module_level block && is_none (base_of item.subject)) _ _) λ _ is some.

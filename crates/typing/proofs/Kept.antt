@@ -40,7 +40,8 @@ pub then_more : {A : Type 0} {P Q : A → Type 0} {result : Checked A}
 then_more is more = record { holds = λ a e. more a (is.holds a e) }
 
 -- what the two simple checks give
-pub required : (test : Bool) (cause : Cause) (place : Place) → Gives (λ _. test ≡ true) (require test cause place)
+pub required : (test : Bool) (cause : Cause) (place : Place)
+    → Gives (λ _. test ≡ true) (require test cause place)
 required true cause place = record { holds = λ _ _. refl }
 required false cause place = record { holds = λ a e. absurd cc }
 

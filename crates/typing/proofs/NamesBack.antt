@@ -20,7 +20,8 @@ spelled built_in_names.RotateLeft = codes "ROL"
 spelled built_in_names.RotateRight = codes "ROR"
 spelled built_in_names.Move = codes "MOVE"
 
-built_in_spelled : (name : List ℕ) (built_in : BuiltIn) → built_in_of name ≡ Some built_in → name ≡ spelled built_in
+built_in_spelled : (name : List ℕ) (built_in : BuiltIn) → built_in_of name ≡ Some built_in
+    → name ≡ spelled built_in
 unfolding built_in_of
 built_in_spelled name built_in e =
     names_known (λ it key. key ≡ spelled it) built_ins name built_in
@@ -78,7 +79,8 @@ is_object known name number e =
 -- a procedure that a name is bound to
 pub is_procedure : (known : Known) (name : Identifier) (number : ℕ)
     → Binds known name (Declared (Procedure number))
-    → Gives (λ procedure. (tables : TypedModule) → Agrees tables known → procedure_name tables number ≡ name.name)
+    → Gives (λ procedure. (tables : TypedModule) → Agrees tables known
+    → procedure_name tables number ≡ name.name)
     (procedure_of known name number)
 is_procedure known name number e =
     then_more (is_found (slice_get known.procedures number) _ _) (λ procedure entry tables agrees.

@@ -26,13 +26,16 @@ pub record IsSound (around : List LabelsOf) (statement : TypedStatement) : Type 
 abbrev pub IsDone : List LabelsOf → List Names → List Body → TypedStatement × Progress → Type 0
 IsDone around lists outer typed = IsSound around typed.0 × IsAt lists outer typed.1.known
 
-moved_is : (around : List LabelsOf) (place : Place) (values : TypedArguments) → IfOk (moved place values) (IsSound around)
+moved_is : (around : List LabelsOf) (place : Place) (values : TypedArguments)
+    → IfOk (moved place values) (IsSound around)
 moved_is around place (MoreTyped count (MoreTyped source (MoreTyped destination NoTyped))) =
     record { jumps = tt; stands = tt; is_no_label = tt }
 moved_is around place values = tt
 
-call_bound_is : (around : List LabelsOf) (known : Known) (binding : Binding) (name : Identifier) (given : Given)
-    (constants : Constants) → IfOk (call_bound known binding name given constants) (λ typed. IsSound around typed.0)
+call_bound_is : (around : List LabelsOf) (known : Known) (binding : Binding)
+    (name : Identifier) (given : Given)
+    (constants : Constants) → IfOk (call_bound known binding name given constants)
+    (λ typed. IsSound around typed.0)
 call_bound_is around known (Declared (Procedure number)) name given constants =
     then_any _ (procedure_of known name number) _ (λ procedure.
     then_any _ (require (is_none procedure.result) CallOfTyped (place_of name)) _ (λ is_untyped.
@@ -41,10 +44,12 @@ call_bound_is around known (Declared (Procedure number)) name given constants =
 call_bound_is around known (BuiltInName Move) name given constants =
     then_any _ (require (count_of_given given == 3) ArgumentCount (place_of name)) _ (λ are_three.
     then_any _ (given.typed constants) _ (λ typed.
-    then_checks _ _ (moved (place_of name) typed.0) _ (moved_is around (place_of name) typed.0) (λ moving is. is)))
+    then_checks _ _ (moved (place_of name) typed.0) _
+    (moved_is around (place_of name) typed.0) (λ moving is. is)))
 call_bound_is around known binding name given constants = tt
 
-goto_bound_is : (around : List LabelsOf) (place : Place) (found : Option Entity) → IfSome found (IsLabelAround around)
+goto_bound_is : (around : List LabelsOf) (place : Place) (found : Option Entity)
+    → IfSome found (IsLabelAround around)
     → IfOk (goto_bound place (option_map_or Declared found UnknownLabel)) (IsSound around)
 goto_bound_is around place None is = tt
 goto_bound_is around place (Some (Label label)) is = record { jumps = is; stands = tt; is_no_label = tt }
@@ -58,10 +63,12 @@ module _ {lists : List Names} {outer : List Body} where
 
   pub assignment_is : (around : List LabelsOf) (targets : List ReferenceTree)
       (source : ExpressionTree) (progress : Progress)
-      → IsAt lists outer progress.known → IfOk (assignment targets source progress) (IsDone around lists outer)
+      → IsAt lists outer progress.known → IfOk (assignment targets source progress)
+      (IsDone around lists outer)
   assignment_is around targets source progress at =
       then_any _ (destinations progress.known targets progress.constants) _ (λ places.
-      then_checks _ _ (value source (with_constants places.1 progress)) _ (value_is source (with_constants places.1 progress) at)
+      then_checks _ _ (value source (with_constants places.1 progress)) _
+      (value_is source (with_constants places.1 progress) at)
       (λ typed after. (record { jumps = tt; stands = tt; is_no_label = tt }, after)))
 
   pub call_is : (around : List LabelsOf) (name : Identifier) (given : Given)
@@ -74,8 +81,10 @@ module _ {lists : List Names} {outer : List Body} where
 
   return_with_is : (around : List LabelsOf) (place : Place)
       (result : Option ScalarType) (tree : Option ExpressionTree) (progress : Progress)
-      → IsAt lists outer progress.known → IfOk (return_with place result tree progress) (IsDone around lists outer)
-  return_with_is around place None None progress at = (record { jumps = tt; stands = tt; is_no_label = tt }, at)
+      → IsAt lists outer progress.known → IfOk (return_with place result tree progress)
+      (IsDone around lists outer)
+  return_with_is around place None None progress at =
+      (record { jumps = tt; stands = tt; is_no_label = tt }, at)
   return_with_is around place (Some scalar) (Some tree) progress at =
       then_checks _ _ (value tree progress) _ (value_is tree progress at)
       (λ typed after. (record { jumps = tt; stands = tt; is_no_label = tt }, after))
@@ -83,9 +92,11 @@ module _ {lists : List Names} {outer : List Body} where
 
   pub return_is : (around : List LabelsOf) (place : Place) (owner : Owner)
       (tree : Option ExpressionTree) (progress : Progress)
-      → IsAt lists outer progress.known → IfOk (return_from place owner tree progress) (IsDone around lists outer)
+      → IsAt lists outer progress.known → IfOk (return_from place owner tree progress)
+      (IsDone around lists outer)
   return_is around place TheModule tree progress at = tt
-  return_is around place (OfProcedure number heading) tree progress at = return_with_is around place heading.result tree progress at
+  return_is around place (OfProcedure number heading) tree progress at =
+      return_with_is around place heading.result tree progress at
 
   pub goto_is : {around : List LabelsOf} (label : Identifier) (progress : Progress)
       → AreAround around lists → IsAt lists outer progress.known
@@ -93,17 +104,20 @@ module _ {lists : List Names} {outer : List Body} where
   goto_is {around = around} label progress are at =
       then_checks _ _ (goto_bound (place_of label) (jump_of progress.known.here label.name)) _
       (goto_bound_is around (place_of label) (known_in progress.known.here.body.lists label.name)
-      (subst (λ (lists : List Names). IfSome (known_in lists label.name) (IsLabelAround around)) (sym at.here.lists_are)
+      (subst (λ (lists : List Names). IfSome (known_in lists label.name) (IsLabelAround around))
+      (sym at.here.lists_are)
       (are.known label.name)))
       (λ typed is. (is, at))
 
   step_is : (tree : Option ExpressionTree) (progress : Progress)
       → IsAt lists outer progress.known → IfOk (step tree progress) (λ typed. IsAt lists outer typed.1.known)
   step_is None progress at = at
-  step_is (Some tree) progress at = then_checks _ _ (value tree progress) _ (value_is tree progress at) (λ typed after. after)
+  step_is (Some tree) progress at =
+      then_checks _ _ (value tree progress) _ (value_is tree progress at) (λ typed after. after)
 
   pub iteration_is : (tree : IterationTree) (progress : Progress)
-      → IsAt lists outer progress.known → IfOk (iteration tree progress) (λ typed. IsAt lists outer typed.1.known)
+      → IsAt lists outer progress.known → IfOk (iteration tree progress)
+      (λ typed. IsAt lists outer typed.1.known)
   iteration_is tree progress at =
       then_any _ (bound progress.known tree.variable) _ (λ binding.
       then_any _ (counter_bound progress.known binding tree.variable) _ (λ counter.

@@ -29,11 +29,13 @@ arguments_as_back tables (scalar ∷ scalars) (MoreTyped first others) =
     cc
 
 -- as many arguments as there are in the text
-plain_number : (trees : ArgumentTrees) → number_of_arguments (plain_arguments trees) ≡ number_of_arguments trees
+plain_number : (trees : ArgumentTrees)
+    → number_of_arguments (plain_arguments trees) ≡ number_of_arguments trees
 plain_number NoArguments = refl
 plain_number (MoreArguments first others) = ap suc (plain_number others)
 
-no_arguments : (trees : ArgumentTrees) → (number_of_arguments trees == 0) ≡ true → plain_arguments trees ≡ NoArguments
+no_arguments : (trees : ArgumentTrees) → (number_of_arguments trees == 0) ≡ true
+    → plain_arguments trees ≡ NoArguments
 no_arguments NoArguments none = refl
 no_arguments (MoreArguments first others) none = absurd (omega (arith, eqb-true _ _ none))
 
@@ -47,9 +49,11 @@ subscript_back tables extent stride None trees typed fits is = sym (no_arguments
 subscript_back tables extent stride (Some dimension) trees NoTyped fits is = is
 subscript_back tables extent stride (Some dimension) trees (MoreTyped index NoTyped) fits is =
     ap one_argument (as_type_back tables Address index) ∙ is
-subscript_back tables AnElement stride (Some dimension) trees (MoreTyped first (MoreTyped second others)) fits is =
+subscript_back tables AnElement stride (Some dimension) trees
+    (MoreTyped first (MoreTyped second others)) fits is =
     absurd (omega (arith, eqb-true _ _ fits, ap number_of_arguments is, plain_number trees))
-subscript_back tables AlsoTheWhole stride (Some dimension) trees (MoreTyped first (MoreTyped second others)) fits is =
+subscript_back tables AlsoTheWhole stride (Some dimension) trees
+    (MoreTyped first (MoreTyped second others)) fits is =
     absurd (omega (arith, leb-true _ _ fits, ap number_of_arguments is, plain_number trees))
 
 -- the member that a structure has by a name has that name
@@ -88,17 +92,20 @@ plain_given_member (WithMember name given) = MemberOf (named name.name) (plain_a
 
 abbrev pub plain_given : GivenReference → ReferenceTree
 plain_given given =
-    ReferenceTo (named given.name.name) (plain_arguments given.arguments.trees) (plain_given_member given.member)
+    ReferenceTo (named given.name.name) (plain_arguments given.arguments.trees)
+    (plain_given_member given.member)
 
 -- what is typed gives back a tree, once its conversions are taken away
 abbrev pub GivesTree : {A B : Type 0} → Known → (TypedModule → A → B) → B → Constants → A × Constants → Type 0
-GivesTree known untyped tree before found = Kept known before found.1 (λ tables. untyped tables found.0 ≡ tree)
+GivesTree known untyped tree before found =
+    Kept known before found.1 (λ tables. untyped tables found.0 ≡ tree)
 
 -- arguments give back their trees, wherever constant lists have come to
 abbrev pub GivenBack : Known → Given → Type 0
 GivenBack known given =
     (constants : Constants)
-    → Gives (GivesTree known untyped_arguments (plain_arguments given.trees) constants) (given.typed constants)
+    → Gives (GivesTree known untyped_arguments (plain_arguments given.trees) constants)
+    (given.typed constants)
 
 abbrev pub MemberBack : Known → GivenMember → Type 0
 MemberBack known WithoutMember = Unit
@@ -127,7 +134,8 @@ GivesPart known element given before found = Kept known before found.1 (λ table
     untyped_subscript tables element ≡ plain_arguments given.arguments.trees
     → untyped_reference tables found.0.reference ≡ plain_given given)
 
-part_with_member_back : (known : Known) (number : ℕ) (object : TypedObject) (element : Subscript) (extent : Extent)
+part_with_member_back : (known : Known) (number : ℕ) (object : TypedObject)
+    (element : Subscript) (extent : Extent)
     (name : Identifier) (values : Given) (part : GivenMember) (constants : Constants)
     → StandsFor known name.name number object
     → MemberBack known part
@@ -137,7 +145,8 @@ part_with_member_back known number object element extent name values WithoutMemb
     gives_ok (kept_at (λ tables agrees is.
     let own = (stands.in_tables tables agrees).0 in
     cc))
-part_with_member_back known number object element extent name values (WithMember member given) constants stands back =
+part_with_member_back known number object element extent name values (WithMember member given)
+    constants stands back =
     in_turn (is_found (members_of object.object_type) _ _) (λ members are.
     in_turn (is_found (member_named members member.name) _ _) (λ place at.
     in_turn (required (takes_subscripts extent place.member.dimension (count_of_given given)) _ _) (λ _ fits.
@@ -146,7 +155,8 @@ part_with_member_back known number object element extent name values (WithMember
     let own = (stands.in_tables tables agrees).0 in
     let called = member_called stands tables agrees members member.name place are at in
     let stride = size_of_scalar place.member.scalar in
-    let index = subscript_back tables extent stride place.member.dimension given.trees typed.0 fits values_back in
+    let index =
+    subscript_back tables extent stride place.member.dimension given.trees typed.0 fits values_back in
     cc))))))
 
 has_no_member : (member : GivenMember) → Gives (λ _. member ≡ WithoutMember) (without_member member)
@@ -154,7 +164,8 @@ has_no_member WithoutMember = gives_ok refl
 has_no_member (WithMember name given) = gives_fault
 
 -- arguments of the parameters' types
-pub call_arguments_kept : (known : Known) (procedure : TypedProcedure) (place : Place) (given : Given) (constants : Constants)
+pub call_arguments_kept : (known : Known) (procedure : TypedProcedure) (place : Place) (given : Given)
+    (constants : Constants)
     → GivenBack known given
     → Gives (GivesTree known untyped_arguments (plain_arguments given.trees) constants)
     (call_arguments procedure place given constants)
@@ -185,7 +196,8 @@ shift_back function place values = gives_fault
 
 -- ports
 character_back : (place : Place) (characters : List ℕ)
-    → Gives (λ port. unwrap_or (number_of_characters characters) 0 ≡ port) (port_of_character place characters)
+    → Gives (λ port. unwrap_or (number_of_characters characters) 0 ≡ port)
+    (port_of_character place characters)
 character_back place (character ∷ []) = in_turn (required (nat_le character 255) _ _) (λ _ _. gives_ok refl)
 character_back place characters = gives_fault
 
@@ -194,7 +206,8 @@ port_back : (place : Place) (trees : ArgumentTrees)
 port_back place (MoreArguments (ConstantLeaf (NumberConstant number)) NoArguments) =
     in_turn (required (nat_le number.value 255) _ _) (λ _ _. gives_ok refl)
 port_back place (MoreArguments (ConstantLeaf (StringConstant string)) NoArguments) =
-    then_more (character_back place string.characters) (λ port e. ap (λ found. one_argument (number_leaf found)) e)
+    then_more (character_back place string.characters)
+    (λ port e. ap (λ found. one_argument (number_leaf found)) e)
 port_back place trees = gives_fault
 
 -- LENGTH, LAST and SIZE: the number of what is measured says which object or member that is
@@ -205,7 +218,8 @@ GivesMeasured known name part =
     (member_tree tables measured.object measured.member NoArguments)
     ≡ ReferenceTo (named name.name) NoArguments (plain_member part))
 
-measured_member_back : (known : Known) (name : Identifier) (number : ℕ) (object : TypedObject) (part : MemberTree)
+measured_member_back : (known : Known) (name : Identifier) (number : ℕ)
+    (object : TypedObject) (part : MemberTree)
     → StandsFor known name.name number object
     → GivesMeasured known name part (measured_member number object part)
 measured_member_back known name number object NoMember stands =
@@ -231,9 +245,11 @@ measured_object_back known binding name part bound_to = gives_fault
 
 measurement_back : (known : Known) (measure : Measure) (place : Place) (trees : ArgumentTrees)
     → Gives (λ node. (tables : TypedModule) → Agrees tables known
-    → untyped_expression tables node ≡ ReferenceLeaf (call_tree (measure_name measure) (plain_arguments trees)))
+    → untyped_expression tables node ≡ ReferenceLeaf
+    (call_tree (measure_name measure) (plain_arguments trees)))
     (measurement known measure place trees)
-measurement_back known measure place (MoreArguments (ReferenceLeaf (ReferenceTo name NoArguments part)) NoArguments) =
+measurement_back known measure place
+    (MoreArguments (ReferenceLeaf (ReferenceTo name NoArguments part)) NoArguments) =
     in_turn (is_bound known name) (λ binding bound_to.
     in_turn (measured_object_back known binding name part bound_to) (λ measured back.
     in_turn (anything (measure_of measure measured (place_of name))) (λ value _.
@@ -249,7 +265,8 @@ GivesTarget known tree before found =
     (from : ScalarType) → untyped_target tables (target_of found.0 from) ≡ tree)
 
 -- A reference whose arguments give back their trees.
-module _ (known : Known) (given : GivenReference) (constants : Constants) (back : ReferenceBack known given) where
+module _ (known : Known) (given : GivenReference) (constants : Constants)
+    (back : ReferenceBack known given) where
   abbrev ReadsAs : ExpressionTree → Checked (TypedExpression × Constants) → Type 0
   ReadsAs tree = Gives (GivesTree known untyped_expression tree constants)
 
@@ -263,7 +280,8 @@ module _ (known : Known) (given : GivenReference) (constants : Constants) (back 
       (part_of number object extent given constants)
   part_back number object extent stands =
       let stride = size_of_element object.object_type in
-      in_turn (required (takes_subscripts extent object.dimension (count_of_given given.arguments)) _ _) (λ _ fits.
+      in_turn (required (takes_subscripts extent object.dimension (count_of_given given.arguments)) _ _)
+      (λ _ fits.
       in_turn (back.0 constants) (λ typed kept.
       then_more (part_with_member_back known number object (subscript_of stride object.dimension typed.0)
       extent given.name given.arguments given.member typed.1 stands back.1) (λ found part.
@@ -295,7 +313,8 @@ module _ (known : Known) (given : GivenReference) (constants : Constants) (back 
       → GivesValue (call_of number procedure given constants)
   call_back number procedure called =
       in_turn (is_found procedure.result _ _) (λ result _.
-      in_turn (call_arguments_kept known procedure (place_of given.name) given.arguments constants back.0) (λ typed kept.
+      in_turn (call_arguments_kept known procedure (place_of given.name) given.arguments constants back.0)
+      (λ typed kept.
       in_turn (has_no_member given.member) (λ _ none.
       gives_ok (kept_more kept (λ tables agrees is.
       ap ReferenceLeaf (plain_call _ _ (sym (called tables agrees)) (sym is) none))))))
@@ -388,7 +407,8 @@ module _ (known : Known) (given : GivenReference) (constants : Constants) (back 
   -- the target that the name is bound to
   bound_target_back : (binding : Binding)
       → Binds known given.name binding
-      → Gives (GivesTarget known (plain_given given) constants) (destination_of_bound known binding given constants)
+      → Gives (GivesTarget known (plain_given given) constants)
+      (destination_of_bound known binding given constants)
   bound_target_back (Declared (Object number)) bound_to =
       in_turn (is_object known given.name number bound_to) (λ object stands.
       in_turn (anything (is_writable object given.name)) (λ _ _.
@@ -401,5 +421,6 @@ module _ (known : Known) (given : GivenReference) (constants : Constants) (back 
       plain_call _ _ (bound_spelled known.here given.name.name built_in_names.Output bound_to) is none))))
   bound_target_back binding bound_to = gives_fault
 
-  pub target_back : Gives (GivesTarget known (plain_given given) constants) (destination_of known given constants)
+  pub target_back : Gives (GivesTarget known (plain_given given) constants)
+      (destination_of known given constants)
   target_back = in_turn (is_bound known given.name) bound_target_back

@@ -5,7 +5,8 @@ use Rattle.typing.proofs.Tables.{Implies, BodyFits, BodiesFit, entity_known, bod
 use Rattle.typing.proofs.Types.TypesKept.{and_more}
 use Rattle.typing.proofs.Types.TypesOfReferences.{Sees}
 
--- what a block's statements stand in; and from where its names are seen, which is the main program where there is no frame
+-- what a block's statements stand in; and from where its names are seen, which is the main program where
+-- there is no frame
 abbrev pub within_of : Owner → Within
 within_of TheModule = WithinMain
 within_of (OfProcedure number heading) = WithinProcedure number heading.result
@@ -79,7 +80,8 @@ seen_weaker one other before after grow more (Label number) name seen = tt
 seen_weaker one other before after grow more Definition name seen = tt
 
 -- names as they are looked up in what is known there
-pub sees_names : (owner : Owner) (known : Known) → Stands owner known.objects known.here → is_external owner ≡ false
+pub sees_names : (owner : Owner) (known : Known) → Stands owner known.objects known.here
+    → is_external owner ≡ false
     → Sees (names_within owner) known
 sees_names owner known stands is_here name number e =
     entity_known (IsSeenIn (names_within owner) known.objects) (IsSeenIn WithinMain known.objects) known.here
@@ -87,11 +89,13 @@ sees_names owner known stands is_here name number e =
     (seen_weaker WithinMain (names_within owner) known.objects known.objects (λ at x e. e)
     (lies_for_all (names_within owner))) name (Object number) e
 
-pub sees_within : (owner : Owner) (known : Known) → Stands owner known.objects known.here → is_external owner ≡ false
+pub sees_within : (owner : Owner) (known : Known) → Stands owner known.objects known.here
+    → is_external owner ≡ false
     → Sees (within_of owner) known
 sees_within owner known stands is_here name number e tables keeps =
     and_more _ _ (slice_get tables.objects number)
-    (λ object seen. seen_more tables (names_within owner) (within_of owner) object.home (names_lie owner) seen)
+    (λ object seen. seen_more tables (names_within owner) (within_of owner) object.home
+    (names_lie owner) seen)
     (sees_names owner known stands is_here name number e tables keeps)
 
 -- into parts of a body and out of them
@@ -139,7 +143,8 @@ module _ {owner : Owner} {objects : List TypedObject} {here : Here} (stands : St
   with_label-stands name = record { count = stands.count; inside = stands.inside; outside = stands.outside }
 
   pub with_parameter-stands : (name : List ℕ) → Stands owner objects (with_parameter name here)
-  with_parameter-stands name = record { count = stands.count; inside = stands.inside; outside = stands.outside }
+  with_parameter-stands name =
+      record { count = stands.count; inside = stands.inside; outside = stands.outside }
 
   pub with_definition-stands : (name : List ℕ) → Stands owner objects (with_definition name here)
   with_definition-stands name = record {
@@ -160,8 +165,10 @@ module _ {owner : Owner} {objects : List TypedObject} {here : Here} (stands : St
   }
 
 -- labels that are declared
-pub declare_labels-stand : {owner : Owner} {objects : List TypedObject} (labels : List Identifier) (here : Here)
-    → Stands owner objects here → Gives (λ after. Stands owner objects after × (after.outer_bodies ≡ here.outer_bodies))
+pub declare_labels-stand : {owner : Owner} {objects : List TypedObject}
+    (labels : List Identifier) (here : Here)
+    → Stands owner objects here → Gives
+    (λ after. Stands owner objects after × (after.outer_bodies ≡ here.outer_bodies))
     (declare_labels labels here)
 declare_labels-stand [] here stands = gives_ok (stands, refl)
 declare_labels-stand (label ∷ others) here stands =
@@ -169,7 +176,8 @@ declare_labels-stand (label ∷ others) here stands =
     declare_labels-stand others (with_label label.name here) (with_label-stands stands label.name)
 
 -- into the body of a procedure: what is around it has no frame
-pub into_body-stands : {owner : Owner} {objects : List TypedObject} {here : Here} (number : ℕ) (heading : HeadingTree)
+pub into_body-stands : {owner : Owner} {objects : List TypedObject} {here : Here} (number : ℕ)
+    (heading : HeadingTree)
     → is_reentrant owner ≡ false → is_external owner ≡ false → Stands owner objects here
     → Stands (OfProcedure number heading) objects (into_body here)
 into_body-stands {owner} {objects} {here} number heading no_frame is_here stands = record {
@@ -177,14 +185,16 @@ into_body-stands {owner} {objects} {here} number heading no_frame is_here stands
   inside = λ _. (tt, tt, tt);
   outside = (
     body_weaker (IsSeenIn (names_within owner) objects) (IsSeenIn WithinMain objects)
-        (seen_weaker (names_within owner) WithinMain objects objects (λ at x e. e) (in_no_frame owner no_frame))
+        (seen_weaker (names_within owner) WithinMain objects objects (λ at x e. e)
+        (in_no_frame owner no_frame))
         here.body (stands.inside is_here),
     stands.outside,
   );
 }
   where
     by : (number : ℕ) (result : Option ScalarType) (home : Home) (in_frame : Bool) → in_frame ≡ false
-        → LiesFor (if in_frame then WithinProcedure number result else WithinMain) home → LiesFor WithinMain home
+        → LiesFor (if in_frame then WithinProcedure number result else WithinMain) home
+        → LiesFor WithinMain home
     by number result home true is lies = absurd cc
     by number result home false is lies = lies
 
@@ -194,19 +204,25 @@ into_body-stands {owner} {objects} {here} number heading no_frame is_here stands
     in_no_frame (OfProcedure number heading) is home lies =
         by number heading.result home (is_some heading.reentrant) is lies
 
-pub declare_parameters-stand : {owner : Owner} {objects : List TypedObject} (parameters : List Identifier) (here : Here)
-    → Stands owner objects here → Gives (λ after. Stands owner objects after × (after.outer_bodies ≡ here.outer_bodies))
+pub declare_parameters-stand : {owner : Owner} {objects : List TypedObject}
+    (parameters : List Identifier) (here : Here)
+    → Stands owner objects here → Gives
+    (λ after. Stands owner objects after × (after.outer_bodies ≡ here.outer_bodies))
     (declare_parameters parameters here)
 declare_parameters-stand [] here stands = gives_ok (stands, refl)
 declare_parameters-stand (parameter ∷ others) here stands =
-    gives_after (require (not (is_parameter_again here parameter.name)) DeclaredTwice (place_of parameter)) λ once.
-    declare_parameters-stand others (with_parameter parameter.name here) (with_parameter-stands stands parameter.name)
+    gives_after (require (not (is_parameter_again here parameter.name)) DeclaredTwice (place_of parameter))
+    λ once.
+    declare_parameters-stand others (with_parameter parameter.name here)
+    (with_parameter-stands stands parameter.name)
 
 -- out of it: the next of the bodies around it
-pub out_of_body-stands : {inner outer : Owner} {objects : List TypedObject} {here : Here} (body : Body) (bodies : List Body)
+pub out_of_body-stands : {inner outer : Owner} {objects : List TypedObject} {here : Here} (body : Body)
+    (bodies : List Body)
     → here.outer_bodies ≡ body ∷ bodies → Stands inner objects here
     → Stands outer objects (out_of_body here) × ((out_of_body here).outer_bodies ≡ bodies)
-out_of_body-stands {inner} {outer} {objects} {here} body bodies are stands = go here.outer_bodies are stands.outside
+out_of_body-stands {inner} {outer} {objects} {here} body bodies are stands =
+    go here.outer_bodies are stands.outside
   where
     go : (around : List Body) → around ≡ body ∷ bodies → BodiesFit (IsSeenIn WithinMain objects) around
         → Stands outer objects (after_body around here) × ((after_body around here).outer_bodies ≡ bodies)
@@ -234,20 +250,23 @@ declare_names-fit : (block : Block) (P : Entity → List ℕ → Type 0) (names 
 declare_names-fit block P [] here each fits = gives_ok (fits, omega arith, refl)
 declare_names-fit block P (name ∷ others) here each fits =
     gives_after (require (not (is_declared_again here name.name)) DeclaredTwice (place_of name)) λ once.
-    gives_after (require (not (is_external block.owner) || declares_parameter block name.name) ExternalContents
+    gives_after
+    (require (not (is_external block.owner) || declares_parameter block name.name) ExternalContents
     (place_of name)) λ placed.
     then_more (declare_names-fit block P others (with_object name.name here)
     (λ number any low high is_here. each number any (omega (arith, low)) (omega (arith, high)) is_here)
     (λ is_here.
     let body = fits is_here in (
-      names_with-fit P name.name (Object here.objects) (each here.objects name.name (omega arith) (omega arith) is_here)
+      names_with-fit P name.name (Object here.objects)
+          (each here.objects name.name (omega arith) (omega arith) is_here)
           here.body.block body.0,
       body.1,
       body.2,
     ))) λ after is.
     (is.0, omega (arith, is.1), is.2)
 
-pub declare_names-stand : {before after : List TypedObject} (block : Block) (names : List Identifier) (here : Here)
+pub declare_names-stand : {before after : List TypedObject} (block : Block)
+    (names : List Identifier) (here : Here)
     → Keeps before after → length after ≡ length before + length names
     → ((number : ℕ) → length before ≤ number → number < length after → is_external block.owner ≡ false
     → IsSeenIn (names_within block.owner) after (Object number) [])
@@ -268,7 +287,8 @@ declare_names-stand {before} {after} block names here grow longer each stands =
         inside = is.0;
         outside = subst (λ (bodies : List Body). BodiesFit (IsSeenIn WithinMain after) bodies) (sym is.2)
             (bodies_weaker (IsSeenIn WithinMain before) (IsSeenIn WithinMain after)
-            (seen_weaker WithinMain WithinMain before after grow (λ home lies. lies)) here.outer_bodies stands.outside);
+            (seen_weaker WithinMain WithinMain before after grow (λ home lies. lies))
+            here.outer_bodies stands.outside);
       },
       is.2,
     )

@@ -17,7 +17,8 @@ abbrev pub KindBack : StatementKindTree → TypedStatement → TypedModule → T
 KindBack tree statement tables = IsNoLabel statement × (untyped_kind tables statement ≡ plain_kind tree)
 
 -- a statement's kind is typed from one place on
-abbrev pub KindWalks : StatementKindTree → Progress → List trees.StatementTrees → Checked (TypedStatement × Progress) → Type 0
+abbrev pub KindWalks : StatementKindTree → Progress → List trees.StatementTrees
+    → Checked (TypedStatement × Progress) → Type 0
 KindWalks tree before texts checked =
     Gives (λ (done : TypedStatement × Progress). Walked before done.1 texts (KindBack tree done.0)) checked
 
@@ -94,7 +95,8 @@ call_bound-kept known (Declared (Procedure number)) name values constants is =
     in_turn (call_kept known procedure (place_of name) values constants) λ found kept.
     gives_ok (kept_more kept (λ tables agree same. (tt, ap₂ call_statement (its_name tables agree) same)))
 call_bound-kept known (BuiltInName Move) name values constants is =
-    gives_after (require (count_of_given (given_arguments known values) == 3) ArgumentCount (place_of name)) λ three.
+    gives_after (require (count_of_given (given_arguments known values) == 3) ArgumentCount (place_of name))
+    λ three.
     in_turn (arguments_kept known values constants) λ found kept.
     in_turn (moved-back (place_of name) found.0) λ moving back.
     gives_ok
@@ -169,7 +171,8 @@ step-walks (Some tree) progress holds =
 counter-walks : (binding : Binding) (name : Identifier) (progress : Progress) → Holds progress
     → Binds progress.known name binding
     → Gives
-    (λ (counter : Counter). Walked progress progress [] (λ tables. object_name tables counter.object ≡ name.name))
+    (λ (counter : Counter). Walked progress progress []
+    (λ tables. object_name tables counter.object ≡ name.name))
     (counter_bound progress.known binding name)
 counter-walks binding name progress holds is =
     then_more (counter_named progress.known binding name is) λ counter same.

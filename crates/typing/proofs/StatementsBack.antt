@@ -13,7 +13,8 @@ use Rattle.typing.proofs.SimpleStatementsBack.{IsNoLabel, KindWalks, value-walks
 abbrev StatementBack : StatementTree → TypedStatement → TypedModule → Type 0
 StatementBack tree statement tables =
     IsNoLabel statement
-    × (LabelledStatement (without_names (labels_before tree)) (untyped_kind tables statement) ≡ plain_statement tree)
+    × (LabelledStatement (without_names (labels_before tree)) (untyped_kind tables statement)
+    ≡ plain_statement tree)
 
 abbrev AloneBack : StatementTree → TypedStatement → TypedModule → Type 0
 AloneBack tree statement tables =
@@ -22,9 +23,11 @@ AloneBack tree statement tables =
 abbrev StatementsBack : StatementTrees → TypedStatements → TypedModule → Type 0
 StatementsBack trees statements tables = untyped_statements tables statements [] ≡ plain_statements trees
 
-abbrev StatementsWalk : StatementTrees → Progress → List StatementTrees → Checked (TypedStatements × Progress) → Type 0
+abbrev StatementsWalk : StatementTrees → Progress → List StatementTrees
+    → Checked (TypedStatements × Progress) → Type 0
 StatementsWalk trees before texts checked =
-    Gives (λ (done : TypedStatements × Progress). Walked before done.1 texts (StatementsBack trees done.0)) checked
+    Gives (λ (done : TypedStatements × Progress). Walked before done.1 texts (StatementsBack trees done.0))
+    checked
 
 -- a statement that is no label takes the labels before it
 takes_labels : (tables : TypedModule) (statement : TypedStatement) (others : TypedStatements)
@@ -43,7 +46,8 @@ nameless_last : (labels : List Identifier) (label : Identifier) (others : List I
 nameless_last [] label others = refl
 nameless_last (first ∷ labels) label others = ap (λ k. nameless ∷ k) (nameless_last labels label others)
 
-labels_collected : (tables : TypedModule) (number : ℕ) (labels before : List Identifier) (rest : TypedStatements)
+labels_collected : (tables : TypedModule) (number : ℕ) (labels before : List Identifier)
+    (rest : TypedStatements)
     → untyped_statements tables (after_labels number labels rest) (without_names before)
     ≡ untyped_statements tables rest (without_names (labels ++ before))
 labels_collected tables number [] before rest = refl
@@ -69,13 +73,15 @@ pub declare_labels-fit : (objects procedures : List (List ℕ)) (labels : List I
 declare_labels-fit objects procedures [] here fits = gives_ok fits
 declare_labels-fit objects procedures (label ∷ others) here fits =
     gives_after (require (not (is_label_again here label.name)) DeclaredTwice (place_of label)) λ once.
-    declare_labels-fit objects procedures others (with_label label.name here) (with_label-fits label.name fits)
+    declare_labels-fit objects procedures others (with_label label.name here)
+    (with_label-fits label.name fits)
 
 -- a list of statements
 list-walks : (trees : StatementTrees) (texts : List StatementTrees)
     (typed_from : ℕ → Progress → Checked (TypedStatements × Progress)) (progress : Progress)
     → Holds progress
-    → ((label : ℕ) (inside : Progress) → Holds inside → StatementsWalk trees inside texts (typed_from label inside))
+    → ((label : ℕ) (inside : Progress) → Holds inside
+    → StatementsWalk trees inside texts (typed_from label inside))
     → Gives
     (λ (done : TypedList × Progress).
     Walked progress done.1 texts (λ tables. untyped_list tables done.0 ≡ plain_statements trees))
@@ -173,7 +179,8 @@ mutual
       (λ tables back.
       takes_labels tables done.0 rest.0 [] back.0.0 ∙ ap₂ trees.MoreStatements back.0.1 back.1))
 
-  statements-walk : (block : Block) (trees : StatementTrees) (label : ℕ) (progress : Progress) → Holds progress
+  statements-walk : (block : Block) (trees : StatementTrees) (label : ℕ) (progress : Progress)
+      → Holds progress
       → StatementsWalk trees progress (bodies_in_statements trees) (statements block trees label progress)
   statements-walk block trees.NoStatements label progress holds =
       gives_ok (walked_nothing progress holds (λ tables reaches. refl))
@@ -188,8 +195,10 @@ mutual
       ∙ ap₂ trees.MoreStatements back.0.1 back.1))
 
   declaration-walks : (block : Block) (tree : DeclarationTree) (progress : Progress) → Holds progress
-      → Gives (λ after. Walked progress after (bodies_in_declaration tree) Nothing) (declaration block tree progress)
-  declaration-walks block (DeclareTree elements) progress holds = declare_elements-walk block elements progress holds
+      → Gives (λ after. Walked progress after (bodies_in_declaration tree) Nothing)
+      (declaration block tree progress)
+  declaration-walks block (DeclareTree elements) progress holds =
+      declare_elements-walk block elements progress holds
   declaration-walks block (ProcedureTree heading declared body end_name) progress holds =
       in_turn (open_procedure-opens block heading declared progress holds) λ opened heads.
       in_turn (declarations-walk (own_block heading progress) declared opened heads.holds) λ within w₁.
@@ -200,7 +209,8 @@ mutual
       (λ label. statements (own_block heading progress) body label) within w₁.holds
       (λ label inside h. statements-walk (own_block heading progress) body label inside h)) λ done w₂.
       gives_ok
-      (walked_procedure heading declared parameters done.0 body (bodies_in declared ++ bodies_in_statements body)
+      (walked_procedure heading declared parameters done.0 body
+      (bodies_in declared ++ bodies_in_statements body)
       progress opened done.1 heads (walked_as (walked_then w₁ w₂) (λ tables back. back.1)))
 
   declarations-walk : (block : Block) (trees : DeclarationTrees) (progress : Progress) → Holds progress
@@ -221,13 +231,15 @@ bodies-back tree body progress walked =
     let tables : TypedModule = module_with tree.name.name body progress in
     let reaches : Reaches tables progress =
     ((λ number x e. e), (λ number x e. e), (λ number x e. e)) in
-    ap₂ (λ (first : StatementTrees) (others : List StatementTrees). first ∷ others) (walked.back tables reaches)
+    ap₂ (λ (first : StatementTrees) (others : List StatementTrees). first ∷ others)
+    (walked.back tables reaches)
     (ap (bodies_back tables) walked.appended ∙ walked.bodies tables reaches)
 
 typing-back : (tree : ModuleTree) → Gives (GivesBack tree) (typing_of tree)
 unfolding typing_of
 typing-back tree =
-    in_turn (declarations-walk module_block tree.declarations at_the_beginning at_the_start-fits) λ declared w₁.
+    in_turn (declarations-walk module_block tree.declarations at_the_beginning at_the_start-fits)
+    λ declared w₁.
     in_turn
     (list-walks tree.statements (bodies_in_statements tree.statements)
     (λ label. statements module_block tree.statements label) declared w₁.holds

@@ -47,7 +47,8 @@ pub either : {X : Type 0} {Q : Type 0} (first second : Option X) (x : X)
 either (Some y) second x one other e = one e
 either None second x one other e = other e
 
-pub names_known : {X : Type 0} (P : X → List ℕ → Type 0) (names : List (List ℕ × X)) (name : List ℕ) (entity : X)
+pub names_known : {X : Type 0} (P : X → List ℕ → Type 0) (names : List (List ℕ × X))
+    (name : List ℕ) (entity : X)
     → NamesFit P names
     → lookup (bytes_eq name) names ≡ Some entity
     → P entity name
@@ -72,14 +73,16 @@ scopes_known : (P : Entity → List ℕ → Type 0) (scopes : List Names) (name 
     → P entity name
 scopes_known P [] name entity fit e = absurd cc
 scopes_known P (names ∷ others) name entity fit e =
-    either (lookup (bytes_eq name) names) (known_in others name) entity (names_known P names name entity fit.0)
+    either (lookup (bytes_eq name) names) (known_in others name) entity
+    (names_known P names name entity fit.0)
     (scopes_known P others name entity fit.1) e
 
 body_known : (P : Entity → List ℕ → Type 0) (body : Body) (name : List ℕ) (entity : Entity)
     → BodyFits P body
     → declared_in body name ≡ Some entity
     → P entity name
-body_known P body name entity fit e = scopes_known P (body.block ∷ body.outer_blocks) name entity (fit.0, fit.1) e
+body_known P body name entity fit e =
+    scopes_known P (body.block ∷ body.outer_blocks) name entity (fit.0, fit.1) e
 
 bodies_known : (P : Entity → List ℕ → Type 0) (bodies : List Body) (name : List ℕ) (entity : Entity)
     → BodiesFit P bodies
@@ -99,7 +102,8 @@ pub entity_known : (P Q : Entity → List ℕ → Type 0) (here : Here)
     → entity_of here name ≡ Some entity
     → P entity name
 entity_known P Q here body outer weaker name entity e =
-    either (declared_in here.body name) (option_or (label_of here name) (declared_around here.outer_bodies name))
+    either (declared_in here.body name)
+    (option_or (label_of here name) (declared_around here.outer_bodies name))
     entity (body_known P here.body name entity body)
     (either (label_of here name) (declared_around here.outer_bodies name) entity
     (scopes_known P here.body.lists name entity body.2)
@@ -118,7 +122,8 @@ entity_named objects procedures here fits name entity e =
 
 -- Names that fit tables fit them as tables grow.
 abbrev pub Keeps : {X : Type 0} → List X → List X → Type 0
-Keeps {X} before after = (number : ℕ) (x : X) → slice_get before number ≡ Some x → slice_get after number ≡ Some x
+Keeps {X} before after =
+    (number : ℕ) (x : X) → slice_get before number ≡ Some x → slice_get after number ≡ Some x
 
 pub keeps_append : {X : Type 0} (before more : List X) → Keeps before (before ++ more)
 keeps_append [] more number x e = absurd cc
@@ -132,7 +137,8 @@ named_later : (objects procedures objects' procedures' : List (List ℕ))
     → IsNamed objects procedures entity name
     → IsNamed objects' procedures' entity name
 named_later objects procedures objects' procedures' more others (Object number) name e = more number name e
-named_later objects procedures objects' procedures' more others (Procedure number) name e = others number name e
+named_later objects procedures objects' procedures' more others (Procedure number) name e =
+    others number name e
 named_later objects procedures objects' procedures' more others (Label number) name e = tt
 named_later objects procedures objects' procedures' more others Definition name e = tt
 

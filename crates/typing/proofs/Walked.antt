@@ -1,4 +1,5 @@
--- What typing a part of a text does to the tables, and that the part is given back from the tables at the end.
+-- What typing a part of a text does to the tables, and that the part is given back from the tables at the
+-- end.
 use Rattle.typing.proofs.Prelude.{◌≡◌, ℕ, List, [], ◌++◌, map, Option, None, Some, option_map, slice_get, refl, sym, ap, ◌∙◌, option_map_or, unwrap_or, slice_get-map, map-append, append_assoc, append-nil, StatementTrees, Object, Procedure, Here, TypedObject, TypedProcedure, TypedModule, Constants, members_of, Progress, with_here, with_constants, plain_statements, untyped_list, AgreesOnObjects, AgreesOnProcedures, Agrees, HasLists}
 use Rattle.typing.proofs.Kept.{Kept}
 use Rattle.typing.proofs.Tables.{Fits, Keeps, entity_named}
@@ -22,7 +23,8 @@ Reaches tables progress =
     × HasLists tables progress.constants
 
 -- what names stand for agrees with the tables at the end
-mapped_or : {X Y : Type 0} (f : X → Y) (o : Option X) (y d : Y) → option_map f o ≡ Some y → option_map_or f o d ≡ y
+mapped_or : {X Y : Type 0} (f : X → Y) (o : Option X) (y d : Y) → option_map f o ≡ Some y
+    → option_map_or f o d ≡ y
 mapped_or f None y d e = absurd cc
 mapped_or f (Some x) y d e = cc
 
@@ -37,7 +39,8 @@ agrees_on_objects tables progress holds reaches name number object is found =
     let at_last = reaches.0 number object found in (
       mapped_or name_of (slice_get tables.objects number) name []
           (ap (option_map name_of) at_last ∙ sym (ap (option_map name_of) found) ∙ same),
-      ap (λ k. option_map_or (λ (found : TypedObject). unwrap_or (members_of found.object_type) []) k []) at_last,
+      ap (λ k. option_map_or (λ (found : TypedObject). unwrap_or (members_of found.object_type) []) k [])
+          at_last,
     )
 
 agrees_on_procedures : (tables : TypedModule) (progress : Progress) → Holds progress → Reaches tables progress
@@ -56,16 +59,19 @@ agrees tables progress holds reaches =
 
 -- the bodies of procedures without their conversions
 abbrev pub bodies_back : TypedModule → List TypedProcedure → List StatementTrees
-bodies_back tables procedures = map (λ (procedure : TypedProcedure). untyped_list tables procedure.body) procedures
+bodies_back tables procedures =
+    map (λ (procedure : TypedProcedure). untyped_list tables procedure.body) procedures
 
--- A part of a text is typed from one place to another. It keeps what holds and adds procedures, whose bodies are
--- given back as these texts, and of what it gives itself this holds.
-pub record Walked (before after : Progress) (texts : List StatementTrees) (Back : TypedModule → Type 0) : Type 0 where
+-- A part of a text is typed from one place to another. It keeps what holds and adds procedures, whose bodies
+-- are given back as these texts, and of what it gives itself this holds.
+pub record Walked (before after : Progress) (texts : List StatementTrees)
+    (Back : TypedModule → Type 0) : Type 0 where
   pub holds : Holds after
   pub reaches : (tables : TypedModule) → Reaches tables after → Reaches tables before
   pub added : List TypedProcedure
   pub appended : after.known.procedures ≡ before.known.procedures ++ added
-  pub bodies : (tables : TypedModule) → Reaches tables after → bodies_back tables added ≡ map plain_statements texts
+  pub bodies : (tables : TypedModule) → Reaches tables after
+      → bodies_back tables added ≡ map plain_statements texts
   pub back : (tables : TypedModule) → Reaches tables after → Back tables
 
 -- nothing but constants is new
@@ -80,7 +86,8 @@ walked_kept progress {constants} holds kept = record {
   added = [];
   appended = sym (append-nil progress.known.procedures);
   bodies = λ tables reaches. refl;
-  back = λ tables reaches. kept.says tables (agrees tables (with_constants constants progress) holds reaches) reaches.2;
+  back = λ tables reaches. kept.says tables
+      (agrees tables (with_constants constants progress) holds reaches) reaches.2;
 }
 
 pub walked_nothing : (progress : Progress) {Back : TypedModule → Type 0}
@@ -130,7 +137,8 @@ walked_as walked so = record {
 }
 
 -- what names stand for changes before a part, or after it
-pub walked_from : {before after : Progress} {texts : List StatementTrees} {Back : TypedModule → Type 0} {here : Here}
+pub walked_from : {before after : Progress} {texts : List StatementTrees}
+    {Back : TypedModule → Type 0} {here : Here}
     → Walked (with_here here before) after texts Back
     → Walked before after texts Back
 walked_from walked = record {
@@ -142,7 +150,8 @@ walked_from walked = record {
   back = walked.back;
 }
 
-pub walked_to : {before after : Progress} {texts : List StatementTrees} {Back : TypedModule → Type 0} (here : Here)
+pub walked_to : {before after : Progress} {texts : List StatementTrees}
+    {Back : TypedModule → Type 0} (here : Here)
     → (Holds after → Holds (with_here here after))
     → Walked before after texts Back
     → Walked before (with_here here after) texts Back

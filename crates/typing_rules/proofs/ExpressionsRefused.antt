@@ -1,5 +1,5 @@
--- A fault of an expression by the rules is the one that the typing gives. So there is at most one, and none where the
--- expression has a typing.
+-- A fault of an expression by the rules is the one that the typing gives. So there is at most one, and none
+-- where the expression has a typing.
 use Rattle.typing_rules.proofs.Prelude.{◌≡◌, ◌∙◌, ℕ, true, false, List, [], ◌∷◌, Option, Some, None, Err, not, refl, sym, ap, subst, arith, slice_get, lt-leb, eq-eqb, ne_eqb, Identifier, Place, ConstantTree, NumberConstant, StringConstant, StringTree, ExpressionTree, ConstantLeaf, ReferenceLeaf, ReferenceTree, ReferenceTo, MemberTree, NoMember, MemberOf, ArgumentTrees, NoArguments, MoreArguments, Binding, Declared, BuiltInName, UnknownLabel, BuiltIn, Object, Procedure, Label, Definition, FoundMember, Measure, TypedExpression, member_named, TypedObject, TypedArguments, Constants, ArgumentCount, SubscriptMismatch, MemberMismatch, NotMeasurable, NoVariable, PortNotConstant, PortTooLarge, UnknownName, Fault, Checked, ◌>>=◌, require, found, inl, inr, ◌⊎◌, number_of_characters, expression, given_reference, arguments, Measured, measured_object, measure_of, measurement, value_of_bound, value_of, location_of_bound, location_of, destination_of_bound, destination_of, Known, Extent, AnElement, AlsoTheWhole, number_of_arguments, takes_subscripts, members_of, part_of, port_of, port_of_character, IsNoVariable, at_name, ExpressionTyping, scalar_value, typed_call, input, function_call, shift_call, measure_call, IsNoNumber, PortFault, number_too_great, character_too_great, no_character, no_constant, MemberFault, no_structure, no_such_member, MeasureFault, no_reference, unknown_variable, no_variable, subscripted, in_member, no_dimension, IsWrongNumber, of_no_array, more_than_one, no_element, TakesValues, takes_one, takes_two, ExpressionFault, no_number, in_value, in_location, in_parentheses, in_target, in_assigned_value, in_operand, in_left, in_right, ValuesFault, in_first, in_others, ValueFault, unknown_value, no_value, in_part, no_scalar, no_procedure, untyped, value_of_output, value_of_move, wrong_count, in_argument, wrong_count_of_values, in_values, in_port, in_measure, member_of_result, LocationFault, unknown_location, location_of_procedure, location_in_frame, location_of_no_variable, in_located_part, TargetFault, unknown_target, no_target, target_with_data, in_target_part, no_scalar_target, in_output, member_of_output, SubscriptFault, wrong_number, in_subscript, PartFault, in_subscripts, no_member, in_member_subscripts}
 use Rattle.names.specs.declared.entity.BuiltIn.TheVariants as built_ins
 use Rattle.typed_trees.specs.declared.parts.Measure.TheVariants as measures
@@ -32,8 +32,10 @@ no_character_is string place (first ∷ second ∷ others) none is = refl
 no_constant_is : (place : Place) (trees : ArgumentTrees)
     → ((leaf : ConstantTree) → ¬ (trees ≡ MoreArguments (ConstantLeaf leaf) NoArguments))
     → port_of place trees ≡ Err (fault_of PortNotConstant place)
-no_constant_is place (MoreArguments (ConstantLeaf (NumberConstant number)) NoArguments) none = absurd (none _ refl)
-no_constant_is place (MoreArguments (ConstantLeaf (StringConstant string)) NoArguments) none = absurd (none _ refl)
+no_constant_is place (MoreArguments (ConstantLeaf (NumberConstant number)) NoArguments) none =
+    absurd (none _ refl)
+no_constant_is place (MoreArguments (ConstantLeaf (StringConstant string)) NoArguments) none =
+    absurd (none _ refl)
 no_constant_is place trees none = refl
 
 port_fault_is : {name : Identifier} {trees : ArgumentTrees} {fault : Fault}
@@ -41,32 +43,39 @@ port_fault_is : {name : Identifier} {trees : ArgumentTrees} {fault : Fault}
     → port_of name.place trees ≡ Err fault
 port_fault_is (number_too_great over) = then_fault _ (failed _ _ (lt-leb _ _ over))
 port_fault_is {name = name} (character_too_great is over) =
-    subst (λ characters. port_of_character name.place characters ≡ Err (at_name PortTooLarge name)) (sym is) (then_fault _ (failed _ _ (lt-leb _ _ over)))
-port_fault_is {name = name} (no_character {string = string} none) = no_character_is string name.place string.characters none refl
+    subst (λ characters. port_of_character name.place characters ≡ Err (at_name PortTooLarge name)) (sym is)
+    (then_fault _ (failed _ _ (lt-leb _ _ over)))
+port_fault_is {name = name} (no_character {string = string} none) =
+    no_character_is string name.place string.characters none refl
 port_fault_is {name = name} (no_constant {trees = trees} none) = no_constant_is name.place trees none
 
 -- members
-member_fault_is : {B : Type 0} {object : TypedObject} {name : Identifier} {fault : Fault} (next : FoundMember → Checked B)
+member_fault_is : {B : Type 0} {object : TypedObject} {name : Identifier} {fault : Fault}
+    (next : FoundMember → Checked B)
     → MemberFault object name fault
     → (found (members_of object.object_type) MemberMismatch name.place
     >>= λ members. found (member_named members name.name) UnknownName name.place >>= next) ≡ Err fault
 member_fault_is next (no_structure is) = then_fault _ (got_none _ _ (ap members_of is))
-member_fault_is next (no_such_member is none) = then_ok _ (got _ _ (ap members_of is)) (then_fault _ (got_none _ _ none))
+member_fault_is next (no_such_member is none) =
+    then_ok _ (got _ _ (ap members_of is)) (then_fault _ (got_none _ _ none))
 
 -- names
 abbrev pub NoObject : Known → Binding → Type 0
 NoObject known binding =
-    (number : ℕ) (object : TypedObject) → binding ≡ Declared (Object number) → ¬ (slice_get known.objects number ≡ Some object)
+    (number : ℕ) (object : TypedObject) → binding ≡ Declared (Object number)
+    → ¬ (slice_get known.objects number ≡ Some object)
 
 pub no_object : {known : Known} {name : Identifier} (is : IsNoVariable known name) → NoObject known is.binding
-no_object is number object e listed = is.no_variable number object (record { named = is.named ∙ ap Some e; listed = listed })
+no_object is number object e listed =
+    is.no_variable number object (record { named = is.named ∙ ap Some e; listed = listed })
 
 -- LENGTH, LAST and SIZE
 no_reference_is : (known : Known) (measure : Measure) (place : Place) (trees : ArgumentTrees)
     → ((variable : Identifier) (part : MemberTree)
     → ¬ (trees ≡ MoreArguments (ReferenceLeaf (ReferenceTo variable NoArguments part)) NoArguments))
     → measurement known measure place trees ≡ Err (fault_of NotMeasurable place)
-no_reference_is known measure place (MoreArguments (ReferenceLeaf (ReferenceTo name NoArguments part)) NoArguments) none =
+no_reference_is known measure place
+    (MoreArguments (ReferenceLeaf (ReferenceTo name NoArguments part)) NoArguments) none =
     absurd (none name part refl)
 no_reference_is known measure place trees none = refl
 
@@ -74,7 +83,8 @@ not_measured : (known : Known) (name : Identifier) (part : MemberTree) (binding 
     → NoObject known binding
     → measured_object known binding name part ≡ Err (at_name NoVariable name)
 not_measured known name part (Declared (Object number)) none =
-    then_fault _ (got_none _ _ (is_nothing (slice_get known.objects number) (λ object e. none number object refl e)))
+    then_fault _
+    (got_none _ _ (is_nothing (slice_get known.objects number) (λ object e. none number object refl e)))
 not_measured known name part (Declared (Procedure number)) none = refl
 not_measured known name part (Declared (Label number)) none = refl
 not_measured known name part (Declared Definition) none = refl
@@ -89,7 +99,8 @@ no_dimension_is measures.Length measured place none not_size = got_none _ _ none
 no_dimension_is measures.Last measured place none not_size = then_fault _ (got_none _ _ none)
 no_dimension_is measures.Size measured place none not_size = absurd (not_size refl)
 
-measure_fault_is : {known : Known} {name : Identifier} {measure : Measure} {trees : ArgumentTrees} {fault : Fault}
+measure_fault_is : {known : Known} {name : Identifier} {measure : Measure}
+    {trees : ArgumentTrees} {fault : Fault}
     → MeasureFault known name measure trees fault
     → measurement known measure name.place trees ≡ Err fault
 measure_fault_is {known = known} {name = name} {measure = measure} (no_reference {trees = trees} none) =
@@ -97,7 +108,8 @@ measure_fault_is {known = known} {name = name} {measure = measure} (no_reference
 measure_fault_is (unknown_variable none) = then_fault _ (got_none _ _ none)
 measure_fault_is {known = known} (no_variable {variable = variable} {part = part} is) =
     then_ok _ (got _ _ is.named) (then_fault _ (not_measured known variable part is.binding (no_object is)))
-measure_fault_is (subscripted is) = then_ok _ (got _ _ is.named) (then_fault _ (then_ok _ (got _ _ is.listed) refl))
+measure_fault_is (subscripted is) =
+    then_ok _ (got _ _ is.named) (then_fault _ (then_ok _ (got _ _ is.listed) refl))
 measure_fault_is (in_member is none) =
     then_ok _ (got _ _ is.named) (then_fault _ (then_ok _ (got _ _ is.listed) (member_fault_is _ none)))
 measure_fault_is {measure = measure} (no_dimension {measured = measured} is none not_size) =
@@ -114,44 +126,56 @@ wrong_number_is {extent = AlsoTheWhole} (more_than_one more) = lt-leb _ _ more
 wrong_number_is no_element = refl
 
 -- what has no value, no location, and is no target
-no_value_is : (known : Known) (name : Identifier) (trees : ArgumentTrees) (part : MemberTree) (before : Constants) (binding : Binding)
+no_value_is : (known : Known) (name : Identifier) (trees : ArgumentTrees) (part : MemberTree)
+    (before : Constants) (binding : Binding)
     → NoObject known binding
     → ((number : ℕ) → ¬ (binding ≡ Declared (Procedure number)))
     → ((built_in : BuiltIn) → ¬ (binding ≡ BuiltInName built_in))
     → value_of_bound known binding (given_name known name trees part) before ≡ Err (at_name NoVariable name)
 no_value_is known name trees part before (Declared (Object number)) none neither nor =
-    then_fault _ (got_none _ _ (is_nothing (slice_get known.objects number) (λ object e. none number object refl e)))
-no_value_is known name trees part before (Declared (Procedure number)) none neither nor = absurd (neither number refl)
+    then_fault _
+    (got_none _ _ (is_nothing (slice_get known.objects number) (λ object e. none number object refl e)))
+no_value_is known name trees part before (Declared (Procedure number)) none neither nor =
+    absurd (neither number refl)
 no_value_is known name trees part before (Declared (Label number)) none neither nor = refl
 no_value_is known name trees part before (Declared Definition) none neither nor = refl
 no_value_is known name trees part before (BuiltInName built_in) none neither nor = absurd (nor built_in refl)
 no_value_is known name trees part before UnknownLabel none neither nor = refl
 
-no_location_is : (known : Known) (name : Identifier) (trees : ArgumentTrees) (part : MemberTree) (before : Constants) (binding : Binding)
+no_location_is : (known : Known) (name : Identifier) (trees : ArgumentTrees) (part : MemberTree)
+    (before : Constants) (binding : Binding)
     → NoObject known binding
     → ((number : ℕ) → ¬ (binding ≡ Declared (Procedure number)))
-    → location_of_bound known binding (given_name known name trees part) before ≡ Err (at_name NoVariable name)
+    → location_of_bound known binding (given_name known name trees part) before
+    ≡ Err (at_name NoVariable name)
 no_location_is known name trees part before (Declared (Object number)) none neither =
-    then_fault _ (got_none _ _ (is_nothing (slice_get known.objects number) (λ object e. none number object refl e)))
-no_location_is known name trees part before (Declared (Procedure number)) none neither = absurd (neither number refl)
+    then_fault _
+    (got_none _ _ (is_nothing (slice_get known.objects number) (λ object e. none number object refl e)))
+no_location_is known name trees part before (Declared (Procedure number)) none neither =
+    absurd (neither number refl)
 no_location_is known name trees part before (Declared (Label number)) none neither = refl
 no_location_is known name trees part before (Declared Definition) none neither = refl
 no_location_is known name trees part before (BuiltInName built_in) none neither = refl
 no_location_is known name trees part before UnknownLabel none neither = refl
 
-built_in_target_is : (known : Known) (name : Identifier) (trees : ArgumentTrees) (part : MemberTree) (before : Constants)
+built_in_target_is : (known : Known) (name : Identifier) (trees : ArgumentTrees) (part : MemberTree)
+    (before : Constants)
     (built_in : BuiltIn)
     → ¬ (built_in ≡ built_ins.Output)
-    → destination_of_bound known (BuiltInName built_in) (given_name known name trees part) before ≡ Err (at_name NoVariable name)
+    → destination_of_bound known (BuiltInName built_in) (given_name known name trees part) before
+    ≡ Err (at_name NoVariable name)
 built_in_target_is known name trees part before built_ins.Output other = absurd (other refl)
 built_in_target_is known name trees part before built_in other = refl
 
-no_target_is : (known : Known) (name : Identifier) (trees : ArgumentTrees) (part : MemberTree) (before : Constants) (binding : Binding)
+no_target_is : (known : Known) (name : Identifier) (trees : ArgumentTrees) (part : MemberTree)
+    (before : Constants) (binding : Binding)
     → NoObject known binding
     → ¬ (binding ≡ BuiltInName built_ins.Output)
-    → destination_of_bound known binding (given_name known name trees part) before ≡ Err (at_name NoVariable name)
+    → destination_of_bound known binding (given_name known name trees part) before
+    ≡ Err (at_name NoVariable name)
 no_target_is known name trees part before (Declared (Object number)) none other =
-    then_fault _ (got_none _ _ (is_nothing (slice_get known.objects number) (λ object e. none number object refl e)))
+    then_fault _
+    (got_none _ _ (is_nothing (slice_get known.objects number) (λ object e. none number object refl e)))
 no_target_is known name trees part before (Declared (Procedure number)) none other = refl
 no_target_is known name trees part before (Declared (Label number)) none other = refl
 no_target_is known name trees part before (Declared Definition) none other = refl
@@ -160,44 +184,61 @@ no_target_is known name trees part before (BuiltInName built_in) none other =
 no_target_is known name trees part before UnknownLabel none other = refl
 
 -- a member of a result
-member_of_result_is : {known : Known} {before after : Constants} {name : Identifier} {trees : ArgumentTrees} {typed : TypedExpression}
+member_of_result_is : {known : Known} {before after : Constants} {name : Identifier} {trees : ArgumentTrees}
+    {typed : TypedExpression}
     (member : Identifier) (its : ArgumentTrees)
     → IsNoVariable known name
     → ExpressionTyping known before (ReferenceLeaf (ReferenceTo name trees NoMember)) typed after
-    → value_of known (given_name known name trees (MemberOf member its)) before ≡ Err (at_name MemberMismatch member)
-member_of_result_is member its none (scalar_value {number = number} {object = object} is part) = absurd (none.no_variable number object is)
+    → value_of known (given_name known name trees (MemberOf member its)) before
+    ≡ Err (at_name MemberMismatch member)
+member_of_result_is member its none (scalar_value {number = number} {object = object} is part) =
+    absurd (none.no_variable number object is)
 member_of_result_is member its none (typed_call is typed count values) =
     then_ok _ (got _ _ is.named) (then_ok _ (got _ _ is.listed) (then_ok _ (got _ _ typed)
     (then_ok _ (then_ok _ (passed _ _ (eq-eqb _ _ count)) (then_ok _ (values_is values) refl)) refl)))
-member_of_result_is member its none (input named is) = then_ok _ (got _ _ named) (then_ok _ (port_is is _) refl)
-member_of_result_is {known = known} member its none (function_call {before = before} {name = name} {operand = operand}
+member_of_result_is member its none (input named is) =
+    then_ok _ (got _ _ named) (then_ok _ (port_is is _) refl)
+member_of_result_is {known = known} member its none
+    (function_call {before = before} {name = name} {operand = operand}
     {function = function} named one) =
-    then_ok _ (got _ _ named) (function_is known (given_name known name (MoreArguments operand NoArguments) (MemberOf member its)) before
+    then_ok _ (got _ _ named)
+    (function_is known (given_name known name (MoreArguments operand NoArguments) (MemberOf member its))
+    before
     function (then_ok _ (then_ok _ (typing_is one) refl) refl))
-member_of_result_is {known = known} member its none (shift_call {before = before} {name = name} {value = value} {count = count}
+member_of_result_is {known = known} member its none
+    (shift_call {before = before} {name = name} {value = value} {count = count}
     {function = function} named one other) =
     then_ok _ (got _ _ named) (shift_is known
-    (given_name known name (MoreArguments value (MoreArguments count NoArguments)) (MemberOf member its)) before function
+    (given_name known name (MoreArguments value (MoreArguments count NoArguments)) (MemberOf member its))
+    before function
     (then_ok _ (then_ok _ (typing_is one) (then_ok _ (then_ok _ (typing_is other) refl) refl)) refl))
-member_of_result_is {known = known} member its none (measure_call {constants = before} {name = name} {variable = variable} {part = part}
+member_of_result_is {known = known} member its none
+    (measure_call {constants = before} {name = name} {variable = variable} {part = part}
     {measure = measure} named measured counts) =
     let m = measured_is measured in
     then_ok _ (got _ _ named) (measure_function_is known
-    (given_name known name (MoreArguments (ReferenceLeaf (ReferenceTo variable NoArguments part)) NoArguments) (MemberOf member its))
-    before measure (then_ok _ (then_ok _ (got _ _ m.1) (then_ok _ m.2 (then_ok _ (measure_is counts _) refl))) refl))
+    (given_name known name (MoreArguments (ReferenceLeaf (ReferenceTo variable NoArguments part)) NoArguments)
+    (MemberOf member its))
+    before measure
+    (then_ok _ (then_ok _ (got _ _ m.1) (then_ok _ m.2 (then_ok _ (measure_is counts _) refl))) refl))
 
 -- built-in functions of values
-wrong_values_are : {built_in : BuiltIn} {count : ℕ} (known : Known) (name : Identifier) (trees : ArgumentTrees) (part : MemberTree)
+wrong_values_are : {built_in : BuiltIn} {count : ℕ} (known : Known) (name : Identifier)
+    (trees : ArgumentTrees) (part : MemberTree)
     (before : Constants)
     → TakesValues built_in count
     → ¬ (number_of_arguments trees ≡ count)
-    → value_of_bound known (BuiltInName built_in) (given_name known name trees part) before ≡ Err (at_name ArgumentCount name)
+    → value_of_bound known (BuiltInName built_in) (given_name known name trees part) before
+    ≡ Err (at_name ArgumentCount name)
 wrong_values_are known name trees part before (takes_one function) wrong =
-    function_is known (given_name known name trees part) before function (then_fault _ (failed _ _ (ne_eqb _ _ wrong)))
+    function_is known (given_name known name trees part) before function
+    (then_fault _ (failed _ _ (ne_eqb _ _ wrong)))
 wrong_values_are known name trees part before (takes_two function) wrong =
-    shift_is known (given_name known name trees part) before function (then_fault _ (failed _ _ (ne_eqb _ _ wrong)))
+    shift_is known (given_name known name trees part) before function
+    (then_fault _ (failed _ _ (ne_eqb _ _ wrong)))
 
-values_fault_is : {built_in : BuiltIn} {count : ℕ} (known : Known) (name : Identifier) (trees : ArgumentTrees) (part : MemberTree)
+values_fault_is : {built_in : BuiltIn} {count : ℕ} (known : Known) (name : Identifier)
+    (trees : ArgumentTrees) (part : MemberTree)
     (before : Constants) (fault : Fault)
     → TakesValues built_in count
     → number_of_arguments trees ≡ count
@@ -213,16 +254,21 @@ values_fault_is known name trees part before fault (takes_two function) count is
 -- What a number of subscripts that is wrong, or a fault in one of them, comes to.
 abbrev SubscriptsRefused : Known → Extent → Option ℕ → Identifier → Constants → ArgumentTrees → Fault → Type 0
 SubscriptsRefused known extent dimension name before trees fault =
-    (takes_subscripts extent dimension (number_of_arguments trees) ≡ false) × (at_name SubscriptMismatch name ≡ fault)
-    ⊎ (takes_subscripts extent dimension (number_of_arguments trees) ≡ true) × (arguments known trees before ≡ Err fault)
+    (takes_subscripts extent dimension (number_of_arguments trees) ≡ false)
+    × (at_name SubscriptMismatch name ≡ fault)
+    ⊎ (takes_subscripts extent dimension (number_of_arguments trees) ≡ true)
+    × (arguments known trees before ≡ Err fault)
 
-subscripts_refused : {B : Type 0} {fault : Fault} (known : Known) (extent : Extent) (dimension : Option ℕ) (name : Identifier)
+subscripts_refused : {B : Type 0} {fault : Fault} (known : Known) (extent : Extent)
+    (dimension : Option ℕ) (name : Identifier)
     (before : Constants) (trees : ArgumentTrees) (next : TypedArguments × Constants → Checked B)
     → SubscriptsRefused known extent dimension name before trees fault
     → (require (takes_subscripts extent dimension (number_of_arguments trees)) SubscriptMismatch name.place
     >>= λ _. arguments known trees before >>= next) ≡ Err fault
-subscripts_refused known extent dimension name before trees next (inl is) = then_fault _ (failed _ _ is.0) ∙ ap Err is.1
-subscripts_refused known extent dimension name before trees next (inr is) = then_ok _ (passed _ _ is.0) (then_fault next is.1)
+subscripts_refused known extent dimension name before trees next (inl is) =
+    then_fault _ (failed _ _ is.0) ∙ ap Err is.1
+subscripts_refused known extent dimension name before trees next (inr is) =
+    then_ok _ (passed _ _ is.0) (then_fault next is.1)
 
 mutual
   pub fault_is : {known : Known} {before : Constants} {tree : ExpressionTree} {fault : Fault}
@@ -255,9 +301,11 @@ mutual
       (λ number e. is.no_procedure number (is.is_no_variable.named ∙ ap Some e))
       (λ built_in e. is.no_built_in built_in (is.is_no_variable.named ∙ ap Some e)))
   value_fault_is (in_part {number = number} is fault) =
-      then_ok _ (got _ _ is.named) (then_ok _ (got _ _ is.listed) (then_fault _ (then_fault _ (part_fault_is fault number))))
+      then_ok _ (got _ _ is.named)
+      (then_ok _ (got _ _ is.listed) (then_fault _ (then_fault _ (part_fault_is fault number))))
   value_fault_is (no_scalar {name = name} is part) =
-      then_ok _ (got _ _ is.named) (then_ok _ (got _ _ is.listed) (then_fault _ (then_ok _ (part_is part name) refl)))
+      then_ok _ (got _ _ is.named)
+      (then_ok _ (got _ _ is.listed) (then_fault _ (then_ok _ (part_is part name) refl)))
   value_fault_is {known = known} (no_procedure {number = number} named none) =
       then_ok _ (got _ _ named) (then_fault _ (got_none _ _ (is_nothing (slice_get known.procedures number)
       (λ procedure e. none procedure (record { named = named; listed = e })))))
@@ -271,16 +319,24 @@ mutual
   value_fault_is (in_argument is typed count fault) =
       then_ok _ (got _ _ is.named) (then_ok _ (got _ _ is.listed) (then_ok _ (got _ _ typed)
       (then_fault _ (then_ok _ (passed _ _ (eq-eqb _ _ count)) (then_fault _ (values_fault fault))))))
-  value_fault_is {known = known} (wrong_count_of_values {before = before} {name = name} {trees = trees} {part = part} named takes wrong) =
+  value_fault_is {known = known}
+      (wrong_count_of_values {before = before} {name = name} {trees = trees} {part = part}
+      named takes wrong) =
       then_ok _ (got _ _ named) (wrong_values_are known name trees part before takes wrong)
-  value_fault_is {known = known} (in_values {before = before} {name = name} {trees = trees} {part = part} {fault = fault} named takes count
+  value_fault_is {known = known}
+      (in_values {before = before} {name = name} {trees = trees} {part = part}
+      {fault = fault} named takes count
       is) =
-      then_ok _ (got _ _ named) (values_fault_is known name trees part before fault takes count (values_fault is))
+      then_ok _ (got _ _ named)
+      (values_fault_is known name trees part before fault takes count (values_fault is))
   value_fault_is (in_port named is) = then_ok _ (got _ _ named) (then_fault _ (port_fault_is is))
-  value_fault_is {known = known} (in_measure {before = before} {name = name} {trees = trees} {part = part} {measure = measure} named is) =
+  value_fault_is {known = known}
+      (in_measure {before = before} {name = name} {trees = trees} {part = part}
+      {measure = measure} named is) =
       then_ok _ (got _ _ named) (measure_function_is known (given_name known name trees part) before measure
       (then_fault _ (measure_fault_is is)))
-  value_fault_is (member_of_result {member = member} {its_subscripts = its} none typing) = member_of_result_is member its none typing
+  value_fault_is (member_of_result {member = member} {its_subscripts = its} none typing) =
+      member_of_result_is member its none typing
 
   pub location_fault_is : {known : Known} {before : Constants} {reference : ReferenceTree} {fault : Fault}
       → LocationFault known before reference fault
@@ -289,17 +345,21 @@ mutual
   location_fault_is (location_of_procedure named) = then_ok _ (got _ _ named) refl
   location_fault_is (location_in_frame is none) =
       then_ok _ (got _ _ is.named) (then_ok _ (got _ _ is.listed) (then_fault _ (failed _ _ none)))
-  location_fault_is {known = known} (location_of_no_variable {before = before} {name = name} {trees = trees} {part = part} is neither) =
+  location_fault_is {known = known}
+      (location_of_no_variable {before = before} {name = name} {trees = trees} {part = part} is neither) =
       then_ok _ (got _ _ is.named) (no_location_is known name trees part before is.binding (no_object is)
       (λ number e. neither number (is.named ∙ ap Some e)))
   location_fault_is (in_located_part {number = number} is has fault) =
-      then_ok _ (got _ _ is.named) (then_ok _ (got _ _ is.listed) (then_ok _ (passed _ _ has) (then_fault _ (part_fault_is fault number))))
+      then_ok _ (got _ _ is.named)
+      (then_ok _ (got _ _ is.listed) (then_ok _ (passed _ _ has)
+      (then_fault _ (part_fault_is fault number))))
 
   pub target_fault_is : {known : Known} {before : Constants} {reference : ReferenceTree} {fault : Fault}
       → TargetFault known before reference fault
       → destination_of known (given_reference known reference) before ≡ Err fault
   target_fault_is (unknown_target none) = then_fault _ (got_none _ _ none)
-  target_fault_is {known = known} (no_target {before = before} {name = name} {trees = trees} {part = part} is other) =
+  target_fault_is {known = known}
+      (no_target {before = before} {name = name} {trees = trees} {part = part} is other) =
       then_ok _ (got _ _ is.named) (no_target_is known name trees part before is.binding (no_object is)
       (λ e. other (is.named ∙ ap Some e)))
   target_fault_is (target_with_data is has) =
@@ -313,25 +373,30 @@ mutual
   target_fault_is (in_output named is) = then_ok _ (got _ _ named) (then_fault _ (port_fault_is is))
   target_fault_is (member_of_output named is) = then_ok _ (got _ _ named) (then_ok _ (port_is is _) refl)
 
-  pub subscript_fault_is : {known : Known} {extent : Extent} {dimension : Option ℕ} {name : Identifier} {before : Constants}
+  pub subscript_fault_is : {known : Known} {extent : Extent} {dimension : Option ℕ} {name : Identifier}
+      {before : Constants}
       {trees : ArgumentTrees} {fault : Fault}
       → SubscriptFault known extent dimension name before trees fault
       → SubscriptsRefused known extent dimension name before trees fault
   subscript_fault_is (wrong_number wrong) = inl (wrong_number_is wrong, refl)
-  subscript_fault_is (in_subscript {extent = extent} {count = count} is) = inr (one_fits extent count, then_fault _ (fault_is is))
+  subscript_fault_is (in_subscript {extent = extent} {count = count} is) =
+      inr (one_fits extent count, then_fault _ (fault_is is))
 
-  pub part_fault_is : {known : Known} {extent : Extent} {object : TypedObject} {name : Identifier} {before : Constants}
+  pub part_fault_is : {known : Known} {extent : Extent} {object : TypedObject} {name : Identifier}
+      {before : Constants}
       {trees : ArgumentTrees} {part : MemberTree} {fault : Fault}
       → PartFault known extent object name before trees part fault
       → (number : ℕ)
       → part_of number object extent (given_name known name trees part) before ≡ Err fault
-  part_fault_is {known = known} (in_subscripts {extent = extent} {object = object} {name = name} {before = before} {trees = trees} is)
+  part_fault_is {known = known}
+      (in_subscripts {extent = extent} {object = object} {name = name} {before = before} {trees = trees} is)
       number =
       subscripts_refused known extent object.dimension name before trees _ (subscript_fault_is is)
   part_fault_is (no_member typing fault) number =
       let s = subscript_is typing in
       then_ok _ (passed _ _ s.0) (then_ok _ s.2 (member_fault_is _ fault))
-  part_fault_is {known = known} (in_member_subscripts {extent = extent} {member = member} {middle = middle} {its_subscripts = its}
+  part_fault_is {known = known}
+      (in_member_subscripts {extent = extent} {member = member} {middle = middle} {its_subscripts = its}
       {place = place} typing there is) number =
       let s = subscript_is typing in
       then_ok _ (passed _ _ s.0) (then_ok _ s.2 (then_member_ok _ there

@@ -7,19 +7,22 @@ use Rattle.typing_rules.proofs.Judged.{then_ok, passed, got}
 use Rattle.typing_rules.proofs.ReferencesJudged.{given_name}
 
 -- constants and ports
-pub number_is : {leaf : ConstantTree} {number : ℕ} → IsNumber leaf number → number_of_constant leaf ≡ Ok number
+pub number_is : {leaf : ConstantTree} {number : ℕ} → IsNumber leaf number
+    → number_of_constant leaf ≡ Ok number
 number_is digits = refl
 number_is (one_character is) = got _ _ (ap number_of_characters is)
 number_is (two_characters is) = got _ _ (ap number_of_characters is)
 
-pub port_is : {trees : ArgumentTrees} {port : ℕ} → IsPort trees port → (place : Place) → port_of place trees ≡ Ok port
+pub port_is : {trees : ArgumentTrees} {port : ℕ} → IsPort trees port → (place : Place)
+    → port_of place trees ≡ Ok port
 port_is (port_number fits) place = then_ok _ (passed _ _ (le-leb _ _ fits)) refl
 port_is (port_character {character = character} is fits) place =
     subst (λ characters. port_of_character place characters ≡ Ok character) (sym is)
     (then_ok _ (passed _ _ (le-leb _ _ fits)) refl)
 
 -- built-in functions
-pub function_is : (known : Known) (given : GivenReference) (before : Constants) {result : Checked (TypedExpression × Constants)}
+pub function_is : (known : Known) (given : GivenReference) (before : Constants)
+    {result : Checked (TypedExpression × Constants)}
     (function : UnaryFunction)
     → unary_function function given before ≡ result
     → built_in_value known (named_function function) given before ≡ result
@@ -27,7 +30,8 @@ function_is known given before functions.Low e = e
 function_is known given before functions.High e = e
 function_is known given before functions.Double e = e
 
-pub shift_is : (known : Known) (given : GivenReference) (before : Constants) {result : Checked (TypedExpression × Constants)}
+pub shift_is : (known : Known) (given : GivenReference) (before : Constants)
+    {result : Checked (TypedExpression × Constants)}
     (function : ShiftFunction)
     → shift_function function given before ≡ result
     → built_in_value known (named_shift function) given before ≡ result
@@ -44,7 +48,8 @@ measure_function_is known given before measures.Length e = e
 measure_function_is known given before measures.Last e = e
 measure_function_is known given before measures.Size e = e
 
-pub then_member_ok : {B : Type 0} {object : TypedObject} {name : Identifier} {place : FoundMember} {result : Checked B}
+pub then_member_ok : {B : Type 0} {object : TypedObject} {name : Identifier} {place : FoundMember}
+    {result : Checked B}
     (next : FoundMember → Checked B)
     → IsMember object name place
     → next place ≡ result
@@ -54,8 +59,10 @@ then_member_ok next is e = then_ok _ (got _ _ (ap members_of is.structure)) (the
 
 pub measured_is : {known : Known} {name : Identifier} {part : MemberTree} {measured : Measured}
     → IsMeasured known name part measured
-    → (binding : Binding) × StandsFor known name binding × (measured_object known binding name part ≡ Ok measured)
-measured_is (a_variable {number = number} is) = (Declared (Object number), is.named, then_ok _ (got _ _ is.listed) refl)
+    → (binding : Binding) × StandsFor known name binding
+    × (measured_object known binding name part ≡ Ok measured)
+measured_is (a_variable {number = number} is) =
+    (Declared (Object number), is.named, then_ok _ (got _ _ is.listed) refl)
 measured_is (a_member {number = number} is there) =
     (Declared (Object number), is.named, then_ok _ (got _ _ is.listed) (then_member_ok _ there refl))
 
@@ -90,42 +97,56 @@ part_is_member : (number : ℕ) (place : FoundMember) (after : Constants) {one o
     → ◌≡◌ {A = Checked (FoundPart × Constants)} (Ok (member_part number place one its, after))
     (Ok (member_part number place other its_other, after))
 part_is_member number place after {one = one} {its_other = its_other} is also =
-    ap (λ it. Ok (member_part number place one it, after)) also ∙ ap (λ it. Ok (member_part number place it its_other, after)) is
+    ap (λ it. Ok (member_part number place one it, after)) also
+    ∙ ap (λ it. Ok (member_part number place it its_other, after)) is
 
 mutual
-  pub typing_is : {known : Known} {before : Constants} {tree : ExpressionTree} {typed : TypedExpression} {after : Constants}
+  pub typing_is : {known : Known} {before : Constants} {tree : ExpressionTree}
+      {typed : TypedExpression} {after : Constants}
       → ExpressionTyping known before tree typed after
       → expression known tree before ≡ Ok (typed, after)
   typing_is (constant is) = then_ok _ (then_ok _ (number_is is) refl) refl
   typing_is (scalar_value {name = name} is part) =
-      then_ok _ (got _ _ is.named) (then_ok _ (got _ _ is.listed) (then_ok _ (then_ok _ (part_is part name) refl) refl))
+      then_ok _ (got _ _ is.named)
+      (then_ok _ (got _ _ is.listed) (then_ok _ (then_ok _ (part_is part name) refl) refl))
   typing_is (typed_call is typed count values) =
       then_ok _ (got _ _ is.named) (then_ok _ (got _ _ is.listed) (then_ok _ (got _ _ typed)
       (then_ok _ (then_ok _ (passed _ _ (eq-eqb _ _ count)) (then_ok _ (values_is values) refl)) refl)))
   typing_is (input named is) = then_ok _ (got _ _ named) (then_ok _ (port_is is _) refl)
-  typing_is {known = known} (function_call {before = before} {name = name} {operand = operand} {function = function} named one) =
-      then_ok _ (got _ _ named) (function_is known (given_name known name (MoreArguments operand NoArguments) NoMember) before function
+  typing_is {known = known}
+      (function_call {before = before} {name = name} {operand = operand} {function = function} named one) =
+      then_ok _ (got _ _ named)
+      (function_is known (given_name known name (MoreArguments operand NoArguments) NoMember) before
+      function
       (then_ok _ (then_ok _ (typing_is one) refl) refl))
-  typing_is {known = known} (shift_call {before = before} {name = name} {value = value} {count = count} {function = function} named one
+  typing_is {known = known}
+      (shift_call {before = before} {name = name} {value = value} {count = count}
+      {function = function} named one
       other) =
       then_ok _ (got _ _ named) (shift_is known
       (given_name known name (MoreArguments value (MoreArguments count NoArguments)) NoMember) before function
       (then_ok _ (then_ok _ (typing_is one) (then_ok _ (then_ok _ (typing_is other) refl) refl)) refl))
-  typing_is {known = known} (measure_call {constants = before} {name = name} {variable = variable} {part = part} {measure = measure} named
+  typing_is {known = known}
+      (measure_call {constants = before} {name = name} {variable = variable} {part = part}
+      {measure = measure} named
       measured counts) =
       let m = measured_is measured in
       then_ok _ (got _ _ named) (measure_function_is known
-      (given_name known name (MoreArguments (ReferenceLeaf (ReferenceTo variable NoArguments part)) NoArguments) NoMember) before measure
+      (given_name known name (MoreArguments (ReferenceLeaf (ReferenceTo variable NoArguments part))
+      NoArguments) NoMember) before measure
       (then_ok _ (then_ok _ (got _ _ m.1) (then_ok _ m.2 (then_ok _ (measure_is counts _) refl))) refl))
   typing_is (location {name = name} is has part) =
-      then_ok _ (got _ _ is.named) (then_ok _ (got _ _ is.listed) (then_ok _ (passed _ _ has) (then_ok _ (part_is part name) refl)))
+      then_ok _ (got _ _ is.named)
+      (then_ok _ (got _ _ is.listed) (then_ok _ (passed _ _ has) (then_ok _ (part_is part name) refl)))
   typing_is constant_list = refl
   typing_is (parenthesized is) = typing_is is
-  typing_is (embedded_assignment target value) = then_ok _ (target_is target) (then_ok _ (typing_is value) refl)
+  typing_is (embedded_assignment target value) =
+      then_ok _ (target_is target) (then_ok _ (typing_is value) refl)
   typing_is (unary is) = then_ok _ (typing_is is) refl
   typing_is (binary one other) = then_ok _ (typing_is one) (then_ok _ (typing_is other) refl)
 
-  pub values_is : {known : Known} {before : Constants} {trees : ArgumentTrees} {typed : TypedArguments} {after : Constants}
+  pub values_is : {known : Known} {before : Constants} {trees : ArgumentTrees}
+      {typed : TypedArguments} {after : Constants}
       → ValuesTyping known before trees typed after
       → arguments known trees before ≡ Ok (typed, after)
   values_is no_values = refl
@@ -134,7 +155,8 @@ mutual
   pub subscript_is : {known : Known} {extent : Extent} {dimension : Option ℕ} {size : ℕ} {before : Constants}
       {trees : ArgumentTrees} {subscript : Subscript} {after : Constants}
       → SubscriptTyping known extent dimension size before trees subscript after
-      → (fits : takes_subscripts extent dimension (number_of_arguments trees) ≡ true) × (typed : TypedArguments)
+      → (fits : takes_subscripts extent dimension (number_of_arguments trees) ≡ true)
+      × (typed : TypedArguments)
       × (arguments known trees before ≡ Ok (typed, after)) × (subscript_of size dimension typed ≡ subscript)
   subscript_is no_array = (refl, NoTyped, refl, refl)
   subscript_is (element {extent = extent} {count = count} {typed = typed} one) =
@@ -142,7 +164,8 @@ mutual
   subscript_is whole_array = (refl, NoTyped, refl, refl)
 
   pub part_is : {known : Known} {extent : Extent} {number : ℕ} {object : TypedObject} {before : Constants}
-      {trees : ArgumentTrees} {part : MemberTree} {reference : TypedReference} {scalar : Option ScalarType} {after : Constants}
+      {trees : ArgumentTrees} {part : MemberTree} {reference : TypedReference}
+      {scalar : Option ScalarType} {after : Constants}
       → PartTyping known extent number object before trees part reference scalar after
       → (name : Identifier)
       → part_of number object extent (given_name known name trees part) before
@@ -156,7 +179,8 @@ mutual
       then_ok _ (passed _ _ s.0) (then_ok _ s.2 (then_member_ok _ there
       (then_ok _ (passed _ _ t.0) (then_ok _ t.2 (part_is_member number place after s.3 t.3)))))
 
-  pub target_is : {known : Known} {before : Constants} {reference : ReferenceTree} {destination : Destination} {after : Constants}
+  pub target_is : {known : Known} {before : Constants} {reference : ReferenceTree}
+      {destination : Destination} {after : Constants}
       → TargetTyping known before reference destination after
       → destination_of known (given_reference known reference) before ≡ Ok (destination, after)
   target_is (scalar_target {name = name} is plain part) =
@@ -170,7 +194,8 @@ given_or default (Ok a) = a
 given_or default (Err fault) = default
 
 -- an expression has one typing at most
-pub one_typing : {known : Known} {before : Constants} {tree : ExpressionTree} {one other : TypedExpression} {after later : Constants}
+pub one_typing : {known : Known} {before : Constants} {tree : ExpressionTree} {one other : TypedExpression}
+    {after later : Constants}
     → ExpressionTyping known before tree one after
     → ExpressionTyping known before tree other later
     → (one ≡ other) × (after ≡ later)

@@ -1,4 +1,5 @@
--- Restricted expressions and what fills objects: what the typing gives of them is what the rules give, and so is the fault.
+-- Restricted expressions and what fills objects: what the typing gives of them is what the rules give, and so
+-- is the fault.
 use Rattle.typing_rules.proofs.Prelude.{◌≡◌, ◌∙◌, ℕ, false, List, [], ◌∷◌, Some, Ok, Err, nat_le, refl, sym, ap, subst, arith, slice_get, leb-true, leb-false, le-leb, lt-leb, ScalarType, Identifier, Place, ConstantTree, NumberConstant, StringConstant, StringTree, Binding, Declared, BuiltInName, UnknownLabel, Object, Procedure, Label, Definition, binding_of, ObjectType, TypedObject, Cause, NoVariable, StringNotNumber, UnknownName, Fault, Checked, ◌>>=◌, number_of_characters, number_of_constant, Known, IsNumber, digits, StandsFor, IsVariable, at_name}
 use Rattle.std.specs.Prelude.{nat_lt}
 use Rattle.std.proofs.lemmas.Bool.{ltb-true, ltb-false, lt-ltb}
@@ -20,29 +21,35 @@ use Rattle.typing_rules.proofs.ExpressionsTyped.{number_is}
 use Rattle.typing_rules.proofs.ExpressionsRefused.{is_nothing, NoObject, no_object, no_number_is}
 
 -- constants
-pub constant_judged : (constant : ConstantTree) → Judged (IsNumber constant) (NumberFault constant) (number_of_constant constant)
+pub constant_judged : (constant : ConstantTree)
+    → Judged (IsNumber constant) (NumberFault constant) (number_of_constant constant)
 constant_judged (NumberConstant number) = judged_ok digits
 constant_judged (StringConstant string) =
     is_found (number_of_characters string.characters) StringNotNumber string.place
     (λ none. string_is_no_number (string_is_none string none))
     (λ number some. string_is_number string number string.characters refl some)
 
-constant_fault : {constant : ConstantTree} {fault : Fault} → NumberFault constant fault → number_of_constant constant ≡ Err fault
-constant_fault (string_is_no_number {string = string} none) = got_none _ _ (no_number_is string string.characters none refl)
+constant_fault : {constant : ConstantTree} {fault : Fault} → NumberFault constant fault
+    → number_of_constant constant ≡ Err fault
+constant_fault (string_is_no_number {string = string} none) =
+    got_none _ _ (no_number_is string string.characters none refl)
 
 offsets_judged : (offsets : List OffsetTree) (sum : ℕ)
     → Judged (OffsetsTyping sum offsets) (OffsetsFault offsets) (with_offsets sum offsets)
 offsets_judged [] sum = judged_ok no_offsets
 offsets_judged (offset ∷ others) sum =
     then_judged (constant_judged offset.constant) (λ fault is. in_first_offset is) (λ number is.
-    judged_more (offsets_judged others (moved_by sum offset.sign number)) (λ fault its. in_other_offsets is its)
+    judged_more (offsets_judged others (moved_by sum offset.sign number))
+    (λ fault its. in_other_offsets is its)
     (λ total its. next_offset is its))
 
-offsets_are : {sum total : ℕ} {offsets : List OffsetTree} → OffsetsTyping sum offsets total → with_offsets sum offsets ≡ Ok total
+offsets_are : {sum total : ℕ} {offsets : List OffsetTree} → OffsetsTyping sum offsets total
+    → with_offsets sum offsets ≡ Ok total
 offsets_are no_offsets = refl
 offsets_are (next_offset is others) = then_ok _ (number_is is) (offsets_are others)
 
-offsets_fault : {offsets : List OffsetTree} {fault : Fault} (sum : ℕ) → OffsetsFault offsets fault → with_offsets sum offsets ≡ Err fault
+offsets_fault : {offsets : List OffsetTree} {fault : Fault} (sum : ℕ) → OffsetsFault offsets fault
+    → with_offsets sum offsets ≡ Err fault
 offsets_fault sum (in_first_offset is) = then_fault _ (constant_fault is)
 offsets_fault sum (in_other_offsets {offset = offset} {number = number} is others) =
     then_ok _ (number_is is) (offsets_fault (moved_by sum offset.sign number) others)
@@ -80,30 +87,43 @@ address_fault number place nowhere = refl
 -- the object of a location
 abbrev ObjectJudged : Reach → Known → Identifier → List OffsetTree → Checked ℕ → Type 0
 ObjectJudged reach known name offsets checked =
-    Judged (λ number. (object : TypedObject) × IsVariable known name number object × HasAddress reach object.home)
+    Judged (λ number. (object : TypedObject) × IsVariable known name number object
+    × HasAddress reach object.home)
     (RestrictedFault reach known (LocationOrigin name) offsets)
     checked
 
-bound_object_judged : (reach : Reach) (known : Known) (name : Identifier) (offsets : List OffsetTree) (binding : Binding)
+bound_object_judged : (reach : Reach) (known : Known) (name : Identifier)
+    (offsets : List OffsetTree) (binding : Binding)
     → StandsFor known name binding
     → ObjectJudged reach known name offsets (static_bound reach known binding name)
 bound_object_judged reach known name offsets (Declared (Object number)) named =
     then_found (slice_get known.objects number) NoVariable name.place
-    (λ none. origin_is_no_variable (is_no_variable _ named (λ other object e listed. absurd cc)) (λ other e. absurd cc))
+    (λ none. origin_is_no_variable (is_no_variable _ named (λ other object e listed. absurd cc))
+    (λ other e. absurd cc))
     (λ object listed.
     let is : IsVariable known name number object = record { named = named; listed = listed } in
     judged_more (address_judged reach object.home number name.place)
-    (λ fault none. subst (RestrictedFault reach known (LocationOrigin name) offsets) (sym none.2) (no_address is none.1))
+    (λ fault none. subst (RestrictedFault reach known (LocationOrigin name) offsets) (sym none.2)
+    (no_address is none.1))
     (λ found has. (object, subst (λ it. IsVariable known name it object) (sym has.1) is, has.0)))
-bound_object_judged reach known name offsets (Declared (Procedure number)) named = judged_fault (origin_is_procedure named)
+bound_object_judged reach known name offsets (Declared (Procedure number)) named =
+    judged_fault (origin_is_procedure named)
 bound_object_judged reach known name offsets (Declared (Label number)) named =
-    judged_fault (origin_is_no_variable (is_no_variable _ named (λ other object e listed. absurd cc)) (λ other e. absurd cc))
+    judged_fault
+    (origin_is_no_variable (is_no_variable _ named (λ other object e listed. absurd cc))
+    (λ other e. absurd cc))
 bound_object_judged reach known name offsets (Declared Definition) named =
-    judged_fault (origin_is_no_variable (is_no_variable _ named (λ other object e listed. absurd cc)) (λ other e. absurd cc))
+    judged_fault
+    (origin_is_no_variable (is_no_variable _ named (λ other object e listed. absurd cc))
+    (λ other e. absurd cc))
 bound_object_judged reach known name offsets (BuiltInName built_in) named =
-    judged_fault (origin_is_no_variable (is_no_variable _ named (λ other object e listed. absurd cc)) (λ other e. absurd cc))
+    judged_fault
+    (origin_is_no_variable (is_no_variable _ named (λ other object e listed. absurd cc))
+    (λ other e. absurd cc))
 bound_object_judged reach known name offsets UnknownLabel named =
-    judged_fault (origin_is_no_variable (is_no_variable _ named (λ other object e listed. absurd cc)) (λ other e. absurd cc))
+    judged_fault
+    (origin_is_no_variable (is_no_variable _ named (λ other object e listed. absurd cc))
+    (λ other e. absurd cc))
 
 pub restricted_judged : (reach : Reach) (known : Known) (origin : OriginTree) (offsets : List OffsetTree)
     → Judged (RestrictedTyping reach known origin offsets) (RestrictedFault reach known origin offsets)
@@ -120,7 +140,8 @@ restricted_judged reach known (LocationOrigin name) offsets =
     then_judged (offsets_judged offsets 0) (λ fault its. after_location is.1 is.2 its) (λ offset its.
     judged_ok (from_object is.1 is.2 its)))
 
-pub restricted_is : {reach : Reach} {known : Known} {origin : OriginTree} {offsets : List OffsetTree} {value : RestrictedValue}
+pub restricted_is : {reach : Reach} {known : Known} {origin : OriginTree} {offsets : List OffsetTree}
+    {value : RestrictedValue}
     → RestrictedTyping reach known origin offsets value
     → restricted_value reach known origin offsets ≡ Ok value
 restricted_is (from_number is offsets) = then_ok _ (number_is is) (then_ok _ (offsets_are offsets) refl)
@@ -133,14 +154,16 @@ no_origin_is : (reach : Reach) (known : Known) (name : Identifier) (binding : Bi
     → ((number : ℕ) → ¬ (binding ≡ Declared (Procedure number)))
     → static_bound reach known binding name ≡ Err (at_name NoVariable name)
 no_origin_is reach known name (Declared (Object number)) none neither =
-    then_fault _ (got_none _ _ (is_nothing (slice_get known.objects number) (λ object e. none number object refl e)))
+    then_fault _
+    (got_none _ _ (is_nothing (slice_get known.objects number) (λ object e. none number object refl e)))
 no_origin_is reach known name (Declared (Procedure number)) none neither = absurd (neither number refl)
 no_origin_is reach known name (Declared (Label number)) none neither = refl
 no_origin_is reach known name (Declared Definition) none neither = refl
 no_origin_is reach known name (BuiltInName built_in) none neither = refl
 no_origin_is reach known name UnknownLabel none neither = refl
 
-pub restricted_fault : {reach : Reach} {known : Known} {origin : OriginTree} {offsets : List OffsetTree} {fault : Fault}
+pub restricted_fault : {reach : Reach} {known : Known} {origin : OriginTree}
+    {offsets : List OffsetTree} {fault : Fault}
     → RestrictedFault reach known origin offsets fault
     → restricted_value reach known origin offsets ≡ Err fault
 restricted_fault (in_number is) = then_fault _ (constant_fault is)
@@ -152,7 +175,8 @@ restricted_fault {reach = reach} {known = known} (origin_is_no_variable {name = 
     then_fault _ (then_ok _ (got _ _ is.named) (no_origin_is reach known name is.binding (no_object is)
     (λ number e. neither number (is.named ∙ ap Some e))))
 restricted_fault (no_address {name = name} {number = number} is none) =
-    then_fault _ (then_ok _ (got _ _ is.named) (then_ok _ (got _ _ is.listed) (address_fault number name.place none)))
+    then_fault _
+    (then_ok _ (got _ _ is.named) (then_ok _ (got _ _ is.listed) (address_fault number name.place none)))
 restricted_fault (after_location is has offsets) =
     then_ok _ (then_ok _ (got _ _ is.named) (then_ok _ (got _ _ is.listed) (address_is _ _ has)))
     (then_fault _ (offsets_fault 0 offsets))
@@ -182,13 +206,15 @@ scalar_fault (number_for_byte over) = then_fault _ (failed _ _ (lt-leb _ _ over)
 scalar_fault location_for_byte = refl
 scalar_fault {place = place} (no_scalar_left {value = value}) = none_left place value
   where
-    none_left : (place : Place) (value : RestrictedValue) → fill_scalar place [] value ≡ Err (fault_of TooManyValues place)
+    none_left : (place : Place) (value : RestrictedValue)
+        → fill_scalar place [] value ≡ Err (fault_of TooManyValues place)
     none_left place (ANumber number) = refl
     none_left place (FromObject object offset) = refl
 
 -- strings
 characters_judged : (place : Place) (characters : List ℕ) (scalars : List ScalarType)
-    → Judged (CharactersFill characters scalars) (CharactersFault place characters scalars) (fill_characters place characters scalars)
+    → Judged (CharactersFill characters scalars) (CharactersFault place characters scalars)
+    (fill_characters place characters scalars)
 characters_judged place [] scalars = judged_ok no_characters
 characters_judged place (character ∷ others) (Byte ∷ left) =
     then_judged (characters_judged place others left) (λ fault is. in_other_characters is) (λ filled is.
@@ -212,9 +238,11 @@ characters_fault (in_other_characters is) = then_fault _ (characters_fault is)
 string_judged : (string : StringTree) (scalars : List ScalarType)
     → Judged (StringFills string scalars) (StringFault string scalars) (fill_string string scalars)
 string_judged string [] =
-    judged_more (characters_judged string.place string.characters []) (λ fault is. string_at_the_end is) (λ filled is. at_the_end is)
+    judged_more (characters_judged string.place string.characters []) (λ fault is. string_at_the_end is)
+    (λ filled is. at_the_end is)
 string_judged string (Byte ∷ left) =
-    judged_more (characters_judged string.place string.characters (Byte ∷ left)) (λ fault is. string_at_byte is)
+    judged_more (characters_judged string.place string.characters (Byte ∷ left))
+    (λ fault is. string_at_byte is)
     (λ filled is. at_byte is)
 string_judged string (Address ∷ left) =
     then_found (number_of_characters string.characters) StringNotNumber string.place
@@ -237,40 +265,51 @@ string_fault {string = string} (string_at_an_address none) =
     then_fault _ (got_none _ _ (no_number_is string string.characters none refl))
 
 -- values
-restricted_fill_judged : (known : Known) (scalars : List ScalarType) (origin : OriginTree) (offsets : List OffsetTree)
+restricted_fill_judged : (known : Known) (scalars : List ScalarType) (origin : OriginTree)
+    (offsets : List OffsetTree)
     → IsNoString origin offsets
     → Judged (ValueFills known scalars origin offsets) (FillFault known scalars origin offsets)
-    (restricted_value OtherModulesToo known origin offsets >>= λ value. fill_scalar (place_of_origin origin) scalars value)
+    (restricted_value OtherModulesToo known origin offsets
+    >>= λ value. fill_scalar (place_of_origin origin) scalars value)
 restricted_fill_judged known scalars origin offsets no_string =
-    then_judged (restricted_judged OtherModulesToo known origin offsets) (λ fault is. in_restricted no_string is) (λ value is.
-    judged_more (scalar_judged (place_of_origin origin) scalars value) (λ fault its. in_scalar no_string is its)
+    then_judged (restricted_judged OtherModulesToo known origin offsets)
+    (λ fault is. in_restricted no_string is) (λ value is.
+    judged_more (scalar_judged (place_of_origin origin) scalars value)
+    (λ fault its. in_scalar no_string is its)
     (λ filled its. a_value no_string is its))
 
 value_judged : (known : Known) (scalars : List ScalarType) (origin : OriginTree) (offsets : List OffsetTree)
-    → Judged (ValueFills known scalars origin offsets) (FillFault known scalars origin offsets) (fill_value known scalars origin offsets)
+    → Judged (ValueFills known scalars origin offsets) (FillFault known scalars origin offsets)
+    (fill_value known scalars origin offsets)
 value_judged known scalars (ConstantOrigin (StringConstant string)) [] =
     judged_more (string_judged string scalars) (λ fault is. in_string is) (λ filled is. a_string is)
 value_judged known scalars (ConstantOrigin (StringConstant string)) (offset ∷ others) =
     restricted_fill_judged known scalars _ _ moved
-value_judged known scalars (ConstantOrigin (NumberConstant number)) offsets = restricted_fill_judged known scalars _ _ a_number
+value_judged known scalars (ConstantOrigin (NumberConstant number)) offsets =
+    restricted_fill_judged known scalars _ _ a_number
 value_judged known scalars (LocationOrigin name) offsets = restricted_fill_judged known scalars _ _ located
 
-no_string_is : {origin : OriginTree} {offsets : List OffsetTree} {answer : Checked Filled} (known : Known) (scalars : List ScalarType)
+no_string_is : {origin : OriginTree} {offsets : List OffsetTree} {answer : Checked Filled} (known : Known)
+    (scalars : List ScalarType)
     → IsNoString origin offsets
-    → (restricted_value OtherModulesToo known origin offsets >>= λ value. fill_scalar (place_of_origin origin) scalars value) ≡ answer
+    → (restricted_value OtherModulesToo known origin offsets
+    >>= λ value. fill_scalar (place_of_origin origin) scalars value) ≡ answer
     → fill_value known scalars origin offsets ≡ answer
 no_string_is known scalars a_number e = e
 no_string_is known scalars located e = e
 no_string_is known scalars moved e = e
 
-fill_is : {known : Known} {scalars : List ScalarType} {origin : OriginTree} {offsets : List OffsetTree} {filled : Filled}
+fill_is : {known : Known} {scalars : List ScalarType} {origin : OriginTree}
+    {offsets : List OffsetTree} {filled : Filled}
     → ValueFills known scalars origin offsets filled
     → fill_value known scalars origin offsets ≡ Ok filled
 fill_is (a_string is) = string_is is
 fill_is {known = known} {scalars = scalars} (a_value {origin = origin} no_string is fills) =
-    no_string_is known scalars no_string (then_ok _ (restricted_is is) (scalar_is (place_of_origin origin) fills))
+    no_string_is known scalars no_string
+    (then_ok _ (restricted_is is) (scalar_is (place_of_origin origin) fills))
 
-fill_fault : {known : Known} {scalars : List ScalarType} {origin : OriginTree} {offsets : List OffsetTree} {fault : Fault}
+fill_fault : {known : Known} {scalars : List ScalarType} {origin : OriginTree}
+    {offsets : List OffsetTree} {fault : Fault}
     → FillFault known scalars origin offsets fault
     → fill_value known scalars origin offsets ≡ Err fault
 fill_fault (in_string is) = string_fault is
@@ -283,7 +322,8 @@ fills_judged : (known : Known) (values : List RestrictedTree) (scalars : List Sc
     → Judged (ListFills known values scalars) (FillsFault known values scalars) (fill known values scalars)
 fills_judged known [] scalars = judged_ok no_more_values
 fills_judged known (restricted ∷ others) scalars =
-    then_judged (value_judged known scalars restricted.origin restricted.offsets) (λ fault is. in_first_fill is) (λ first is.
+    then_judged (value_judged known scalars restricted.origin restricted.offsets)
+    (λ fault is. in_first_fill is) (λ first is.
     then_judged (fills_judged known others first.left) (λ fault its. in_other_fills is its) (λ rest its.
     judged_ok (and_then is its)))
 
@@ -300,38 +340,47 @@ fills_fault (in_first_fill is) = then_fault _ (fill_fault is)
 fills_fault (in_other_fills is others) = then_ok _ (fill_is is) (then_fault _ (fills_fault others))
 
 -- contents
-pub contents_judged : (known : Known) (place : Place) (object_type : ObjectType) (extents : Extents) (values : List RestrictedTree)
-    → Judged (ContentsTyping known object_type extents values) (ContentsFault known place object_type extents values)
+pub contents_judged : (known : Known) (place : Place) (object_type : ObjectType) (extents : Extents)
+    (values : List RestrictedTree)
+    → Judged (ContentsTyping known object_type extents values)
+    (ContentsFault known place object_type extents values)
     (contents known place object_type extents values)
 contents_judged known place object_type NoArray values =
-    then_judged (fills_judged known values (scalars_of_element object_type)) (λ fault is. in_no_array is) (λ filled is.
+    then_judged (fills_judged known values (scalars_of_element object_type))
+    (λ fault is. in_no_array is) (λ filled is.
     judged_ok (of_no_array is))
 contents_judged known place object_type (Elements count) values =
-    then_judged (fills_judged known values (scalars_of_elements count object_type)) (λ fault is. in_elements is) (λ filled is.
+    then_judged (fills_judged known values (scalars_of_elements count object_type))
+    (λ fault is. in_elements is) (λ filled is.
     judged_ok (of_elements is))
 contents_judged known place object_type AsListed values =
-    then_judged (fills_judged known values (scalars_of_elements (enough_elements values) object_type)) (λ fault is. in_as_listed is)
+    then_judged (fills_judged known values (scalars_of_elements (enough_elements values) object_type))
+    (λ fault is. in_as_listed is)
     (λ filled is.
     then_when (nat_lt 0 (used_of values object_type filled)) ImpliedWithoutValues place
     (λ nothing. list_holds_nothing is (omega (arith, ltb-false _ _ nothing))) (λ _ some.
     judged_ok (as_long is (ltb-true _ _ some))))
 
-pub contents_are : {known : Known} {object_type : ObjectType} {extents : Extents} {values : List RestrictedTree} {found : Contents}
+pub contents_are : {known : Known} {object_type : ObjectType} {extents : Extents}
+    {values : List RestrictedTree} {found : Contents}
     (place : Place)
     → ContentsTyping known object_type extents values found
     → contents known place object_type extents values ≡ Ok found
 contents_are place (of_no_array is) = then_ok _ (fills_are is) refl
 contents_are place (of_elements is) = then_ok _ (fills_are is) refl
-contents_are place (as_long is some) = then_ok _ (fills_are is) (then_ok _ (passed _ _ (lt-ltb _ _ some)) refl)
+contents_are place (as_long is some) =
+    then_ok _ (fills_are is) (then_ok _ (passed _ _ (lt-ltb _ _ some)) refl)
 
 not_less : (n : ℕ) → n ≡ 0 → nat_lt 0 n ≡ false
 not_less n e = subst (λ it. nat_lt 0 it ≡ false) (sym e) refl
 
-pub contents_fault : {known : Known} {place : Place} {object_type : ObjectType} {extents : Extents} {values : List RestrictedTree}
+pub contents_fault : {known : Known} {place : Place} {object_type : ObjectType} {extents : Extents}
+    {values : List RestrictedTree}
     {fault : Fault}
     → ContentsFault known place object_type extents values fault
     → contents known place object_type extents values ≡ Err fault
 contents_fault (in_no_array is) = then_fault _ (fills_fault is)
 contents_fault (in_elements is) = then_fault _ (fills_fault is)
 contents_fault (in_as_listed is) = then_fault _ (fills_fault is)
-contents_fault (list_holds_nothing is nothing) = then_ok _ (fills_are is) (then_fault _ (failed _ _ (not_less _ nothing)))
+contents_fault (list_holds_nothing is nothing) =
+    then_ok _ (fills_are is) (then_fault _ (failed _ _ (not_less _ nothing)))

@@ -38,27 +38,34 @@ pub names_judged : (block : Block) (names : List Identifier) (here : Here)
     → Judged (AreNewNames block here names) (NamesFault block here names) (declare_names block names here)
 names_judged block [] here = judged_ok no_names
 names_judged block (name ∷ others) here =
-    then_when (not (is_declared_again here name.name)) DeclaredTwice name.place (λ again. name_again (not-false _ again)) (λ _ new.
-    then_when (not (is_external block.owner) || declares_parameter block name.name) ExternalContents name.place
+    then_when (not (is_declared_again here name.name)) DeclaredTwice name.place
+    (λ again. name_again (not-false _ again)) (λ _ new.
+    then_when (not (is_external block.owner) || declares_parameter block name.name)
+    ExternalContents name.place
     (λ other. external_contents (not-true _ new) other) (λ _ own.
-    judged_more (names_judged block others (with_object name.name here)) (λ fault is. in_other_names (not-true _ new) own is)
+    judged_more (names_judged block others (with_object name.name here))
+    (λ fault is. in_other_names (not-true _ new) own is)
     (λ after are. next_name (not-true _ new) own are)))
 
 names_are : {block : Block} {here after : Here} {names : List Identifier}
     → AreNewNames block here names after
     → declare_names block names here ≡ Ok after
 names_are no_names = refl
-names_are (next_name new own others) = then_ok _ (passed _ _ (ap not new)) (then_ok _ (passed _ _ own) (names_are others))
+names_are (next_name new own others) =
+    then_ok _ (passed _ _ (ap not new)) (then_ok _ (passed _ _ own) (names_are others))
 
 names_fault : {block : Block} {here : Here} {names : List Identifier} {fault : Fault}
     → NamesFault block here names fault
     → declare_names block names here ≡ Err fault
 names_fault (name_again again) = then_fault _ (failed _ _ (ap not again))
-names_fault (external_contents new other) = then_ok _ (passed _ _ (ap not new)) (then_fault _ (failed _ _ other))
-names_fault (in_other_names new own is) = then_ok _ (passed _ _ (ap not new)) (then_ok _ (passed _ _ own) (names_fault is))
+names_fault (external_contents new other) =
+    then_ok _ (passed _ _ (ap not new)) (then_fault _ (failed _ _ other))
+names_fault (in_other_names new own is) =
+    then_ok _ (passed _ _ (ap not new)) (then_ok _ (passed _ _ own) (names_fault is))
 
 -- bases
-base_bound_judged : (known : Known) (block : Block) (subject : SubjectTree) (name : Identifier) (binding : Binding)
+base_bound_judged : (known : Known) (block : Block) (subject : SubjectTree)
+    (name : Identifier) (binding : Binding)
     → names_parameter block subject ≡ false
     → StandsFor known name binding
     → Judged (BaseTyping known block subject (Some name)) (BaseFault known block subject (Some name))
@@ -66,9 +73,11 @@ base_bound_judged : (known : Known) (block : Block) (subject : SubjectTree) (nam
     >>= λ object. require (is_base object) NoBase name.place >>= λ _. Ok (Some number))
 base_bound_judged known block subject name (Declared (Object number)) own named =
     then_found (slice_get known.objects number) NoVariable name.place
-    (λ none. base_is_no_variable own (is_no_variable _ named (λ other object e listed. absurd cc))) (λ object listed.
+    (λ none. base_is_no_variable own (is_no_variable _ named (λ other object e listed. absurd cc)))
+    (λ object listed.
     let is : IsVariable known name number object = record { named = named; listed = listed } in
-    then_when (is_base object) NoBase name.place (λ wrong. wrong_base own is wrong) (λ _ right. judged_ok (a_base own is right)))
+    then_when (is_base object) NoBase name.place (λ wrong. wrong_base own is wrong)
+    (λ _ right. judged_ok (a_base own is right)))
 base_bound_judged known block subject name (Declared (Procedure number)) own named =
     judged_fault (base_is_no_variable own (is_no_variable _ named (λ other object e listed. absurd cc)))
 base_bound_judged known block subject name (Declared (Label number)) own named =
@@ -81,15 +90,19 @@ base_bound_judged known block subject name UnknownLabel own named =
     judged_fault (base_is_no_variable own (is_no_variable _ named (λ other object e listed. absurd cc)))
 
 base_judged : (known : Known) (block : Block) (subject : SubjectTree) (base : Option Identifier)
-    → Judged (BaseTyping known block subject base) (BaseFault known block subject base) (typed_base known block subject base)
+    → Judged (BaseTyping known block subject base) (BaseFault known block subject base)
+    (typed_base known block subject base)
 base_judged known block subject None = judged_ok no_base
 base_judged known block subject (Some name) =
-    then_when (not (names_parameter block subject)) BasedParameter name.place (λ parameter. based_parameter (not-false _ parameter))
+    then_when (not (names_parameter block subject)) BasedParameter name.place
+    (λ parameter. based_parameter (not-false _ parameter))
     (λ _ own.
-    then_found (binding_of known.here name.name) UnknownName name.place (λ none. unknown_base (not-true _ own) none) (λ binding named.
+    then_found (binding_of known.here name.name) UnknownName name.place
+    (λ none. unknown_base (not-true _ own) none) (λ binding named.
     base_bound_judged known block subject name binding (not-true _ own) named))
 
-base_is : {known : Known} {block : Block} {subject : SubjectTree} {base : Option Identifier} {number : Option ℕ}
+base_is : {known : Known} {block : Block} {subject : SubjectTree}
+    {base : Option Identifier} {number : Option ℕ}
     → BaseTyping known block subject base number
     → typed_base known block subject base ≡ Ok number
 base_is no_base = refl
@@ -100,22 +113,26 @@ base_is (a_base own is right) =
 no_base_is : (known : Known) (name : Identifier) (binding : Binding)
     → NoObject known binding
     → (object_bound binding name.place >>= λ number. object_of known name number
-    >>= λ object. require (is_base object) NoBase name.place >>= λ _. Ok (Some number)) ≡ Err (at_name NoVariable name)
+    >>= λ object. require (is_base object) NoBase name.place >>= λ _. Ok (Some number))
+    ≡ Err (at_name NoVariable name)
 no_base_is known name (Declared (Object number)) none =
-    then_fault _ (got_none _ _ (is_nothing (slice_get known.objects number) (λ object e. none number object refl e)))
+    then_fault _
+    (got_none _ _ (is_nothing (slice_get known.objects number) (λ object e. none number object refl e)))
 no_base_is known name (Declared (Procedure number)) none = refl
 no_base_is known name (Declared (Label number)) none = refl
 no_base_is known name (Declared Definition) none = refl
 no_base_is known name (BuiltInName built_in) none = refl
 no_base_is known name UnknownLabel none = refl
 
-base_fault : {known : Known} {block : Block} {subject : SubjectTree} {base : Option Identifier} {fault : Fault}
+base_fault : {known : Known} {block : Block} {subject : SubjectTree}
+    {base : Option Identifier} {fault : Fault}
     → BaseFault known block subject base fault
     → typed_base known block subject base ≡ Err fault
 base_fault (based_parameter parameter) = then_fault _ (failed _ _ (ap not parameter))
 base_fault (unknown_base own none) = then_ok _ (passed _ _ (ap not own)) (then_fault _ (got_none _ _ none))
 base_fault {known = known} (base_is_no_variable {name = name} own is) =
-    then_ok _ (passed _ _ (ap not own)) (then_ok _ (got _ _ is.named) (no_base_is known name is.binding (no_object is)))
+    then_ok _ (passed _ _ (ap not own))
+    (then_ok _ (got _ _ is.named) (no_base_is known name is.binding (no_object is)))
 base_fault (wrong_base own is wrong) =
     then_ok _ (passed _ _ (ap not own)) (then_ok _ (got _ _ is.named) (then_ok _ (got _ _ is.listed)
     (then_fault _ (failed _ _ wrong))))
@@ -130,10 +147,12 @@ no_list (Some a) e = absurd cc
 no_list None e = refl
 
 extents_judged : (block : Block) (item : ItemTree) (dimension : Option Dimension)
-    → Judged (ExtentsTyping block item dimension) (ExtentsFault block item dimension) (extents_of block item dimension)
+    → Judged (ExtentsTyping block item dimension) (ExtentsFault block item dimension)
+    (extents_of block item dimension)
 extents_judged block item None = judged_ok no_extents
 extents_judged block item (Some (Count number)) =
-    then_when (nat_le 1 number.value) ZeroDimension number.place (λ zero. zero_dimension (leb-false _ _ zero)) (λ _ some.
+    then_when (nat_le 1 number.value) ZeroDimension number.place
+    (λ zero. zero_dimension (leb-false _ _ zero)) (λ _ some.
     then_when (not (names_parameter block item.subject)) ParameterNotScalar number.place
     (λ parameter. array_parameter (leb-true _ _ some) (not-false _ parameter)) (λ _ own.
     judged_ok (counted (leb-true _ _ some) (not-true _ own))))
@@ -143,16 +162,19 @@ extents_judged block item (Some Implied) =
     then_when (not (is_group item.subject)) ImpliedForGroup (place_of_item item)
     (λ group. implied_for_group (not-true _ own) (not-false _ group)) (λ _ single.
     then_when (is_some item.value_list) ImpliedWithoutValues (place_of_item item)
-    (λ none. implied_without_list (not-true _ own) (not-true _ single) (no_list item.value_list none)) (λ _ some.
+    (λ none. implied_without_list (not-true _ own) (not-true _ single) (no_list item.value_list none))
+    (λ _ some.
     judged_ok (implied (not-true _ own) (not-true _ single) (the_list item.value_list some).1))))
 
 extents_are : {block : Block} {item : ItemTree} {dimension : Option Dimension} {extents : Extents}
     → ExtentsTyping block item dimension extents
     → extents_of block item dimension ≡ Ok extents
 extents_are no_extents = refl
-extents_are (counted some own) = then_ok _ (passed _ _ (le-leb _ _ some)) (then_ok _ (passed _ _ (ap not own)) refl)
+extents_are (counted some own) =
+    then_ok _ (passed _ _ (le-leb _ _ some)) (then_ok _ (passed _ _ (ap not own)) refl)
 extents_are (implied own single list) =
-    then_ok _ (passed _ _ (ap not own)) (then_ok _ (passed _ _ (ap not single)) (then_ok _ (passed _ _ (ap is_some list)) refl))
+    then_ok _ (passed _ _ (ap not own))
+    (then_ok _ (passed _ _ (ap not single)) (then_ok _ (passed _ _ (ap is_some list)) refl))
 
 extents_fault : {block : Block} {item : ItemTree} {dimension : Option Dimension} {fault : Fault}
     → ExtentsFault block item dimension fault
@@ -161,15 +183,19 @@ extents_fault (zero_dimension zero) = then_fault _ (failed _ _ (lt-leb _ _ zero)
 extents_fault (array_parameter some parameter) =
     then_ok _ (passed _ _ (le-leb _ _ some)) (then_fault _ (failed _ _ (ap not parameter)))
 extents_fault (implied_parameter parameter) = then_fault _ (failed _ _ (ap not parameter))
-extents_fault (implied_for_group own group) = then_ok _ (passed _ _ (ap not own)) (then_fault _ (failed _ _ (ap not group)))
+extents_fault (implied_for_group own group) =
+    then_ok _ (passed _ _ (ap not own)) (then_fault _ (failed _ _ (ap not group)))
 extents_fault (implied_without_list own single none) =
-    then_ok _ (passed _ _ (ap not own)) (then_ok _ (passed _ _ (ap not single)) (then_fault _ (failed _ _ (ap is_some none))))
+    then_ok _ (passed _ _ (ap not own))
+    (then_ok _ (passed _ _ (ap not single)) (then_fault _ (failed _ _ (ap is_some none))))
 
 -- members
-dimension_judged : (number : Option Number) → Judged (DimensionTyping number) (DimensionFault number) (member_dimension number)
+dimension_judged : (number : Option Number)
+    → Judged (DimensionTyping number) (DimensionFault number) (member_dimension number)
 dimension_judged None = judged_ok no_elements
 dimension_judged (Some number) =
-    then_when (nat_le 1 number.value) ZeroDimension number.place (λ zero. zero_of_member (leb-false _ _ zero)) (λ _ some.
+    then_when (nat_le 1 number.value) ZeroDimension number.place
+    (λ zero. zero_of_member (leb-false _ _ zero)) (λ _ some.
     judged_ok (some_elements (leb-true _ _ some)))
 
 dimension_is : {number : Option Number} {dimension : Option ℕ}
@@ -178,7 +204,8 @@ dimension_is : {number : Option Number} {dimension : Option ℕ}
 dimension_is no_elements = refl
 dimension_is (some_elements some) = then_ok _ (passed _ _ (le-leb _ _ some)) refl
 
-dimension_fault : {number : Option Number} {fault : Fault} → DimensionFault number fault → member_dimension number ≡ Err fault
+dimension_fault : {number : Option Number} {fault : Fault} → DimensionFault number fault
+    → member_dimension number ≡ Err fault
 dimension_fault (zero_of_member zero) = then_fault _ (failed _ _ (lt-leb _ _ zero))
 
 members_judged : (members : List Member) (before : List TypedMember)
@@ -187,7 +214,8 @@ members_judged [] before = judged_ok no_members
 members_judged (member ∷ others) before =
     then_when (not (has_member before member.name.name)) DeclaredTwice member.name.place
     (λ again. member_again (not-false _ again)) (λ _ new.
-    then_judged (dimension_judged member.dimension) (λ fault is. in_dimension (not-true _ new) is) (λ dimension is.
+    then_judged (dimension_judged member.dimension)
+    (λ fault is. in_dimension (not-true _ new) is) (λ dimension is.
     judged_more (members_judged others
     (before ++ record { name = member.name.name; dimension = dimension; scalar = member.scalar } ∷ []))
     (λ fault its. in_other_members (not-true _ new) is its) (λ all its. next_member (not-true _ new) is its)))
@@ -196,7 +224,8 @@ members_are : {before all : List TypedMember} {members : List Member}
     → MembersTyping before members all
     → typed_members before members ≡ Ok all
 members_are no_members = refl
-members_are (next_member new is others) = then_ok _ (passed _ _ (ap not new)) (then_ok _ (dimension_is is) (members_are others))
+members_are (next_member new is others) =
+    then_ok _ (passed _ _ (ap not new)) (then_ok _ (dimension_is is) (members_are others))
 
 members_fault : {before : List TypedMember} {members : List Member} {fault : Fault}
     → MembersFault before members fault
@@ -230,10 +259,12 @@ type_fault (in_members own is) = then_ok _ (passed _ _ (ap not own)) (then_fault
 
 -- PUBLIC and EXTERNAL
 item_linkage_judged : (block : Block) (item : ItemTree) (linkage : Option Linkage)
-    → Judged (λ _. ItemLinkageStands block item linkage) (ItemLinkageFault block item linkage) (check_linkage block item linkage)
+    → Judged (λ _. ItemLinkageStands block item linkage) (ItemLinkageFault block item linkage)
+    (check_linkage block item linkage)
 item_linkage_judged block item None = judged_ok private_item
 item_linkage_judged block item (Some linkage) =
-    is_required (is_module_level block && is_none (base_of item.subject)) MisplacedLinkage (place_of_linkage linkage)
+    is_required (is_module_level block && is_none (base_of item.subject)) MisplacedLinkage
+    (place_of_linkage linkage)
     misplaced_item_linkage shared_item
 
 item_linkage_is : {block : Block} {item : ItemTree} {linkage : Option Linkage}
@@ -254,7 +285,8 @@ at_judged known block item None = judged_ok not_placed
 at_judged known block item (Some at) =
     then_when (is_plain block item) MisplacedAt at.place misplaced_at (λ _ plain.
     then_judged
-    (then_judged (restricted_judged ThisModule known at.address.origin at.address.offsets) (λ fault is. in_at plain is) (λ value is.
+    (then_judged (restricted_judged ThisModule known at.address.origin at.address.offsets)
+    (λ fault is. in_at plain is) (λ value is.
     judged_ok (is_placed plain is)))
     (λ fault is. is) (λ address is. judged_ok is))
 
@@ -271,14 +303,19 @@ at_fault (misplaced_at wrong) = then_fault _ (failed _ _ wrong)
 at_fault (in_at plain is) = then_ok _ (passed _ _ plain) (then_fault _ (then_fault _ (restricted_fault is)))
 
 -- INITIAL and DATA
-list_judged : (known : Known) (block : Block) (item : ItemTree) (object_type : ObjectType) (extents : Extents) (list : Option ValueListTree)
-    → Judged (ListTypingOf known block item object_type extents list) (ListFaultOf known block item object_type extents list)
+list_judged : (known : Known) (block : Block) (item : ItemTree) (object_type : ObjectType) (extents : Extents)
+    (list : Option ValueListTree)
+    → Judged (ListTypingOf known block item object_type extents list)
+    (ListFaultOf known block item object_type extents list)
     (typed_contents known block item object_type extents list)
 list_judged known block item object_type extents None =
-    judged_more (contents_judged known (place_of_item item) object_type extents []) (λ fault is. in_no_list is) (λ found is. without_list is)
+    judged_more (contents_judged known (place_of_item item) object_type extents [])
+    (λ fault is. in_no_list is) (λ found is. without_list is)
 list_judged known block item object_type extents (Some list) =
-    then_when (is_plain block item && is_none item.at) MisplacedValues (place_of_storage list.storage) misplaced_values (λ _ plain.
-    judged_more (contents_judged known (place_of_item item) object_type extents list.values) (λ fault is. in_values_of_list plain is)
+    then_when (is_plain block item && is_none item.at) MisplacedValues (place_of_storage list.storage)
+    misplaced_values (λ _ plain.
+    judged_more (contents_judged known (place_of_item item) object_type extents list.values)
+    (λ fault is. in_values_of_list plain is)
     (λ found is. with_list_of plain is))
 
 list_is : {known : Known} {block : Block} {item : ItemTree} {object_type : ObjectType} {extents : Extents}
@@ -286,7 +323,8 @@ list_is : {known : Known} {block : Block} {item : ItemTree} {object_type : Objec
     → ListTypingOf known block item object_type extents list found
     → typed_contents known block item object_type extents list ≡ Ok found
 list_is {item = item} (without_list is) = contents_are (place_of_item item) is
-list_is {item = item} (with_list_of plain is) = then_ok _ (passed _ _ plain) (contents_are (place_of_item item) is)
+list_is {item = item} (with_list_of plain is) =
+    then_ok _ (passed _ _ plain) (contents_are (place_of_item item) is)
 
 list_fault : {known : Known} {block : Block} {item : ItemTree} {object_type : ObjectType} {extents : Extents}
     {list : Option ValueListTree} {fault : Fault}
@@ -300,10 +338,12 @@ list_fault (in_values_of_list plain is) = then_ok _ (passed _ _ plain) (contents
 item_judged : (known : Known) (block : Block) (item : ItemTree)
     → Judged (ItemTyping known block item) (ItemFault known block item) (typed_item known block item)
 item_judged known block item =
-    then_judged (base_judged known block item.subject (base_of item.subject)) (λ fault is. in_base is) (λ base is.
+    then_judged (base_judged known block item.subject (base_of item.subject))
+    (λ fault is. in_base is) (λ base is.
     then_judged (extents_judged block item item.dimension) (λ fault its. in_extents is its) (λ extents one.
     then_judged (type_judged block item item.item_type) (λ fault its. in_type is one its) (λ object_type two.
-    then_judged (item_linkage_judged block item item.linkage) (λ fault its. in_linkage is one two its) (λ _ three.
+    then_judged (item_linkage_judged block item item.linkage)
+    (λ fault its. in_linkage is one two its) (λ _ three.
     then_judged (at_judged known block item item.at) (λ fault its. in_place is one two three its) (λ at four.
     then_judged (list_judged known block item object_type extents item.value_list)
     (λ fault its. in_list_of_item is one two three four its) (λ filled five.
@@ -313,7 +353,8 @@ item_is : {known : Known} {block : Block} {item : ItemTree} {typed : TypedItem}
     → ItemTyping known block item typed
     → typed_item known block item ≡ Ok typed
 item_is (an_item base extents its_type linkage at list) =
-    then_ok _ (base_is base) (then_ok _ (extents_are extents) (then_ok _ (type_is its_type) (then_ok _ (item_linkage_is linkage)
+    then_ok _ (base_is base)
+    (then_ok _ (extents_are extents) (then_ok _ (type_is its_type) (then_ok _ (item_linkage_is linkage)
     (then_ok _ (at_is at) (then_ok _ (list_is list) refl)))))
 
 item_fault : {known : Known} {block : Block} {item : ItemTree} {fault : Fault}
@@ -321,24 +362,34 @@ item_fault : {known : Known} {block : Block} {item : ItemTree} {fault : Fault}
     → typed_item known block item ≡ Err fault
 item_fault (in_base is) = then_fault _ (base_fault is)
 item_fault (in_extents base is) = then_ok _ (base_is base) (then_fault _ (extents_fault is))
-item_fault (in_type base extents is) = then_ok _ (base_is base) (then_ok _ (extents_are extents) (then_fault _ (type_fault is)))
+item_fault (in_type base extents is) =
+    then_ok _ (base_is base) (then_ok _ (extents_are extents) (then_fault _ (type_fault is)))
 item_fault (in_linkage base extents its_type is) =
-    then_ok _ (base_is base) (then_ok _ (extents_are extents) (then_ok _ (type_is its_type) (then_fault _ (item_linkage_fault is))))
+    then_ok _ (base_is base)
+    (then_ok _ (extents_are extents) (then_ok _ (type_is its_type)
+    (then_fault _ (item_linkage_fault is))))
 item_fault (in_place base extents its_type linkage is) =
-    then_ok _ (base_is base) (then_ok _ (extents_are extents) (then_ok _ (type_is its_type) (then_ok _ (item_linkage_is linkage)
+    then_ok _ (base_is base)
+    (then_ok _ (extents_are extents) (then_ok _ (type_is its_type) (then_ok _ (item_linkage_is linkage)
     (then_fault _ (at_fault is)))))
 item_fault (in_list_of_item base extents its_type linkage at is) =
-    then_ok _ (base_is base) (then_ok _ (extents_are extents) (then_ok _ (type_is its_type) (then_ok _ (item_linkage_is linkage)
+    then_ok _ (base_is base)
+    (then_ok _ (extents_are extents) (then_ok _ (type_is its_type) (then_ok _ (item_linkage_is linkage)
     (then_ok _ (at_is at) (then_fault _ (list_fault is))))))
 
 -- objects
 objects_judged : (block : Block) (item : TypedItem) (names : List Identifier) (progress : Progress)
-    → Judged (ObjectsTyping block item progress names) (ObjectsFault block item progress names) (with_objects block item names progress)
+    → Judged (ObjectsTyping block item progress names) (ObjectsFault block item progress names)
+    (with_objects block item names progress)
 objects_judged block item [] progress = judged_ok no_objects
 objects_judged block item (name ∷ others) progress =
-    then_when (nat_le (with_typed_object item.linkage (object_named block item name.name) progress).frame FRAME_LIMIT) TooLarge name.place
+    then_when
+    (nat_le (with_typed_object item.linkage (object_named block item name.name) progress).frame
+    FRAME_LIMIT) TooLarge name.place
     (λ over. frame_too_large (leb-false _ _ over)) (λ _ fits.
-    judged_more (objects_judged block item others (with_typed_object item.linkage (object_named block item name.name) progress))
+    judged_more
+    (objects_judged block item others (with_typed_object item.linkage
+    (object_named block item name.name) progress))
     (λ fault is. in_other_objects (leb-true _ _ fits) is) (λ after is. next_object (leb-true _ _ fits) is))
 
 objects_are : {block : Block} {item : TypedItem} {names : List Identifier} {progress after : Progress}
@@ -347,7 +398,8 @@ objects_are : {block : Block} {item : TypedItem} {names : List Identifier} {prog
 objects_are no_objects = refl
 objects_are (next_object fits others) = then_ok _ (passed _ _ (le-leb _ _ fits)) (objects_are others)
 
-objects_fault : {block : Block} {item : TypedItem} {names : List Identifier} {progress : Progress} {fault : Fault}
+objects_fault : {block : Block} {item : TypedItem} {names : List Identifier}
+    {progress : Progress} {fault : Fault}
     → ObjectsFault block item progress names fault
     → with_objects block item names progress ≡ Err fault
 objects_fault (frame_too_large over) = then_fault _ (failed _ _ (lt-leb _ _ over))
@@ -355,14 +407,18 @@ objects_fault (in_other_objects fits others) = then_ok _ (passed _ _ (le-leb _ _
 
 -- elements
 element_judged : (block : Block) (element : ElementTree) (progress : Progress)
-    → Judged (ElementTyping block progress element) (ElementFault block progress element) (declare_element block element progress)
+    → Judged (ElementTyping block progress element) (ElementFault block progress element)
+    (declare_element block element progress)
 element_judged block (LiterallyElement name text) progress =
-    then_when (not (is_declared_again progress.known.here name.name)) DeclaredTwice name.place (λ again. definition_again (not-false _ again))
+    then_when (not (is_declared_again progress.known.here name.name)) DeclaredTwice name.place
+    (λ again. definition_again (not-false _ again))
     (λ _ new.
-    then_when (not (is_external block.owner)) ExternalContents name.place (λ external. external_definition (not-true _ new) (not-false _ external))
+    then_when (not (is_external block.owner)) ExternalContents name.place
+    (λ external. external_definition (not-true _ new) (not-false _ external))
     (λ _ own. judged_ok (a_definition (not-true _ new) (not-true _ own))))
 element_judged block (ItemElement item) progress =
-    then_judged (names_judged block (declared_by item.subject) progress.known.here) (λ fault are. in_names are) (λ here are.
+    then_judged (names_judged block (declared_by item.subject) progress.known.here)
+    (λ fault are. in_names are) (λ here are.
     then_judged (item_judged progress.known block item) (λ fault is. in_item are is) (λ typed is.
     then_when (nat_le (size_of_item typed) OBJECT_LIMIT) TooLarge (place_of_item item)
     (λ over. item_too_large are is (leb-false _ _ over)) (λ _ fits.
@@ -373,28 +429,36 @@ element_judged block (ItemElement item) progress =
 element_is : {block : Block} {element : ElementTree} {progress after : Progress}
     → ElementTyping block progress element after
     → declare_element block element progress ≡ Ok after
-element_is (a_definition new own) = then_ok _ (passed _ _ (ap not new)) (then_ok _ (passed _ _ (ap not own)) refl)
+element_is (a_definition new own) =
+    then_ok _ (passed _ _ (ap not new)) (then_ok _ (passed _ _ (ap not own)) refl)
 element_is (of_item names is fits objects) =
-    then_ok _ (names_are names) (then_ok _ (item_is is) (then_ok _ (passed _ _ (le-leb _ _ fits)) (then_ok _ (objects_are objects) refl)))
+    then_ok _ (names_are names)
+    (then_ok _ (item_is is) (then_ok _ (passed _ _ (le-leb _ _ fits))
+    (then_ok _ (objects_are objects) refl)))
 
 element_fault : {block : Block} {element : ElementTree} {progress : Progress} {fault : Fault}
     → ElementFault block progress element fault
     → declare_element block element progress ≡ Err fault
 element_fault (definition_again again) = then_fault _ (failed _ _ (ap not again))
-element_fault (external_definition new external) = then_ok _ (passed _ _ (ap not new)) (then_fault _ (failed _ _ (ap not external)))
+element_fault (external_definition new external) =
+    then_ok _ (passed _ _ (ap not new)) (then_fault _ (failed _ _ (ap not external)))
 element_fault (in_names is) = then_fault _ (names_fault is)
 element_fault (in_item names is) = then_ok _ (names_are names) (then_fault _ (item_fault is))
 element_fault (item_too_large names is over) =
     then_ok _ (names_are names) (then_ok _ (item_is is) (then_fault _ (failed _ _ (lt-leb _ _ over))))
 element_fault (in_objects names is fits objects) =
-    then_ok _ (names_are names) (then_ok _ (item_is is) (then_ok _ (passed _ _ (le-leb _ _ fits)) (then_fault _ (objects_fault objects))))
+    then_ok _ (names_are names)
+    (then_ok _ (item_is is) (then_ok _ (passed _ _ (le-leb _ _ fits))
+    (then_fault _ (objects_fault objects))))
 
 pub elements_judged : (block : Block) (elements : List ElementTree) (progress : Progress)
-    → Judged (ElementsTyping block progress elements) (ElementsFault block progress elements) (declare_elements block elements progress)
+    → Judged (ElementsTyping block progress elements) (ElementsFault block progress elements)
+    (declare_elements block elements progress)
 elements_judged block [] progress = judged_ok no_more_elements
 elements_judged block (first ∷ others) progress =
     then_judged (element_judged block first progress) (λ fault is. in_first_element is) (λ middle is.
-    judged_more (elements_judged block others middle) (λ fault its. in_other_elements is its) (λ after its. next_element is its))
+    judged_more (elements_judged block others middle) (λ fault its. in_other_elements is its)
+    (λ after its. next_element is its))
 
 pub elements_are : {block : Block} {elements : List ElementTree} {progress after : Progress}
     → ElementsTyping block progress elements after

@@ -16,23 +16,26 @@ judged_ok {P = P} {a = a} is = record {
   refused = λ fault e. absurd cc;
 }
 
-pub judged_fault : {A : Type 0} {P : A → Type 0} {Q : Fault → Type 0} {fault : Fault} → Q fault → Judged P Q (Err fault)
+pub judged_fault : {A : Type 0} {P : A → Type 0} {Q : Fault → Type 0} {fault : Fault} → Q fault
+    → Judged P Q (Err fault)
 judged_fault {Q = Q} {fault = fault} is = record {
   typed = λ a e. absurd cc;
   refused = λ other e. let same : fault ≡ other = cc in subst Q same is;
 }
 
 -- one check after another
-pub then_judged : {A B : Type 0} {P : A → Type 0} {R : B → Type 0} {Q S : Fault → Type 0} {checked : Checked A}
+pub then_judged : {A B : Type 0} {P : A → Type 0} {R : B → Type 0} {Q S : Fault → Type 0}
+    {checked : Checked A}
     {next : A → Checked B}
     → Judged P Q checked
     → ((fault : Fault) → Q fault → S fault)
     → ((a : A) → P a → Judged R S (next a))
     → Judged R S (checked >>= next)
-then_judged {A = A} {B = B} {P = P} {R = R} {Q = Q} {S = S} {checked = checked} {next = next} is fails then_is = record {
-  typed = λ b e. gives checked is.typed b e;
-  refused = λ fault e. is_refused checked is.typed is.refused fault e;
-}
+then_judged {A = A} {B = B} {P = P} {R = R} {Q = Q} {S = S} {checked = checked} {next = next} is
+    fails then_is = record {
+      typed = λ b e. gives checked is.typed b e;
+      refused = λ fault e. is_refused checked is.typed is.refused fault e;
+    }
   where
     gives : (r : Checked A) → ((a : A) → r ≡ Ok a → P a) → (b : B) → (r >>= next) ≡ Ok b → R b
     gives (Ok a) first b e = (then_is a (first a refl)).typed b e
@@ -60,7 +63,8 @@ judged_more is fails more = record {
 abbrev pub fault_of : Cause → Place → Fault
 fault_of cause place = record { cause = cause; place = place }
 
-pub then_when : {B : Type 0} {R : B → Type 0} {S : Fault → Type 0} (test : Bool) (cause : Cause) (place : Place)
+pub then_when : {B : Type 0} {R : B → Type 0} {S : Fault → Type 0} (test : Bool)
+    (cause : Cause) (place : Place)
     {next : Unit {0} → Checked B}
     → (test ≡ false → S (fault_of cause place))
     → ((u : Unit {0}) → test ≡ true → Judged R S (next u))
@@ -69,14 +73,16 @@ then_when true cause place fails then_is = then_is tt refl
 then_when false cause place fails then_is = judged_fault (fails refl)
 
 -- something that is looked for, alone, and with what follows it
-pub is_found : {A : Type 0} {P : A → Type 0} {S : Fault → Type 0} (option : Option A) (cause : Cause) (place : Place)
+pub is_found : {A : Type 0} {P : A → Type 0} {S : Fault → Type 0} (option : Option A)
+    (cause : Cause) (place : Place)
     → (option ≡ None → S (fault_of cause place))
     → ((a : A) → option ≡ Some a → P a)
     → Judged P S (found option cause place)
 is_found (Some a) cause place fails is = judged_ok (is a refl)
 is_found None cause place fails is = judged_fault (fails refl)
 
-pub then_found : {A B : Type 0} {R : B → Type 0} {S : Fault → Type 0} (option : Option A) (cause : Cause) (place : Place)
+pub then_found : {A B : Type 0} {R : B → Type 0} {S : Fault → Type 0} (option : Option A)
+    (cause : Cause) (place : Place)
     {next : A → Checked B}
     → (option ≡ None → S (fault_of cause place))
     → ((a : A) → option ≡ Some a → Judged R S (next a))
@@ -99,7 +105,8 @@ then_fault {fault = fault} next e = subst (λ r. (r >>= next) ≡ Err fault) (sy
 pub passed : {test : Bool} (cause : Cause) (place : Place) → test ≡ true → require test cause place ≡ Ok tt
 passed cause place e = subst (λ it. require it cause place ≡ Ok tt) (sym e) refl
 
-pub failed : {test : Bool} (cause : Cause) (place : Place) → test ≡ false → require test cause place ≡ Err (fault_of cause place)
+pub failed : {test : Bool} (cause : Cause) (place : Place) → test ≡ false
+    → require test cause place ≡ Err (fault_of cause place)
 failed cause place e = subst (λ it. require it cause place ≡ Err (fault_of cause place)) (sym e) refl
 
 pub got : {A : Type 0} {option : Option A} {a : A} (cause : Cause) (place : Place)

@@ -46,10 +46,12 @@ judged_once tree = record {
 }
 
 -- what a checker answers that gives the typing
-pub typed_by_rules : (tree : ModuleTree) (found : TypedModule) → typing_of tree ≡ Ok found → ModuleTyping tree found
+pub typed_by_rules : (tree : ModuleTree) (found : TypedModule) → typing_of tree ≡ Ok found
+    → ModuleTyping tree found
 typed_by_rules tree = (module_judged tree).typed
 
-pub refused_by_rules : {X : Type 0} (view : X → TypedModule) (result : Result X (Failure Fault)) (tree : ModuleTree)
+pub refused_by_rules : {X : Type 0} (view : X → TypedModule)
+    (result : Result X (Failure Fault)) (tree : ModuleTree)
     → Answers view result (typing_of tree)
     → IfFault result (ModuleFault tree)
 refused_by_rules view (Ok x) tree e = tt

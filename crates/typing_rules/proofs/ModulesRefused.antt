@@ -1,5 +1,5 @@
--- A fault of a statement, a declaration or a module by the rules is the one that the typing gives. So there is at most one,
--- and none where there is a typing.
+-- A fault of a statement, a declaration or a module by the rules is the one that the typing gives. So there
+-- is at most one, and none where there is a typing.
 use Rattle.typing_rules.proofs.Prelude.{◌≡◌, ◌∙◌, ℕ, Bool, true, false, not, List, Option, Some, None, Err, refl, sym, ap, subst, slice_get, eq-eqb, ne_eqb, Identifier, Place, ExpressionTree, ReferenceTree, ArgumentTrees, Binding, Declared, BuiltInName, UnknownLabel, BuiltIn, Object, Procedure, Label, Definition, TypedProcedure, Constants, CallOfNoProcedure, NoVariable, Cause, Fault, Checked, ◌>>=◌, require, arguments, Known, scalar_of, at_name, ExpressionFault}
 use Rattle.std.specs.Prelude.{◌&&◌, is_none}
 use Rattle.trees.specs.Trees.{IterationTree, StatementTree, StatementKindTree, ElseTree, StatementTrees, DeclarationTree, DeclarationTrees, ModuleTree}
@@ -35,7 +35,8 @@ no_counter_is : (known : Known) (name : Identifier) (binding : Binding)
     → NoObject known binding
     → counter_bound known binding name ≡ Err (at_name NoVariable name)
 no_counter_is known name (Declared (Object number)) none =
-    then_fault _ (got_none _ _ (is_nothing (slice_get known.objects number) (λ object e. none number object refl e)))
+    then_fault _
+    (got_none _ _ (is_nothing (slice_get known.objects number) (λ object e. none number object refl e)))
 no_counter_is known name (Declared (Procedure number)) none = refl
 no_counter_is known name (Declared (Label number)) none = refl
 no_counter_is known name (Declared Definition) none = refl
@@ -61,17 +62,22 @@ counter_fault : {fault : Fault} (head : IterationTree) (progress : Progress)
     → iteration head progress ≡ Err fault
 counter_fault head progress (unknown_counter none) = then_fault _ (got_none _ _ none)
 counter_fault head progress (counter_of_no_variable is) =
-    then_ok _ (got _ _ is.named) (then_fault _ (no_counter_is progress.known head.variable is.binding (no_object is)))
+    then_ok _ (got _ _ is.named)
+    (then_fault _ (no_counter_is progress.known head.variable is.binding (no_object is)))
 counter_fault head progress (counter_with_data is has) =
-    then_ok _ (got _ _ is.named) (then_fault _ (then_ok _ (got _ _ is.listed) (then_fault _ (failed _ _ (ap not has)))))
+    then_ok _ (got _ _ is.named)
+    (then_fault _ (then_ok _ (got _ _ is.listed) (then_fault _ (failed _ _ (ap not has)))))
 counter_fault head progress (counter_in_array is plain array) =
-    then_ok _ (got _ _ is.named) (then_fault _ (then_ok _ (got _ _ is.listed) (then_ok _ (passed _ _ (ap not plain))
+    then_ok _ (got _ _ is.named)
+    (then_fault _ (then_ok _ (got _ _ is.listed) (then_ok _ (passed _ _ (ap not plain))
     (then_fault _ (failed _ _ (first_is_false _ (ap is_none array)))))))
 counter_fault head progress (based_counter is plain based) =
-    then_ok _ (got _ _ is.named) (then_fault _ (then_ok _ (got _ _ is.listed) (then_ok _ (passed _ _ (ap not plain))
+    then_ok _ (got _ _ is.named)
+    (then_fault _ (then_ok _ (got _ _ is.listed) (then_ok _ (passed _ _ (ap not plain))
     (then_fault _ (failed _ _ (last_is_false _ based))))))
 counter_fault head progress (counter_with_members is plain members) =
-    then_ok _ (got _ _ is.named) (then_fault _ (then_ok _ (got _ _ is.listed) (then_ok _ (passed _ _ (ap not plain))
+    then_ok _ (got _ _ is.named)
+    (then_fault _ (then_ok _ (got _ _ is.listed) (then_ok _ (passed _ _ (ap not plain))
     (no_scalar_is _ _ (then_fault _ (got_none _ _ (ap scalar_of members)))))))
 
 step_fault : {tree : Option ExpressionTree} {fault : Fault} (progress : Progress)
@@ -84,13 +90,15 @@ iteration_fault : {head : IterationTree} {fault : Fault} (progress : Progress)
     → iteration head progress ≡ Err fault
 iteration_fault progress (in_counter {head = head} is) = counter_fault head progress is
 iteration_fault progress (in_first_value is fault) =
-    then_ok _ (got _ _ is.variable.named) (then_ok _ (counter_is is) (then_fault _ (value_fault progress fault)))
+    then_ok _ (got _ _ is.variable.named)
+    (then_ok _ (counter_is is) (then_fault _ (value_fault progress fault)))
 iteration_fault progress (in_last_value {one = one} is first fault) =
     then_ok _ (got _ _ is.variable.named) (then_ok _ (counter_is is) (then_ok _ (value_is progress first)
     (then_fault _ (value_fault (with_constants one progress) fault))))
 iteration_fault progress (in_step_value {one = one} {two = two} is first last fault) =
     then_ok _ (got _ _ is.variable.named) (then_ok _ (counter_is is) (then_ok _ (value_is progress first)
-    (then_ok _ (value_is (with_constants one progress) last) (then_fault _ (step_fault (with_constants two progress) fault)))))
+    (then_ok _ (value_is (with_constants one progress) last)
+    (then_fault _ (step_fault (with_constants two progress) fault)))))
 
 labels_fault : {here : Here} {labels : List Identifier} {fault : Fault}
     → LabelsFault here labels fault
@@ -99,21 +107,26 @@ labels_fault (label_again again) = then_fault _ (failed _ _ (ap not again))
 labels_fault (in_other_labels new is) = then_ok _ (passed _ _ (ap not new)) (labels_fault is)
 
 -- CALL
-built_in_call_is : (known : Known) (name : Identifier) (trees : ArgumentTrees) (before : Constants) (built_in : BuiltIn)
+built_in_call_is : (known : Known) (name : Identifier) (trees : ArgumentTrees) (before : Constants)
+    (built_in : BuiltIn)
     → ¬ (built_in ≡ built_ins.Move)
-    → call_bound known (BuiltInName built_in) name (record { trees = trees; typed = arguments known trees }) before
+    → call_bound known (BuiltInName built_in) name
+    (record { trees = trees; typed = arguments known trees }) before
     ≡ Err (at_name CallOfNoProcedure name)
 built_in_call_is known name trees before built_ins.Move other = absurd (other refl)
 built_in_call_is known name trees before built_in other = refl
 
-no_call_is : (known : Known) (name : Identifier) (trees : ArgumentTrees) (before : Constants) (binding : Binding)
+no_call_is : (known : Known) (name : Identifier) (trees : ArgumentTrees)
+    (before : Constants) (binding : Binding)
     → ((number : ℕ) (procedure : TypedProcedure)
     → binding ≡ Declared (Procedure number) → ¬ (slice_get known.procedures number ≡ Some procedure))
     → ¬ (binding ≡ BuiltInName built_ins.Move)
     → call_bound known binding name (record { trees = trees; typed = arguments known trees }) before
     ≡ Err (at_name CallOfNoProcedure name)
 no_call_is known name trees before (Declared (Procedure number)) none other =
-    then_fault _ (got_none _ _ (is_nothing (slice_get known.procedures number) (λ procedure e. none number procedure refl e)))
+    then_fault _
+    (got_none _ _ (is_nothing (slice_get known.procedures number)
+    (λ procedure e. none number procedure refl e)))
 no_call_is known name trees before (Declared (Object number)) none other = refl
 no_call_is known name trees before (Declared (Label number)) none other = refl
 no_call_is known name trees before (Declared Definition) none other = refl
@@ -147,25 +160,33 @@ mutual
       then_ok _ (targets_are targets) (then_fault _ (value_fault (with_constants middle progress) is))
   statement_fault (call_of_unknown none) = then_fault _ (got_none _ _ none)
   statement_fault (call_of_no_procedure {progress = progress} {name = name} {trees = trees} is other) =
-      then_ok _ (got _ _ is.named) (then_fault _ (no_call_is progress.known name trees progress.constants is.binding
-      (λ number procedure e listed. is.no_procedure number procedure (record { named = is.named ∙ ap Some e; listed = listed }))
+      then_ok _ (got _ _ is.named)
+      (then_fault _ (no_call_is progress.known name trees progress.constants is.binding
+      (λ number procedure e listed. is.no_procedure number procedure
+      (record { named = is.named ∙ ap Some e; listed = listed }))
       (λ e. other (is.named ∙ ap Some e))))
   statement_fault (call_of_typed is typed) =
-      then_ok _ (got _ _ is.named) (then_fault _ (then_ok _ (got _ _ is.listed) (then_fault _ (failed _ _ (ap is_none typed)))))
+      then_ok _ (got _ _ is.named)
+      (then_fault _ (then_ok _ (got _ _ is.listed) (then_fault _ (failed _ _ (ap is_none typed)))))
   statement_fault (call_with_wrong_count is untyped wrong) =
-      then_ok _ (got _ _ is.named) (then_fault _ (then_ok _ (got _ _ is.listed) (then_ok _ (passed _ _ (ap is_none untyped))
+      then_ok _ (got _ _ is.named)
+      (then_fault _ (then_ok _ (got _ _ is.listed) (then_ok _ (passed _ _ (ap is_none untyped))
       (then_fault _ (then_fault _ (failed _ _ (ne_eqb _ _ wrong)))))))
   statement_fault (in_argument_of_call is untyped count fault) =
-      then_ok _ (got _ _ is.named) (then_fault _ (then_ok _ (got _ _ is.listed) (then_ok _ (passed _ _ (ap is_none untyped))
+      then_ok _ (got _ _ is.named)
+      (then_fault _ (then_ok _ (got _ _ is.listed) (then_ok _ (passed _ _ (ap is_none untyped))
       (then_fault _ (then_ok _ (passed _ _ (eq-eqb _ _ count)) (then_fault _ (values_fault fault)))))))
   statement_fault (move_with_wrong_count named wrong) =
       then_ok _ (got _ _ named) (then_fault _ (then_fault _ (failed _ _ (ne_eqb _ _ wrong))))
   statement_fault (in_argument_of_move named count fault) =
-      then_ok _ (got _ _ named) (then_fault _ (then_ok _ (passed _ _ (eq-eqb _ _ count)) (then_fault _ (values_fault fault))))
-  statement_fault (return_outside {progress = progress} {place = place} {value = tree} is) = return_outside_is progress place tree is
+      then_ok _ (got _ _ named)
+      (then_fault _ (then_ok _ (passed _ _ (eq-eqb _ _ count)) (then_fault _ (values_fault fault))))
+  statement_fault (return_outside {progress = progress} {place = place} {value = tree} is) =
+      return_outside_is progress place tree is
   statement_fault (value_for_no_type {progress = progress} {place = place} {value = tree} is has) =
       return_is progress place (Some tree) is has refl
-  statement_fault (no_value_for_type {progress = progress} {place = place} is has) = return_is progress place None is has refl
+  statement_fault (no_value_for_type {progress = progress} {place = place} is has) =
+      return_is progress place None is has refl
   statement_fault (in_returned_value {progress = progress} {place = place} {value = tree} is has fault) =
       return_is progress place (Some tree) is has (then_fault _ (value_fault progress fault))
   statement_fault (unknown_label {label = label} none) = then_fault _ (no_label_is label.place _ none)
@@ -208,37 +229,44 @@ mutual
       → (label : ℕ)
       → statements block trees label progress ≡ Err fault
   statements_fault (in_labels is) label = then_fault _ (labels_fault is)
-  statements_fault (in_first_statement labels is) label = then_ok _ (labels_are labels) (then_fault _ (statement_fault is))
+  statements_fault (in_first_statement labels is) label =
+      then_ok _ (labels_are labels) (then_fault _ (statement_fault is))
   statements_fault (in_other_statements labels first is) label =
       then_ok _ (labels_are labels) (then_ok _ (statement_is first) (then_fault _ (statements_fault is _)))
 
   pub list_fault : {block : Block} {progress : Progress} {trees : StatementTrees} {fault : Fault}
       → ListFault block progress trees fault
       → list_of trees (λ label. statements block trees label) progress ≡ Err fault
-  list_fault (in_list {progress = progress} is) = then_fault _ (statements_fault is progress.known.here.labels)
+  list_fault (in_list {progress = progress} is) =
+      then_fault _ (statements_fault is progress.known.here.labels)
 
   pub declaration_fault : {block : Block} {progress : Progress} {tree : DeclarationTree} {fault : Fault}
       → DeclarationFault block progress tree fault
       → declaration block tree progress ≡ Err fault
   declaration_fault (in_declare is) = elements_fault is
   declaration_fault (in_heading {declared = declared} is) = then_fault _ (heading_fault declared is)
-  declaration_fault (in_own_declarations opening is) = then_ok _ (heading_is opening) (then_fault _ (declarations_fault is))
+  declaration_fault (in_own_declarations opening is) =
+      then_ok _ (heading_is opening) (then_fault _ (declarations_fault is))
   declaration_fault (in_parameters opening declared is) =
       then_ok _ (heading_is opening) (then_ok _ (declarations_are declared) (then_fault _ (objects_fault is)))
   declaration_fault (with_body opening declared parameters is) =
-      then_ok _ (heading_is opening) (then_ok _ (declarations_are declared) (then_ok _ (objects_are parameters)
+      then_ok _ (heading_is opening)
+      (then_ok _ (declarations_are declared) (then_ok _ (objects_are parameters)
       (then_fault _ (body_fault is))))
   declaration_fault (in_body opening declared parameters body is) =
-      then_ok _ (heading_is opening) (then_ok _ (declarations_are declared) (then_ok _ (objects_are parameters)
+      then_ok _ (heading_is opening)
+      (then_ok _ (declarations_are declared) (then_ok _ (objects_are parameters)
       (then_ok _ (body_is body) (then_fault _ (list_fault is)))))
 
   pub declarations_fault : {block : Block} {progress : Progress} {trees : DeclarationTrees} {fault : Fault}
       → DeclarationsFault block progress trees fault
       → declarations block trees progress ≡ Err fault
   declarations_fault (in_first_declaration is) = then_fault _ (declaration_fault is)
-  declarations_fault (in_other_declarations first is) = then_ok _ (declaration_is first) (declarations_fault is)
+  declarations_fault (in_other_declarations first is) =
+      then_ok _ (declaration_is first) (declarations_fault is)
 
 pub module_fault : {tree : ModuleTree} {fault : Fault} → ModuleFault tree fault → typing_of tree ≡ Err fault
 unfolding typing_of
 module_fault (in_declarations is) = then_fault _ (declarations_fault is)
-module_fault (in_statements declared is) = then_ok _ (declarations_are declared) (then_fault _ (list_fault is))
+module_fault (in_statements declared is) =
+    then_ok _ (declarations_are declared) (then_fault _ (list_fault is))

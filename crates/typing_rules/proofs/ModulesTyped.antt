@@ -1,4 +1,5 @@
--- A typing of a statement, a declaration or a module by the rules is the one that the typing gives. So there is at most one.
+-- A typing of a statement, a declaration or a module by the rules is the one that the typing gives. So there
+-- is at most one.
 use Rattle.typing_rules.proofs.Prelude.{◌≡◌, ℕ, Bool, true, not, List, Option, Some, None, Ok, refl, sym, ap, subst, eq-eqb, ScalarType, Identifier, Place, ExpressionTree, ReferenceTree, ArgumentTrees, Binding, Declared, Object, TypedExpression, MoreTyped, NoTyped, Constants, Checked, Destination, Known, number_of_arguments, scalar_of, ExpressionTyping, ValuesTyping, no_values, next_value}
 use Rattle.std.specs.Prelude.{◌&&◌, is_none}
 use Rattle.trees.specs.Trees.{HeadingTree, IterationTree, StatementTree, StatementKindTree, ElseTree, StatementTrees, DeclarationTree, DeclarationTrees, ModuleTree}
@@ -20,7 +21,8 @@ pub value_is : {tree : ExpressionTree} {typed : TypedExpression} {after : Consta
     → value tree progress ≡ Ok (typed, with_constants after progress)
 value_is progress is = then_ok _ (typing_is is) refl
 
-pub targets_are : {known : Known} {before : Constants} {targets : List ReferenceTree} {found : List Destination} {after : Constants}
+pub targets_are : {known : Known} {before : Constants} {targets : List ReferenceTree}
+    {found : List Destination} {after : Constants}
     → TargetsTyping known before targets found after
     → destinations known targets before ≡ Ok (found, after)
 targets_are no_targets = refl
@@ -38,7 +40,8 @@ counter_is is =
     (then_ok _ (passed _ _ (both_are (ap is_none is.no_array) is.not_based))
     (then_ok _ (got _ _ (ap scalar_of is.is_scalar)) refl)))
 
-pub step_is : {tree : Option ExpressionTree} {typed : Option TypedExpression} {after : Constants} (progress : Progress)
+pub step_is : {tree : Option ExpressionTree} {typed : Option TypedExpression} {after : Constants}
+    (progress : Progress)
     → StepTyping progress.known progress.constants tree typed after
     → step tree progress ≡ Ok (typed, with_constants after progress)
 step_is progress no_step = refl
@@ -49,7 +52,8 @@ pub iteration_is : {head : IterationTree} {typed : TypedIteration} {after : Cons
     → iteration head progress ≡ Ok (typed, with_constants after progress)
 iteration_is progress (iterates {one = one} {two = two} is first last by) =
     then_ok _ (got _ _ is.variable.named) (then_ok _ (counter_is is) (then_ok _ (value_is progress first)
-    (then_ok _ (value_is (with_constants one progress) last) (then_ok _ (step_is (with_constants two progress) by) refl))))
+    (then_ok _ (value_is (with_constants one progress) last)
+    (then_ok _ (step_is (with_constants two progress) by) refl))))
 
 pub labels_are : {here after : Here} {labels : List Identifier}
     → AreNewLabels here labels after
@@ -58,13 +62,16 @@ labels_are no_labels = refl
 labels_are (next_label new others) = then_ok _ (passed _ _ (ap not new)) (labels_are others)
 
 -- MOVE has three arguments
-three_are : {known : Known} {before : Constants} {trees : ArgumentTrees} {count source destination : TypedExpression} {after : Constants}
-    → ValuesTyping known before trees (MoreTyped count (MoreTyped source (MoreTyped destination NoTyped))) after
+three_are : {known : Known} {before : Constants} {trees : ArgumentTrees}
+    {count source destination : TypedExpression} {after : Constants}
+    → ValuesTyping known before trees (MoreTyped count (MoreTyped source (MoreTyped destination NoTyped)))
+    after
     → number_of_arguments trees ≡ 3
 three_are (next_value one (next_value two (next_value three no_values))) = refl
 
 -- RETURN
-pub return_is : {owner : Owner} {result : Option ScalarType} {answer : Checked (TypedStatement × Progress)} {number : ℕ}
+pub return_is : {owner : Owner} {result : Option ScalarType}
+    {answer : Checked (TypedStatement × Progress)} {number : ℕ}
     {heading : HeadingTree} (progress : Progress) (place : Place) (tree : Option ExpressionTree)
     → owner ≡ OfProcedure number heading
     → heading.result ≡ result
@@ -81,26 +88,30 @@ pub goto_is : {binding other : Binding} {answer : Checked TypedStatement} (place
 goto_is {answer = answer} place is e = subst (λ it. goto_bound place it ≡ answer) (sym is) e
 
 mutual
-  pub statement_is : {block : Block} {progress : Progress} {tree : StatementKindTree} {typed : TypedStatement} {after : Progress}
+  pub statement_is : {block : Block} {progress : Progress} {tree : StatementKindTree}
+      {typed : TypedStatement} {after : Progress}
       → StatementTyping block progress tree typed after
       → kind block tree progress ≡ Ok (typed, after)
   statement_is null = refl
   statement_is (assignment {progress = progress} {middle = middle} targets source) =
       then_ok _ (targets_are targets) (then_ok _ (value_is (with_constants middle progress) source) refl)
   statement_is (call is untyped count values) =
-      then_ok _ (got _ _ is.named) (then_ok _ (then_ok _ (got _ _ is.listed) (then_ok _ (passed _ _ (ap is_none untyped))
+      then_ok _ (got _ _ is.named)
+      (then_ok _ (then_ok _ (got _ _ is.listed) (then_ok _ (passed _ _ (ap is_none untyped))
       (then_ok _ (then_ok _ (passed _ _ (eq-eqb _ _ count)) (then_ok _ (values_is values) refl)) refl))) refl)
   statement_is (move named values) =
       then_ok _ (got _ _ named) (then_ok _ (then_ok _ (passed _ _ (eq-eqb _ _ (three_are values)))
       (then_ok _ (values_is values) refl)) refl)
-  statement_is (return {progress = progress} {place = place} is has) = return_is progress place None is has refl
+  statement_is (return {progress = progress} {place = place} is has) =
+      return_is progress place None is has refl
   statement_is (return_value {progress = progress} {place = place} {value = tree} is has value) =
       return_is progress place (Some tree) is has (then_ok _ (value_is progress value) refl)
   statement_is halt = refl
   statement_is (goto {label = label} is) = then_ok _ (goto_is label.place is refl) refl
   statement_is (if_then {progress = progress} condition body otherwise) =
       then_ok _ (value_is progress condition) (then_ok _ (alone_is body) (then_ok _ (else_is otherwise) refl))
-  statement_is (simple_do declared body) = then_ok _ (declarations_are declared) (then_ok _ (list_is body) refl)
+  statement_is (simple_do declared body) =
+      then_ok _ (declarations_are declared) (then_ok _ (list_is body) refl)
   statement_is (do_while {progress = progress} condition body) =
       then_ok _ (value_is progress condition) (then_ok _ (list_is body) refl)
   statement_is (iterative_do {progress = progress} head body) =
@@ -108,7 +119,8 @@ mutual
   statement_is (do_case {progress = progress} choice body) =
       then_ok _ (value_is progress choice) (then_ok _ (cases_are body) refl)
 
-  pub alone_is : {block : Block} {progress : Progress} {tree : StatementTree} {typed : TypedStatement} {after : Progress}
+  pub alone_is : {block : Block} {progress : Progress} {tree : StatementTree}
+      {typed : TypedStatement} {after : Progress}
       → AloneTyping block progress tree typed after
       → alone block tree progress ≡ Ok (typed, after)
   alone_is (unlabelled is) = statement_is is
@@ -119,13 +131,15 @@ mutual
   else_is no_else = refl
   else_is (with_else is) = then_ok _ (alone_is is) refl
 
-  pub cases_are : {block : Block} {progress : Progress} {trees : StatementTrees} {typed : TypedStatements} {after : Progress}
+  pub cases_are : {block : Block} {progress : Progress} {trees : StatementTrees}
+      {typed : TypedStatements} {after : Progress}
       → CasesTyping block progress trees typed after
       → cases block trees progress ≡ Ok (typed, after)
   cases_are no_case = refl
   cases_are (next_case is others) = then_ok _ (alone_is is) (then_ok _ (cases_are others) refl)
 
-  pub statements_are : {block : Block} {label : ℕ} {progress : Progress} {trees : StatementTrees} {typed : TypedStatements}
+  pub statements_are : {block : Block} {label : ℕ} {progress : Progress} {trees : StatementTrees}
+      {typed : TypedStatements}
       {after : Progress}
       → StatementsTyping block label progress trees typed after
       → statements block trees label progress ≡ Ok (typed, after)
@@ -133,7 +147,8 @@ mutual
   statements_are (next_statement labels is others) =
       then_ok _ (labels_are labels) (then_ok _ (statement_is is) (then_ok _ (statements_are others) refl))
 
-  pub list_is : {block : Block} {progress : Progress} {trees : StatementTrees} {typed : TypedList} {after : Progress}
+  pub list_is : {block : Block} {progress : Progress} {trees : StatementTrees}
+      {typed : TypedList} {after : Progress}
       → ListTyping block progress trees typed after
       → list_of trees (λ label. statements block trees label) progress ≡ Ok (typed, after)
   list_is (list is) = then_ok _ (statements_are is) refl
@@ -143,7 +158,8 @@ mutual
       → declaration block tree progress ≡ Ok after
   declaration_is (declare is) = elements_are is
   declaration_is (procedure opening declared parameters body statements) =
-      then_ok _ (heading_is opening) (then_ok _ (declarations_are declared) (then_ok _ (objects_are parameters)
+      then_ok _ (heading_is opening)
+      (then_ok _ (declarations_are declared) (then_ok _ (objects_are parameters)
       (then_ok _ (body_is body) (then_ok _ (list_is statements) refl))))
 
   pub declarations_are : {block : Block} {progress : Progress} {trees : DeclarationTrees} {after : Progress}
@@ -152,6 +168,8 @@ mutual
   declarations_are no_declaration = refl
   declarations_are (next_declaration is others) = then_ok _ (declaration_is is) (declarations_are others)
 
-pub module_is : {tree : ModuleTree} {typed : TypedModule} → ModuleTyping tree typed → typing_of tree ≡ Ok typed
+pub module_is : {tree : ModuleTree} {typed : TypedModule} → ModuleTyping tree typed
+    → typing_of tree ≡ Ok typed
 unfolding typing_of
-module_is (whole declared statements) = then_ok _ (declarations_are declared) (then_ok _ (list_is statements) refl)
+module_is (whole declared statements) =
+    then_ok _ (declarations_are declared) (then_ok _ (list_is statements) refl)

@@ -20,19 +20,22 @@ use Rattle.typing_rules.proofs.Judged.{Judged, judged_ok, judged_fault, then_jud
 
 -- parameters of a heading
 parameters_judged : (parameters : List Identifier) (here : Here)
-    → Judged (AreNewParameters here parameters) (ParametersFault here parameters) (declare_parameters parameters here)
+    → Judged (AreNewParameters here parameters) (ParametersFault here parameters)
+    (declare_parameters parameters here)
 parameters_judged [] here = judged_ok no_parameters
 parameters_judged (parameter ∷ others) here =
     then_when (not (is_parameter_again here parameter.name)) DeclaredTwice parameter.place
     (λ again. parameter_again (not-false _ again)) (λ _ new.
-    judged_more (parameters_judged others (with_parameter parameter.name here)) (λ fault is. in_other_parameters (not-true _ new) is)
+    judged_more (parameters_judged others (with_parameter parameter.name here))
+    (λ fault is. in_other_parameters (not-true _ new) is)
     (λ after are. next_parameter (not-true _ new) are))
 
 parameters_are_new : {here after : Here} {parameters : List Identifier}
     → AreNewParameters here parameters after
     → declare_parameters parameters here ≡ Ok after
 parameters_are_new no_parameters = refl
-parameters_are_new (next_parameter new others) = then_ok _ (passed _ _ (ap not new)) (parameters_are_new others)
+parameters_are_new (next_parameter new others) =
+    then_ok _ (passed _ _ (ap not new)) (parameters_are_new others)
 
 parameters_fault : {here : Here} {parameters : List Identifier} {fault : Fault}
     → ParametersFault here parameters fault
@@ -43,19 +46,22 @@ parameters_fault (in_other_parameters new is) = then_ok _ (passed _ _ (ap not ne
 -- attributes of a heading
 no_more_judged : (parameters more : List Identifier)
     → parameters ≡ more
-    → Judged (λ _. parameters ≡ []) (λ fault. (parameter : Identifier) × (others : List Identifier) × (parameters ≡ parameter ∷ others)
+    → Judged (λ _. parameters ≡ [])
+    (λ fault. (parameter : Identifier) × (others : List Identifier) × (parameters ≡ parameter ∷ others)
     × (fault ≡ at_name TooManyParameters parameter)) (no_more_parameters more)
 no_more_judged parameters [] is = judged_ok is
 no_more_judged parameters (parameter ∷ others) is = judged_fault (parameter, others, is, refl)
 
 linkage_judged : (block : Block) (linkage : Option Linkage)
-    → Judged (λ _. LinkageStands block linkage) (λ fault. (found : Linkage) × (linkage ≡ Some found) × (is_module_level block ≡ false)
+    → Judged (λ _. LinkageStands block linkage)
+    (λ fault. (found : Linkage) × (linkage ≡ Some found) × (is_module_level block ≡ false)
     × (fault ≡ fault_of MisplacedLinkage (place_of_linkage found))) (check_visibility block linkage)
 linkage_judged block None = judged_ok no_linkage
 linkage_judged block (Some linkage) = by (is_module_level block) refl
   where
     by : (test : Bool) → is_module_level block ≡ test
-        → Judged (λ _. LinkageStands block (Some linkage)) (λ fault. (found : Linkage) × (Some linkage ≡ Some found)
+        → Judged (λ _. LinkageStands block (Some linkage))
+        (λ fault. (found : Linkage) × (Some linkage ≡ Some found)
         × (is_module_level block ≡ false) × (fault ≡ fault_of MisplacedLinkage (place_of_linkage found)))
         (require test MisplacedLinkage (place_of_linkage linkage))
     by true is = judged_ok (at_module_level is)
@@ -63,19 +69,22 @@ linkage_judged block (Some linkage) = by (is_module_level block) refl
 
 reentrant_judged : (linkage : Option Linkage) (reentrant : Option Place)
     → Judged (λ _. ReentrantStands linkage reentrant) (λ fault. (place : Place) × (reentrant ≡ Some place)
-    × (is_external_linkage linkage ≡ true) × (fault ≡ fault_of ReentrantExternal place)) (check_reentrant linkage reentrant)
+    × (is_external_linkage linkage ≡ true)
+    × (fault ≡ fault_of ReentrantExternal place)) (check_reentrant linkage reentrant)
 reentrant_judged linkage None = judged_ok not_reentrant
 reentrant_judged linkage (Some place) = by (is_external_linkage linkage) refl
   where
     by : (test : Bool) → is_external_linkage linkage ≡ test
-        → Judged (λ _. ReentrantStands linkage (Some place)) (λ fault. (found : Place) × (Some place ≡ Some found)
+        → Judged (λ _. ReentrantStands linkage (Some place))
+        (λ fault. (found : Place) × (Some place ≡ Some found)
         × (is_external_linkage linkage ≡ true) × (fault ≡ fault_of ReentrantExternal found))
         (require (not test) ReentrantExternal place)
     by false is = judged_ok (not_external is)
     by true is = judged_fault (place, refl, is, refl)
 
 pub heading_judged : (block : Block) (tree : HeadingTree) (declared : DeclarationTrees) (progress : Progress)
-    → Judged (HeadingTyping block tree declared progress) (HeadingFault block tree progress) (open_procedure block tree declared progress)
+    → Judged (HeadingTyping block tree declared progress) (HeadingFault block tree progress)
+    (open_procedure block tree declared progress)
 heading_judged block tree declared progress =
     then_when (not (is_declared_again progress.known.here tree.name.name)) DeclaredTwice tree.name.place
     (λ again. procedure_again (not-false _ again)) (λ _ new.
@@ -84,7 +93,8 @@ heading_judged block tree declared progress =
     then_judged (parameters_judged (take PARAMETER_LIMIT tree.parameters)
     (into_body (with_procedure tree.name.name progress.known.here)))
     (λ fault is. in_heading_parameters (not-true _ new) (not-true _ apart) is) (λ here are.
-    then_judged (no_more_judged (drop PARAMETER_LIMIT tree.parameters) (drop PARAMETER_LIMIT tree.parameters) refl)
+    then_judged
+    (no_more_judged (drop PARAMETER_LIMIT tree.parameters) (drop PARAMETER_LIMIT tree.parameters) refl)
     (λ fault more. subst (HeadingFault block tree progress) (sym more.3)
     (too_many_parameters (not-true _ new) (not-true _ apart) are more.2)) (λ _ few.
     then_judged (linkage_judged block tree.linkage)
@@ -95,7 +105,8 @@ heading_judged block tree declared progress =
     (reentrant_external (not-true _ new) (not-true _ apart) are few stands wrong.1 wrong.2)) (λ _ also.
     judged_ok (heading_stands (not-true _ new) (not-true _ apart) are few stands also)))))))
 
-linkage_is : {block : Block} {linkage : Option Linkage} → LinkageStands block linkage → check_visibility block linkage ≡ Ok tt
+linkage_is : {block : Block} {linkage : Option Linkage} → LinkageStands block linkage
+    → check_visibility block linkage ≡ Ok tt
 linkage_is no_linkage = refl
 linkage_is (at_module_level is) = passed _ _ is
 
@@ -105,12 +116,15 @@ reentrant_is : {linkage : Option Linkage} {reentrant : Option Place}
 reentrant_is not_reentrant = refl
 reentrant_is (not_external is) = passed _ _ (ap not is)
 
-pub heading_is : {block : Block} {tree : HeadingTree} {declared : DeclarationTrees} {progress opened : Progress}
+pub heading_is : {block : Block} {tree : HeadingTree} {declared : DeclarationTrees}
+    {progress opened : Progress}
     → HeadingTyping block tree declared progress opened
     → open_procedure block tree declared progress ≡ Ok opened
 heading_is (heading_stands new apart parameters few linkage reentrant) =
-    then_ok _ (passed _ _ (ap not new)) (then_ok _ (passed _ _ (ap not apart)) (then_ok _ (parameters_are_new parameters)
-    (then_ok _ (ap no_more_parameters few) (then_ok _ (linkage_is linkage) (then_ok _ (reentrant_is reentrant) refl)))))
+    then_ok _ (passed _ _ (ap not new))
+    (then_ok _ (passed _ _ (ap not apart)) (then_ok _ (parameters_are_new parameters)
+    (then_ok _ (ap no_more_parameters few)
+    (then_ok _ (linkage_is linkage) (then_ok _ (reentrant_is reentrant) refl)))))
 
 misplaced_is : (block : Block) (linkage : Option Linkage) (found : Linkage)
     → linkage ≡ Some found
@@ -122,23 +136,31 @@ external_is : (linkage : Option Linkage) (reentrant : Option Place) (place : Pla
     → reentrant ≡ Some place
     → is_external_linkage linkage ≡ true
     → check_reentrant linkage reentrant ≡ Err (fault_of ReentrantExternal place)
-external_is linkage reentrant place is external = ap (check_reentrant linkage) is ∙ failed _ _ (ap not external)
+external_is linkage reentrant place is external =
+    ap (check_reentrant linkage) is ∙ failed _ _ (ap not external)
 
-pub heading_fault : {block : Block} {tree : HeadingTree} {progress : Progress} {fault : Fault} (declared : DeclarationTrees)
+pub heading_fault : {block : Block} {tree : HeadingTree} {progress : Progress} {fault : Fault}
+    (declared : DeclarationTrees)
     → HeadingFault block tree progress fault
     → open_procedure block tree declared progress ≡ Err fault
 heading_fault declared (procedure_again again) = then_fault _ (failed _ _ (ap not again))
-heading_fault declared (nested new within) = then_ok _ (passed _ _ (ap not new)) (then_fault _ (failed _ _ (ap not within)))
+heading_fault declared (nested new within) =
+    then_ok _ (passed _ _ (ap not new)) (then_fault _ (failed _ _ (ap not within)))
 heading_fault declared (in_heading_parameters new apart is) =
-    then_ok _ (passed _ _ (ap not new)) (then_ok _ (passed _ _ (ap not apart)) (then_fault _ (parameters_fault is)))
+    then_ok _ (passed _ _ (ap not new))
+    (then_ok _ (passed _ _ (ap not apart)) (then_fault _ (parameters_fault is)))
 heading_fault declared (too_many_parameters new apart parameters more) =
-    then_ok _ (passed _ _ (ap not new)) (then_ok _ (passed _ _ (ap not apart)) (then_ok _ (parameters_are_new parameters)
+    then_ok _ (passed _ _ (ap not new))
+    (then_ok _ (passed _ _ (ap not apart)) (then_ok _ (parameters_are_new parameters)
     (then_fault _ (ap no_more_parameters more))))
-heading_fault declared (misplaced_linkage {block = block} {heading = tree} new apart parameters few is below) =
-    then_ok _ (passed _ _ (ap not new)) (then_ok _ (passed _ _ (ap not apart)) (then_ok _ (parameters_are_new parameters)
+heading_fault declared
+    (misplaced_linkage {block = block} {heading = tree} new apart parameters few is below) =
+    then_ok _ (passed _ _ (ap not new))
+    (then_ok _ (passed _ _ (ap not apart)) (then_ok _ (parameters_are_new parameters)
     (then_ok _ (ap no_more_parameters few) (then_fault _ (misplaced_is block tree.linkage _ is below)))))
 heading_fault declared (reentrant_external {heading = tree} new apart parameters few linkage is external) =
-    then_ok _ (passed _ _ (ap not new)) (then_ok _ (passed _ _ (ap not apart)) (then_ok _ (parameters_are_new parameters)
+    then_ok _ (passed _ _ (ap not new))
+    (then_ok _ (passed _ _ (ap not apart)) (then_ok _ (parameters_are_new parameters)
     (then_ok _ (ap no_more_parameters few) (then_ok _ (linkage_is linkage)
     (then_fault _ (external_is tree.linkage tree.reentrant _ is external))))))
 
@@ -155,11 +177,13 @@ one_parameter_judged here parameter (Some Definition) is = judged_fault ((λ oth
 one_parameter_judged here parameter None is = judged_fault ((λ other e. absurd cc), refl)
 
 pub objects_judged : (here : Here) (parameters : List Identifier)
-    → Judged (AreParameters here parameters) (ParameterFault here parameters) (parameter_objects here parameters)
+    → Judged (AreParameters here parameters) (ParameterFault here parameters)
+    (parameter_objects here parameters)
 objects_judged here [] = judged_ok none_declared
 objects_judged here (parameter ∷ others) =
     then_judged (one_parameter_judged here parameter (lookup (bytes_eq parameter.name) here.body.block) refl)
-    (λ fault is. subst (ParameterFault here (parameter ∷ others)) (sym is.1) (not_declared is.0)) (λ number is.
+    (λ fault is. subst (ParameterFault here (parameter ∷ others)) (sym is.1) (not_declared is.0))
+    (λ number is.
     then_judged (objects_judged here others) (λ fault its. later_parameter is its) (λ numbers are.
     judged_ok (next_declared is are)))
 
@@ -193,12 +217,14 @@ body_judged tree NoStatements = judged_ok no_body
 body_judged tree (MoreStatements first others) = by (is_external_linkage tree.linkage) refl
   where
     by : (test : Bool) → is_external_linkage tree.linkage ≡ test
-        → Judged (λ _. BodyStands tree (MoreStatements first others)) (BodyFault tree (MoreStatements first others))
+        → Judged (λ _. BodyStands tree (MoreStatements first others))
+        (BodyFault tree (MoreStatements first others))
         (require (not test) ExternalContents (place_of_statement first))
     by false is = judged_ok (own_body is)
     by true is = judged_fault (external_body is)
 
-pub body_is : {tree : HeadingTree} {trees : StatementTrees} → BodyStands tree trees → check_body tree trees ≡ Ok tt
+pub body_is : {tree : HeadingTree} {trees : StatementTrees} → BodyStands tree trees
+    → check_body tree trees ≡ Ok tt
 body_is no_body = refl
 body_is (own_body is) = passed _ _ (ap not is)
 

@@ -1,5 +1,5 @@
--- The parts of statements that hold no statement: what the typing gives of them has a typing by the rules, and the fault
--- that it gives is one of the rules.
+-- The parts of statements that hold no statement: what the typing gives of them has a typing by the rules,
+-- and the fault that it gives is one of the rules.
 use Rattle.typing_rules.proofs.Prelude.{not-false, not-true, ◌≡◌, ℕ, ◌==◌, Bool, true, false, not, List, [], ◌∷◌, length, Option, Some, None, Ok, refl, sym, ap, subst, arith, slice_get, inl, inr, ◌⊎◌, eqb-true, eqb-false, ScalarType, Identifier, Place, ExpressionTree, ReferenceTree, ReferenceTo, ArgumentTrees, Binding, Declared, BuiltInName, UnknownLabel, BuiltIn, Object, Procedure, Label, Definition, binding_of, TypedArguments, ObjectType, ScalarObject, StructureObject, TypedProcedure, Constants, ArgumentCount, CallOfNoProcedure, ConstantWritten, NoVariable, UnknownName, Fault, Checked, ◌>>=◌, arguments, Known, number_of_arguments, scalar_of, is_constant, StandsFor, IsVariable, IsProcedure, IsBuiltIn, IsNoProcedure, ExpressionTyping, ValuesTyping, no_values, next_value, ExpressionFault}
 use Rattle.std.specs.Prelude.{◌&&◌, is_none}
 use Rattle.trees.specs.Trees.{HeadingTree, IterationTree, CallStatement, ReturnStatement, GotoStatement}
@@ -23,7 +23,8 @@ use Rattle.typing_rules.proofs.ReferencesJudged.{is_no_variable, target_judged}
 use Rattle.typing_rules.proofs.ExpressionsJudged.{expression_judged, values_judged, its_values_judged}
 
 -- what is found, with the constants after it
-pub record Reaches {A : Type 0} (T : A → Constants → Type 0) (progress : Progress) (found : A × Progress) : Type 0 where
+pub record Reaches {A : Type 0} (T : A → Constants → Type 0) (progress : Progress)
+    (found : A × Progress) : Type 0 where
   pub after : Constants
   pub typing : T found.0 after
   pub reached : found.1 ≡ with_constants after progress
@@ -36,7 +37,8 @@ pub then_reached : {A B : Type 0} {T : A → Constants → Type 0} {R : B → Ty
     → Judged R S (checked >>= next)
 then_reached {R = R} {S = S} next is fails then_is =
     then_judged is fails (λ found it.
-    subst (λ progress. Judged R S (next (found.0, progress))) (sym it.reached) (then_is found.0 it.after it.typing))
+    subst (λ progress. Judged R S (next (found.0, progress))) (sym it.reached)
+    (then_is found.0 it.after it.typing))
 
 pub value_judged : (tree : ExpressionTree) (progress : Progress)
     → Judged (Reaches (ExpressionTyping progress.known progress.constants tree) progress)
@@ -52,9 +54,12 @@ pub targets_judged : (known : Known) (targets : List ReferenceTree) (before : Co
     (destinations known targets before)
 targets_judged known [] before = judged_ok no_targets
 targets_judged known (ReferenceTo name trees part ∷ others) before =
-    then_judged (target_judged known name trees part before (values_judged known trees) (its_values_judged known part))
+    then_judged
+    (target_judged known name trees part before (values_judged known trees)
+    (its_values_judged known part))
     (λ fault is. in_first_target is) (λ destination is.
-    then_judged (targets_judged known others destination.1) (λ fault more. in_other_targets is more) (λ rest more.
+    then_judged (targets_judged known others destination.1)
+    (λ fault more. in_other_targets is more) (λ rest more.
     judged_ok (next_target is more)))
 
 -- iterations
@@ -74,7 +79,8 @@ is_full : {A : Type 0} (option : Option A) → is_none option ≡ false → (a :
 is_full None e = absurd cc
 is_full (Some a) e = (a, refl)
 
-the_members : (object_type : ObjectType) → scalar_of object_type ≡ None → (members : List TypedMember) × (object_type ≡ StructureObject members)
+the_members : (object_type : ObjectType) → scalar_of object_type ≡ None
+    → (members : List TypedMember) × (object_type ≡ StructureObject members)
 the_members (ScalarObject scalar) e = absurd cc
 the_members (StructureObject members) e = (members, refl)
 
@@ -84,18 +90,22 @@ counter_judged : (known : Known) (binding : Binding) (name : Identifier)
     (counter_bound known binding name)
 counter_judged known (Declared (Object number)) name named =
     then_found (slice_get known.objects number) NoVariable name.place
-    (λ none. counter_of_no_variable (is_no_variable _ named (λ other object e listed. absurd cc))) (λ object listed.
+    (λ none. counter_of_no_variable (is_no_variable _ named (λ other object e listed. absurd cc)))
+    (λ object listed.
     let is : IsVariable known name number object = record { named = named; listed = listed } in
-    then_when (not (is_constant object.home)) ConstantWritten name.place (λ has. counter_with_data is (not-false _ has)) (λ _ plain.
+    then_when (not (is_constant object.home)) ConstantWritten name.place
+    (λ has. counter_with_data is (not-false _ has)) (λ _ plain.
     then_when (is_none object.dimension && is_not_based object.home) NoCounter name.place
     (λ wrong. no_counter number object is (not-true _ plain) (not_both _ _ wrong)) (λ _ fits.
     then_found (scalar_of object.object_type) NoCounter name.place
-    (λ none. counter_with_members is (not-true _ plain) (the_members object.object_type none).1) (λ scalar some.
+    (λ none. counter_with_members is (not-true _ plain) (the_members object.object_type none).1)
+    (λ scalar some.
     judged_ok (record {
       object = object;
       variable = is;
       without_data = not-true _ plain;
-      no_array = is_empty object.dimension (both (is_none object.dimension) (is_not_based object.home) fits).0;
+      no_array =
+          is_empty object.dimension (both (is_none object.dimension) (is_not_based object.home) fits).0;
       not_based = (both (is_none object.dimension) (is_not_based object.home) fits).1;
       is_scalar = scalar_is object.object_type scalar some;
     })))))
@@ -105,7 +115,8 @@ counter_judged known (Declared (Object number)) name named =
         → is_constant object.home ≡ false
         → (is_none object.dimension ≡ false) ⊎ (is_not_based object.home ≡ false)
         → CounterFault known name (record { cause = NoCounter; place = name.place })
-    no_counter number object is plain (inl array) = counter_in_array is plain (is_full object.dimension array).1
+    no_counter number object is plain (inl array) =
+        counter_in_array is plain (is_full object.dimension array).1
     no_counter number object is plain (inr based) = based_counter is plain based
 counter_judged known (Declared (Procedure number)) name named =
     judged_fault (counter_of_no_variable (is_no_variable _ named (λ other object e listed. absurd cc)))
@@ -122,7 +133,8 @@ step_judged : (tree : Option ExpressionTree) (progress : Progress)
     → Judged (Reaches (StepTyping progress.known progress.constants tree) progress)
     (StepFault progress.known progress.constants tree)
     (step tree progress)
-step_judged None progress = judged_ok (record { after = progress.constants; typing = no_step; reached = refl })
+step_judged None progress =
+    judged_ok (record { after = progress.constants; typing = no_step; reached = refl })
 step_judged (Some tree) progress =
     then_reached _ (value_judged tree progress) (λ fault is. in_step is) (λ typed after is.
     judged_ok (record { after = after; typing = a_step is; reached = refl }))
@@ -134,10 +146,13 @@ pub iteration_judged : (head : IterationTree) (progress : Progress)
 iteration_judged head progress =
     then_found (binding_of progress.known.here head.variable.name) UnknownName head.variable.place
     (λ none. in_counter (unknown_counter none)) (λ binding named.
-    then_judged (counter_judged progress.known binding head.variable named) (λ fault is. in_counter is) (λ counter is.
+    then_judged (counter_judged progress.known binding head.variable named)
+    (λ fault is. in_counter is) (λ counter is.
     then_reached _ (value_judged head.first progress) (λ fault its. in_first_value is its) (λ first one its.
-    then_reached _ (value_judged head.last (with_constants one progress)) (λ fault more. in_last_value is its more) (λ last two more.
-    then_reached _ (step_judged head.step (with_constants two progress)) (λ fault by. in_step_value is its more by) (λ step after by.
+    then_reached _ (value_judged head.last (with_constants one progress))
+    (λ fault more. in_last_value is its more) (λ last two more.
+    then_reached _ (step_judged head.step (with_constants two progress))
+    (λ fault by. in_step_value is its more by) (λ step after by.
     judged_ok (record { after = after; typing = iterates is its more by; reached = refl }))))))
 
 -- labels
@@ -145,8 +160,10 @@ pub labels_judged : (labels : List Identifier) (here : Here)
     → Judged (AreNewLabels here labels) (LabelsFault here labels) (declare_labels labels here)
 labels_judged [] here = judged_ok no_labels
 labels_judged (label ∷ others) here =
-    then_when (not (is_label_again here label.name)) DeclaredTwice label.place (λ again. label_again (not-false _ again)) (λ _ new.
-    judged_more (labels_judged others (with_label label.name here)) (λ fault is. in_other_labels (not-true _ new) is)
+    then_when (not (is_label_again here label.name)) DeclaredTwice label.place
+    (λ again. label_again (not-false _ again)) (λ _ new.
+    judged_more (labels_judged others (with_label label.name here))
+    (λ fault is. in_other_labels (not-true _ new) is)
     (λ after are. next_label (not-true _ new) are))
 
 -- CALL
@@ -164,13 +181,16 @@ is_no_procedure binding named none = record {
       none number procedure same is.listed;
 }
 
-abbrev pub CallJudged : Block → Progress → Place → Identifier → ArgumentTrees → Checked (TypedStatement × Constants) → Type 0
+abbrev pub CallJudged : Block → Progress → Place → Identifier → ArgumentTrees
+    → Checked (TypedStatement × Constants) → Type 0
 CallJudged block progress place name trees checked =
-    Judged (λ found. StatementTyping block progress (CallStatement place name trees) found.0 (with_constants found.1 progress))
+    Judged (λ found. StatementTyping block progress (CallStatement place name trees) found.0
+    (with_constants found.1 progress))
     (StatementFault block progress (CallStatement place name trees))
     checked
 
-three_values : (block : Block) (progress : Progress) (place : Place) (name : Identifier) {trees : ArgumentTrees} {typed : TypedArguments}
+three_values : (block : Block) (progress : Progress) (place : Place) (name : Identifier)
+    {trees : ArgumentTrees} {typed : TypedArguments}
     {after : Constants}
     → IsBuiltIn progress.known name built_ins.Move
     → ValuesTyping progress.known progress.constants trees typed after
@@ -178,16 +198,21 @@ three_values : (block : Block) (progress : Progress) (place : Place) (name : Ide
     → CallJudged block progress place name trees (moved name.place typed >>= λ moving. Ok (moving, after))
 three_values block progress place name named no_values count = absurd (omega (arith, count))
 three_values block progress place name named (next_value one no_values) count = absurd (omega (arith, count))
-three_values block progress place name named (next_value one (next_value two no_values)) count = absurd (omega (arith, count))
-three_values block progress place name named (next_value one (next_value two (next_value three no_values))) count =
+three_values block progress place name named (next_value one (next_value two no_values)) count =
+    absurd (omega (arith, count))
+three_values block progress place name named
+    (next_value one (next_value two (next_value three no_values))) count =
     judged_ok (move named (next_value one (next_value two (next_value three no_values))))
-three_values block progress place name named (next_value one (next_value two (next_value three (next_value four others)))) count =
+three_values block progress place name named
+    (next_value one (next_value two (next_value three (next_value four others)))) count =
     absurd (omega (arith, count))
 
-built_in_call_judged : (block : Block) (progress : Progress) (place : Place) (name : Identifier) (trees : ArgumentTrees) (built_in : BuiltIn)
+built_in_call_judged : (block : Block) (progress : Progress) (place : Place) (name : Identifier)
+    (trees : ArgumentTrees) (built_in : BuiltIn)
     → IsBuiltIn progress.known name built_in
     → CallJudged block progress place name trees
-    (call_bound progress.known (BuiltInName built_in) name (record { trees = trees; typed = arguments progress.known trees })
+    (call_bound progress.known (BuiltInName built_in) name
+    (record { trees = trees; typed = arguments progress.known trees })
     progress.constants)
 built_in_call_judged block progress place name trees built_ins.Move named =
     then_when (number_of_arguments trees == 3) ArgumentCount name.place
@@ -196,18 +221,24 @@ built_in_call_judged block progress place name trees built_ins.Move named =
     (λ fault is. in_argument_of_move named (eqb-true _ _ right) is) (λ typed is.
     three_values block progress place name named is (eqb-true _ _ right)))
 built_in_call_judged block progress place name trees built_in named =
-    judged_fault (call_of_no_procedure (is_no_procedure _ named (λ number procedure e listed. absurd cc)) (λ is. absurd cc))
+    judged_fault
+    (call_of_no_procedure (is_no_procedure _ named (λ number procedure e listed. absurd cc))
+    (λ is. absurd cc))
 
-pub call_judged : (block : Block) (progress : Progress) (place : Place) (name : Identifier) (trees : ArgumentTrees) (binding : Binding)
+pub call_judged : (block : Block) (progress : Progress) (place : Place) (name : Identifier)
+    (trees : ArgumentTrees) (binding : Binding)
     → StandsFor progress.known name binding
     → CallJudged block progress place name trees
-    (call_bound progress.known binding name (record { trees = trees; typed = arguments progress.known trees }) progress.constants)
+    (call_bound progress.known binding name
+    (record { trees = trees; typed = arguments progress.known trees }) progress.constants)
 call_judged block progress place name trees (Declared (Procedure number)) named =
     then_found (slice_get progress.known.procedures number) CallOfNoProcedure name.place
-    (λ none. call_of_no_procedure (is_no_procedure _ named (λ other procedure e listed. absurd cc)) (λ is. absurd cc))
+    (λ none. call_of_no_procedure (is_no_procedure _ named (λ other procedure e listed. absurd cc))
+    (λ is. absurd cc))
     (λ procedure listed.
     let is : IsProcedure progress.known name number procedure = record { named = named; listed = listed } in
-    then_when (is_none procedure.result) CallOfTyped name.place (λ typed. call_of_typed is (is_full procedure.result typed).1)
+    then_when (is_none procedure.result) CallOfTyped name.place
+    (λ typed. call_of_typed is (is_full procedure.result typed).1)
     (λ _ untyped.
     then_judged
     (then_when (number_of_arguments trees == length procedure.parameter_types) ArgumentCount name.place
@@ -218,36 +249,50 @@ call_judged block progress place name trees (Declared (Procedure number)) named 
     (λ fault its. its)
     (λ values its. judged_ok its)))
 call_judged block progress place name trees (Declared (Object number)) named =
-    judged_fault (call_of_no_procedure (is_no_procedure _ named (λ number procedure e listed. absurd cc)) (λ is. absurd cc))
+    judged_fault
+    (call_of_no_procedure (is_no_procedure _ named (λ number procedure e listed. absurd cc))
+    (λ is. absurd cc))
 call_judged block progress place name trees (Declared (Label number)) named =
-    judged_fault (call_of_no_procedure (is_no_procedure _ named (λ number procedure e listed. absurd cc)) (λ is. absurd cc))
+    judged_fault
+    (call_of_no_procedure (is_no_procedure _ named (λ number procedure e listed. absurd cc))
+    (λ is. absurd cc))
 call_judged block progress place name trees (Declared Definition) named =
-    judged_fault (call_of_no_procedure (is_no_procedure _ named (λ number procedure e listed. absurd cc)) (λ is. absurd cc))
+    judged_fault
+    (call_of_no_procedure (is_no_procedure _ named (λ number procedure e listed. absurd cc))
+    (λ is. absurd cc))
 call_judged block progress place name trees (BuiltInName built_in) named =
     built_in_call_judged block progress place name trees built_in named
 call_judged block progress place name trees UnknownLabel named =
-    judged_fault (call_of_no_procedure (is_no_procedure _ named (λ number procedure e listed. absurd cc)) (λ is. absurd cc))
+    judged_fault
+    (call_of_no_procedure (is_no_procedure _ named (λ number procedure e listed. absurd cc))
+    (λ is. absurd cc))
 
 -- RETURN
-abbrev ReturnJudged : Block → Progress → Place → Option ExpressionTree → Checked (TypedStatement × Progress) → Type 0
+abbrev ReturnJudged : Block → Progress → Place → Option ExpressionTree
+    → Checked (TypedStatement × Progress) → Type 0
 ReturnJudged block progress place tree checked =
     Judged (λ found. StatementTyping block progress (ReturnStatement place tree) found.0 found.1)
     (StatementFault block progress (ReturnStatement place tree))
     checked
 
-result_judged : (block : Block) (progress : Progress) (place : Place) (number : ℕ) (heading : HeadingTree) (result : Option ScalarType)
+result_judged : (block : Block) (progress : Progress) (place : Place) (number : ℕ) (heading : HeadingTree)
+    (result : Option ScalarType)
     (tree : Option ExpressionTree)
     → block.owner ≡ OfProcedure number heading
     → heading.result ≡ result
     → ReturnJudged block progress place tree (return_with place result tree progress)
 result_judged block progress place number heading None None is result = judged_ok (return is result)
 result_judged block progress place number heading (Some scalar) (Some tree) is result =
-    then_reached _ (value_judged tree progress) (λ fault its. in_returned_value is result its) (λ typed after its.
+    then_reached _ (value_judged tree progress)
+    (λ fault its. in_returned_value is result its) (λ typed after its.
     judged_ok (return_value is result its))
-result_judged block progress place number heading None (Some tree) is result = judged_fault (value_for_no_type is result)
-result_judged block progress place number heading (Some scalar) None is result = judged_fault (no_value_for_type is result)
+result_judged block progress place number heading None (Some tree) is result =
+    judged_fault (value_for_no_type is result)
+result_judged block progress place number heading (Some scalar) None is result =
+    judged_fault (no_value_for_type is result)
 
-pub return_judged : (block : Block) (progress : Progress) (place : Place) (owner : Owner) (tree : Option ExpressionTree)
+pub return_judged : (block : Block) (progress : Progress) (place : Place) (owner : Owner)
+    (tree : Option ExpressionTree)
     → block.owner ≡ owner
     → ReturnJudged block progress place tree (return_from place owner tree progress)
 return_judged block progress place TheModule tree is = judged_fault (return_outside is)
@@ -255,14 +300,19 @@ return_judged block progress place (OfProcedure number heading) tree is =
     result_judged block progress place number heading heading.result tree is refl
 
 -- GOTO
-pub goto_judged : (block : Block) (progress : Progress) (place : Place) (label : Identifier) (binding : Binding)
+pub goto_judged : (block : Block) (progress : Progress) (place : Place)
+    (label : Identifier) (binding : Binding)
     → jump_of progress.known.here label.name ≡ binding
     → Judged (λ found. StatementTyping block progress (GotoStatement place label) found progress)
     (StatementFault block progress (GotoStatement place label))
     (goto_bound label.place binding)
 goto_judged block progress place label (Declared (Label number)) is = judged_ok (goto is)
-goto_judged block progress place label (Declared (Object number)) is = judged_fault (unknown_label (λ other e. absurd cc))
-goto_judged block progress place label (Declared (Procedure number)) is = judged_fault (unknown_label (λ other e. absurd cc))
-goto_judged block progress place label (Declared Definition) is = judged_fault (unknown_label (λ other e. absurd cc))
-goto_judged block progress place label (BuiltInName built_in) is = judged_fault (unknown_label (λ other e. absurd cc))
+goto_judged block progress place label (Declared (Object number)) is =
+    judged_fault (unknown_label (λ other e. absurd cc))
+goto_judged block progress place label (Declared (Procedure number)) is =
+    judged_fault (unknown_label (λ other e. absurd cc))
+goto_judged block progress place label (Declared Definition) is =
+    judged_fault (unknown_label (λ other e. absurd cc))
+goto_judged block progress place label (BuiltInName built_in) is =
+    judged_fault (unknown_label (λ other e. absurd cc))
 goto_judged block progress place label UnknownLabel is = judged_fault (unknown_label (λ other e. absurd cc))

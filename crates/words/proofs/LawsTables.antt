@@ -6,7 +6,8 @@ use Rattle.words.specs.Marks.{marks, mark_at}
 -- no mark is longer than one before it
 abbrev lengths_fall : List (List ℕ × Mark) → Bool
 lengths_fall [] = true
-lengths_fall (mark ∷ table) = list_all (λ later. nat_le (length later.0) (length mark.0)) table && lengths_fall table
+lengths_fall (mark ∷ table) =
+    list_all (λ later. nat_le (length later.0) (length mark.0)) table && lengths_fall table
 
 -- the found mark is at least as long as a mark that passes
 abbrev Outlasts : (List ℕ × Mark → Bool) → Option (List ℕ × Mark) → List ℕ × Mark → Type 0
@@ -35,12 +36,15 @@ outlasts : (p : List ℕ × Mark → Bool) (table : List (List ℕ × Mark))
     → lengths_fall table ≡ true
     → AllByRecursion (Outlasts p (find p table)) table
 outlasts p [] falls = tt
-outlasts p (mark ∷ table) falls = outlasts_if p mark table (p mark) refl (and_parts _ _ falls).0 (outlasts p table (and_parts _ _ falls).1)
+outlasts p (mark ∷ table) falls =
+    outlasts_if p mark table (p mark) refl (and_parts _ _ falls).0 (outlasts p table (and_parts _ _ falls).1)
 
 pub longest_mark : (text : List ℕ)
     → All (Outlasts (λ mark. starts_with nat_eq text mark.0) (mark_at text)) marks
 unfolding mark_at
-longest_mark text = All-from_recursion (Outlasts (λ mark. starts_with nat_eq text mark.0) (mark_at text)) marks (outlasts (λ mark. starts_with nat_eq text mark.0) marks refl)
+longest_mark text =
+    All-from_recursion (Outlasts (λ mark. starts_with nat_eq text mark.0) (mark_at text)) marks
+    (outlasts (λ mark. starts_with nat_eq text mark.0) marks refl)
 
 -- no two entries are written alike
 abbrev all_differ : List (List ℕ × ReservedWord) → Bool

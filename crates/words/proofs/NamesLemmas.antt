@@ -3,11 +3,15 @@ use Rattle.words.proofs.Prelude.{◌≡◌, ◌≢◌, ℕ, List, [], ◌∷◌,
 
 -- a name has as many characters as bytes other than `$`
 pub length-name_of : (text : List ℕ) → length (name_of text) ≡ count_by (λ b. not (eqb b 36)) text
-length-name_of text = length-map (filter (λ b. not (eqb b 36)) text) to_ascii_uppercase ∙ length-filter (λ b. not (eqb b 36)) text
+length-name_of text =
+    length-map (filter (λ b. not (eqb b 36)) text) to_ascii_uppercase
+    ∙ length-filter (λ b. not (eqb b 36)) text
 
 pub name_of-append : (front back : List ℕ) → name_of (front ++ back) ≡ name_of front ++ name_of back
 name_of-append front back =
-    ap (map to_ascii_uppercase) (filter-append (λ b. not (eqb b 36)) front back) ∙ map-append to_ascii_uppercase (filter (λ b. not (eqb b 36)) front) (filter (λ b. not (eqb b 36)) back)
+    ap (map to_ascii_uppercase) (filter-append (λ b. not (eqb b 36)) front back)
+    ∙ map-append to_ascii_uppercase (filter (λ b. not (eqb b 36)) front)
+    (filter (λ b. not (eqb b 36)) back)
 
 -- a byte other than `$` is one character
 pub name_of-character : (b : ℕ) → b ≢ 36 → name_of (b ∷ []) ≡ to_ascii_uppercase b ∷ []

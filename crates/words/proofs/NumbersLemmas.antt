@@ -22,22 +22,27 @@ pub number_in_too_great : (base : ℕ) (digits : List ℕ)
     → number_in base digits ≡ None
 number_in_too_great base digits great =
     let fails : nat_le (value_of base digits) GREATEST_NUMBER ≡ false = grind (arith, nat_tests) in
-    and_fails (list_all (λ digit. nat_lt (digit_value digit) base) digits) (nat_le (value_of base digits) GREATEST_NUMBER) _ _ fails
+    and_fails (list_all (λ digit. nat_lt (digit_value digit) base) digits)
+    (nat_le (value_of base digits) GREATEST_NUMBER) _ _ fails
 
 -- the last of the characters says the base
 number_of-push : (front : List ℕ) (last : ℕ)
     → number_of (front ++ last ∷ []) ≡ number_with (base_of last) (front ++ last ∷ [])
 number_of-push front last =
-    let at_last : get_or (front ++ last ∷ []) (length (front ++ last ∷ []) - 1) 0 ≡ last = get_or_at front last [] 0 _ (omega (arith, length_push front last)) in
+    let at_last : get_or (front ++ last ∷ []) (length (front ++ last ∷ []) - 1) 0 ≡ last =
+    get_or_at front last [] 0 _ (omega (arith, length_push front last)) in
     ap (λ c. number_with (base_of c) (front ++ last ∷ [])) at_last
 
 -- a word and its last character, which is no `$`
 module _ (text : List ℕ) (some : 0 < length text) (significant : get_or text (length text - 1) 0 ≢ 36) where
-  name_of-last : name_of text ≡ name_of (take (length text - 1) text) ++ to_ascii_uppercase (get_or text (length text - 1) 0) ∷ []
+  name_of-last : name_of text ≡ name_of (take (length text - 1) text)
+      ++ to_ascii_uppercase (get_or text (length text - 1) 0) ∷ []
   name_of-last =
       let split : text ≡ take (length text - 1) text ++ get_or text (length text - 1) 0 ∷ [] =
-      sym (take_all (length text - 1 + 1) text (omega arith)) ∙ take_more text (length text - 1) 0 (omega arith) in
-      ap name_of split ∙ name_of-append (take (length text - 1) text) (get_or text (length text - 1) 0 ∷ []) ∙ ap (λ back. name_of (take (length text - 1) text) ++ back) (name_of-character _ significant)
+      sym (take_all (length text - 1 + 1) text (omega arith))
+      ∙ take_more text (length text - 1) 0 (omega arith) in
+      ap name_of split ∙ name_of-append (take (length text - 1) text) (get_or text (length text - 1) 0 ∷ [])
+      ∙ ap (λ back. name_of (take (length text - 1) text) ++ back) (name_of-character _ significant)
 
   -- with a letter of a base
   pub number_of-based : (base : ℕ)
@@ -46,8 +51,10 @@ module _ (text : List ℕ) (some : 0 < length text) (significant : get_or text (
   number_of-based base is =
       let front = name_of (take (length text - 1) text) in
       let last = to_ascii_uppercase (get_or text (length text - 1) 0) in
-      let cut : take (length (front ++ last ∷ []) - 1) (front ++ last ∷ []) ≡ front = take_at front (last ∷ []) _ (omega (arith, length_push front last)) in
-      ap number_of name_of-last ∙ number_of-push front last ∙ ap (λ b. number_with b (front ++ last ∷ [])) is ∙ ap (number_in base) cut
+      let cut : take (length (front ++ last ∷ []) - 1) (front ++ last ∷ []) ≡ front =
+      take_at front (last ∷ []) _ (omega (arith, length_push front last)) in
+      ap number_of name_of-last ∙ number_of-push front last ∙ ap (λ b. number_with b (front ++ last ∷ [])) is
+      ∙ ap (number_in base) cut
 
   -- with none
   pub number_of-decimal : base_of (to_ascii_uppercase (get_or text (length text - 1) 0)) ≡ None

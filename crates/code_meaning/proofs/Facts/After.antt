@@ -9,7 +9,8 @@ either_holds :
     (activation : Activation) (distance : Distances) (facts : Facts) (test : Bool) (one other : State)
     → FactsHold activation distance facts one.registers one.memory
     → FactsHold activation distance facts other.registers other.memory
-    → FactsHold activation distance facts (if test then one else other).registers (if test then one else other).memory
+    → FactsHold activation distance facts (if test then one else other).registers
+    (if test then one else other).memory
 either_holds activation distance facts true one other first second = first
 either_holds activation distance facts false one other first second = second
 
@@ -36,7 +37,8 @@ facts_after_word script activation distance facts (LoadPair Hl) place s is bytes
 facts_after_word script activation distance facts StoreHl place s is bytes asks hold = record {
   byte_holds = tt;
   word_holds =
-      stored_word activation s.memory (place_at activation.layout place) s.registers.h s.registers.l is bytes.l asks;
+      stored_word activation s.memory (place_at activation.layout place) s.registers.h
+      s.registers.l is bytes.l asks;
   address_holds = hold.address_holds;
   zero_holds = hold.zero_holds;
 }
@@ -63,7 +65,8 @@ facts_after_word script activation distance facts (JumpWhere condition) place s 
     either_holds activation distance facts (holds condition s.registers.flags)
     (jump (place_at activation.layout place) s) s hold hold
 facts_after_word script activation distance facts CallTo place s is bytes asks hold = no_facts_hold
-facts_after_word script activation distance facts (CallWhere condition) place s is bytes asks hold = no_facts_hold
+facts_after_word script activation distance facts (CallWhere condition) place s is bytes asks hold =
+    no_facts_hold
 
 byte_of :
     (activation : Activation) (distance : Distances) (held : Option Location) (one other : ℕ)
@@ -92,7 +95,8 @@ facts_after_operation :
     (operation : Operation) (operand : Operand) (s : State)
     → FactsHold activation distance facts s.registers s.memory
     → FactsHold activation distance (after_operation_with facts operation operand)
-    (act script (Accumulate operation operand) s).registers (act script (Accumulate operation operand) s).memory
+    (act script (Accumulate operation operand) s).registers
+    (act script (Accumulate operation operand) s).memory
 facts_after_operation script activation distance facts And (Of A) s hold =
     same_a_holds activation distance facts s.registers s.memory (bit_and s.registers.a s.registers.a)
     (and_self s.registers.a) hold
@@ -114,10 +118,14 @@ facts_after_operation script activation distance facts Or (Of H) s hold = with_r
 facts_after_operation script activation distance facts Or (Of L) s hold = with_result_holds facts refl hold
 facts_after_operation script activation distance facts Or M s hold = with_result_holds facts refl hold
 facts_after_operation script activation distance facts Add operand s hold = with_result_holds facts refl hold
-facts_after_operation script activation distance facts AddWithCarry operand s hold = with_result_holds facts refl hold
-facts_after_operation script activation distance facts Subtract operand s hold = with_result_holds facts refl hold
-facts_after_operation script activation distance facts SubtractWithBorrow operand s hold = with_result_holds facts refl hold
-facts_after_operation script activation distance facts ExclusiveOr operand s hold = with_result_holds facts refl hold
+facts_after_operation script activation distance facts AddWithCarry operand s hold =
+    with_result_holds facts refl hold
+facts_after_operation script activation distance facts Subtract operand s hold =
+    with_result_holds facts refl hold
+facts_after_operation script activation distance facts SubtractWithBorrow operand s hold =
+    with_result_holds facts refl hold
+facts_after_operation script activation distance facts ExclusiveOr operand s hold =
+    with_result_holds facts refl hold
 facts_after_operation script activation distance facts Compare operand s hold = without_zero_holds facts hold
 
 -- A holds the byte at a known location
@@ -126,7 +134,8 @@ with_byte_holds :
     {memory : List ℕ} {held : Option Location} (facts : Facts)
     → ByteHolds activation distance held other memory
     → AllHold activation distance facts a h l zero_flag memory
-    → AllHold activation distance (record facts { byte_in_a = held; zero_shows_a = false }) other h l flag memory
+    → AllHold activation distance (record facts { byte_in_a = held; zero_shows_a = false })
+    other h l flag memory
 with_byte_holds facts holds hold = record {
   byte_holds = holds;
   word_holds = hold.word_holds;
@@ -267,7 +276,8 @@ facts_after script activation distance facts (AccumulateImmediate AddWithCarry v
     with_result_holds facts refl hold
 facts_after script activation distance facts (AccumulateImmediate Subtract value) s is bytes asks hold =
     with_result_holds facts refl hold
-facts_after script activation distance facts (AccumulateImmediate SubtractWithBorrow value) s is bytes asks hold =
+facts_after script activation distance facts (AccumulateImmediate SubtractWithBorrow value) s
+    is bytes asks hold =
     with_result_holds facts refl hold
 facts_after script activation distance facts (AccumulateImmediate And value) s is bytes asks hold =
     with_result_holds facts refl hold

@@ -66,7 +66,8 @@ pub with_result_holds :
     {memory : List ℕ} (facts : Facts)
     → flag ≡ (other == 0)
     → AllHold activation distance facts a h l zero_flag memory
-    → AllHold activation distance (record facts { byte_in_a = None; zero_shows_a = true }) other h l flag memory
+    → AllHold activation distance (record facts { byte_in_a = None; zero_shows_a = true })
+    other h l flag memory
 with_result_holds facts shows hold = record {
   byte_holds = tt;
   word_holds = hold.word_holds;
@@ -121,12 +122,13 @@ pub facts_stay :
     → ((address : ℕ) → IsSteady activation address → byte_at memory address ≡ byte_at other address)
     → AllHold activation distance facts a h l zero_flag memory
     → AllHold activation distance facts a h l zero_flag other
-facts_stay {activation = activation} {distance = distance} {a = a} {h = h} {l = l} {zero_flag = zero_flag} facts memory other same hold = record {
-  byte_holds = byte_stays activation distance facts.byte_in_a a memory other same hold.byte_holds;
-  word_holds = word_stays activation distance facts.word_in_hl h l memory other same hold.word_holds;
-  address_holds = hold.address_holds;
-  zero_holds = hold.zero_holds;
-}
+facts_stay {activation = activation} {distance = distance} {a = a} {h = h} {l = l} {zero_flag = zero_flag}
+    facts memory other same hold = record {
+      byte_holds = byte_stays activation distance facts.byte_in_a a memory other same hold.byte_holds;
+      word_holds = word_stays activation distance facts.word_in_hl h l memory other same hold.word_holds;
+      address_holds = hold.address_holds;
+      zero_holds = hold.zero_holds;
+    }
 
 either_byte :
     (activation : Activation) (distance : Distances) (first second : Option Location) (a : ℕ)
@@ -169,12 +171,15 @@ pub with_facts_hold :
     → AllHold activation distance facts a h l zero_flag memory
     → AllHold activation distance others a h l zero_flag memory
     → AllHold activation distance (with_facts facts others) a h l zero_flag memory
-with_facts_hold {activation = activation} {distance = distance} {a = a} {h = h} {l = l} {zero_flag = zero_flag} {memory = memory} facts others one two = record {
-  byte_holds =
-      either_byte activation distance others.byte_in_a facts.byte_in_a a memory two.byte_holds one.byte_holds;
-  word_holds =
-      either_word activation distance others.word_in_hl facts.word_in_hl h l memory two.word_holds one.word_holds;
-  address_holds =
-      either_address activation distance others.address_in_hl facts.address_in_hl h l two.address_holds one.address_holds;
-  zero_holds = either_zero others.zero_shows_a facts.zero_shows_a zero_flag a two.zero_holds one.zero_holds;
-}
+with_facts_hold {activation = activation} {distance = distance} {a = a} {h = h} {l = l}
+    {zero_flag = zero_flag} {memory = memory} facts others one two = record {
+      byte_holds =
+          either_byte activation distance others.byte_in_a facts.byte_in_a a memory two.byte_holds one.byte_holds;
+      word_holds =
+          either_word activation distance others.word_in_hl facts.word_in_hl h l memory
+          two.word_holds one.word_holds;
+      address_holds =
+          either_address activation distance others.address_in_hl facts.address_in_hl h l
+          two.address_holds one.address_holds;
+      zero_holds = either_zero others.zero_shows_a facts.zero_shows_a zero_flag a two.zero_holds one.zero_holds;
+    }

@@ -13,9 +13,12 @@ place_after_is :
     (layout : Layout) (place : Place) (more : ℕ)
     → place_at layout (place_after place more) ≡ wrap (place_at layout place + more)
 place_after_is layout (Number number) more = omega arith
-place_after_is layout (Code offset) more = moved offset more (layout.address_of (targets.InSegment segments.Code))
-place_after_is layout (Data offset) more = moved offset more (layout.address_of (targets.InSegment segments.Data))
-place_after_is layout (External offset name) more = moved offset more (layout.address_of (targets.External name))
+place_after_is layout (Code offset) more =
+    moved offset more (layout.address_of (targets.InSegment segments.Code))
+place_after_is layout (Data offset) more =
+    moved offset more (layout.address_of (targets.InSegment segments.Data))
+place_after_is layout (External offset name) more =
+    moved offset more (layout.address_of (targets.External name))
 
 -- the address of a location `more` bytes further on
 pub location_after_is :
@@ -39,7 +42,8 @@ after_before activation distance location small =
     ∙ back_and_on (location_at activation distance location) small
 
 same_places :
-    (layout : Layout) (one other : Place) → same_place one other ≡ true → place_at layout one ≡ place_at layout other
+    (layout : Layout) (one other : Place) → same_place one other ≡ true
+    → place_at layout one ≡ place_at layout other
 same_places layout (Number one) (Number other) same = eqb-true one other same
 same_places layout (Number one) (Code other) same = absurd (false≢true same)
 same_places layout (Number one) (Data other) same = absurd (false≢true same)
@@ -58,7 +62,8 @@ same_places layout (External one name) (Number other) same = absurd (false≢tru
 same_places layout (External one name) (Code other) same = absurd (false≢true same)
 same_places layout (External one name) (Data other) same = absurd (false≢true same)
 same_places layout (External one name) (External other other_name) same =
-    ap (λ n. place_at layout (External n name)) (eqb-true one other (and_parts (one == other) (name == other_name) same).0)
+    ap (λ n. place_at layout (External n name))
+    (eqb-true one other (and_parts (one == other) (name == other_name) same).0)
     ∙ ap (λ n. place_at layout (External other n))
     (eqb-true name other_name (and_parts (one == other) (name == other_name) same).1)
 
@@ -67,7 +72,8 @@ pub same_locations :
     (activation : Activation) (distance : Distances) (one other : Location)
     → same_location one other ≡ true
     → location_at activation distance one ≡ location_at activation distance other
-same_locations activation distance (Static one) (Static other) same = same_places activation.layout one other same
+same_locations activation distance (Static one) (Static other) same =
+    same_places activation.layout one other same
 same_locations activation distance (Static one) (Frame variable other) same = absurd (false≢true same)
 same_locations activation distance (Frame variable one) (Static other) same = absurd (false≢true same)
 same_locations activation distance (Frame variable one) (Frame other_variable other) same =

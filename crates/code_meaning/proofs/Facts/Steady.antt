@@ -12,7 +12,8 @@ declared_is_steady activation address lies declared =
     let above = lies.above in
     let bottom = lies.bottom in
     record {
-      apart = λ low below. lies.placed.stack_free address declared (omega (arith, low, bottom)) (omega (arith, below, above));
+      apart = λ low below. lies.placed.stack_free address declared (omega (arith, low, bottom))
+          (omega (arith, below, above));
     }
 
 -- a byte of an object in the frame
@@ -37,7 +38,8 @@ frame_location_is_steady activation distance variable object offset lies same wi
     let stack = lies.placed.stack_in_memory in
     let small : activation.level + activation.distance object + offset < MEMORY_SIZE
     = omega (arith, inside, above, stack) in
-    let is : wrap (activation.level + distance variable + offset) ≡ activation.level + activation.distance object + offset
+    let is : wrap (activation.level + distance variable + offset)
+    ≡ activation.level + activation.distance object + offset
     = omega (arith, same, small) in
     let low : wrap (activation.level + distance variable + offset) < MEMORY_SIZE = omega arith in
     (is, (record { apart = λ start below. omega (arith, is, below) }, low))
@@ -50,7 +52,8 @@ pub pushed_is_not_steady :
     → top ≤ activation.level
     → IsSteady activation address
     → ⊥
-pushed_is_not_steady activation top address low high below steady = steady.apart low (omega (arith, high, below))
+pushed_is_not_steady activation top address low high below steady =
+    steady.apart low (omega (arith, high, below))
 
 -- so a PUSH may be carried out if there is room for it
 pub push_asks :

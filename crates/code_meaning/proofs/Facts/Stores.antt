@@ -9,7 +9,8 @@ pub loaded_word :
     (activation : Activation) (memory : List ℕ) (address : ℕ)
     → IsMemory memory
     → IsSteady activation address × IsSteady activation (wrap (address + 1))
-    → IsWordAt activation memory address (high_byte (word_at memory address)) (low_byte (word_at memory address))
+    → IsWordAt activation memory address (high_byte (word_at memory address))
+    (low_byte (word_at memory address))
 loaded_word activation memory address is steady =
     let low = byte_at memory address in
     let high = byte_at memory (wrap (address + 1)) in
@@ -36,7 +37,8 @@ pub stored_word :
     → low < 256
     → IsSteadyByte activation address × IsSteadyByte activation (wrap (address + 1))
     → IsWordAt activation
-    (slice_set (slice_set memory address (low_byte (word high low))) (wrap (address + 1)) (high_byte (word high low)))
+    (slice_set (slice_set memory address (low_byte (word high low))) (wrap (address + 1))
+    (high_byte (word high low)))
     address high low
 stored_word activation memory address high low is small steady =
     let size = is.size in
@@ -47,7 +49,8 @@ stored_word activation memory address high low is small steady =
     let long : length middle ≡ length memory = length-set memory address first in
     let next : wrap (address + 1) < MEMORY_SIZE = steady.1.1 in
     let next_is : byte_at (slice_set middle (wrap (address + 1)) last) (wrap (address + 1)) ≡ high
-    = byte_put middle (wrap (address + 1)) last (omega (arith, size, long, next)) ∙ word_high_byte high low small in
+    = byte_put middle (wrap (address + 1)) last (omega (arith, size, long, next))
+    ∙ word_high_byte high low small in
     let here_is : byte_at (slice_set middle (wrap (address + 1)) last) address ≡ low
     = byte_kept middle (wrap (address + 1)) address last (differs_from_next address inside)
     ∙ byte_put memory address first (omega (arith, size, inside)) ∙ word_low_byte high low small in

@@ -11,7 +11,8 @@ pub byte_in_a_is :
     → IsByteAt activation memory (location_at activation distance location) a
 byte_in_a_is activation distance None location a memory here holds = absurd (false≢true here)
 byte_in_a_is activation distance (Some other) location a memory here holds =
-    subst (λ (address : ℕ). IsByteAt activation memory address a) (same_locations activation distance other location here)
+    subst (λ (address : ℕ). IsByteAt activation memory address a)
+    (same_locations activation distance other location here)
     holds
 
 -- HL holds the word there,
@@ -23,7 +24,8 @@ pub word_in_hl_is :
     → IsWordAt activation memory (location_at activation distance location) h l
 word_in_hl_is activation distance None location h l memory here holds = absurd (false≢true here)
 word_in_hl_is activation distance (Some other) location h l memory here holds =
-    subst (λ (address : ℕ). IsWordAt activation memory address h l) (same_locations activation distance other location here)
+    subst (λ (address : ℕ). IsWordAt activation memory address h l)
+    (same_locations activation distance other location here)
     holds
 
 -- HL is its address
@@ -46,7 +48,8 @@ pub byte_in_h_is :
     → IsByteAt activation memory (location_at activation distance location) h
 byte_in_h_is activation distance held location h l memory small here holds =
     let is = word_in_hl_is activation distance held (before location) h l memory here holds in
-    subst (λ (address : ℕ). IsByteAt activation memory address h) (after_before activation distance location small)
+    subst (λ (address : ℕ). IsByteAt activation memory address h)
+    (after_before activation distance location small)
     is.high_is
 
 -- an instruction, if there is one, that only puts a byte into A, or into L
@@ -72,7 +75,8 @@ pub byte_from_hl_puts :
     (location : Location) (s : State)
     → location_at activation distance location < MEMORY_SIZE
     → FactsHold activation distance facts s.registers s.memory
-    → PutsInA script s (byte_at s.memory (location_at activation distance location)) (byte_from_hl facts location)
+    → PutsInA script s (byte_at s.memory (location_at activation distance location))
+    (byte_from_hl facts location)
 byte_from_hl_puts script activation distance facts location s small hold =
     by_test (is_at facts.word_in_hl location) (is_at facts.word_in_hl (before location))
     (is_at facts.address_in_hl location) refl refl refl
@@ -82,18 +86,24 @@ byte_from_hl_puts script activation distance facts location s small hold =
         → is_at facts.word_in_hl (before location) ≡ high
         → is_at facts.address_in_hl location ≡ here
         → PutsInA script s (byte_at s.memory (location_at activation distance location))
-        (if low then Some (copy A L) else if high then Some (copy A H) else if here then Some (load A) else None)
+        (if low then Some (copy A L) else if high then Some
+        (copy A H) else if here then Some (load A) else None)
     by_test true high here low_is high_is here_is =
-        let is = word_in_hl_is activation distance facts.word_in_hl location s.registers.h s.registers.l s.memory low_is hold.word_holds in
+        let is =
+        word_in_hl_is activation distance facts.word_in_hl location s.registers.h s.registers.l s.memory
+        low_is hold.word_holds in
         put_in_a s s.registers.l (byte_at s.memory (location_at activation distance location)) is.low_is.0
     by_test false true here low_is high_is here_is =
-        let is = byte_in_h_is activation distance facts.word_in_hl location s.registers.h s.registers.l s.memory small high_is hold.word_holds in
+        let is =
+        byte_in_h_is activation distance facts.word_in_hl location s.registers.h s.registers.l s.memory
+        small high_is hold.word_holds in
         put_in_a s s.registers.h (byte_at s.memory (location_at activation distance location)) is.0
     by_test false false true low_is high_is here_is =
         put_in_a s (byte_at s.memory (word s.registers.h s.registers.l))
         (byte_at s.memory (location_at activation distance location))
         (ap (byte_at s.memory)
-        (address_in_hl_is activation distance facts.address_in_hl location s.registers.h s.registers.l here_is hold.address_holds))
+        (address_in_hl_is activation distance facts.address_in_hl location s.registers.h s.registers.l here_is
+        hold.address_holds))
     by_test false false false low_is high_is here_is = tt
 
 -- the instruction that the facts give for a byte in L
@@ -102,7 +112,8 @@ pub byte_for_l_puts :
     (location : Location) (s : State)
     → location_at activation distance location < MEMORY_SIZE
     → FactsHold activation distance facts s.registers s.memory
-    → PutsInL script s (byte_at s.memory (location_at activation distance location)) (byte_for_l facts location)
+    → PutsInL script s (byte_at s.memory (location_at activation distance location))
+    (byte_for_l facts location)
 byte_for_l_puts script activation distance facts location s small hold =
     by_test (is_at facts.byte_in_a location) (is_at facts.word_in_hl (before location))
     (is_at facts.address_in_hl location) refl refl refl
@@ -112,18 +123,24 @@ byte_for_l_puts script activation distance facts location s small hold =
         → is_at facts.word_in_hl (before location) ≡ high
         → is_at facts.address_in_hl location ≡ here
         → PutsInL script s (byte_at s.memory (location_at activation distance location))
-        (if in_a then Some (copy L A) else if high then Some (copy L H) else if here then Some (load L) else None)
+        (if in_a then Some (copy L A) else if high then Some
+        (copy L H) else if here then Some (load L) else None)
     by_test true high here a_is high_is here_is =
-        let is = byte_in_a_is activation distance facts.byte_in_a location s.registers.a s.memory a_is hold.byte_holds in
+        let is =
+        byte_in_a_is activation distance facts.byte_in_a location s.registers.a s.memory
+        a_is hold.byte_holds in
         put_in_l s s.registers.a (byte_at s.memory (location_at activation distance location)) is.0
     by_test false true here a_is high_is here_is =
-        let is = byte_in_h_is activation distance facts.word_in_hl location s.registers.h s.registers.l s.memory small high_is hold.word_holds in
+        let is =
+        byte_in_h_is activation distance facts.word_in_hl location s.registers.h s.registers.l s.memory
+        small high_is hold.word_holds in
         put_in_l s s.registers.h (byte_at s.memory (location_at activation distance location)) is.0
     by_test false false true a_is high_is here_is =
         put_in_l s (byte_at s.memory (word s.registers.h s.registers.l))
         (byte_at s.memory (location_at activation distance location))
         (ap (byte_at s.memory)
-        (address_in_hl_is activation distance facts.address_in_hl location s.registers.h s.registers.l here_is hold.address_holds))
+        (address_in_hl_is activation distance facts.address_in_hl location s.registers.h s.registers.l here_is
+        hold.address_holds))
     by_test false false false a_is high_is here_is = tt
 
 -- a byte that A, L or H is known to hold
@@ -151,8 +168,10 @@ held_byte_is activation distance facts location a h l zero_flag memory small tol
     by_test true low high a_is low_is high_is any =
         inl (byte_in_a_is activation distance facts.byte_in_a location a memory a_is hold.byte_holds)
     by_test false true high a_is low_is high_is any =
-        let is = word_in_hl_is activation distance facts.word_in_hl location h l memory low_is hold.word_holds in
+        let is =
+        word_in_hl_is activation distance facts.word_in_hl location h l memory low_is hold.word_holds in
         inr (inl is.low_is)
     by_test false false true a_is low_is high_is any =
-        inr (inr (byte_in_h_is activation distance facts.word_in_hl location h l memory small high_is hold.word_holds))
+        inr (inr (byte_in_h_is activation distance facts.word_in_hl location h l memory small
+        high_is hold.word_holds))
     by_test false false false a_is low_is high_is any = absurd (false≢true any)

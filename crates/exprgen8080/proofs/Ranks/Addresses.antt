@@ -12,7 +12,8 @@ number_added_fall :
     {site : Site} {limit : ℕ} (number : ℕ)
     → Falls site limit (number_added_steps number)
 number_added_fall number =
-    by_test (nat_le number 3) (repeated (Inx Hl) number) (by_test (nat_le (negated number) 3) (repeated (Dcx Hl) (negated number)) (falls tt))
+    by_test (nat_le number 3) (repeated (Inx Hl) number)
+    (by_test (nat_le (negated number) 3) (repeated (Dcx Hl) (negated number)) (falls tt))
 
 pub addition_fall :
     {site : Site} {limit : ℕ} (place : Place)
@@ -52,7 +53,8 @@ location_fits_by :
     → Falls now limit (elim location [
       | locations.Static place ↦ steps.Word LoadHl place ∷ []
       | locations.Frame variable offset ↦
-          frame_word_steps site (locations.Frame variable offset) (distance site variable offset pushed) pushed
+          frame_word_steps site (locations.Frame variable offset)
+          (distance site variable offset pushed) pushed
     ])
 location_fits_by site (locations.Static place) pushed = falls tt
 location_fits_by site (locations.Frame variable offset) pushed =
@@ -69,7 +71,8 @@ location_word_fall site location pushed =
 base_fall :
     {site : Site} {limit : ℕ} (base : Base) (pushed : ℕ)
     → Falls site limit (base_steps site base pushed)
-base_fall {site = site} (bases.Static place) pushed = location_address_fall site (locations.Static place) pushed
+base_fall {site = site} (bases.Static place) pushed =
+    location_address_fall site (locations.Static place) pushed
 base_fall {site = site} (bases.Frame variable offset) pushed =
     location_address_fall site (locations.Frame variable offset) pushed
 base_fall {site = site} (bases.Based pointer offset) pushed =
@@ -81,7 +84,9 @@ base_added_fall :
 base_added_fall (bases.Static place) pushed = addition_fall place
 base_added_fall (bases.Frame variable offset) pushed = falls tt
 base_added_fall {site = site} (bases.Based pointer offset) pushed =
-    after_plain (joined (location_word_fall (unknown site) pointer pushed) (after_plain (addition_fall (Number offset))))
+    after_plain
+    (joined (location_word_fall (unknown site) pointer pushed)
+    (after_plain (addition_fall (Number offset))))
 
 second_fall :
     {site : Site} {limit : ℕ} (second : Subscript) (pushed : ℕ)
@@ -105,7 +110,8 @@ split_sum_is :
     → IsUnder tree limit left
     → IsUnder tree limit subscript.index
     → IfSome
-    (unwrap_or (option_and_then (λ value. split_sum subscript operator value left) found) (split_whole subscript)).computed
+    (unwrap_or (option_and_then (λ value. split_sum subscript operator value left) found)
+    (split_whole subscript)).computed
     (IsIndex tree limit)
 split_sum_is tree limit subscript Add left (Some value) one is = one
 split_sum_is tree limit subscript Subtract left (Some value) one is = one
@@ -130,7 +136,8 @@ split_computed_is site limit subscript is = by (expression site subscript.index)
   where
     by : (found : Option Expression) → expression site subscript.index ≡ found
         → IfSome
-        (computed_in (elim found [ Some one ↦ split_form site subscript one.form | None ↦ split_whole subscript ]))
+        (computed_in
+        (elim found [ Some one ↦ split_form site subscript one.form | None ↦ split_whole subscript ]))
         (IsIndex site.tree.now limit)
     by (Some one) there = split_form_is site limit subscript one.form is (has_parts site (weak is) there)
     by None there = is
@@ -202,7 +209,8 @@ location_byte_by :
     → Falls site limit (elim location [
       | locations.Static place ↦ steps.Word LoadA place ∷ []
       | locations.Frame variable offset ↦
-          frame_byte_steps site (locations.Frame variable offset) (distance site variable offset pushed) pushed
+          frame_byte_steps site (locations.Frame variable offset)
+          (distance site variable offset pushed) pushed
     ])
 location_byte_by (locations.Static place) pushed = falls tt
 location_byte_by {site = site} (locations.Frame variable offset) pushed =
@@ -240,7 +248,8 @@ byte_to_l_by :
     → Falls site limit (elim location [
       | locations.Static place ↦ steps.Word LoadHl place ∷ []
       | locations.Frame variable offset ↦
-          frame_byte_to_l_steps site (locations.Frame variable offset) (distance site variable offset pushed) pushed
+          frame_byte_to_l_steps site (locations.Frame variable offset)
+          (distance site variable offset pushed) pushed
     ])
 byte_to_l_by (locations.Static place) pushed = falls tt
 byte_to_l_by {site = site} (locations.Frame variable offset) pushed =

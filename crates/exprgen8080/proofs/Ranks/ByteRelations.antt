@@ -80,7 +80,8 @@ memory_form_is site limit comparison sides are =
     by : (found : Option Reference) → IfSome found (IsPlaced site.tree.now limit)
         → IfSome (elim found [
           | Some reference ↦
-              if may_begin_with site comparison sides.is_in_order then Some (WithMemory sides reference) else None
+              if may_begin_with site comparison sides.is_in_order then Some
+              (WithMemory sides reference) else None
           | None ↦ None
         ]) (IsForm site limit)
     by (Some reference) has = chosen (may_begin_with site comparison sides.is_in_order) reference has
@@ -172,7 +173,8 @@ form_is site limit comparison one two = by comparison.question
         (without_push_is site limit comparison (exchanged comparison) turned)
     by Equal =
         better_is site limit
-        (without_push site comparison (in_order comparison)) (without_push site comparison (exchanged comparison))
+        (without_push site comparison (in_order comparison))
+        (without_push site comparison (exchanged comparison))
         (is_better_exchanged site comparison)
         (without_push_is site limit comparison (in_order comparison) straight)
         (without_push_is site limit comparison (exchanged comparison) turned)

@@ -232,7 +232,8 @@ after_right_is site limit operation operands one = by (commutes operation) (is_f
         (if b then option_map LeftInMemory (operand_in_memory site operands.left)
         else if alone then Some LeftFree else None)
         (IsByteForm site limit)
-    by true alone = placed (operand_in_memory site operands.left) (operand_is_in_memory site limit operands.left one)
+    by true alone =
+        placed (operand_in_memory site operands.left) (operand_is_in_memory site limit operands.left one)
     by false true = tt
     by false false = tt
 
@@ -257,7 +258,8 @@ without_memory_is site limit operation operands =
     by (may_exchange site operands.left operands.right && is_free site operands.left)
     (commutes operation && is_free site operands.right)
   where
-    by : (one two : Bool) → IsByteForm site limit (if one then LeftFree else if two then RightFree else Pushed)
+    by : (one two : Bool) → IsByteForm site limit
+        (if one then LeftFree else if two then RightFree else Pushed)
     by true two = tt
     by false true = tt
     by false false = tt
@@ -285,7 +287,8 @@ with_left_is site limit operation operands one =
           | None ↦ form_without_memory site operation operands
         ]
         else form_without_memory site operation operands)
-    by true = placed (operand_in_memory site operands.left) (operand_is_in_memory site limit operands.left one)
+    by true =
+        placed (operand_in_memory site operands.left) (operand_is_in_memory site limit operands.left one)
     by false = without_memory_is site limit operation operands
 
 byte_form_is :
@@ -313,7 +316,8 @@ byte_form_is site limit operation operands one two =
           ]
         ])
     by (Some form) has = has
-    by None has = placed (operand_in_memory site operands.right) (operand_is_in_memory site limit operands.right two)
+    by None has =
+        placed (operand_in_memory site operands.right) (operand_is_in_memory site limit operands.right two)
 
 with_stack_fall :
     {site : Site} {limit : ℕ} (operation : Operation)

@@ -41,7 +41,8 @@ pub call_fall :
     → AreGiven site.tree.now limit arguments
     → Falls site limit (call_steps site procedure arguments pushed)
 unfolding call_steps
-call_fall procedure arguments pushed are = joined (arguments_fall arguments arguments.count pushed are) (falls tt)
+call_fall procedure arguments pushed are =
+    joined (arguments_fall arguments arguments.count pushed are) (falls tt)
 
 -- an assignment
 pub embedded_fall :
@@ -67,7 +68,8 @@ reference_fall :
 unfolding reference_effects_steps
 reference_fall {site = site} {limit = limit} reference pushed is =
     let both = subscripts_are site.tree.now {limit = limit} reference is.rises (omega (arith, is.small)) in
-    joined (subscript_fall reference.subscript pushed both.0) (subscript_fall reference.member_subscript pushed both.1)
+    joined (subscript_fall reference.subscript pushed both.0)
+    (subscript_fall reference.member_subscript pushed both.1)
 
 form_effects_fall :
     {site : Site} {limit : ℕ} (form : ExpressionForm) (pushed : ℕ)

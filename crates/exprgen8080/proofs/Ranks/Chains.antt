@@ -18,7 +18,8 @@ chain_fall :
 unfolding chain_from
 chain_fall zero number twice once_more is_below = falls tt
 chain_fall (suc bit) number twice once_more is_below =
-    joined (bit_fall twice once_more is_below (has_bit number bit)) (chain_fall bit number twice once_more (is_below || has_bit number bit))
+    joined (bit_fall twice once_more is_below (has_bit number bit))
+    (chain_fall bit number twice once_more (is_below || has_bit number bit))
 
 small_multiple_fall :
     {site : Site} {limit : ℕ} (number : ℕ)

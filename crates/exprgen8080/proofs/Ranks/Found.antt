@@ -136,7 +136,9 @@ operand_is_in_memory site limit number is = by (memory site number) (is_in_memor
     chosen false reference has = tt
 
     by : (found : Option Reference) → IfSome found (IsPlaced site.tree.now limit)
-        → IfSome (option_and_then (λ reference. if (keeps_of_address site reference).a then Some reference else None) found)
+        → IfSome
+        (option_and_then (λ reference. if (keeps_of_address site reference).a then Some
+        reference else None) found)
         (IsPlaced site.tree.now limit)
     by (Some reference) has = chosen (keeps_of_address site reference).a reference has
     by None has = tt

@@ -46,11 +46,13 @@ AreLow tree limit (step ∷ others) = AreLow tree limit others
 pub record Falls (site : Site) (limit : ℕ) (planned : List Step) : Type 0 where
   pub below : AreBelow site.tree.now limit planned
 
-byte_rank : (bound : ℕ) (scalar : ScalarType) (limit : ℕ) → bound * 16 + 4 < limit → rank_of_byte bound scalar < limit
+byte_rank : (bound : ℕ) (scalar : ScalarType) (limit : ℕ) → bound * 16 + 4 < limit
+    → rank_of_byte bound scalar < limit
 byte_rank bound scalars.Byte limit small = omega (arith, small)
 byte_rank bound scalars.Address limit small = omega (arith, small)
 
-word_rank : (bound : ℕ) (scalar : ScalarType) (limit : ℕ) → bound * 16 + 4 < limit → rank_of_word bound scalar < limit
+word_rank : (bound : ℕ) (scalar : ScalarType) (limit : ℕ) → bound * 16 + 4 < limit
+    → rank_of_word bound scalar < limit
 word_rank bound scalars.Byte limit small = omega (arith, small)
 word_rank bound scalars.Address limit small = omega (arith, small)
 
@@ -63,7 +65,8 @@ low_rank tree limit (tasks.Address reference) is = is.small
 low_rank tree limit (tasks.Store target is_wanted) is = is.small
 low_rank tree limit (tasks.Call procedure arguments) is = absurd is
 
-low_ranks : (tree : TreeModule) (limit : ℕ) (planned : List Step) → AreLow tree limit planned → AreBelow tree limit planned
+low_ranks : (tree : TreeModule) (limit : ℕ) (planned : List Step) → AreLow tree limit planned
+    → AreBelow tree limit planned
 low_ranks tree limit [] are = tt
 low_ranks tree limit (steps.Part part ∷ others) are =
     (low_rank tree limit part.task are.0, low_ranks tree limit others are.1)
@@ -77,22 +80,30 @@ low_ranks tree limit (steps.TestA ∷ others) are = low_ranks tree limit others 
 low_ranks tree limit (steps.Holds held ∷ others) are = low_ranks tree limit others are
 low_ranks tree limit (steps.MemoryChanged ∷ others) are = low_ranks tree limit others are
 
-pub falls : {site : Site} {limit : ℕ} {planned : List Step} → AreLow site.tree.now limit planned → Falls site limit planned
-falls {site = site} {limit = limit} {planned = planned} are = record { below = low_ranks site.tree.now limit planned are }
+pub falls : {site : Site} {limit : ℕ} {planned : List Step} → AreLow site.tree.now limit planned
+    → Falls site limit planned
+falls {site = site} {limit = limit} {planned = planned} are =
+    record { below = low_ranks site.tree.now limit planned are }
 
 both_below : (tree : TreeModule) (limit : ℕ) (first others : List Step)
     → AreBelow tree limit first → AreBelow tree limit others → AreBelow tree limit (first ++ others)
 both_below tree limit [] others one two = two
-both_below tree limit (steps.Part part ∷ first) others one two = (one.0, both_below tree limit first others one.1 two)
+both_below tree limit (steps.Part part ∷ first) others one two =
+    (one.0, both_below tree limit first others one.1 two)
 both_below tree limit (steps.Plain i ∷ first) others one two = both_below tree limit first others one two
-both_below tree limit (steps.Word form place ∷ first) others one two = both_below tree limit first others one two
-both_below tree limit (steps.Jump form label ∷ first) others one two = both_below tree limit first others one two
+both_below tree limit (steps.Word form place ∷ first) others one two =
+    both_below tree limit first others one two
+both_below tree limit (steps.Jump form label ∷ first) others one two =
+    both_below tree limit first others one two
 both_below tree limit (steps.Mark label ∷ first) others one two = both_below tree limit first others one two
-both_below tree limit (steps.CallRoutine routine ∷ first) others one two = both_below tree limit first others one two
-both_below tree limit (steps.CallProcedure procedure ∷ first) others one two = both_below tree limit first others one two
+both_below tree limit (steps.CallRoutine routine ∷ first) others one two =
+    both_below tree limit first others one two
+both_below tree limit (steps.CallProcedure procedure ∷ first) others one two =
+    both_below tree limit first others one two
 both_below tree limit (steps.TestA ∷ first) others one two = both_below tree limit first others one two
 both_below tree limit (steps.Holds held ∷ first) others one two = both_below tree limit first others one two
-both_below tree limit (steps.MemoryChanged ∷ first) others one two = both_below tree limit first others one two
+both_below tree limit (steps.MemoryChanged ∷ first) others one two =
+    both_below tree limit first others one two
 
 pub joined : {site : Site} {limit : ℕ} {first others : List Step}
     → Falls site limit first → Falls site limit others → Falls site limit (first ++ others)
@@ -101,8 +112,10 @@ joined {site = site} {limit = limit} {first = first} {others = others} one two =
 
 -- steps after a part, and after an instruction
 pub after_part : {site : Site} {limit : ℕ} {part : Part} {others : List Step}
-    → IsLow site.tree.now limit part.task → Falls site limit others → Falls site limit (steps.Part part ∷ others)
-after_part {site = site} {limit = limit} {part = part} is two = record { below = (low_rank site.tree.now limit part.task is, two.below) }
+    → IsLow site.tree.now limit part.task → Falls site limit others
+    → Falls site limit (steps.Part part ∷ others)
+after_part {site = site} {limit = limit} {part = part} is two =
+    record { below = (low_rank site.tree.now limit part.task is, two.below) }
 
 pub after_plain : {site : Site} {limit : ℕ} {i : Instr} {others : List Step}
     → Falls site limit others → Falls site limit (steps.Plain i ∷ others)
@@ -120,12 +133,14 @@ by_test true one two = one
 by_test false one two = two
 
 -- whether a value is found or not
-pub by_finding : {A : Type 0} {site : Site} {limit : ℕ} {some : A → List Step} {none : List Step} (found : Option A)
+pub by_finding : {A : Type 0} {site : Site} {limit : ℕ} {some : A → List Step}
+    {none : List Step} (found : Option A)
     → ((x : A) → found ≡ Some x → Falls site limit (some x))
     → (found ≡ None → Falls site limit none)
     → Falls site limit (elim found [ Some x ↦ some x | None ↦ none ])
 by_finding (Some x) one two = one x refl
 by_finding None one two = two refl
 
-pub of_found : {A : Type 0} (P : A → Type 0) {found : Option A} {x : A} → IfSome found P → found ≡ Some x → P x
+pub of_found : {A : Type 0} (P : A → Type 0) {found : Option A} {x : A} → IfSome found P
+    → found ≡ Some x → P x
 of_found P {x = x} is there = subst (λ of. IfSome of P) there is

@@ -31,7 +31,8 @@ pub pair_in_order_fall :
     → IsUnder site.tree.now limit left → IsUnder site.tree.now limit right
     → Falls site limit (pair_in_order_steps site left right wish pushed)
 pair_in_order_fall {site = site} left right wish pushed one two =
-    joined (pair_form_fall (pair_form site left right wish) left right pushed one two) (wished_fall wish (order_of (pair_form site left right wish)))
+    joined (pair_form_fall (pair_form site left right wish) left right pushed one two)
+    (wished_fall wish (order_of (pair_form site left right wish)))
 
 pub pair_fall :
     {site : Site} {limit : ℕ} (left right : ExpressionNumber)

@@ -131,9 +131,12 @@ relation_value_fall {site = site} {limit = limit} number pushed is =
     (λ none. falls tt)
   where
     asked : (relation : Relation) → IsRelation site.tree.now limit relation
-        → Falls site limit (relation_steps site relation (value_setting pushed) ++ outcome_value_steps (relation_outcome site relation))
+        → Falls site limit
+        (relation_steps site relation (value_setting pushed)
+        ++ outcome_value_steps (relation_outcome site relation))
     asked relation has =
-        joined (inquiry_fall relation.inquiry (value_setting pushed) has) (value_fall (relation_outcome site relation))
+        joined (inquiry_fall relation.inquiry (value_setting pushed) has)
+        (value_fall (relation_outcome site relation))
 
 known_branch_fall :
     {site : Site} {limit : ℕ} (branch : Branch) (answer : Bool)
@@ -253,12 +256,14 @@ equality_fall :
     → IsUnder site.tree.now limit comparison.left → IsUnder site.tree.now limit comparison.right
     → Falls site limit (equality_steps site comparison is_equal branch first)
 equality_fall {site = site} {limit = limit} comparison is_equal branch first one two =
-    joined (joined (words_fall comparison branch.pushed one two) (low_difference_fall (words_of site comparison))) (by_test is_equal
+    joined (joined (words_fall comparison branch.pushed one two)
+    (low_difference_fall (words_of site comparison))) (by_test is_equal
     (joined (jump_fall (label_of first) (words_of site comparison)) (falls tt))
     (joined (jump_fall branch.label (words_of site comparison)) (falls tt)))
   where
     jump_fall : (label : LabelNumber) (words : Words)
-        → Falls site limit (steps.Jump (word_forms.JumpWhere conditions.NotZero) label ∷ high_difference_steps words)
+        → Falls site limit
+        (steps.Jump (word_forms.JumpWhere conditions.NotZero) label ∷ high_difference_steps words)
     jump_fall label (PlaceAndHl place) = falls tt
     jump_fall label DeAndHl = falls tt
 
@@ -271,7 +276,8 @@ equality_is site limit (WithNumber operand scalar question) is = tt
 equality_is site limit (Between comparison) is = by comparison.operands comparison.question
   where
     compared : (b : Bool)
-        → IfSome (if b then None else Some comparison) (λ comparison. IsAsked site.tree.now limit (Between comparison))
+        → IfSome (if b then None else Some comparison)
+        (λ comparison. IsAsked site.tree.now limit (Between comparison))
     compared true = tt
     compared false = is
 
@@ -292,7 +298,8 @@ equality_is site limit (Between comparison) is = by comparison.operands comparis
 words_are :
     (site : Site) (limit : ℕ) (relation : Relation)
     → IsRelation site.tree.now limit relation
-    → IfSome (equality_of_words site relation) (λ comparison. IsAsked site.tree.now limit (Between comparison))
+    → IfSome (equality_of_words site relation)
+    (λ comparison. IsAsked site.tree.now limit (Between comparison))
 unfolding equality_of_words
 words_are site limit relation is = equality_is site limit relation.inquiry is
 
@@ -303,11 +310,14 @@ relation_branch_fall :
 relation_branch_fall {site = site} {limit = limit} relation branch first is =
     by_finding (equality_of_words site relation)
     (λ comparison there. equal comparison
-    (of_found (λ comparison. IsAsked site.tree.now limit (Between comparison)) (words_are site limit relation is) there))
-    (λ none. joined (inquiry_fall relation.inquiry (branch_setting branch.pushed) is) (outcome_branch_fall branch (relation_outcome site relation)))
+    (of_found (λ comparison. IsAsked site.tree.now limit (Between comparison))
+    (words_are site limit relation is) there))
+    (λ none. joined (inquiry_fall relation.inquiry (branch_setting branch.pushed) is)
+    (outcome_branch_fall branch (relation_outcome site relation)))
   where
     equal : (comparison : Comparison) → IsAsked site.tree.now limit (Between comparison)
-        → Falls site limit (equality_steps site comparison (agree branch.sense relation.holds_if) branch first)
+        → Falls site limit
+        (equality_steps site comparison (agree branch.sense relation.holds_if) branch first)
     equal comparison has =
         equality_fall comparison (agree branch.sense relation.holds_if) branch first has.0 has.1
 
@@ -362,5 +372,6 @@ pub branch_fall :
     → rank site.tree.now (tasks.Byte condition) < limit
     → Falls site limit (branch_steps site condition label sense pushed first)
 branch_fall {site = site} {limit = limit} condition label sense pushed first is own =
-    shape_fall (shape_of site condition) condition (record { label = label; sense = sense; pushed = pushed }) first is own
+    shape_fall (shape_of site condition) condition
+    (record { label = label; sense = sense; pushed = pushed }) first is own
     (shape_is site limit condition is)

@@ -184,7 +184,8 @@ word_fall {site = site} {limit = limit} goal is_wanted pushed is = by goal.locat
         ])
     by None = hl_at_fall goal is_wanted pushed is
     by (Some (Static place)) = falls tt
-    by (Some (Frame variable offset)) = nearby (Frame variable offset) (word_near site (Frame variable offset) pushed)
+    by (Some (Frame variable offset)) =
+        nearby (Frame variable offset) (word_near site (Frame variable offset) pushed)
 
 goal_fall :
     {site : Site} {limit : ℕ} (from : ScalarType) (goal : Goal)

@@ -7,19 +7,23 @@ use Rattle.steps8080.specs.declared.step.Task.TheVariants as tasks
 use Rattle.exprgen8080.specs.internal.Forms.{steps_of}
 use Rattle.exprgen8080.proofs.Ranks.{Joining.{Falls}, Addresses.{address_fall}, Stores.{IsGoal, store_fall}, Relations.{branch_fall}, Calls.{call_fall, effects_fall}, Values.{byte_fall, word_fall}}
 
-low_in_byte : (number : ExpressionNumber) (scalar : ScalarType) → number.index * 16 + 6 < rank_of_byte (suc number.index) scalar
+low_in_byte : (number : ExpressionNumber) (scalar : ScalarType)
+    → number.index * 16 + 6 < rank_of_byte (suc number.index) scalar
 low_in_byte number scalars.Byte = omega arith
 low_in_byte number scalars.Address = omega arith
 
-low_in_word : (number : ExpressionNumber) (scalar : ScalarType) → number.index * 16 + 6 < rank_of_word (suc number.index) scalar
+low_in_word : (number : ExpressionNumber) (scalar : ScalarType)
+    → number.index * 16 + 6 < rank_of_word (suc number.index) scalar
 low_in_word number scalars.Byte = omega arith
 low_in_word number scalars.Address = omega arith
 
-word_in_byte : (bound : ℕ) (scalar : ScalarType) → scalar ≡ scalars.Address → rank_of_word bound scalar < rank_of_byte bound scalar
+word_in_byte : (bound : ℕ) (scalar : ScalarType) → scalar ≡ scalars.Address
+    → rank_of_word bound scalar < rank_of_byte bound scalar
 word_in_byte bound scalars.Byte same = let bad : scalars.Byte ≡ scalars.Address = same in cc
 word_in_byte bound scalars.Address same = omega arith
 
-byte_in_word : (bound : ℕ) (scalar : ScalarType) → scalar ≡ scalars.Byte → rank_of_byte bound scalar < rank_of_word bound scalar
+byte_in_word : (bound : ℕ) (scalar : ScalarType) → scalar ≡ scalars.Byte
+    → rank_of_byte bound scalar < rank_of_word bound scalar
 byte_in_word bound scalars.Byte same = omega arith
 byte_in_word bound scalars.Address same = let bad : scalars.Address ≡ scalars.Byte = same in cc
 
@@ -32,7 +36,8 @@ in_table : (table : List ExpressionNumber) (index : ℕ) (number : ExpressionNum
     → slice_get table index ≡ Some number → suc number.index ≤ arguments_bound table
 in_table [] index number found = absurd (none-some number found)
 in_table (first ∷ others) zero number found =
-    let same : first.index ≡ number.index = ap (λ (of : ExpressionNumber). of.index) (same_Some first number found) in
+    let same : first.index ≡ number.index =
+    ap (λ (of : ExpressionNumber). of.index) (same_Some first number found) in
     omega (arith, same)
 in_table (first ∷ others) (suc index) number found = omega (arith, in_table others index number found)
 
@@ -43,21 +48,25 @@ in_range table None number found = absurd (none-some number found)
 
 goal_is : (site : Site) (target : Target) (is_wanted : Bool) → NumbersRise (nodes_of site.tree.now)
     → IsGoal site.tree.now (rank site.tree.now (tasks.Store target is_wanted)) target
-goal_is site (targets.Stored from to reference) is_wanted rises = record { rises = rises; small = omega arith }
+goal_is site (targets.Stored from to reference) is_wanted rises =
+    record { rises = rises; small = omega arith }
 goal_is site (targets.Sent from port) is_wanted rises = tt
 
 steps_fall : (site : Site) (task : Task) (pushed first : ℕ) → NumbersRise (nodes_of site.tree.now)
     → Falls site (rank site.tree.now task) (steps_of site task pushed first)
 unfolding steps_of scalar expression
 steps_fall site (tasks.Byte number) pushed first rises =
-    byte_fall number pushed (record { rises = rises; small = low_in_byte number (type_in site.tree.now number) })
+    byte_fall number pushed
+    (record { rises = rises; small = low_in_byte number (type_in site.tree.now number) })
     (word_in_byte (suc number.index) (type_in site.tree.now number))
 steps_fall site (tasks.Word number) pushed first rises =
-    word_fall number pushed (record { rises = rises; small = low_in_word number (type_in site.tree.now number) })
+    word_fall number pushed
+    (record { rises = rises; small = low_in_word number (type_in site.tree.now number) })
     (byte_in_word (suc number.index) (type_in site.tree.now number))
 steps_fall site (tasks.Effects number) pushed first rises =
     effects_fall number pushed (record { rises = rises; small = omega arith })
-steps_fall site (tasks.Address reference) pushed first rises = address_fall reference pushed rises (omega arith)
+steps_fall site (tasks.Address reference) pushed first rises =
+    address_fall reference pushed rises (omega arith)
 steps_fall site (tasks.Branch condition label sense) pushed first rises =
     branch_fall condition label sense pushed first (record { rises = rises; small = omega arith })
     (byte_in_branch (suc condition.index) (type_in site.tree.now condition))
@@ -80,7 +89,8 @@ parts_below site part first rises = (steps_fall site part.task part.pushed first
 found_below : (tree : TreeModule) (limit : ℕ) (list : List Step) (index : ℕ) (step : Step)
     → AreBelow tree limit (drop index list) → slice_get list index ≡ Some step
     → AreBelow tree limit (step ∷ drop (index + 1) list)
-found_below tree limit list index step are there = subst (AreBelow tree limit) (drop_found list index step there) are
+found_below tree limit list index step are there =
+    subst (AreBelow tree limit) (drop_found list index step there) are
 
 rest_below : (tree : TreeModule) (limit : ℕ) (step : Step) (others : List Step)
     → AreBelow tree limit (step ∷ others) → AreBelow tree limit others
@@ -120,7 +130,8 @@ rank_some tree (tasks.Store target is_wanted) = omega arith
 rank_some tree (tasks.Call procedure arguments) = omega arith
 
 measure_by : (tree : TreeModule) (task : Task) (step : Step) (others : List Step)
-    → AreBelow tree (rank tree task) (step ∷ others) → step_measure tree step < rank tree task + rank tree task
+    → AreBelow tree (rank tree task) (step ∷ others)
+    → step_measure tree step < rank tree task + rank tree task
 measure_by tree task (steps.Part part) others are = omega (arith, are.0)
 measure_by tree task (steps.Plain i) others are = omega (arith, rank_some tree task)
 measure_by tree task (steps.Word form place) others are = omega (arith, rank_some tree task)

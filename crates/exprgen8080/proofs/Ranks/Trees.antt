@@ -7,7 +7,8 @@ use Rattle.exprgen8080.proofs.Ranks.{Joining.{HasLowParts, IsAimed, IsPlaced, Is
 -- each argument of a call
 abbrev pub AreGiven : (tree : TreeModule) → (limit : ℕ) → Range → Type 0
 AreGiven tree limit arguments =
-    (index : ℕ) (number : ExpressionNumber) → argument tree arguments index ≡ Some number → IsUnder tree limit number
+    (index : ℕ) (number : ExpressionNumber) → argument tree arguments index ≡ Some number
+    → IsUnder tree limit number
 
 -- the parts of a form
 abbrev pub HasParts : (tree : TreeModule) → (limit : ℕ) → ExpressionForm → Type 0
@@ -18,17 +19,20 @@ HasParts tree limit (forms.List offset) = Unit {0}
 HasParts tree limit (forms.Conversion inner) = IsUnder tree limit inner
 HasParts tree limit (forms.Assignment target value) = IsAimed tree limit target × IsUnder tree limit value
 HasParts tree limit (forms.Unary operator operand) = IsUnder tree limit operand
-HasParts tree limit (forms.Binary operands operator left right) = IsUnder tree limit left × IsUnder tree limit right
+HasParts tree limit (forms.Binary operands operator left right) =
+    IsUnder tree limit left × IsUnder tree limit right
 HasParts tree limit (forms.Call procedure arguments) = AreGiven tree limit arguments
 HasParts tree limit (forms.Function function operand) = IsUnder tree limit operand
 HasParts tree limit (forms.Shift function value count) = IsUnder tree limit value × IsUnder tree limit count
 HasParts tree limit (forms.Input port) = Unit {0}
 
-index_small : (bound : ℕ) (index : Option Subscript) → SubscriptIsBelow bound index → index_bound index ≤ bound
+index_small : (bound : ℕ) (index : Option Subscript) → SubscriptIsBelow bound index
+    → index_bound index ≤ bound
 index_small bound None is = omega arith
 index_small bound (Some subscript) is = omega (arith, is)
 
-reference_small : (bound : ℕ) (reference : Reference) → ReferenceIsBelow bound reference → reference_bound reference ≤ bound
+reference_small : (bound : ℕ) (reference : Reference) → ReferenceIsBelow bound reference
+    → reference_bound reference ≤ bound
 reference_small bound reference is =
     omega (arith, index_small bound reference.subscript is.0, index_small bound reference.member_subscript is.1)
 
@@ -56,12 +60,14 @@ given : (tree : TreeModule) (limit : ℕ) (whole : ExpressionNumber) (arguments 
 given tree limit whole arguments low are index number there = by (nat_lt index arguments.count) refl there
   where
     by : (test : Bool) → nat_lt index arguments.count ≡ test
-        → option_and_then (slice_get tree.arguments.items) (if test then Some (arguments.first + index) else None) ≡ Some number
+        → option_and_then (slice_get tree.arguments.items)
+        (if test then Some (arguments.first + index) else None) ≡ Some number
         → IsUnder tree limit number
     by true less found =
         let at = are index (ltb-true index arguments.count less) in
         under number low
-        (subst (λ (other : ExpressionNumber). other.index < whole.index) (same_Some at.0 number (sym at.1 ∙ found)) at.2)
+        (subst (λ (other : ExpressionNumber). other.index < whole.index)
+        (same_Some at.0 number (sym at.1 ∙ found)) at.2)
     by false less found = absurd (none-some number found)
 
 parts_of_form : (tree : TreeModule) (limit : ℕ) (whole : ExpressionNumber) (form : ExpressionForm)
@@ -72,11 +78,13 @@ parts_of_form tree limit whole (forms.Value reference) low are = placed referenc
 parts_of_form tree limit whole (forms.Location reference) low are = placed reference low are
 parts_of_form tree limit whole (forms.List offset) low are = tt
 parts_of_form tree limit whole (forms.Conversion inner) low are = under inner low are
-parts_of_form tree limit whole (forms.Assignment target value) low are = (aimed target low are.0, under value low are.1)
+parts_of_form tree limit whole (forms.Assignment target value) low are =
+    (aimed target low are.0, under value low are.1)
 parts_of_form tree limit whole (forms.Unary operator operand) low are = under operand low are
 parts_of_form tree limit whole (forms.Binary operands operator left right) low are =
     (under left low are.0, under right low are.1)
-parts_of_form tree limit whole (forms.Call procedure arguments) low are = given tree limit whole arguments low are
+parts_of_form tree limit whole (forms.Call procedure arguments) low are =
+    given tree limit whole arguments low are
 parts_of_form tree limit whole (forms.Function function operand) low are = under operand low are
 parts_of_form tree limit whole (forms.Shift function value count) low are =
     (under value low are.0, under count low are.1)
@@ -97,7 +105,8 @@ IndexIs tree limit None = Unit {0}
 IndexIs tree limit (Some subscript) = IsUnder tree limit subscript.index
 
 index_is : (tree : TreeModule) (limit bound : ℕ) (index : Option Subscript)
-    → NumbersRise (nodes_of tree) → index_bound index ≤ bound → bound * 16 + 4 < limit → IndexIs tree limit index
+    → NumbersRise (nodes_of tree) → index_bound index ≤ bound → bound * 16 + 4 < limit
+    → IndexIs tree limit index
 index_is tree limit bound None rises less small = tt
 index_is tree limit bound (Some subscript) rises less small =
     record { rises = rises; small = omega (arith, less, small) }

@@ -48,7 +48,8 @@ byte_form_fall number (forms.Unary Negate operand) pushed is own has = falls (ha
 byte_form_fall {site = site} number (forms.Binary operands operator left right) pushed is own has =
     byte_binary_fall number operator (record { left = left; right = right }) pushed is has
 byte_form_fall number (forms.Shift function value count) pushed is own has =
-    byte_shift_fall number (record { function = function; value = value; count = count }) pushed own has.0 has.1
+    byte_shift_fall number (record { function = function; value = value; count = count })
+    pushed own has.0 has.1
 byte_form_fall {site = site} number (forms.Assignment target value) pushed is own has =
     joined (embedded_fall target value true pushed has.0 has.1) (low_value_fall (source target))
 byte_form_fall {site = site} number (forms.Call procedure arguments) pushed is own has =
@@ -160,5 +161,6 @@ word_fall {site = site} number pushed is own =
     by_finding (known site number)
     (λ place there. (location_address_fall site (Static place) pushed))
     (λ unknown. by_finding (expression site number)
-    (λ found there. computed_word_fall number found pushed is (λ byte. own (type_found site number found there ∙ byte)) (has_parts site is there))
+    (λ found there. computed_word_fall number found pushed is
+    (λ byte. own (type_found site number found there ∙ byte)) (has_parts site is there))
     (λ none. falls tt))

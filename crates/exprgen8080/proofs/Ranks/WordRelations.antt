@@ -20,7 +20,8 @@ high_byte_fall {site = site} {limit = limit} operand pushed is =
     by_finding (high_byte_in_memory site operand)
     (λ reference there.
     by_test (is_word_in_hl site operand) (falls (is, tt))
-    (in_memory reference (of_found (IsPlaced site.tree.now limit) (high_is_in_memory site limit operand is) there)))
+    (in_memory reference (of_found (IsPlaced site.tree.now limit)
+    (high_is_in_memory site limit operand is) there)))
     (λ none. falls (is, tt))
   where
     in_memory : (reference : Reference) → IsPlaced site.tree.now limit reference
@@ -87,7 +88,8 @@ unfolding masked
 masked_is site limit operand is = by (expression site operand) refl
   where
     by : (found : Option Expression) → expression site operand ≡ found
-        → IfSome (elim found [ Some one ↦ masked_form site one.form | None ↦ None ]) (IsMasked site.tree.now limit)
+        → IfSome (elim found [ Some one ↦ masked_form site one.form | None ↦ None ])
+        (IsMasked site.tree.now limit)
     by (Some one) there = masked_form_is site limit one.form (has_parts site (weak is) there)
     by None there = tt
 
@@ -215,7 +217,8 @@ with_place_fall :
     → IsUnder site.tree.now limit apart.other
     → Falls site limit (with_place_steps apart question pushed)
 with_place_fall {site = site} {limit = limit} apart question pushed is =
-    let begun : Falls site limit (part (tasks.Word apart.other) pushed ∷ load_a_steps apart.place) = falls (is, tt) in
+    let begun : Falls site limit (part (tasks.Word apart.other) pushed ∷ load_a_steps apart.place) =
+    falls (is, tt) in
     joined (joined (joined begun (low_fall in_hl question)) (falls tt)) (high_fall in_hl question)
 
 taken_fall :
@@ -232,7 +235,8 @@ with_pair_fall :
 with_pair_fall {site = site} comparison pushed one two =
     joined (pair_fall comparison.left comparison.right false pushed one two) (taken_fall
     (word_taken_from comparison.question (pair_order site comparison.left comparison.right false))
-    (other_word (word_taken_from comparison.question (pair_order site comparison.left comparison.right false)))
+    (other_word (word_taken_from comparison.question
+    (pair_order site comparison.left comparison.right false)))
     comparison.question)
 
 -- two ADDRESSes that are compared

@@ -21,7 +21,9 @@ shifted_left_fall :
     → Falls site limit (shifted_left_steps value count pushed)
 unfolding shifted_left_steps
 shifted_left_fall value count pushed is =
-    by_test (nat_le 16 count) (zero_fall value pushed is) (by_test (nat_le 8 count) (after_part is (after_plain (after_plain (repeated (Dad Hl) (count - 8))))) (after_part is (repeated (Dad Hl) count)))
+    by_test (nat_le 16 count) (zero_fall value pushed is)
+    (by_test (nat_le 8 count) (after_part is (after_plain (after_plain (repeated (Dad Hl) (count - 8)))))
+    (after_part is (repeated (Dad Hl) count)))
 
 half_fall :
     {site : Site} {limit : ℕ}
@@ -144,7 +146,8 @@ paired_fall :
     → Falls site limit (paired_steps site operands on_low on_high pushed)
 unfolding paired_steps
 paired_fall {site = site} operands on_low on_high pushed one two =
-    joined (pair_fall operands.left operands.right false pushed one two) (with_pair_fall (pair_order site operands.left operands.right false) on_low on_high)
+    joined (pair_fall operands.left operands.right false pushed one two)
+    (with_pair_fall (pair_order site operands.left operands.right false) on_low on_high)
 
 difference_fall :
     {site : Site} {limit : ℕ} (operands : Operands) (pushed : ℕ)
@@ -190,7 +193,8 @@ high_half_fall :
     → Falls site limit (high_half_steps site value number pushed)
 unfolding high_half_steps
 high_half_fall {site = site} value number pushed is =
-    joined (joined (high_byte_fall value pushed is) (by_test (number == 255) (falls tt) (falls tt))) (falls tt)
+    joined (joined (high_byte_fall value pushed is) (by_test (number == 255) (falls tt) (falls tt)))
+    (falls tt)
 
 both_halves_fall :
     {site : Site} {limit : ℕ} (operation : Operation)
@@ -199,7 +203,8 @@ both_halves_fall :
     → Falls site limit (both_halves_steps operation value number pushed)
 unfolding both_halves_steps
 both_halves_fall operation value number pushed is =
-    joined (after_part is (half_of_word_fall operation L (low number))) (half_of_word_fall operation H (high number))
+    joined (after_part is (half_of_word_fall operation L (low number)))
+    (half_of_word_fall operation H (high number))
 
 and_with_number_fall :
     {site : Site} {limit : ℕ} (value : ExpressionNumber)
@@ -286,7 +291,8 @@ with_simple_is :
     → IfSome (with_simple site operands) (IsChosen site.tree.now limit)
 unfolding with_simple
 with_simple_is site limit operands one two =
-    first_is site limit operands (simple_operand site operands.right) (exchanged_operand site operands) one two
+    first_is site limit operands (simple_operand site operands.right)
+    (exchanged_operand site operands) one two
     (simple_is site limit operands.right two) (exchanged_is site limit operands one)
 
 logic_with_simple_fall :

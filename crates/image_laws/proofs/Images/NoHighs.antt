@@ -31,10 +31,12 @@ items_words : (offset : ℕ) (items : List Item) → AllByRecursion IsWord (fixe
 items_words offset [] = tt
 items_words offset (Plain instruction ∷ others) = items_words (offset + size_of (Plain instruction)) others
 items_words offset (WithWord form reference ∷ others) =
-    words_with (offset + 1) (target_of reference) (fixes_of_items (offset + 3) others) (items_words (offset + 3) others)
+    words_with (offset + 1) (target_of reference) (fixes_of_items (offset + 3) others)
+    (items_words (offset + 3) others)
 items_words offset (Byte value ∷ others) = items_words (offset + 1) others
 items_words offset (Address reference ∷ others) =
-    words_with offset (target_of reference) (fixes_of_items (offset + 2) others) (items_words (offset + 2) others)
+    words_with offset (target_of reference) (fixes_of_items (offset + 2) others)
+    (items_words (offset + 2) others)
 items_words offset (Gap count ∷ others) = items_words (offset + count) others
 items_words offset (Mark label ∷ others) = items_words (offset + 0) others
 

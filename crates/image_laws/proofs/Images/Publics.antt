@@ -56,7 +56,8 @@ each_found known [] h = tt
 each_found known (first ∷ others) h =
     let cut =
     and_parts (not (is_among first.name known)) (are_new (map public_name others) (first.name ∷ known)) h in (
-      ap (λ b. cond b (Some first) (public_named others first.name)) ((bytes_eq-Decides first.name first.name).1 refl),
+      ap (λ b. cond b (Some first) (public_named others first.name))
+          ((bytes_eq-Decides first.name first.name).1 refl),
       found_after first others others
           (name_differs first known others (new_names (first.name ∷ known) others cut.1))
           (each_found (first.name ∷ known) others cut.1),

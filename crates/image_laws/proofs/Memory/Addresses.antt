@@ -1,5 +1,5 @@
--- In the placement that a plan gives each object of a module, but for EXTERNAL ones, lies at the address of its
--- location.
+-- In the placement that a plan gives each object of a module, but for EXTERNAL ones, lies at the address of
+-- its location.
 use Rattle.image_laws.proofs.Prelude.{◌≡◌, ℕ, zero, suc, ◌+◌, List, [], ◌∷◌, ◌++◌, length, Option, Some, None, refl, ap, sym, subst, ◌∙◌, length-append, arith, slice_get, slice_index, unwrap_or, zip, none-some, get_or_from_slice_get, HasPlace, IsStorable, Home, InData, InConstants, Placed, BasedOn, Elsewhere, Nowhere, InFrame, TypedObject, TypedModule, Slot, Bases, FollowsBases, HasAddresses, LiesWhereAtSays, ModulePlacement, address_by_home, addresses_after, module_placement_by, Location, address_of_location, location_by_home, location_of, locations_after, slot_of_object, storage_with, location_is, AreBases, lies_at_location, got_behind, got_both, got_in_front, got_numbered}
 use Rattle.layout.specs.Segments.{Target, Absolute}
 
@@ -16,7 +16,8 @@ address_kept :
     → slice_get (addresses_after bases before objects) number ≡ Some address
 address_kept bases before [] number address found = found
 address_kept bases before (object ∷ others) number address found =
-    address_kept bases (before ++ address_by_home bases before object.1 (object.0).home ∷ []) others number address
+    address_kept bases (before ++ address_by_home bases before object.1 (object.0).home ∷ [])
+    others number address
     (got_in_front before (address_by_home bases before object.1 (object.0).home ∷ []) number address found)
 
 none_is_zero :
@@ -50,7 +51,8 @@ address_without bases before (first ∷ others) zero number object at found none
     ∙ got_behind before (address_by_home bases before first.1 (first.0).home ∷ []) 0
     ∙ ap (λ (n : ℕ). Some n) address)
 address_without bases before (first ∷ others) (suc index) number object at found none =
-    address_without bases (before ++ address_by_home bases before first.1 (first.0).home ∷ []) others index number
+    address_without bases (before ++ address_by_home bases before first.1 (first.0).home ∷ []) others index
+    number
     object
     (omega (arith, at, length-append before (address_by_home bases before first.1 (first.0).home ∷ [])))
     found none
@@ -87,14 +89,17 @@ module _
         → slice_get typed.objects number ≡ Some object
         → HasNone object.home
         → slot_of_object typed number object object.home ≡ None
-        → location_by_home typed (locations_after typed [] typed.objects) number object object.home ≡ Absolute 0
+        → location_by_home typed (locations_after typed [] typed.objects) number object object.home
+        ≡ Absolute 0
         → slice_index (module_placement_by bases typed (storage_with typed)).objects number
         ≡ address_of_location address_of (location_of typed number)
     by_none number object found none slot location =
         get_or_from_slice_get (module_placement_by bases typed (storage_with typed)).objects number 0 0
-        (address_without bases [] (zip typed.objects (storage_with typed).objects) number number object (omega arith)
+        (address_without bases [] (zip typed.objects (storage_with typed).objects) number number
+        object (omega arith)
         (slot_found number object found ∙ ap (λ (slot : Option Slot). Some (object, slot)) slot) none)
-        ∙ sym (ap (address_of_location address_of) (location_is typed number object storable found ∙ location))
+        ∙ sym (ap (address_of_location address_of)
+        (location_is typed number object storable found ∙ location))
 
     by_place :
         (number : ℕ) (object : TypedObject)
@@ -103,7 +108,8 @@ module _
         → slice_index (module_placement_by bases typed (storage_with typed)).objects number
         ≡ address_of_location address_of (location_of typed number)
     by_place number object found place =
-        lies_at_location typed bases (module_placement_by bases typed (storage_with typed)) address_of number object
+        lies_at_location typed bases (module_placement_by bases typed (storage_with typed))
+        address_of number object
         storable follows at_says addresses are found place
 
     by_home :
@@ -117,7 +123,8 @@ module _
         by_place number object found (subst HasPlace (sym is) tt)
     by_home number object (InConstants values) found is here =
         by_place number object found (subst HasPlace (sym is) tt)
-    by_home number object (Placed at) found is here = by_place number object found (subst HasPlace (sym is) tt)
+    by_home number object (Placed at) found is here =
+        by_place number object found (subst HasPlace (sym is) tt)
     by_home number object (BasedOn base) found is here =
         by_none number object found (subst HasNone (sym is) tt) (ap (slot_of_object typed number object) is)
         (ap (location_by_home typed (locations_after typed [] typed.objects) number object) is)
@@ -149,5 +156,6 @@ locations_count typed before (object ∷ others) =
     let more = length-append before (here ∷ []) in
     omega (arith, rest, more)
 
-pub locations_length : (typed : TypedModule) → length (locations_after typed [] typed.objects) ≡ length typed.objects
+pub locations_length : (typed : TypedModule)
+    → length (locations_after typed [] typed.objects) ≡ length typed.objects
 locations_length typed = let all = locations_count typed [] typed.objects in omega (arith, all)

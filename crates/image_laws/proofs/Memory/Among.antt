@@ -28,7 +28,8 @@ of_numbered first (x ∷ items) zero one found then_is =
     plus_none : (n : ℕ) → n ≡ n + 0
     plus_none n = omega arith
 of_numbered first (x ∷ items) (suc number) one found then_is =
-    of_numbered (first + 1) items number one found (λ same there. then_is (same ∙ one_moved first number) there)
+    of_numbered (first + 1) items number one found
+    (λ same there. then_is (same ∙ one_moved first number) there)
 
 pub numbered :
     {X : Type 0} (first : ℕ) (items : List X) (number at : ℕ) (item : X)
@@ -59,12 +60,14 @@ among_either wanted (first ∷ one) other (inr among) = by (among_either wanted 
     by (inl here) = inl (inr here)
     by (inr there) = inr there
 
-pub among_front : (wanted : Contents) (one other : List Contents) → IsAmong wanted one → IsAmong wanted (one ++ other)
+pub among_front : (wanted : Contents) (one other : List Contents) → IsAmong wanted one
+    → IsAmong wanted (one ++ other)
 among_front wanted [] other among = absurd among
 among_front wanted (first ∷ one) other (inl same) = inl same
 among_front wanted (first ∷ one) other (inr among) = inr (among_front wanted one other among)
 
-pub among_back : (wanted : Contents) (one other : List Contents) → IsAmong wanted other → IsAmong wanted (one ++ other)
+pub among_back : (wanted : Contents) (one other : List Contents) → IsAmong wanted other
+    → IsAmong wanted (one ++ other)
 among_back wanted [] other among = among
 among_back wanted (first ∷ one) other among = inr (among_back wanted one other among)
 
@@ -95,7 +98,8 @@ pub of_flat_map :
 of_flat_map f [] wanted among then_is = absurd among
 of_flat_map {X} {A} f (first ∷ items) wanted among then_is =
     by (among_either wanted (f first) (flat_map f items) among)
-    (λ later. of_flat_map f items wanted later (λ number item found there. then_is (suc number) item found there))
+    (λ later. of_flat_map f items wanted later
+    (λ number item found there. then_is (suc number) item found there))
   where
     by : IsAmong wanted (f first) ⊎ IsAmong wanted (flat_map f items)
         → (IsAmong wanted (flat_map f items) → A)
@@ -111,7 +115,8 @@ pub in_flat_map :
 in_flat_map f [] number item wanted found among = absurd (none-some item found)
 in_flat_map f (first ∷ items) zero item wanted found among =
     among_front wanted (f first) (flat_map f items)
-    (subst (λ (one : _). IsAmong wanted (f one)) (sym (ap (λ (found : Option _). unwrap_or found first) found)) among)
+    (subst (λ (one : _). IsAmong wanted (f one))
+    (sym (ap (λ (found : Option _). unwrap_or found first) found)) among)
 in_flat_map f (first ∷ items) (suc number) item wanted found among =
     among_back wanted (f first) (flat_map f items) (in_flat_map f items number item wanted found among)
 
@@ -150,7 +155,8 @@ of_any {X} {A} p (first ∷ items) is then_is =
     by (p first) refl is
     (λ later. of_any p items later (λ number item found holds. then_is (suc number) item found holds))
   where
-    by : (here : Bool) → p first ≡ here → (here || list_any p items) ≡ true → (list_any p items ≡ true → A) → A
+    by : (here : Bool) → p first ≡ here → (here || list_any p items) ≡ true
+        → (list_any p items ≡ true → A) → A
     by true e is rest = then_is 0 first refl e
     by false e is rest = rest is
 
@@ -161,7 +167,8 @@ pub any_of_filter :
 any_of_filter p q [] is = is
 any_of_filter p q (first ∷ items) is = by (q first) is (any_of_filter p q items)
   where
-    either : (here one other : Bool) → (here || one) ≡ true → (one ≡ true → other ≡ true) → (here || other) ≡ true
+    either : (here one other : Bool) → (here || one) ≡ true → (one ≡ true → other ≡ true)
+        → (here || other) ≡ true
     either true one other is rest = refl
     either false one other is rest = rest is
 
@@ -170,7 +177,8 @@ any_of_filter p q (first ∷ items) is = by (q first) is (any_of_filter p q item
         → (list_any p (filter q items) ≡ true → list_any (λ (item : _). q item && p item) items ≡ true)
         → ((passes && p first) || list_any (λ (item : _). q item && p item) items) ≡ true
     by true is rest =
-        either (p first) (list_any p (filter q items)) (list_any (λ (item : _). q item && p item) items) is rest
+        either (p first) (list_any p (filter q items))
+        (list_any (λ (item : _). q item && p item) items) is rest
     by false is rest = rest is
 
 pub any_of_flat_map :
@@ -181,7 +189,8 @@ pub any_of_flat_map :
 any_of_flat_map p f [] is then_is = let bad : false ≡ true = is in absurd cc
 any_of_flat_map {X} {Y} {A} p f (first ∷ items) is then_is =
     by (any_either p (f first) (flat_map f items) is)
-    (λ later. any_of_flat_map p f items later (λ number item found there. then_is (suc number) item found there))
+    (λ later. any_of_flat_map p f items later
+    (λ number item found there. then_is (suc number) item found there))
   where
     by : (list_any p (f first) ≡ true) ⊎ (list_any p (flat_map f items) ≡ true)
         → (list_any p (flat_map f items) ≡ true → A)

@@ -8,17 +8,20 @@ is_word fixup is = ap (λ (kind : FixKind). record { kind = kind; target = fixup
 
 module _
     (object : ObjectModule) (address_of : ModuleTarget → ℕ) (address_in : Target → ℕ)
-    (same : (one : ModuleTarget) (other : Target) → IsTarget object one other → address_of one ≡ address_in other)
+    (same : (one : ModuleTarget) (other : Target) → IsTarget object one other
+    → address_of one ≡ address_in other)
   where
     -- the value of a byte after another
     high_alike :
         (first value : ℕ) (target : Option ModuleTarget) (fixup : Option Fixup)
         → IsFix object target fixup
-        → after_fixup address_in first value fixup ≡ option_map_or (high_resolved address_of first value) target value
+        → after_fixup address_in first value fixup
+        ≡ option_map_or (high_resolved address_of first value) target value
     high_alike first value None None is = refl
     high_alike first value (Some target) (Some fixup) is =
         ap (λ (fix : Fixup). after_fixup address_in first value (Some fix)) (is_word fixup is.0)
-        ∙ ap (λ (address : ℕ). (first + 256 * value + address) / 256 % 256) (sym (same target fixup.target is.1))
+        ∙ ap (λ (address : ℕ). (first + 256 * value + address) / 256 % 256)
+        (sym (same target fixup.target is.1))
     high_alike first value None (Some fixup) is = absurd is
     high_alike first value (Some target) None is = absurd is
 
@@ -49,14 +52,17 @@ module _
     low_alike before given value (Some target) None place is = absurd is
 
     place_alike :
-        (before : Option SegmentByte) (given : Option SetByte) (byte : Option SegmentByte) (here : Option SetByte)
+        (before : Option SegmentByte) (given : Option SetByte) (byte : Option SegmentByte)
+        (here : Option SetByte)
         → IsPlace object before given
         → IsPlace object byte here
-        → option_map (λ (moved : SetByte). moved.value) (option_map (byte_moved address_in (λ target. None) given) here)
+        → option_map (λ (moved : SetByte). moved.value)
+        (option_map (byte_moved address_in (λ target. None) given) here)
         ≡ option_map (value_resolved address_of before) byte
     place_alike before given None None place is = refl
     place_alike before given (Some byte) (Some here) place is =
-        ap (λ (value : ℕ). Some (value_moved address_in given (record { value = value; fixup = here.fixup }))) is.0
+        ap (λ (value : ℕ). Some (value_moved address_in given (record { value = value; fixup = here.fixup })))
+        is.0
         ∙ ap (λ (value : ℕ). Some value) (low_alike before given byte.value byte.target here.fixup place is.1)
     place_alike before given None (Some here) place is = absurd is
     place_alike before given (Some byte) None place is = absurd is
@@ -65,7 +71,8 @@ module _
     values places = map (option_map (λ (here : SetByte). here.value)) places
 
     bytes_after :
-        (before : Option SegmentByte) (given : Option SetByte) (bytes : Places) (places : List (Option SetByte))
+        (before : Option SegmentByte) (given : Option SetByte) (bytes : Places)
+        (places : List (Option SetByte))
         (index : ℕ) (byte : Option ℕ)
         → IsPlace object before given
         → BeginWith object bytes places
@@ -84,4 +91,5 @@ module _
         → BeginWith object bytes places
         → slice_get (resolved address_of bytes) index ≡ Some byte
         → slice_get (bytes_resolved address_in places) index ≡ Some byte
-    bytes_alike bytes places index byte begin found = bytes_after None None bytes places index byte tt begin found
+    bytes_alike bytes places index byte begin found =
+        bytes_after None None bytes places index byte tt begin found

@@ -16,4 +16,5 @@ pub some_within :
     → ((item : A) → slice_get items number ≡ Some item → B) → B
 some_within [] number below then_is = absurd (omega (arith, below))
 some_within (first ∷ items) zero below then_is = then_is first refl
-some_within (first ∷ items) (suc number) below then_is = some_within items number (omega (arith, below)) then_is
+some_within (first ∷ items) (suc number) below then_is =
+    some_within items number (omega (arith, below)) then_is

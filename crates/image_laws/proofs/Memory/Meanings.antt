@@ -1,5 +1,5 @@
--- The addresses that a run of the source has for objects are those that the targets of the object modules have: an
--- EXTERNAL object lies where the public of its name does.
+-- The addresses that a run of the source has for objects are those that the targets of the object modules
+-- have: an EXTERNAL object lies where the public of its name does.
 use Rattle.image_laws.proofs.Prelude.{◌≡◌, ℕ, zero, suc, ◌+◌, ◌-◌, ◌%◌, ◌<◌, ◌≤◌, Bool, true, List, [], ◌∷◌, ◌++◌, length, replicate, flat_map, Option, Some, None, unwrap_or, refl, ap, ap₂, sym, subst, ◌∙◌, arith, All, IsSomeAnd, ◌&&◌, nat_lt, slice_get, slice_index, list_all, option_and_then, option_map_or, option_or, bytes_eq, ltb-true, position_from-zero, recursion_from_All, none-some, slice_get_past, bytes_eq-Decides, MEMORY_SIZE, InitialValue, ByteValue, WordValue, LocationValue, IsHereIfPublic, ListsGlobals, size_of_object, bytes_filled, Home, InData, InConstants, Placed, BasedOn, Elsewhere, Nowhere, InFrame, TypedObject, TypedModule, InProgram, first_found, in_module, object_meant, public_object_in, ModulePlacement, PlacingPlan, Location, After, SegmentStart, ExternalName, address_of_location, location_by_home, location_of, locations_after, AtNumber, address_in, address_of_object, bytes_of_value, bytes_of_word, values_in, location_is, MeansObject, external_object_meant, addresses, set, starting_bytes, of_all, Linked, linked_modules, public_named, Plan, Image, IsObjectModule, ObjectModule, Public, is_valid_public, may_have_publics, PublicLies, address_of_public, piece_base, plan_of, IsInMemory, placement_of, IsLinked, HasPublic, IsPublicAt, and_parts, first_position}
 use Rattle.layout.specs.declared.slot.Segment.TheVariants as slots
 use Rattle.image_laws.proofs.Images.Publics.{publics_lie}
@@ -34,8 +34,10 @@ found_place {A} from in_one (first ∷ others) place e then_is =
     by None is e rest = rest e
     by (Some number) is e rest =
         let same : record { number_of_module = from; number = number } ≡ place =
-        ap (λ (found : Option InProgram). unwrap_or found (record { number_of_module = from; number = number })) e in
-        then_is 0 first (sym (ap (λ (one : InProgram). one.number_of_module) same) ∙ sym (nothing_more from)) refl
+        ap (λ (found : Option InProgram). unwrap_or found
+        (record { number_of_module = from; number = number })) e in
+        then_is 0 first (sym (ap (λ (one : InProgram). one.number_of_module) same) ∙ sym (nothing_more from))
+        refl
         (is ∙ ap (λ (one : InProgram). Some one.number) same)
       where
         nothing_more : (n : ℕ) → n + 0 ≡ n
@@ -48,7 +50,8 @@ each_holds :
     → p item ≡ true
 each_holds p [] number item holds found = absurd (none-some item found)
 each_holds p (first ∷ all) zero item holds found =
-    ap p (sym (ap (λ (found : Option _). unwrap_or found first) found)) ∙ (and_parts (p first) (list_all p all) holds).0
+    ap p (sym (ap (λ (found : Option _). unwrap_or found first) found))
+    ∙ (and_parts (p first) (list_all p all) holds).0
 each_holds p (first ∷ all) (suc number) item holds found =
     each_holds p all number item (and_parts (p first) (list_all p all) holds).1 found
 
@@ -84,8 +87,10 @@ module _
         (recursion_from_All (PublicLies (plan_of plan) merged at.linked) (at.linked.object).publics
         (of_all (λ (one : Linked). All (PublicLies (plan_of plan) merged one) (one.object).publics)
         (linked_modules objects) number_of_module at.linked
-        (recursion_from_All (λ (one : Linked). All (PublicLies (plan_of plan) merged one) (one.object).publics)
-        (linked_modules objects) (publics_lie objects merged (plan_of plan) (is.placed).merge)) at.found)) found
+        (recursion_from_All (λ (one : Linked). All (PublicLies (plan_of plan) merged one)
+        (one.object).publics)
+        (linked_modules objects) (publics_lie objects merged (plan_of plan) (is.placed).merge)) at.found))
+        found
 
     -- the address of a public is that of the location of its object
     public_address :
@@ -100,15 +105,21 @@ module _
         let low : address < 65536 = subst (λ (public : Public). public.offset < 65536) is small in
         let number : (0 + 0 + address) % 65536 ≡ address = omega (arith, low) in
         subst (λ (public : Public). address_of_public (plan_of plan) (public_named merged.publics public.name)
-        ≡ (piece_base (plan_of plan) (at.linked).start public.segment + public.offset) % MEMORY_SIZE) is lies.address
+        ≡ (piece_base (plan_of plan) (at.linked).start public.segment + public.offset)
+        % MEMORY_SIZE) is lies.address
         ∙ number
-    public_address number_of_module typed name (After (SegmentStart slots.Code) offset) public at is lies small =
+    public_address number_of_module typed name (After (SegmentStart slots.Code) offset)
+        public at is lies small =
         subst (λ (public : Public). address_of_public (plan_of plan) (public_named merged.publics public.name)
-        ≡ (piece_base (plan_of plan) (at.linked).start public.segment + public.offset) % MEMORY_SIZE) is lies.address
-    public_address number_of_module typed name (After (SegmentStart slots.Data) offset) public at is lies small =
+        ≡ (piece_base (plan_of plan) (at.linked).start public.segment + public.offset)
+        % MEMORY_SIZE) is lies.address
+    public_address number_of_module typed name (After (SegmentStart slots.Data) offset)
+        public at is lies small =
         subst (λ (public : Public). address_of_public (plan_of plan) (public_named merged.publics public.name)
-        ≡ (piece_base (plan_of plan) (at.linked).start public.segment + public.offset) % MEMORY_SIZE) is lies.address
-    public_address number_of_module typed name (After (ExternalName other) offset) public at is lies small = absurd is
+        ≡ (piece_base (plan_of plan) (at.linked).start public.segment + public.offset)
+        % MEMORY_SIZE) is lies.address
+    public_address number_of_module typed name (After (ExternalName other) offset) public at is lies small =
+        absurd is
 
     -- a public that an object module has is one of memory
     public_offset :
@@ -136,7 +147,8 @@ module _
     address_here number_of_module number typed object at found here =
         ap (λ (placed : Option ModulePlacement).
         option_map_or (λ (placed : ModulePlacement). slice_index placed.objects number) placed 0) at.placed
-        ∙ lies_at plan modules objects merged image before after is number_of_module number typed object at found here
+        ∙ lies_at plan modules objects merged image before after is number_of_module number typed
+        object at found here
 
     -- where a PUBLIC object lies
     address_of_its_public :
@@ -150,16 +162,20 @@ module _
         ≡ address_of_public (plan_of plan) (public_named merged.publics object.name)
     address_of_its_public number_of_module number typed object at typed_is found is_public =
         let listed : ListsGlobals typed =
-        of_all ListsGlobals modules number_of_module typed (recursion_from_All ListsGlobals modules is.globals) typed_is in
+        of_all ListsGlobals modules number_of_module typed
+        (recursion_from_All ListsGlobals modules is.globals) typed_is in
         let here : IsHereIfPublic object.home object.is_public =
-        of_all (λ (object : TypedObject). IsHereIfPublic object.home object.is_public) typed.objects number object
-        (recursion_from_All (λ (object : TypedObject). IsHereIfPublic object.home object.is_public) typed.objects
+        of_all (λ (object : TypedObject). IsHereIfPublic object.home object.is_public)
+        typed.objects number object
+        (recursion_from_All (λ (object : TypedObject). IsHereIfPublic object.home object.is_public)
+        typed.objects
         listed.here) found in
         let has : HasPublic object.name (location_of typed number) (at.linked.object).publics =
         (at.segments).publics number object found is_public in
         address_here number_of_module number typed object at found
         (here_if_public object.home (subst (IsHereIfPublic object.home) is_public here))
-        ∙ sym (public_address number_of_module typed object.name (location_of typed number) has.public at has.is
+        ∙ sym (public_address number_of_module typed object.name (location_of typed number)
+        has.public at has.is
         (public_lies number_of_module has.place typed has.public at has.found)
         (public_offset number_of_module has.place typed has.public at has.found))
 
@@ -175,9 +191,12 @@ module _
     external_address number_of_module number typed object typed_is found elsewhere =
         by (first_found 0 (public_object_in object.name) modules) refl
         (subst (λ (home : Home).
-        IsSomeAnd (object_meant modules (record { number_of_module = number_of_module; number = number }) object home)
+        IsSomeAnd
+        (object_meant modules (record { number_of_module = number_of_module; number = number }) object
+        home)
         (MeansObject modules object)) elsewhere
-        (external_object_meant modules is.joined is.globals number_of_module number typed object typed_is found elsewhere))
+        (external_object_meant modules is.joined is.globals number_of_module number typed object
+        typed_is found elsewhere))
       where
         at_place :
             (place : InProgram) (at : ℕ) (its : TypedModule)
@@ -187,16 +206,19 @@ module _
             → address_in (placement_of plan modules objects) place
             ≡ address_of_public (plan_of plan) (public_named merged.publics object.name)
         at_place place at its same there found_in =
-            first_position (λ (object' : TypedObject). object'.is_public && bytes_eq object'.name object.name) 0
+            first_position (λ (object' : TypedObject). object'.is_public && bytes_eq object'.name object.name)
+            0
             its.objects place.number
-            (sym (position_from-zero (λ (object' : TypedObject). object'.is_public && bytes_eq object'.name object.name)
+            (sym (position_from-zero (λ (object' : TypedObject). object'.is_public
+            && bytes_eq object'.name object.name)
             its.objects) ∙ found_in)
             (λ number_there public at_number is_there holds.
             let tests = and_parts public.is_public (bytes_eq public.name object.name) holds in
             let in_its : slice_get its.objects place.number ≡ Some public =
             subst (λ (n : ℕ). slice_get its.objects n ≡ Some public) (omega (arith, at_number)) is_there in
             ap (λ (n : ℕ).
-            address_in (placement_of plan modules objects) (record { number_of_module = n; number = place.number }))
+            address_in (placement_of plan modules objects)
+            (record { number_of_module = n; number = place.number }))
             (omega (arith, same))
             ∙ address_of_its_public at place.number its public
             (is_linked plan modules objects merged image before after is at its there) there in_its tests.0
@@ -272,7 +294,8 @@ module _
             option_map_or (address_in (placement_of plan modules objects))
             (option_and_then
             (λ (object : TypedObject).
-            object_meant modules (record { number_of_module = number_of_module; number = number }) object object.home)
+            object_meant modules (record { number_of_module = number_of_module; number = number }) object
+            object.home)
             found) 0) e
             ∙ by_home number_of_module number typed object object.home at typed_is e refl
         by None e =
@@ -280,13 +303,15 @@ module _
             option_map_or (address_in (placement_of plan modules objects))
             (option_and_then
             (λ (object : TypedObject).
-            object_meant modules (record { number_of_module = number_of_module; number = number }) object object.home)
+            object_meant modules (record { number_of_module = number_of_module; number = number }) object
+            object.home)
             found) 0) e
             ∙ sym (ap (λ (found : Option Location).
             address_of_location (address_for plan merged at.linked)
             (option_map_or (λ (location : Location). location) found (AtNumber 0)))
             (slice_get_past (locations_after typed [] typed.objects) number
-            (past_end typed.objects number (length (locations_after typed [] typed.objects)) (locations_length typed) e)))
+            (past_end typed.objects number (length (locations_after typed [] typed.objects))
+            (locations_length typed) e)))
 
     -- so what an object starts with is the same
     value_meant :

@@ -8,7 +8,8 @@ use Rattle.image_laws.proofs.Memory.Addresses.{IsHere, lies_here}
 use Rattle.image_laws.proofs.Memory.Bytes.{bytes_alike}
 
 -- a module among those that are linked
-record LinkedAt (objects : List ObjectModule) (all : List Linked) (number : ℕ) (typed : TypedModule) : Type 0 where
+record LinkedAt (objects : List ObjectModule) (all : List Linked) (number : ℕ)
+    (typed : TypedModule) : Type 0 where
   linked : Linked
   found : slice_get all number ≡ Some linked
   object_found : slice_get objects number ≡ Some linked.object
@@ -91,7 +92,8 @@ loaded_at before after address (first ∷ bytes) (suc index) byte loaded found =
     (loaded_at before after (address + 1) bytes index byte loaded.1 found)
 
 pub bases_found :
-    (plan : PlacingPlan) (modules : List TypedModule) (objects : List ObjectModule) (number : ℕ) (linked : Linked)
+    (plan : PlacingPlan) (modules : List TypedModule) (objects : List ObjectModule)
+    (number : ℕ) (linked : Linked)
     → AreObjectsOf modules objects
     → slice_get (linked_modules objects) number ≡ Some linked
     → slice_get (bases_from plan.code_base plan.data_base modules (code_lengths_of objects)) number
@@ -115,7 +117,8 @@ placed_found plan modules objects number typed linked are typed_is found =
     (λ (based : TypedModule × Bases). module_placement_by based.1 based.0 (storage_with based.0))
     (zip modules bases) number
     ∙ ap (λ (based : Option (TypedModule × Bases)).
-    option_map (λ (based : TypedModule × Bases). module_placement_by based.1 based.0 (storage_with based.0)) based)
+    option_map (λ (based : TypedModule × Bases). module_placement_by based.1 based.0 (storage_with based.0))
+    based)
     (got_both modules bases number typed (bases_of plan linked) typed_is
     (bases_found plan modules objects number linked are found))
 
@@ -144,13 +147,16 @@ module _
         let placed = placed_found plan modules objects number typed linked is.made typed_is at.found in
         let both : slice_get (zip modules (placement_of plan modules objects).modules) number
         ≡ Some (typed, placed_by plan linked typed) =
-        got_both modules (placement_of plan modules objects).modules number typed (placed_by plan linked typed)
+        got_both modules (placement_of plan modules objects).modules number typed
+        (placed_by plan linked typed)
         typed_is placed in
         let code_room = (stands.segments).code.in_memory in
         let data_room = (stands.segments).data_places.in_memory in
-        let code_held = begin_length linked.object (constant_places typed) linked.object.code.places at.segments.code in
+        let code_held =
+        begin_length linked.object (constant_places typed) linked.object.code.places at.segments.code in
         let data_held =
-        begin_length linked.object (data_places typed) linked.object.data_places.places at.segments.data_places in
+        begin_length linked.object (data_places typed) linked.object.data_places.places
+        at.segments.data_places in
         let code_size = constants_length typed storable in
         let data_size = data_length typed storable in
         record {
@@ -162,7 +168,8 @@ module _
           stands = stands;
           placed = placed;
           follows = module_follows (bases_of plan linked) typed
-              (omega (arith, code_room, code_held, code_size)) (omega (arith, data_room, data_held, data_size));
+              (omega (arith, code_room, code_held, code_size))
+              (omega (arith, data_room, data_held, data_size));
           at_says = of_all LiesWhereAtSays (zip modules (placement_of plan modules objects).modules) number
               (typed, placed_by plan linked typed)
               (recursion_from_All LiesWhereAtSays (zip modules (placement_of plan modules objects).modules)
@@ -182,7 +189,8 @@ module _
         → slice_index (placed_by plan at.linked typed).objects number
         ≡ address_of_location (address_for plan merged at.linked) (location_of typed number)
     lies_at number_of_module number typed object at found here =
-        lies_here (bases_of plan at.linked) typed (address_for plan merged at.linked) at.storable at.follows at.at_says
+        lies_here (bases_of plan at.linked) typed (address_for plan merged at.linked) at.storable
+        at.follows at.at_says
         at.addresses (λ segment. refl) number object found here
 
     -- where an object with a slot lies
@@ -201,7 +209,8 @@ module _
         (of_all (λ (object : Option Slot × ℕ). LiesInSlot (bases_of plan at.linked) object.1 object.0)
         (zip (storage_with typed).objects (placed_by plan at.linked typed).objects) number
         (slot_of_object typed number object object.home, address)
-        (recursion_from_All (λ (object : Option Slot × ℕ). LiesInSlot (bases_of plan at.linked) object.1 object.0)
+        (recursion_from_All (λ (object : Option Slot × ℕ). LiesInSlot
+        (bases_of plan at.linked) object.1 object.0)
         (zip (storage_with typed).objects (placed_by plan at.linked typed).objects) (at.follows).objects)
         (got_both (storage_with typed).objects (placed_by plan at.linked typed).objects number
         (slot_of_object typed number object object.home) address
@@ -211,7 +220,8 @@ module _
         (slice_get-get_or (placed_by plan at.linked typed).objects number 0 (omega (arith, within, count)))))
 
     -- the bytes of the segments of a module
-    pub record StandsThere (bases : Bases) (segment : SlotSegment) (index : ℕ) (byte : Option ℕ) : Type 0 where
+    pub record StandsThere (bases : Bases) (segment : SlotSegment) (index : ℕ)
+        (byte : Option ℕ) : Type 0 where
       pub in_memory : base_of bases segment + index < 65536
       pub byte_is :
           byte_at after (base_of bases segment + index)
@@ -224,9 +234,12 @@ module _
         → StandsThere (bases_of plan at.linked) segment index byte
     stands_there number_of_module typed slots.Code index byte at found =
         let within =
-        slice_get_within (resolved (address_for plan merged at.linked) (constant_places typed)) index byte found in
+        slice_get_within (resolved (address_for plan merged at.linked) (constant_places typed)) index byte
+        found in
         let size = resolved_length (address_for plan merged at.linked) None (constant_places typed) in
-        let held = begin_length at.linked.object (constant_places typed) at.linked.object.code.places at.segments.code in
+        let held =
+        begin_length at.linked.object (constant_places typed)
+        at.linked.object.code.places at.segments.code in
         let room = ((at.stands).segments).code.in_memory in
         record {
           in_memory = omega (arith, within, size, held, room);
@@ -237,15 +250,18 @@ module _
         }
     stands_there number_of_module typed slots.Data index byte at found =
         let within =
-        slice_get_within (resolved (address_for plan merged at.linked) (data_places typed)) index byte found in
+        slice_get_within (resolved (address_for plan merged at.linked) (data_places typed)) index byte
+        found in
         let size = resolved_length (address_for plan merged at.linked) None (data_places typed) in
         let held =
-        begin_length at.linked.object (data_places typed) at.linked.object.data_places.places at.segments.data_places in
+        begin_length at.linked.object (data_places typed) at.linked.object.data_places.places
+        at.segments.data_places in
         let room = ((at.stands).segments).data_places.in_memory in
         record {
           in_memory = omega (arith, within, size, held, room);
           byte_is = loaded_at before after _ _ index byte ((at.stands).segments).data_places.loaded
               (bytes_alike at.linked.object (address_for plan merged at.linked)
               (address_of_target (plan_of plan) merged at.linked) (targets_alike plan merged at.linked)
-              (data_places typed) at.linked.object.data_places.places index byte at.segments.data_places found);
+              (data_places typed) at.linked.object.data_places.places index byte
+              at.segments.data_places found);
         }

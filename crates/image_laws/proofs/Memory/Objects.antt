@@ -1,5 +1,5 @@
--- What stands in memory where objects and constant lists lie: the bytes that INITIAL or DATA fill them with, and what stood
--- there before where nothing fills them.
+-- What stands in memory where objects and constant lists lie: the bytes that INITIAL or DATA fill them with,
+-- and what stood there before where nothing fills them.
 use Rattle.image_laws.proofs.Prelude.{◌≡◌, ℕ, zero, suc, ◌+◌, ◌-◌, ◌%◌, ◌<◌, ◌≤◌, List, [], ◌∷◌, ◌++◌, length, flat_map, replicate, take, Option, Some, None, option_map, unwrap_or, refl, ap, sym, subst, ◌∙◌, ⊎_elim, arith, slice_get, slice_index, cases_lt, length-map, sum_by-cons, slice_get-map, get_or_from_slice_get, byte_at, InitialValue, size_of_object, bytes_filled, Home, InData, InConstants, Placed, BasedOn, Elsewhere, Nowhere, InFrame, TypedObject, TypedModule, Slot, address_of_slot, PlacingPlan, address_of_object, bytes_of_value, values_in, bytes_in_data, data_bytes, slot_of_list, slot_of_object, storage_with, set, starting_bytes, list_resolved, object_resolved, bytes_written, Image, ObjectModule, bases_of, IsInMemory, placement_of, IsLinked, placed_by, map-append, got_behind, got_in_front, got_numbered}
 use Rattle.layout.specs.declared.slot.Segment.TheVariants as slots
 use Rattle.layout.specs.Following.{base_of}
@@ -26,14 +26,16 @@ pub filled_byte :
     → slice_get (filling address_of object) index ≡ Some byte
     → slice_get (starting_bytes address_of object) index ≡ Some (Some byte)
 filled_byte address_of object index byte found =
-    got_in_front (flat_map (λ (value : InitialValue). set (bytes_of_value address_of value)) (values_in object.home))
+    got_in_front
+    (flat_map (λ (value : InitialValue). set (bytes_of_value address_of value)) (values_in object.home))
     (replicate (size_of_object object - bytes_filled object.home) None) index (Some byte)
     (ap (λ (bytes : List (Option ℕ)). slice_get bytes index) (all_set address_of (values_in object.home))
     ∙ slice_get-map (λ (byte : ℕ). Some byte) (filling address_of object) index
     ∙ ap (λ (found : Option ℕ). option_map (λ (byte : ℕ). Some byte) found) found)
 
 -- one that is not
-empty : (count number : ℕ) → number < count → slice_get (replicate {A = Option ℕ} count None) number ≡ Some None
+empty : (count number : ℕ) → number < count
+    → slice_get (replicate {A = Option ℕ} count None) number ≡ Some None
 empty zero number below = absurd (omega (arith, below))
 empty (suc count) zero below = refl
 empty (suc count) (suc number) below = empty count number (omega (arith, below))
@@ -47,7 +49,8 @@ empty_byte address_of object index past within =
     let some : List (Option ℕ) =
     flat_map (λ (value : InitialValue). set (bytes_of_value address_of value)) (values_in object.home) in
     let none : List (Option ℕ) = replicate (size_of_object object - bytes_filled object.home) None in
-    let size : length (filling address_of object) ≡ bytes_filled object.home = bytes_written address_of object.home in
+    let size : length (filling address_of object) ≡ bytes_filled object.home =
+    bytes_written address_of object.home in
     let count : length some ≡ length (filling address_of object) =
     ap (λ (bytes : List (Option ℕ)). length bytes) (all_set address_of (values_in object.home))
     ∙ length-map (filling address_of object) (λ (byte : ℕ). Some byte) in
@@ -76,24 +79,29 @@ module _
         → slot_of_object typed number object object.home ≡ Some slot
         → slice_get (starting_bytes (AddressOf number_of_module typed) object) index ≡ Some byte
         → byte_at after (slice_index (placed_by plan at.linked typed).objects number + index)
-        ≡ unwrap_or byte (byte_at before (slice_index (placed_by plan at.linked typed).objects number + index))
+        ≡ unwrap_or byte
+        (byte_at before (slice_index (placed_by plan at.linked typed).objects number + index))
     object_byte number_of_module number typed object slot index byte at typed_is found slot_is here =
         let there =
         stands_there plan modules objects merged image before after is number_of_module typed slot.segment
         (slot.offset + index) byte at
-        (object_resolved (address_for plan merged at.linked) typed number object slot index byte at.storable found
+        (object_resolved (address_for plan merged at.linked) typed number object slot index
+        byte at.storable found
         slot_is
         (ap (λ (bytes : List (Option ℕ)). slice_get bytes index)
-        (sym (bytes_meant plan modules objects merged image before after is number_of_module typed object at typed_is))
+        (sym (bytes_meant plan modules objects merged image before after is number_of_module typed
+        object at typed_is))
         ∙ here)) in
         let base : ℕ = base_of (bases_of plan at.linked) slot.segment in
         let slot_at =
-        in_slot plan modules objects merged image before after is number_of_module number typed object slot at found
+        in_slot plan modules objects merged image before after is number_of_module number typed
+        object slot at found
         slot_is in
         let low : base + (slot.offset + index) < 65536 = there.in_memory in
         let same : base + (slot.offset + index)
         ≡ slice_index (placed_by plan at.linked typed).objects number + index = omega (arith, slot_at, low) in
-        subst (λ (address : ℕ). byte_at after address ≡ unwrap_or byte (byte_at before address)) same there.byte_is
+        subst (λ (address : ℕ). byte_at after address ≡ unwrap_or byte (byte_at before address)) same
+        there.byte_is
 
     -- a byte of a constant list
     pub list_byte :
@@ -107,20 +115,25 @@ module _
         let there =
         stands_there plan modules objects merged image before after is number_of_module typed slots.Code
         (slot.offset + index) (Some byte) at
-        (list_resolved (address_for plan merged at.linked) typed number bytes index (Some byte) at.storable found
+        (list_resolved (address_for plan merged at.linked) typed number bytes index
+        (Some byte) at.storable found
         (slice_get-map (λ (byte : ℕ). Some byte) bytes index
         ∙ ap (λ (found : Option ℕ). option_map (λ (byte : ℕ). Some byte) found) here)) in
         let base : ℕ = (bases_of plan at.linked).code_base in
         let slot_found : slice_get (storage_with typed).lists number ≡ Some slot =
-        got_numbered (λ (numbered : ℕ × List ℕ). slot_of_list typed numbered.0 numbered.1) typed.constants.lists 0
+        got_numbered (λ (numbered : ℕ × List ℕ). slot_of_list typed numbered.0 numbered.1)
+        typed.constants.lists 0
         number number bytes found (omega arith) in
-        let slot_at : slice_index (placed_by plan at.linked typed).lists number ≡ (base + slot.offset) % 65536 =
+        let slot_at : slice_index (placed_by plan at.linked typed).lists number
+        ≡ (base + slot.offset) % 65536 =
         get_or_from_slice_get (placed_by plan at.linked typed).lists number
         (address_of_slot (bases_of plan at.linked) slot) 0
         (slice_get-map (address_of_slot (bases_of plan at.linked)) (storage_with typed).lists number
-        ∙ ap (λ (slot : Option Slot). option_map (address_of_slot (bases_of plan at.linked)) slot) slot_found) in
+        ∙ ap (λ (slot : Option Slot). option_map (address_of_slot (bases_of plan at.linked)) slot)
+        slot_found) in
         let low : base + (slot.offset + index) < 65536 = there.in_memory in
-        let same : base + (slot.offset + index) ≡ slice_index (placed_by plan at.linked typed).lists number + index =
+        let same : base + (slot.offset + index)
+        ≡ slice_index (placed_by plan at.linked typed).lists number + index =
         omega (arith, slot_at, low) in
         subst (λ (address : ℕ). byte_at after address ≡ byte) same there.byte_is
 
@@ -171,7 +184,8 @@ in_an_object {A} (object ∷ objects) index below then_is =
         rest (index - size) (omega (arith, below, all, is, past))
         (λ number each values inside found home within same.
         then_is (suc number) each values inside found home within
-        (step size (data_bytes (take number objects)) inside (data_bytes (take (suc number) (object ∷ objects)))
+        (step size (data_bytes (take number objects)) inside
+        (data_bytes (take (suc number) (object ∷ objects)))
         past same (total number ∙ ap (λ (n : ℕ). n + data_bytes (take number objects)) is)))
 
     by :
@@ -180,13 +194,17 @@ in_an_object {A} (object ∷ objects) index below then_is =
         → ((less : ℕ) → less < data_bytes objects → IsInObject A objects less → A)
         → A
     by (InData values) is rest =
-        ⊎_elim (λ (within : index < size_of_object object). then_is 0 object values index refl is within (omega arith))
+        ⊎_elim (λ (within : index < size_of_object object). then_is 0 object values index refl is
+        within (omega arith))
         (λ (past : size_of_object object ≤ index).
         later (size_of_object object) (ap (λ (home : Home). bytes_in_data home object) is) past rest)
         (cases_lt index (size_of_object object))
-    by (InConstants values) is rest = later 0 (ap (λ (home : Home). bytes_in_data home object) is) (omega arith) rest
+    by (InConstants values) is rest =
+        later 0 (ap (λ (home : Home). bytes_in_data home object) is) (omega arith) rest
     by (Placed at) is rest = later 0 (ap (λ (home : Home). bytes_in_data home object) is) (omega arith) rest
-    by (BasedOn base) is rest = later 0 (ap (λ (home : Home). bytes_in_data home object) is) (omega arith) rest
+    by (BasedOn base) is rest =
+        later 0 (ap (λ (home : Home). bytes_in_data home object) is) (omega arith) rest
     by Elsewhere is rest = later 0 (ap (λ (home : Home). bytes_in_data home object) is) (omega arith) rest
     by Nowhere is rest = later 0 (ap (λ (home : Home). bytes_in_data home object) is) (omega arith) rest
-    by (InFrame procedure) is rest = later 0 (ap (λ (home : Home). bytes_in_data home object) is) (omega arith) rest
+    by (InFrame procedure) is rest =
+        later 0 (ap (λ (home : Home). bytes_in_data home object) is) (omega arith) rest

@@ -7,7 +7,8 @@ use Rattle.image_laws.proofs.Memory.Modules.{bases_found, in_slot, is_linked}
 use Rattle.image_laws.proofs.Memory.Objects.{empty_byte, filled_byte, filling, in_an_object, list_byte, object_byte}
 
 -- an address is in a range or not
-in_or_out : (start size address : ℕ) → (((start ≤ address) × (address < start + size)) ⊎ (((start ≤ address) × (address < start + size)) → ⊥))
+in_or_out : (start size address : ℕ)
+    → (((start ≤ address) × (address < start + size)) ⊎ (((start ≤ address) × (address < start + size)) → ⊥))
 in_or_out start size address =
     ⊎_elim (λ (low : address < start). inr (λ within. omega (arith, low, within.0)))
     (λ (past : start ≤ address).
@@ -56,9 +57,11 @@ module_of code data_base (typed ∷ others) (object ∷ objects) address are pas
     then_is 0 typed (record { code_base = code; data_base = data_base }) refl refl past here)
     (λ (later : data_base + data_bytes typed.objects ≤ address).
     let total = sum_by-cons (λ (one : TypedModule). data_bytes one.objects) typed others in
-    module_of (code + length_of object Code) (data_base + data_bytes typed.objects) others objects address are.1 later
+    module_of (code + length_of object Code) (data_base + data_bytes typed.objects) others
+    objects address are.1 later
     (omega (arith, below, total))
-    (λ number one bases typed_is bases_is past below. then_is (suc number) one bases typed_is bases_is past below))
+    (λ number one bases typed_is bases_is past below. then_is (suc number) one bases typed_is
+    bases_is past below))
     (cases_lt address (data_base + data_bytes typed.objects))
 
 module _
@@ -81,7 +84,8 @@ module _
 
     -- an object that is filled has a slot
     has_slot :
-        {A : Type 0} (number_of_module number : ℕ) (typed : TypedModule) (object : TypedObject) (home : Home) (index : ℕ)
+        {A : Type 0} (number_of_module number : ℕ) (typed : TypedModule) (object : TypedObject)
+        (home : Home) (index : ℕ)
         → object.home ≡ home
         → index < length (flat_map (bytes_of_value (AddressOf number_of_module typed)) (values_in home))
         → ((slot : Slot) → slot_of_object typed number object object.home ≡ Some slot → A)
@@ -109,7 +113,8 @@ module _
         → (at : IsLinked plan modules objects merged before after number_of_module typed)
         → slice_get (placed_by plan at.linked typed).objects number ≡ Some address
         → index < length (filling (AddressOf number_of_module typed) object)
-        → byte_at after (address + index) ≡ slice_index (filling (AddressOf number_of_module typed) object) index
+        → byte_at after (address + index) ≡ slice_index
+        (filling (AddressOf number_of_module typed) object) index
     filled_here number_of_module number typed object address index typed_is found at address_is within =
         has_slot number_of_module number typed object object.home index refl within
         (λ slot slot_is.
@@ -118,7 +123,8 @@ module _
         slice_get-get_or (filling (AddressOf number_of_module typed) object) index 0 within in
         subst (λ (address : ℕ). byte_at after (address + index) ≡ byte)
         (get_or_from_slice_get (placed_by plan at.linked typed).objects number address 0 address_is)
-        (object_byte plan modules objects merged image before after is number_of_module number typed object slot index
+        (object_byte plan modules objects merged image before after is number_of_module number
+        typed object slot index
         (Some byte) at typed_is found slot_is
         (filled_byte (AddressOf number_of_module typed) object index byte here)))
 
@@ -137,7 +143,8 @@ module _
 
     -- so each byte of all contents stands there
     of_module :
-        (number_of_module : ℕ) (typed : TypedModule) (placed : ModulePlacement) (wanted : Contents) (index : ℕ)
+        (number_of_module : ℕ) (typed : TypedModule) (placed : ModulePlacement)
+        (wanted : Contents) (index : ℕ)
         → slice_get modules number_of_module ≡ Some typed
         → slice_get (placement_of plan modules objects).modules number_of_module ≡ Some placed
         → IsAmong wanted
@@ -168,10 +175,12 @@ module _
             (λ object_is address_is.
             subst
             (λ (wanted : Contents).
-            index < length wanted.1 → byte_at after (wanted.0 + index) ≡ slice_index wanted.1 index) (sym same)
+            index < length wanted.1 → byte_at after (wanted.0 + index)
+            ≡ slice_index wanted.1 index) (sym same)
             (λ short.
             filled_here number_of_module number typed object.0 object.1 index typed_is object_is at
-            (subst (λ (placed : ModulePlacement). slice_get placed.objects number ≡ Some object.1) placed_same address_is)
+            (subst (λ (placed : ModulePlacement). slice_get placed.objects number ≡ Some object.1)
+            placed_same address_is)
             short) within)
 
         by_list :
@@ -184,10 +193,12 @@ module _
             (λ list_is address_is.
             subst
             (λ (wanted : Contents).
-            index < length wanted.1 → byte_at after (wanted.0 + index) ≡ slice_index wanted.1 index) (sym same)
+            index < length wanted.1 → byte_at after (wanted.0 + index)
+            ≡ slice_index wanted.1 index) (sym same)
             (λ short.
             list_here number_of_module number typed list.0 list.1 index list_is at
-            (subst (λ (placed : ModulePlacement). slice_get placed.lists number ≡ Some list.1) placed_same address_is)
+            (subst (λ (placed : ModulePlacement). slice_get placed.lists number ≡ Some list.1)
+            placed_same address_is)
             short) within)
 
         by :
@@ -196,7 +207,8 @@ module _
             ⊎ IsAmong wanted (map contents_of_list (zip typed.constants.lists placed.lists))
             → byte_at after (wanted.0 + index) ≡ slice_index wanted.1 index
         by (inl object) =
-            of_map (contents_of_object (AddressOf number_of_module typed)) (zip typed.objects placed.objects) wanted
+            of_map (contents_of_object (AddressOf number_of_module typed))
+            (zip typed.objects placed.objects) wanted
             object (λ number one found same. by_object number one found same)
         by (inr list) =
             of_map contents_of_list (zip typed.constants.lists placed.lists) wanted list
@@ -210,7 +222,8 @@ module _
     contents_stand wanted index among within =
         of_flat_map
         (λ (numbered : ℕ × (TypedModule × ModulePlacement)).
-        contents_of_module modules (placement_of plan modules objects) numbered.0 (numbered.1).0 (numbered.1).1)
+        contents_of_module modules (placement_of plan modules objects) numbered.0
+        (numbered.1).0 (numbered.1).1)
         (enumerate_from 0 (zip modules (placement_of plan modules objects).modules)) wanted among
         (λ number one found there.
         of_numbered 0 (zip modules (placement_of plan modules objects).modules) number one found
@@ -220,7 +233,8 @@ module _
         let same_number : number ≡ one.0 = omega (arith, same) in
         of_module one.0 (one.1).0 (one.1).1 wanted index
         (subst (λ (n : ℕ). slice_get modules n ≡ Some (one.1).0) same_number typed_is)
-        (subst (λ (n : ℕ). slice_get (placement_of plan modules objects).modules n ≡ Some (one.1).1) same_number
+        (subst (λ (n : ℕ). slice_get (placement_of plan modules objects).modules n ≡ Some (one.1).1)
+        same_number
         placed_is)
         there within)))
 
@@ -239,12 +253,15 @@ module _
     among_all number_of_module typed placed wanted typed_is placed_is among =
         in_flat_map
         (λ (numbered : ℕ × (TypedModule × ModulePlacement)).
-        contents_of_module modules (placement_of plan modules objects) numbered.0 (numbered.1).0 (numbered.1).1)
+        contents_of_module modules (placement_of plan modules objects) numbered.0
+        (numbered.1).0 (numbered.1).1)
         (enumerate_from 0 (zip modules (placement_of plan modules objects).modules)) number_of_module
         (number_of_module, (typed, placed)) wanted
-        (numbered 0 (zip modules (placement_of plan modules objects).modules) number_of_module number_of_module
+        (numbered 0 (zip modules (placement_of plan modules objects).modules)
+        number_of_module number_of_module
         (typed, placed)
-        (got_both modules (placement_of plan modules objects).modules number_of_module typed placed typed_is placed_is)
+        (got_both modules (placement_of plan modules objects).modules number_of_module typed
+        placed typed_is placed_is)
         (omega arith))
         among
 
@@ -259,12 +276,14 @@ module _
         → IsUncovered (slice_index (placed_by plan at.linked typed).objects number + index)
         → byte_at after (slice_index (placed_by plan at.linked typed).objects number + index)
         ≡ byte_at before (slice_index (placed_by plan at.linked typed).objects number + index)
-    uncovered_object number_of_module number typed object slot index at typed_is found slot_is within uncovered =
+    uncovered_object number_of_module number typed object slot index at typed_is found
+        slot_is within uncovered =
         let address : ℕ = slice_index (placed_by plan at.linked typed).objects number in
         let count = (at.addresses).objects in
         let number_in = slice_get_within typed.objects number object found in
         let address_is : slice_get (placed_by plan at.linked typed).objects number ≡ Some address =
-        slice_get-get_or (placed_by plan at.linked typed).objects number 0 (omega (arith, count, number_in)) in
+        slice_get-get_or (placed_by plan at.linked typed).objects number 0
+        (omega (arith, count, number_in)) in
         let contents : Contents = contents_of_object (AddressOf number_of_module typed) (object, address) in
         let among : IsAmong contents AllContents =
         among_all number_of_module typed (placed_by plan at.linked typed) contents typed_is at.placed
@@ -274,12 +293,14 @@ module _
         (map contents_of_list (zip typed.constants.lists (placed_by plan at.linked typed).lists))
         (in_map (contents_of_object (AddressOf number_of_module typed))
         (zip typed.objects (placed_by plan at.linked typed).objects) number (object, address)
-        (got_both typed.objects (placed_by plan at.linked typed).objects number object address found address_is))) in
+        (got_both typed.objects (placed_by plan at.linked typed).objects number object address
+        found address_is))) in
         ⊎_elim
         (λ (filled : index < length (filling (AddressOf number_of_module typed) object)).
         absurd (uncovered contents among (from_start address index, below address index _ filled)))
         (λ (past : length (filling (AddressOf number_of_module typed) object) ≤ index).
-        object_byte plan modules objects merged image before after is number_of_module number typed object slot index None
+        object_byte plan modules objects merged image before after is number_of_module number typed
+        object slot index None
         at typed_is found slot_is (empty_byte (AddressOf number_of_module typed) object index past within))
         (cases_lt index (length (filling (AddressOf number_of_module typed) object)))
       where
@@ -318,10 +339,12 @@ module _
             → address < start + size_of_object object
             → byte_at after address ≡ byte_at before address
         moved number object slot start object_is slot_is start_is past below =
-            let there : slice_index (placed_by plan at.linked typed).objects number + (address - start) ≡ address =
+            let there : slice_index (placed_by plan at.linked typed).objects number + (address - start)
+            ≡ address =
             omega (arith, start_is, past) in
             subst (λ (address : ℕ). byte_at after address ≡ byte_at before address) there
-            (uncovered_object number_of_module number typed object slot (address - start) at typed_is object_is slot_is
+            (uncovered_object number_of_module number typed object slot (address - start) at
+            typed_is object_is slot_is
             (omega (arith, past, below))
             (subst (λ (address : ℕ). IsUncovered address) (sym there) uncovered))
 
@@ -334,28 +357,34 @@ module _
             → is_constant_piece piece ≡ true
             → IsIn address piece.range
             → byte_at after address ≡ byte_at before address
-        by_home number object start piece (InConstants values) object_is start_is home_is piece_is constant within =
+        by_home number object start piece (InConstants values) object_is start_is home_is
+            piece_is constant within =
             let whole : piece_of start object ConstantPiece ≡ piece =
             same_Some (piece_of start object ConstantPiece) piece piece_is in
             let inside : IsIn address (range_of start (size_of_object object)) =
             subst (λ (piece : PlacedPiece). IsIn address piece.range) (sym whole) within in
             moved number object _ start object_is (ap (slot_of_object typed number object) home_is)
             (get_or_from_slice_get (placed_by plan at.linked typed).objects number start 0
-            (subst (λ (placed : ModulePlacement). slice_get placed.objects number ≡ Some start) placed_same start_is))
+            (subst (λ (placed : ModulePlacement). slice_get placed.objects number ≡ Some start)
+            placed_same start_is))
             inside.0 inside.1
-        by_home number object start piece (InData values) object_is start_is home_is piece_is constant within =
+        by_home number object start piece (InData values) object_is start_is home_is
+            piece_is constant within =
             let bad : false ≡ true =
-            ap is_constant_piece (same_Some (piece_of start object StaticPiece) piece piece_is) ∙ constant in absurd cc
+            ap is_constant_piece (same_Some (piece_of start object StaticPiece) piece piece_is) ∙ constant in
+            absurd cc
         by_home number object start piece (Placed at) object_is start_is home_is piece_is constant within =
             let bad : false ≡ true =
-            ap is_constant_piece (same_Some (piece_of start object AtPiece) piece piece_is) ∙ constant in absurd cc
+            ap is_constant_piece (same_Some (piece_of start object AtPiece) piece piece_is) ∙ constant in
+            absurd cc
         by_home number object start piece (BasedOn base) object_is start_is home_is piece_is constant within =
             absurd (none-some piece piece_is)
         by_home number object start piece Elsewhere object_is start_is home_is piece_is constant within =
             absurd (none-some piece piece_is)
         by_home number object start piece Nowhere object_is start_is home_is piece_is constant within =
             absurd (none-some piece piece_is)
-        by_home number object start piece (InFrame procedure) object_is start_is home_is piece_is constant within =
+        by_home number object start piece (InFrame procedure) object_is start_is home_is
+            piece_is constant within =
             absurd (none-some piece piece_is)
 
         by_list :
@@ -379,7 +408,8 @@ module _
             (map list_piece (zip typed.constants.lists placed.lists)) ≡ true)
             → byte_at after address ≡ byte_at before address
         by (inl object) =
-            any_of_filter_map (λ (piece : PlacedPiece). is_constant_piece piece && holds_byte address piece) object_piece
+            any_of_filter_map (λ (piece : PlacedPiece). is_constant_piece piece && holds_byte address piece)
+            object_piece
             (zip typed.objects placed.objects) object
             (λ number one piece found gives there.
             let tests = and_parts (is_constant_piece piece) (holds_byte address piece) there in
@@ -388,9 +418,11 @@ module _
             by_home number one.0 one.1 piece (one.0).home object_is start_is refl gives tests.0
             ((Decides-holds address piece).0 tests.1)))
         by (inr list) =
-            of_any (λ (one : List ℕ × ℕ). is_constant_piece (list_piece one) && holds_byte address (list_piece one))
+            of_any (λ (one : List ℕ × ℕ). is_constant_piece (list_piece one)
+            && holds_byte address (list_piece one))
             (zip typed.constants.lists placed.lists)
-            (sym (any_of_map (λ (piece : PlacedPiece). is_constant_piece piece && holds_byte address piece) list_piece
+            (sym (any_of_map (λ (piece : PlacedPiece). is_constant_piece piece && holds_byte address piece)
+            list_piece
             (zip typed.constants.lists placed.lists)) ∙ list)
             (λ number one found there.
             by_list number one found (and_parts true (holds_byte address (list_piece one)) there).1)
@@ -401,7 +433,8 @@ module _
         → IsUncovered address
         → byte_at after address ≡ byte_at before address
     uncovered_constant address constant uncovered =
-        any_of_flat_map (λ (piece : PlacedPiece). is_constant_piece piece && holds_byte address piece) pieces_of_module
+        any_of_flat_map (λ (piece : PlacedPiece). is_constant_piece piece && holds_byte address piece)
+        pieces_of_module
         (zip modules (placement_of plan modules objects).modules)
         (any_of_filter (holds_byte address) is_constant_piece
         (pieces_of modules (placement_of plan modules objects)) constant)
@@ -424,7 +457,8 @@ module _
         let same : bases ≡ bases_of plan at.linked =
         same_Some bases (bases_of plan at.linked)
         (sym bases_is ∙ bases_found plan modules objects number at.linked is.made at.found) in
-        let base : bases.data_base ≡ (bases_of plan at.linked).data_base = ap (λ (bases : Bases). bases.data_base) same in
+        let base : bases.data_base ≡ (bases_of plan at.linked).data_base =
+        ap (λ (bases : Bases). bases.data_base) same in
         let room : (bases_of plan at.linked).data_base + data_bytes typed.objects ≤ 65536 =
         (at.follows).data_in_memory in
         in_an_object typed.objects (address - bases.data_base) (omega (arith, past_base, below_end))
@@ -432,7 +466,8 @@ module _
         let slot_is = ap (slot_of_object typed place object) home in
         let slot_at : slice_index (placed_by plan at.linked typed).objects place
         ≡ ((bases_of plan at.linked).data_base + data_bytes (take place typed.objects)) % 65536 =
-        in_slot plan modules objects merged image before after is number place typed object _ at found slot_is in
+        in_slot plan modules objects merged image before after is number place typed
+        object _ at found slot_is in
         let there : slice_index (placed_by plan at.linked typed).objects place + inside ≡ address =
         omega (arith, slot_at, room, base, past_base, below_end, index_is) in
         subst (λ (address : ℕ). byte_at after address ≡ byte_at before address) there
@@ -455,11 +490,13 @@ module _
 
         code_size : length_of merged Code ≡ sum (code_lengths_of objects)
         code_size =
-            ap (λ (object : ObjectModule). length_of object Code) merged_is ∙ code_length_is modules objects is.made
+            ap (λ (object : ObjectModule). length_of object Code) merged_is
+            ∙ code_length_is modules objects is.made
 
         data_size : length_of merged Data ≡ data_sum modules
         data_size =
-            ap (λ (object : ObjectModule). length_of object Data) merged_is ∙ data_length_is modules objects is.made
+            ap (λ (object : ObjectModule). length_of object Data) merged_is
+            ∙ data_length_is modules objects is.made
 
         by :
             (constant : Bool)
@@ -473,7 +510,8 @@ module _
             (λ (not_data : (plan.data_base ≤ address) × (address < plan.data_base + data_sum modules) → ⊥).
             others_stay objects merged (plan_of plan) image before after is.placed address small
             (λ within.
-            writable_not_in_code modules (placement_of plan modules objects) address is.lawful declared variable
+            writable_not_in_code modules (placement_of plan modules objects) address
+            is.lawful declared variable
             (within.0, subst (λ (size : ℕ). address < plan.code_base + size) code_size within.1))
             (λ within.
             not_data (within.0, subst (λ (size : ℕ). address < plan.data_base + size) data_size within.1)))
@@ -509,7 +547,8 @@ module _
         let there : wanted.0 + (address - wanted.0) ≡ address = omega (arith, past) in
         subst
         (λ (address : ℕ).
-        byte_at after address ≡ byte_at (starting_memory modules (placement_of plan modules objects) before) address)
+        byte_at after address ≡ byte_at (starting_memory modules (placement_of plan modules objects) before)
+        address)
         there
         (contents_stand wanted (address - wanted.0) found.1 within
         ∙ sym (starts.covered wanted found.1 (address - wanted.0) within)))

@@ -31,13 +31,15 @@ once :
     → first_repeated known globals ≡ None
     → repeated_after known (map name_of globals) ≡ None
 once known [] none = refl
-once known (global ∷ globals) none = by (list_any (bytes_eq global.name) known) none (once (global.name ∷ known) globals)
+once known (global ∷ globals) none =
+    by (list_any (bytes_eq global.name) known) none (once (global.name ∷ known) globals)
   where
     by : (stood : Bool)
         → (if stood then Some global else first_repeated (global.name ∷ known) globals) ≡ None
         → (first_repeated (global.name ∷ known) globals ≡ None
         → repeated_after (global.name ∷ known) (map name_of globals) ≡ None)
-        → (if stood then Some global.name else repeated_after (global.name ∷ known) (map name_of globals)) ≡ None
+        → (if stood then Some global.name else repeated_after (global.name ∷ known) (map name_of globals))
+        ≡ None
     by true none rest = absurd (none-some global (sym none))
     by false none rest = rest none
 
@@ -60,7 +62,8 @@ found_among (global ∷ publics) name some =
         → (bytes_eq name global.name || is_among name (map name_of publics)) ≡ true
     by true e some rest =
         ap (λ (test : Bool). test || is_among name (map name_of publics)) (equal e)
-    by false e some rest = or_right (bytes_eq name global.name) (is_among name (map name_of publics)) (rest some)
+    by false e some rest =
+        or_right (bytes_eq name global.name) (is_among name (map name_of publics)) (rest some)
 
 -- each of these externals has a public
 has_public :
@@ -98,7 +101,8 @@ has_public publics (global ∷ externals) name none among =
     by true e none rest = absurd (none-some global (sym none))
     by false e none rest = here e (bytes_eq name global.name) refl among (rest none)
 
-among_front : (name : List ℕ) (one other : List (List ℕ)) → is_among name one ≡ true → is_among name (one ++ other) ≡ true
+among_front : (name : List ℕ) (one other : List (List ℕ)) → is_among name one ≡ true
+    → is_among name (one ++ other) ≡ true
 among_front name [] other is = let bad : false ≡ true = is in absurd cc
 among_front name (first ∷ one) other is = by (bytes_eq name first) is (among_front name one other)
   where
@@ -108,7 +112,8 @@ among_front name (first ∷ one) other is = by (bytes_eq name first) is (among_f
     by true is rest = refl
     by false is rest = rest is
 
-among_back : (name : List ℕ) (one other : List (List ℕ)) → is_among name other ≡ true → is_among name (one ++ other) ≡ true
+among_back : (name : List ℕ) (one other : List (List ℕ)) → is_among name other ≡ true
+    → is_among name (one ++ other) ≡ true
 among_back name [] other is = is
 among_back name (first ∷ one) other is = by (bytes_eq name first) (among_back name one other is)
   where
@@ -127,11 +132,13 @@ each_external :
     → ((name : List ℕ) → is_among name more ≡ true → is_among name all ≡ true)
     → AllByRecursion (λ (name : List ℕ). is_among name all ≡ true) names
 each_external [] more holds all further = tt
-each_external (name ∷ names) more holds all further = (further name holds.0, each_external names more holds.1 all further)
+each_external (name ∷ names) more holds all further =
+    (further name holds.0, each_external names more holds.1 all further)
 
 externals_split :
     (typed : TypedModule) (modules : List TypedModule)
-    → map name_of (externals_of (typed ∷ modules)) ≡ external_names_in typed ++ map name_of (externals_of modules)
+    → map name_of (externals_of (typed ∷ modules))
+    ≡ external_names_in typed ++ map name_of (externals_of modules)
 externals_split typed modules =
     ap (map name_of) (filter-append is_outside (shared_in typed) (globals_of modules))
     ∙ map-append name_of (filter is_outside (shared_in typed)) (externals_of modules)
@@ -169,7 +176,8 @@ none_missing :
     → find (λ name. not (is_among name known)) names ≡ None
 none_missing [] known holds = refl
 none_missing (name ∷ names) known holds =
-    ap (λ (test : Bool). if not test then Some name else find (λ name. not (is_among name known)) names) holds.0
+    ap (λ (test : Bool). if not test then Some name else find (λ name. not (is_among name known)) names)
+    holds.0
     ∙ none_missing names known holds.1
 
 -- the main modules
@@ -190,7 +198,8 @@ mains_are code data_before (typed ∷ modules) (object ∷ objects) have =
         → length (main_modules rest) ≡ count_by is_main modules
         → length
         (cons_option
-        (option_map (λ (offset : ℕ). (object.name, (offset + (linked_after code data_before object).start.code) % 65536)) start)
+        (option_map
+        (λ (offset : ℕ). (object.name, (offset + (linked_after code data_before object).start.code) % 65536)) start)
         (main_modules rest))
         ≡ cond main 1 0 + count_by is_main modules
     by (Some offset) true e rest same = omega (arith, same)
@@ -207,8 +216,11 @@ whole : (modules : List TypedModule) → IsJoined modules → IsWhole modules
 unfolding join_refusal
 whole modules joined =
     let first = both_are_none (without_public modules)
-    (option_or (public_twice modules) (option_or (declared_otherwise modules) (not_one_main modules))) joined in
-    let second = both_are_none (public_twice modules) (option_or (declared_otherwise modules) (not_one_main modules)) first.1 in
+    (option_or (public_twice modules) (option_or (declared_otherwise modules) (not_one_main modules)))
+    joined in
+    let second =
+    both_are_none (public_twice modules)
+    (option_or (declared_otherwise modules) (not_one_main modules)) first.1 in
     let third = both_are_none (declared_otherwise modules) (not_one_main modules) second.1 in
     record {
       publics = none_before_map _ (first_repeated [] (publics_of modules)) second.0;
@@ -225,16 +237,19 @@ program_has_image plan modules objects joined are have may_lie =
     ap (repeated_after []) names ∙ once [] (publics_of modules) is.publics in
     let resolved : unresolved objects ≡ None =
     none_missing (flat_map (λ (object : ObjectModule). object.externals) objects) (public_names objects)
-    (each_known (flat_map (λ (object : ObjectModule). object.externals) objects) (externals_known modules objects have)
+    (each_known (flat_map (λ (object : ObjectModule). object.externals) objects)
+    (externals_known modules objects have)
     (λ name among.
     subst (λ (all : List (List ℕ)). is_among name all ≡ true) (sym names)
     (has_public (publics_of modules) (externals_of modules) name is.externals among))) in
-    let main : length (main_modules (linked_modules objects)) ≡ 1 = mains_are 0 0 modules objects have ∙ is.main in
+    let main : length (main_modules (linked_modules objects)) ≡ 1 =
+    mains_are 0 0 modules objects have ∙ is.main in
     let made = merge_made plan modules objects are known resolved main
     (λ large. none-some SegmentTooLarge (sym may_lie ∙ large)) in
     let merged : ObjectModule = made.0 in
     let not_refused : placement_refusal (plan_of plan) merged ≡ None =
-    ranges_refused plan modules objects merged are made.1 ∙ ap (λ refusal. option_and_then refusal_of_merge refusal) may_lie in
+    ranges_refused plan modules objects merged are made.1
+    ∙ ap (λ refusal. option_and_then refusal_of_merge refusal) may_lie in
     record {
       merged = merged;
       merge = made.1;

@@ -1,5 +1,5 @@
--- Object modules of a program have a merge where none of their names are wrong, one of them is the main module,
--- and no segment of the program is too large.
+-- Object modules of a program have a merge where none of their names are wrong, one of them is the main
+-- module, and no segment of the program is too large.
 use Rattle.image_laws.proofs.Prelude.{◌≡◌, ℕ, ◌%◌, ◌==◌, Bool, true, false, cond, not, ◌||◌, List, [], ◌∷◌, length, Option, Some, None, option_map, refl, ap, ◌∙◌, list_any, option_or, first_that_holds, TypedModule, PlacingPlan, PassesMemory, RangesOverlap, SegmentTooLarge, ObjectMisplaced, placing_refusal, Target, Linked, all_publics, code_end, data_end, gain_in, linked_after, linked_from, linked_modules, DuplicatePublic, HighByteMoves, NotOneMain, SegmentTooLong, UnresolvedExternal, joined, link_refusal, main_modules, merge_of, public_names, repeated_after, some_high_byte_moves, some_segment_is_too_long, unless_refused, unresolved, Public, ObjectModule, AreObjectsOf, MergeMade, code_lengths_of}
 use Rattle.image_laws.proofs.Programs.Judged.{is_large, meets, misplaced_name, passes, program_refusal}
 use Rattle.image_laws.proofs.Programs.Lengths.{same_lengths}

@@ -11,7 +11,8 @@ pub record Fits (before : List Part) (part : Part) : Type 0 where
   pub placed : option_map_or (λ content. not (fits_segment before content)) (content_of part) false ≡ false
   pub fixes : fit_content before part (latest_content before) ≡ true
 
-pub no_fault_there : (fault : Option Fault) → option_map_or (λ (_ : Fault). false) fault true ≡ true → fault ≡ None
+pub no_fault_there : (fault : Option Fault)
+    → option_map_or (λ (_ : Fault). false) fault true ≡ true → fault ≡ None
 no_fault_there None h = refl
 no_fault_there (Some fault) h = absurd (let bad : false ≡ true = h in cc)
 
@@ -19,7 +20,9 @@ pub part_fits : (before : List Part) (part : Part) → is_accepted before part �
 part_fits before part accepted =
     let first = and_parts (nat_le (length (body_of part)) BODY_LIMIT && may_follow before (kind_of_part part))
     (option_map_or (λ (_ : Fault). false) (part_fault before part) true) accepted in
-    let second = and_parts (nat_le (length (body_of part)) BODY_LIMIT) (may_follow before (kind_of_part part)) first.0 in
+    let second =
+    and_parts (nat_le (length (body_of part)) BODY_LIMIT)
+    (may_follow before (kind_of_part part)) first.0 in
     let served : Bool × Fault = (not (list_all is_served (entries_of part)), WrongAlignment) in
     let placed : Bool × Fault =
     (option_map_or (λ content. not (fits_segment before content)) (content_of part) false, ContentMisplaced) in
@@ -114,7 +117,8 @@ no_header : (latest : RecordKind) → may_come_after latest kinds.Header ≡ tru
 no_header latest h = let bad : false ≡ true = h in cc
 
 -- no external names come after publics
-names_too_late : (latest : RecordKind) → 2 ≤ rank_of latest → may_come_after latest kinds.ExternalNames ≡ true → ⊥
+names_too_late : (latest : RecordKind) → 2 ≤ rank_of latest
+    → may_come_after latest kinds.ExternalNames ≡ true → ⊥
 names_too_late kinds.Header h k = absurd (omega arith)
 names_too_late kinds.ExternalNames h k = absurd (omega arith)
 names_too_late kinds.Publics h k = let bad : false ≡ true = k in cc
@@ -146,7 +150,8 @@ no_externals latest before [] h accepted = refl
 no_externals latest before (part ∷ others) h accepted =
     let cut = both_fit (latest ∷ before) part others accepted in
     let late = late_part latest part h cut.0.follows in
-    ap (λ e. e ++ flat_map externals_of others) late.0 ∙ no_externals part (latest ∷ before) others late.1 cut.1
+    ap (λ e. e ++ flat_map externals_of others) late.0
+    ∙ no_externals part (latest ∷ before) others late.1 cut.1
 
 abbrev pub public_name : Public → List ℕ
 public_name public = public.name
@@ -163,36 +168,49 @@ pub names_ordered :
     → flat_map names_of parts ≡ flat_map externals_of parts ++ map public_name (flat_map publics_of parts)
 names_ordered before [] accepted = refl
 names_ordered before (HeaderPart name translator version entries ∷ others) accepted =
-    names_ordered (HeaderPart name translator version entries ∷ before) others (both_fit before (HeaderPart name translator version entries) others accepted).1
+    names_ordered (HeaderPart name translator version entries ∷ before) others
+    (both_fit before (HeaderPart name translator version entries) others accepted).1
 names_ordered before (ExternalNamesPart names ∷ others) accepted =
-    ap (λ later. names ++ later) (names_ordered (ExternalNamesPart names ∷ before) others (both_fit before (ExternalNamesPart names) others accepted).1)
+    ap (λ later. names ++ later)
+    (names_ordered (ExternalNamesPart names ∷ before) others
+    (both_fit before (ExternalNamesPart names) others accepted).1)
     ∙ sym (append_assoc names (flat_map externals_of others) (map public_name (flat_map publics_of others)))
 names_ordered before (PublicsPart segment definitions ∷ others) accepted =
     let cut = both_fit before (PublicsPart segment definitions) others accepted in
     let none : flat_map externals_of others ≡ [] =
     no_externals (PublicsPart segment definitions) before others (omega arith) cut.1 in
-    ap (λ later. definition_names definitions ++ later) (names_ordered (PublicsPart segment definitions ∷ before) others cut.1)
+    ap (λ later. definition_names definitions ++ later)
+    (names_ordered (PublicsPart segment definitions ∷ before) others cut.1)
     ∙ ap (λ e. definition_names definitions ++ (e ++ map public_name (flat_map publics_of others))) none
-    ∙ ap (λ names. names ++ map public_name (flat_map publics_of others)) (sym (names_are segment definitions))
+    ∙ ap (λ names. names ++ map public_name (flat_map publics_of others))
+    (sym (names_are segment definitions))
     ∙ sym (map-append public_name (publics_of (PublicsPart segment definitions)) (flat_map publics_of others))
-    ∙ ap (λ e. e ++ map public_name (publics_of (PublicsPart segment definitions) ++ flat_map publics_of others))
+    ∙ ap (λ e. e ++ map public_name (publics_of (PublicsPart segment definitions)
+    ++ flat_map publics_of others))
     (sym none)
 names_ordered before (ContentPart content ∷ others) accepted =
-    names_ordered (ContentPart content ∷ before) others (both_fit before (ContentPart content) others accepted).1
+    names_ordered (ContentPart content ∷ before) others
+    (both_fit before (ContentPart content) others accepted).1
 names_ordered before (ExternalReferencesPart kind references ∷ others) accepted =
-    names_ordered (ExternalReferencesPart kind references ∷ before) others (both_fit before (ExternalReferencesPart kind references) others accepted).1
+    names_ordered (ExternalReferencesPart kind references ∷ before) others
+    (both_fit before (ExternalReferencesPart kind references) others accepted).1
 names_ordered before (RelocationPart kind offsets ∷ others) accepted =
-    names_ordered (RelocationPart kind offsets ∷ before) others (both_fit before (RelocationPart kind offsets) others accepted).1
+    names_ordered (RelocationPart kind offsets ∷ before) others
+    (both_fit before (RelocationPart kind offsets) others accepted).1
 names_ordered before (IntersegmentPart target kind offsets ∷ others) accepted =
-    names_ordered (IntersegmentPart target kind offsets ∷ before) others (both_fit before (IntersegmentPart target kind offsets) others accepted).1
+    names_ordered (IntersegmentPart target kind offsets ∷ before) others
+    (both_fit before (IntersegmentPart target kind offsets) others accepted).1
 names_ordered before (ModuleEndPart start ∷ others) accepted =
-    names_ordered (ModuleEndPart start ∷ before) others (both_fit before (ModuleEndPart start) others accepted).1
+    names_ordered (ModuleEndPart start ∷ before) others
+    (both_fit before (ModuleEndPart start) others accepted).1
 names_ordered before (EndOfFilePart ∷ others) accepted =
     names_ordered (EndOfFilePart ∷ before) others (both_fit before EndOfFilePart others accepted).1
 
 -- one header alone has entries
-pub no_entries_in : (latest part : Part) → may_come_after (kind_of_part latest) (kind_of_part part) ≡ true → entries_of part ≡ []
-no_entries_in latest (HeaderPart name translator version entries) h = absurd (no_header (kind_of_part latest) h)
+pub no_entries_in : (latest part : Part) → may_come_after (kind_of_part latest) (kind_of_part part) ≡ true
+    → entries_of part ≡ []
+no_entries_in latest (HeaderPart name translator version entries) h =
+    absurd (no_header (kind_of_part latest) h)
 no_entries_in latest (ExternalNamesPart names) h = refl
 no_entries_in latest (PublicsPart segment definitions) h = refl
 no_entries_in latest (ContentPart content) h = refl
@@ -246,10 +264,12 @@ publics_valid before [] accepted range = refl
 publics_valid before (part ∷ others) accepted range =
     let cut = both_fit before part others accepted in
     list_all-append is_valid_public (publics_of part) (flat_map publics_of others)
-    ∙ and_from _ _ (part_publics before part cut.0.body range.0) (publics_valid (part ∷ before) others cut.1 range.1)
+    ∙ and_from _ _ (part_publics before part cut.0.body range.0)
+    (publics_valid (part ∷ before) others cut.1 range.1)
 
 starts_range :
-    (parts : List Part) → AllByRecursion InRange parts → AllByRecursion (λ offset. offset < 65536) (filter_map start_of_end parts)
+    (parts : List Part) → AllByRecursion InRange parts
+    → AllByRecursion (λ offset. offset < 65536) (filter_map start_of_end parts)
 starts_range [] range = tt
 starts_range (HeaderPart name translator version entries ∷ others) range = starts_range others range.1
 starts_range (ExternalNamesPart names ∷ others) range = starts_range others range.1

@@ -66,7 +66,8 @@ ended_shortens name (last ∷ others) x rest h =
 
 pub listed_name_shortens : Shortens listed_name_in_front
 listed_name_shortens bytes x rest h =
-    option_and_then_some (λ (named : List ℕ × List ℕ). ended_name named.0 named.1) (name_in_front bytes) (x, rest) h
+    option_and_then_some (λ (named : List ℕ × List ℕ). ended_name named.0 named.1)
+    (name_in_front bytes) (x, rest) h
     (λ named first second.
     let n : length named.1 < length bytes = name_shortens bytes named.0 named.1 first in
     let e : length rest < length named.1 = ended_shortens named.0 named.1 x rest second in
@@ -95,7 +96,8 @@ definition_shortens bytes x rest h =
 
 -- the judgement of a file, of which each record has a byte at least
 judged_alike :
-    (next other : List Part → Result (List Part) Fault) (before : List Part) (fault : Option Fault) (part : Option Part)
+    (next other : List Part → Result (List Part) Fault) (before : List Part) (fault : Option Fault)
+    (part : Option Part)
     → ((p : Part) → next (p ∷ before) ≡ other (p ∷ before))
     → judged_by next before fault part ≡ judged_by other before fault part
 judged_alike next other before (Some fault) part same = refl

@@ -49,13 +49,15 @@ references_range [] all = tt
 references_range (reference ∷ others) all =
     (word_of_high reference.external all.1.0, references_range others all.1.1.1.1)
 
-start_range : (start : Option ℕ) → IsBytes (body_of (ModuleEndPart start)) → IfSome start (λ offset. offset < 65536)
+start_range : (start : Option ℕ) → IsBytes (body_of (ModuleEndPart start))
+    → IfSome start (λ offset. offset < 65536)
 start_range None all = tt
 start_range (Some offset) all = word_of_high offset all.1.1.1.0
 
 body_range : (part : Part) → IsBytes (body_of part) → InRange part
 body_range (HeaderPart name translator version entries) all =
-    let cut = bytes_parts (name_bytes name) (translator ∷ version ∷ flat_map segment_entry_bytes entries) all in
+    let cut =
+    bytes_parts (name_bytes name) (translator ∷ version ∷ flat_map segment_entry_bytes entries) all in
     entries_range entries cut.1.1.1
 body_range (ExternalNamesPart names) all = tt
 body_range (PublicsPart segment definitions) all = definitions_range definitions all.1

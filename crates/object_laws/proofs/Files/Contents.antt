@@ -42,7 +42,8 @@ pub record Follow (count : ℕ) (entries : List SegmentEntry) (before parts : Li
   pub accepted : are_accepted before parts ≡ true
 
 next_follow :
-    (count : ℕ) (entries : List SegmentEntry) (latest : Part) (earlier : List Part) (part : Part) (others : List Part)
+    (count : ℕ) (entries : List SegmentEntry) (latest : Part) (earlier : List Part) (part : Part)
+    (others : List Part)
     → Follow count entries (latest ∷ earlier) (part ∷ others)
     → Follow count entries (part ∷ latest ∷ earlier) others
 next_follow count entries latest earlier part others f =
@@ -53,7 +54,8 @@ next_follow count entries latest earlier part others f =
     let there = length-append (externals_of part) (flat_map externals_of (latest ∷ earlier)) in
     record {
       header =
-          ap (λ e. e ++ flat_map entries_of (latest ∷ earlier)) (no_entries_in latest part cut.0.follows) ∙ f.header;
+          ap (λ e. e ++ flat_map entries_of (latest ∷ earlier)) (no_entries_in latest part cut.0.follows)
+          ∙ f.header;
       known = omega (arith, here, there, known);
       range = f.range.1;
       accepted = cut.1;
@@ -76,11 +78,14 @@ own_content count entries segment latest earlier content others f same =
     let is : content.segment ≡ segment = same_is content.segment segment same in
     let size : stated_length_of content.segment before ≡ length_in entries segment =
     ap (λ e. length_in e content.segment) f.header ∙ ap (length_in entries) is in
-    let filled : filled_to content.segment before ≡ filled_to segment before = ap (λ s. filled_to s before) is in
+    let filled : filled_to content.segment before ≡ filled_to segment before =
+    ap (λ s. filled_to s before) is in
     let ends : content_end content ≤ stated_length_of content.segment before = leb-true _ _ placed.0 in
     let begins : filled_to content.segment before ≤ content.offset = leb-true _ _ placed.1 in
-    let known : length (flat_map externals_of (ContentPart content ∷ before)) + length (flat_map externals_of others) ≤ count = next.known in
-    let fixes = fixes_sound count content (ContentPart content ∷ before) others body.0 refl (omega arith) next.range
+    let known : length (flat_map externals_of (ContentPart content ∷ before))
+    + length (flat_map externals_of others) ≤ count = next.known in
+    let fixes =
+    fixes_sound count content (ContentPart content ∷ before) others body.0 refl (omega arith) next.range
     next.accepted (λ offset. refl) in
     record {
       begins = subst (λ n. n ≤ content.offset) filled begins;
@@ -97,29 +102,38 @@ own_content count entries segment latest earlier content others f same =
 pub contents_ascend :
     (count : ℕ) (entries : List SegmentEntry) (segment : Segment) (latest : Part) (earlier parts : List Part)
     → Follow count entries (latest ∷ earlier) parts
-    → Ascend count (length_in entries segment) segment (filled_to segment (latest ∷ earlier)) (fixed_contents parts)
+    → Ascend count (length_in entries segment) segment (filled_to segment (latest ∷ earlier))
+    (fixed_contents parts)
 contents_ascend count entries segment latest earlier [] f = tt
 contents_ascend count entries segment latest earlier (HeaderPart name translator version lengths ∷ others) f =
-    contents_ascend count entries segment _ (latest ∷ earlier) others (next_follow count entries latest earlier _ others f)
+    contents_ascend count entries segment _ (latest ∷ earlier) others
+    (next_follow count entries latest earlier _ others f)
 contents_ascend count entries segment latest earlier (ExternalNamesPart names ∷ others) f =
-    contents_ascend count entries segment _ (latest ∷ earlier) others (next_follow count entries latest earlier _ others f)
+    contents_ascend count entries segment _ (latest ∷ earlier) others
+    (next_follow count entries latest earlier _ others f)
 contents_ascend count entries segment latest earlier (PublicsPart place definitions ∷ others) f =
-    contents_ascend count entries segment _ (latest ∷ earlier) others (next_follow count entries latest earlier _ others f)
+    contents_ascend count entries segment _ (latest ∷ earlier) others
+    (next_follow count entries latest earlier _ others f)
 contents_ascend count entries segment latest earlier (ContentPart content ∷ others) f = (
   own_content count entries segment latest earlier content others f,
   contents_ascend count entries segment (ContentPart content) (latest ∷ earlier) others
       (next_follow count entries latest earlier (ContentPart content) others f),
 )
 contents_ascend count entries segment latest earlier (ExternalReferencesPart kind references ∷ others) f =
-    contents_ascend count entries segment _ (latest ∷ earlier) others (next_follow count entries latest earlier _ others f)
+    contents_ascend count entries segment _ (latest ∷ earlier) others
+    (next_follow count entries latest earlier _ others f)
 contents_ascend count entries segment latest earlier (RelocationPart kind offsets ∷ others) f =
-    contents_ascend count entries segment _ (latest ∷ earlier) others (next_follow count entries latest earlier _ others f)
+    contents_ascend count entries segment _ (latest ∷ earlier) others
+    (next_follow count entries latest earlier _ others f)
 contents_ascend count entries segment latest earlier (IntersegmentPart target kind offsets ∷ others) f =
-    contents_ascend count entries segment _ (latest ∷ earlier) others (next_follow count entries latest earlier _ others f)
+    contents_ascend count entries segment _ (latest ∷ earlier) others
+    (next_follow count entries latest earlier _ others f)
 contents_ascend count entries segment latest earlier (ModuleEndPart start ∷ others) f =
-    contents_ascend count entries segment _ (latest ∷ earlier) others (next_follow count entries latest earlier _ others f)
+    contents_ascend count entries segment _ (latest ∷ earlier) others
+    (next_follow count entries latest earlier _ others f)
 contents_ascend count entries segment latest earlier (EndOfFilePart ∷ others) f =
-    contents_ascend count entries segment _ (latest ∷ earlier) others (next_follow count entries latest earlier _ others f)
+    contents_ascend count entries segment _ (latest ∷ earlier) others
+    (next_follow count entries latest earlier _ others f)
 
 -- What such contents set.
 -- a content has a place
@@ -135,12 +149,16 @@ holds_is segment offset fixed h =
     let cut = and_parts
     (same_segment (fixed.content).segment segment && nat_le (fixed.content).offset offset)
     (nat_lt offset (content_end fixed.content)) h in
-    let first = and_parts (same_segment (fixed.content).segment segment) (nat_le (fixed.content).offset offset) cut.0 in
+    let first =
+    and_parts (same_segment (fixed.content).segment segment)
+    (nat_le (fixed.content).offset offset) cut.0 in
     record { same = first.0; from = leb-true _ _ first.1; to = ltb-true _ _ cut.1 }
 
 holds_by :
-    (segment : Segment) (offset : ℕ) (fixed : FixedContent) → same_segment (fixed.content).segment segment ≡ true
-    → (fixed.content).offset ≤ offset → offset < content_end fixed.content → holds_place segment offset fixed ≡ true
+    (segment : Segment) (offset : ℕ) (fixed : FixedContent)
+    → same_segment (fixed.content).segment segment ≡ true
+    → (fixed.content).offset ≤ offset → offset < content_end fixed.content
+    → holds_place segment offset fixed ≡ true
 holds_by segment offset fixed same from to =
     and_from _ _ (and_from _ _ same (le-leb _ _ from)) (lt-ltb _ _ to)
 
@@ -150,13 +168,15 @@ end_later :
     → end ≤ end_by_content segment (Some fixed.content) end
 end_later count size segment end fixed own = go (same_segment (fixed.content).segment segment) refl
   where
-    go : (b : Bool) → same_segment (fixed.content).segment segment ≡ b → end ≤ cond b (content_end fixed.content) end
+    go : (b : Bool) → same_segment (fixed.content).segment segment ≡ b
+        → end ≤ cond b (content_end fixed.content) end
     go true e = let begins : end ≤ (fixed.content).offset = (own e).begins in omega arith
     go false e = omega arith
 
 -- what has a place begins after the end of those before it
 from_end :
-    (count size : ℕ) (segment : Segment) (end offset : ℕ) (contents : List FixedContent) (fixed : FixedContent)
+    (count size : ℕ) (segment : Segment) (end offset : ℕ) (contents : List FixedContent)
+    (fixed : FixedContent)
     → Ascend count size segment end contents → find (holds_place segment offset) contents ≡ Some fixed
     → end ≤ offset
 from_end count size segment end offset [] fixed a h = absurd (none-some fixed h)
@@ -175,18 +195,21 @@ from_end count size segment end offset (first ∷ others) fixed a h =
         omega arith
     go false e later is =
         let after : end_by_content segment (Some first.content) end ≤ offset = later is in
-        let grows : end ≤ end_by_content segment (Some first.content) end = end_later count size segment end first a.0 in
+        let grows : end ≤ end_by_content segment (Some first.content) end =
+        end_later count size segment end first a.0 in
         le_trans grows after
 
 -- what has a place is sound
 pub found_sound :
-    (count size : ℕ) (segment : Segment) (end offset : ℕ) (contents : List FixedContent) (fixed : FixedContent)
+    (count size : ℕ) (segment : Segment) (end offset : ℕ) (contents : List FixedContent)
+    (fixed : FixedContent)
     → Ascend count size segment end contents → find (holds_place segment offset) contents ≡ Some fixed
     → Sound count size fixed
 found_sound count size segment end offset [] fixed a h = absurd (none-some fixed h)
 found_sound count size segment end offset (first ∷ others) fixed a h =
     go (holds_place segment offset first) refl
-    (found_sound count size segment (end_by_content segment (Some first.content) end) offset others fixed a.1) h
+    (found_sound count size segment (end_by_content segment (Some first.content) end) offset others fixed a.1)
+    h
   where
     go : (b : Bool) → holds_place segment offset first ≡ b
         → (find (holds_place segment offset) others ≡ Some fixed → Sound count size fixed)
@@ -197,13 +220,15 @@ found_sound count size segment end offset (first ∷ others) fixed a h =
 
 -- the next place is set by the same content, as far as that reaches
 next_place :
-    (count size : ℕ) (segment : Segment) (end offset : ℕ) (contents : List FixedContent) (fixed : FixedContent)
+    (count size : ℕ) (segment : Segment) (end offset : ℕ) (contents : List FixedContent)
+    (fixed : FixedContent)
     → Ascend count size segment end contents → find (holds_place segment offset) contents ≡ Some fixed
     → offset + 1 < content_end fixed.content → find (holds_place segment (offset + 1)) contents ≡ Some fixed
 next_place count size segment end offset [] fixed a h k = absurd (none-some fixed h)
 next_place count size segment end offset (first ∷ others) fixed a h k =
     go (holds_place segment offset first) refl
-    (λ is. next_place count size segment (end_by_content segment (Some first.content) end) offset others fixed a.1 is k)
+    (λ is. next_place count size segment (end_by_content segment (Some first.content) end) offset
+    others fixed a.1 is k)
     h
   where
     before :
@@ -213,7 +238,8 @@ next_place count size segment end offset (first ∷ others) fixed a h k =
         let holds = holds_is segment (offset + 1) first f in
         let to : offset + 1 < content_end first.content = holds.to in
         let after : end_by_content segment (Some first.content) end ≤ offset =
-        from_end count size segment (end_by_content segment (Some first.content) end) offset others fixed a.1 is in
+        from_end count size segment (end_by_content segment (Some first.content) end) offset
+        others fixed a.1 is in
         let ends : end_by_content segment (Some first.content) end ≡ content_end first.content =
         ap (λ b. cond b (content_end first.content) end) holds.same in
         let within : content_end first.content ≤ offset = subst (λ n. n ≤ offset) ends after in
@@ -229,7 +255,8 @@ next_place count size segment end offset (first ∷ others) fixed a h k =
         let holds = holds_is segment offset first e in
         let same : first ≡ fixed = same_Some first fixed is in
         let from : (first.content).offset ≤ offset = holds.from in
-        let to : offset + 1 < content_end first.content = subst (λ f. offset + 1 < content_end f.content) (sym same) k in
+        let to : offset + 1 < content_end first.content =
+        subst (λ f. offset + 1 < content_end f.content) (sym same) k in
         ap (λ b. cond b (Some first) (find (holds_place segment (offset + 1)) others))
         (holds_by segment (offset + 1) first holds.same (omega (arith, from)) to)
         ∙ is
@@ -240,7 +267,8 @@ next_place count size segment end offset (first ∷ others) fixed a h k =
 
 -- a byte that is set
 pub all_found :
-    {A : Type 0} (q p : A → Bool) (xs : List A) (x : A) → list_all q xs ≡ true → find p xs ≡ Some x → q x ≡ true
+    {A : Type 0} (q p : A → Bool) (xs : List A) (x : A) → list_all q xs ≡ true
+    → find p xs ≡ Some x → q x ≡ true
 all_found q p [] x all h = absurd (none-some x h)
 all_found {A} q p (y ∷ ys) x all h = go (p y) (all_found q p ys x (and_parts (q y) (list_all q ys) all).1) h
   where
@@ -249,7 +277,8 @@ all_found {A} q p (y ∷ ys) x all h = go (p y) (all_found q p ys x (and_parts (
     go false later is = later is
 
 pub found_any :
-    {A : Type 0} (q p : A → Bool) (xs : List A) (x : A) → find p xs ≡ Some x → q x ≡ true → list_any q xs ≡ true
+    {A : Type 0} (q p : A → Bool) (xs : List A) (x : A) → find p xs ≡ Some x → q x ≡ true
+    → list_any q xs ≡ true
 found_any q p [] x h k = absurd (none-some x h)
 found_any {A} q p (y ∷ ys) x h k = go (p y) (λ is. found_any q p ys x is k) h
   where
@@ -276,7 +305,8 @@ set_valid count size offset fixed s =
     (go (find (begins_at offset) fixed.fixes) refl)
   where
     go : (found : Option Fix) → find (begins_at offset) fixed.fixes ≡ found
-        → option_map_or (λ (fixup : Fixup). is_target count fixup.target) (option_map fixup_of found) true ≡ true
+        → option_map_or (λ (fixup : Fixup). is_target count fixup.target) (option_map fixup_of found) true
+        ≡ true
     go None e = refl
     go (Some fix) e = all_found (has_target count) (begins_at offset) fixed.fixes fix s.targets e
 
@@ -298,12 +328,14 @@ pub record IsWhole (size offset : ℕ) (contents : List FixedContent) (segment :
   pub plain : is_plain (set_in contents segment (offset + 1)) ≡ true
 
 whole_here :
-    (count size : ℕ) (segment : Segment) (end offset : ℕ) (contents : List FixedContent) (fixed : FixedContent)
+    (count size : ℕ) (segment : Segment) (end offset : ℕ) (contents : List FixedContent)
+    (fixed : FixedContent)
     → Ascend count size segment end contents → find (holds_place segment offset) contents ≡ Some fixed
     → (found : Option Fix) → find (begins_at offset) fixed.fixes ≡ found
     → option_map_or (λ (fixup : Fixup). is_both fixup.kind) (option_map fixup_of found) false ≡ true
     → IsWhole size offset contents segment
-whole_here count size segment end offset contents fixed a e None f h = absurd (let bad : false ≡ true = h in cc)
+whole_here count size segment end offset contents fixed a e None f h =
+    absurd (let bad : false ≡ true = h in cc)
 whole_here count size segment end offset contents fixed a e (Some fix) f h =
     let s = found_sound count size segment end offset contents fixed a e in
     let at : begins_at offset fix ≡ true = find_passes (begins_at offset) fixed.fixes fix f in
@@ -312,7 +344,9 @@ whole_here count size segment end offset contents fixed a e (Some fix) f h =
     let begins : fix.offset ≡ offset = w.begins in
     let width : width_of fix.kind ≡ 2 = w.width in
     let ends : fix_end fix ≤ content_end fixed.content =
-    leb-true _ _ (and_parts (nat_le (fixed.content).offset fix.offset) (nat_le (fix_end fix) (content_end fixed.content))
+    leb-true _ _
+    (and_parts (nat_le (fixed.content).offset fix.offset)
+    (nat_le (fix_end fix) (content_end fixed.content))
     (all_found (is_within fixed.content) (begins_at offset) fixed.fixes fix s.within f)).1 in
     let to : offset + 1 < content_end fixed.content = omega arith in
     let size_is : content_end fixed.content ≤ size = s.ends in
@@ -332,13 +366,15 @@ pub place_whole :
     (count size : ℕ) (segment : Segment) (end offset : ℕ) (contents : List FixedContent)
     → Ascend count size segment end contents → begins_word (set_in contents segment offset) ≡ true
     → IsWhole size offset contents segment
-place_whole count size segment end offset contents a h = go (find (holds_place segment offset) contents) refl h
+place_whole count size segment end offset contents a h =
+    go (find (holds_place segment offset) contents) refl h
   where
     go : (found : Option FixedContent) → find (holds_place segment offset) contents ≡ found
         → begins_word (option_map (set_at offset) found) ≡ true → IsWhole size offset contents segment
     go None e k = absurd (let bad : false ≡ true = k in cc)
     go (Some fixed) e k =
-        whole_here count size segment end offset contents fixed a e (find (begins_at offset) fixed.fixes) refl k
+        whole_here count size segment end offset contents fixed a e
+        (find (begins_at offset) fixed.fixes) refl k
 
 -- Rows of places.
 pub all_places :

@@ -15,7 +15,8 @@ nothing_within zero = refl
 nothing_within (suc count) = refl
 
 -- with at least as many steps as bytes it doesn't matter how many there are
-pub any_count : (count other : ℕ) (bytes : List ℕ) → length bytes ≤ count → length bytes ≤ other → parts_within count bytes ≡ parts_within other bytes
+pub any_count : (count other : ℕ) (bytes : List ℕ) → length bytes ≤ count → length bytes ≤ other
+    → parts_within count bytes ≡ parts_within other bytes
 any_count count other [] h k = nothing_within count ∙ sym (nothing_within other)
 any_count zero other (byte ∷ rest) h k = absurd (omega arith)
 any_count (suc count) zero (byte ∷ rest) h k = absurd (omega arith)
@@ -32,11 +33,13 @@ part_within :
 part_within count part rest limit =
     let bytes : List ℕ = part_bytes part ++ rest in
     let r = read_again (kind_of_part part) (body_of part) rest limit in
-    ap (λ fault. before_parts (sound_part bytes fault) (parts_within count (drop (record_end bytes) bytes))) r.no_fault
+    ap (λ fault. before_parts (sound_part bytes fault) (parts_within count (drop (record_end bytes) bytes)))
+    r.no_fault
     ∙ ap (λ kind.
     before_parts (option_and_then (λ k. part_in k (first_body bytes)) kind)
     (parts_within count (drop (record_end bytes) bytes))) r.of_type
-    ∙ ap (λ body. before_parts (part_in (kind_of_part part) body) (parts_within count (drop (record_end bytes) bytes)))
+    ∙ ap (λ body. before_parts (part_in (kind_of_part part) body)
+    (parts_within count (drop (record_end bytes) bytes)))
     r.body_is
     ∙ ap (λ found. before_parts found (parts_within count (drop (record_end bytes) bytes))) (part_again part)
     ∙ ap (λ left. part ∷ parts_within count left) r.rest_is
@@ -49,17 +52,20 @@ unfolding parts_from
 part_first part rest limit =
     let whole : List ℕ = part_bytes part ++ rest in
     let some : 0 < length (part_bytes part) = has_bytes part in
-    let longer : length whole ≡ length (part_bytes part) + length rest = length-append (part_bytes part) rest in
+    let longer : length whole ≡ length (part_bytes part) + length rest =
+    length-append (part_bytes part) rest in
     any_count (length whole) (suc (length whole)) whole (omega arith) (omega arith)
     ∙ part_within (length whole) part rest limit
-    ∙ ap (λ left. part ∷ left) (any_count (length whole) (length rest) rest (omega (arith, longer)) (omega arith))
+    ∙ ap (λ left. part ∷ left)
+    (any_count (length whole) (length rest) rest (omega (arith, longer)) (omega arith))
 
 nothing_left : parts_from [] ≡ []
 unfolding parts_from
 nothing_left = refl
 
 parts_again :
-    (before later : List Part) → are_accepted before later ≡ true → parts_from (flat_map part_bytes later) ≡ later
+    (before later : List Part) → are_accepted before later ≡ true
+    → parts_from (flat_map part_bytes later) ≡ later
 parts_again before [] accepted = nothing_left
 parts_again before (part ∷ later) accepted =
     let t = and_parts (is_accepted before part) (are_accepted (part ∷ before) later) accepted in

@@ -1,4 +1,5 @@
--- A file with parts is judged as these, and one with a first fault as that: so there is one answer for each file.
+-- A file with parts is judged as these, and one with a first fault as that: so there is one answer for each
+-- file.
 use Rattle.object_laws.proofs.Prelude.{◌≡◌, ℕ, zero, suc, ◌+◌, ◌<◌, ◌≤◌, true, false, cond, ◌==◌, ◌&&◌, nat_le, List, [], ◌∷◌, ◌++◌, length, drop, flat_map, reverse, slice_index, Some, None, option_map, option_and_then, Ok, Err, refl, ap, sym, ◌∙◌, arith, option_or, option_map_or, leb-true, append_assoc, append-nil, reverse-append, reverse-reverse, length-append, BODY_LIMIT, RecordKind, kind_of_type, record_end, first_body, record_bytes, record_fault, ReadAgain, read_again, Fault, OutOfOrder, WrongBody, rank_of, may_come_after, is_empty, is_ended, may_follow, Part, kind_of_part, body_of, part_bytes, part_in, first_part, part_fault, is_accepted, are_accepted, fault_from_record, fault_of_record, fault_at, IsFileOf, HasFirstFault, judged_by, judged_after, parts_of, and_parts}
 use Rattle.omf80.specs.declared.kind.RecordKind.TheVariants as kinds
 use Rattle.object_laws.proofs.Files.PartsAgain.{part_again}
@@ -24,7 +25,8 @@ open_after kinds.EndOfFile kinds.IntersegmentReferences h = absurd (let bad : fa
 open_after kinds.EndOfFile kinds.ModuleEnd h = absurd (let bad : false ≡ true = h in cc)
 open_after kinds.EndOfFile kinds.EndOfFile h = absurd (let bad : false ≡ true = h in cc)
 
-not_ended_before : (before : List Part) (kind : RecordKind) → may_follow before kind ≡ true → is_ended before ≡ false
+not_ended_before : (before : List Part) (kind : RecordKind) → may_follow before kind ≡ true
+    → is_ended before ≡ false
 not_ended_before [] kind h = refl
 not_ended_before (latest ∷ others) kind h = open_after (kind_of_part latest) kind h
 
@@ -54,11 +56,13 @@ judged_again before part rest bytes accepted r =
           ap (λ ended.
           cond ended (cond (is_empty bytes) None (Some OutOfOrder))
           (option_or (option_map fault_from_record (record_fault bytes))
-          (option_and_then (λ k. fault_of_record before k (first_body bytes)) (kind_of_type (slice_index bytes 0)))))
+          (option_and_then (λ k. fault_of_record before k (first_body bytes))
+          (kind_of_type (slice_index bytes 0)))))
           (not_ended_before before kind second.1)
           ∙ ap (λ fault.
           option_or (option_map fault_from_record fault)
-          (option_and_then (λ k. fault_of_record before k (first_body bytes)) (kind_of_type (slice_index bytes 0))))
+          (option_and_then (λ k. fault_of_record before k (first_body bytes))
+          (kind_of_type (slice_index bytes 0))))
           r.no_fault
           ∙ ap (option_and_then (λ k. fault_of_record before k (first_body bytes))) r.of_type
           ∙ ap (fault_of_record before kind) r.body_is ∙ of_record;
@@ -68,11 +72,14 @@ judged_again before part rest bytes accepted r =
       rest_is = r.rest_is;
     }
 
-pub limit_of : (before : List Part) (part : Part) → is_accepted before part ≡ true → length (body_of part) ≤ BODY_LIMIT
+pub limit_of : (before : List Part) (part : Part) → is_accepted before part ≡ true
+    → length (body_of part) ≤ BODY_LIMIT
 limit_of before part accepted =
     let first = and_parts (nat_le (length (body_of part)) BODY_LIMIT && may_follow before (kind_of_part part))
     (option_map_or (λ (_ : Fault). false) (part_fault before part) true) accepted in
-    let second = and_parts (nat_le (length (body_of part)) BODY_LIMIT) (may_follow before (kind_of_part part)) first.0 in
+    let second =
+    and_parts (nat_le (length (body_of part)) BODY_LIMIT)
+    (may_follow before (kind_of_part part)) first.0 in
     leb-true (length (body_of part)) BODY_LIMIT second.0
 
 -- the judgement of bytes that begin with a part goes on after it
@@ -84,7 +91,8 @@ onward count before part rest accepted =
     let j = judged_again before part rest bytes accepted
     (read_again (kind_of_part part) (body_of part) rest (limit_of before part accepted)) in
     ap (λ fault.
-    judged_by (λ parts. judged_after count parts (drop (record_end bytes) bytes)) before fault (first_part bytes))
+    judged_by (λ parts. judged_after count parts (drop (record_end bytes) bytes)) before
+    fault (first_part bytes))
     j.no_fault
     ∙ ap (judged_by (λ parts. judged_after count parts (drop (record_end bytes) bytes)) before None) j.found
     ∙ ap (judged_after count (part ∷ before)) j.rest_is
@@ -111,7 +119,8 @@ onward_past (part ∷ later) before rest (suc count) accepted h =
     let after : List ℕ = flat_map part_bytes later ++ rest in
     let grouped : (part_bytes part ++ flat_map part_bytes later) ++ rest ≡ part_bytes part ++ after =
     append_assoc (part_bytes part) (flat_map part_bytes later) rest in
-    let longer : length ((part_bytes part ++ flat_map part_bytes later) ++ rest) ≡ length (part_bytes part) + length after =
+    let longer : length ((part_bytes part ++ flat_map part_bytes later) ++ rest)
+    ≡ length (part_bytes part) + length after =
     ap length grouped ∙ length-append (part_bytes part) after in
     let some : 0 < length (part_bytes part) = has_bytes part in
     let o = onward_past later (part ∷ before) rest count t.1 (omega arith) in
@@ -150,8 +159,10 @@ at_fault (suc count) before rest fault h is =
 pub parts_are : (bytes : List ℕ) (parts : List Part) → IsFileOf bytes parts → parts_of bytes ≡ Ok parts
 unfolding parts_of
 parts_are bytes parts file =
-    let all : bytes ≡ flat_map part_bytes parts ++ [] = file.spelled ∙ sym (append-nil (flat_map part_bytes parts)) in
-    let o = onward_past parts [] [] (suc (length (flat_map part_bytes parts ++ []))) file.accepted (omega arith) in
+    let all : bytes ≡ flat_map part_bytes parts ++ [] =
+    file.spelled ∙ sym (append-nil (flat_map part_bytes parts)) in
+    let o = onward_past parts [] [] (suc (length (flat_map part_bytes parts ++ [])))
+    file.accepted (omega arith) in
     let before : reverse parts ++ [] ≡ reverse parts = append-nil (reverse parts) in
     ap (λ b. judged_after (suc (length b)) [] b) all ∙ o.same
     ∙ ap (λ b. judged_after o.left b []) before
@@ -162,7 +173,8 @@ parts_are bytes parts file =
 pub fault_is : (bytes : List ℕ) (fault : Fault) → HasFirstFault bytes fault → parts_of bytes ≡ Err fault
 unfolding parts_of
 fault_is bytes fault h =
-    let o = onward_past h.before [] h.rest (suc (length (flat_map part_bytes h.before ++ h.rest))) h.accepted (omega arith) in
+    let o = onward_past h.before [] h.rest (suc (length (flat_map part_bytes h.before ++ h.rest)))
+    h.accepted (omega arith) in
     let before : reverse h.before ++ [] ≡ reverse h.before = append-nil (reverse h.before) in
     ap (λ b. judged_after (suc (length b)) [] b) h.spelled ∙ o.same
     ∙ ap (λ b. judged_after o.left b h.rest) before

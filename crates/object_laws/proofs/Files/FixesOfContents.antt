@@ -1,5 +1,5 @@
--- The fixes that stand after a content of a file: what they are fixed to, that they lie within it, and that no
--- word begins right before another of them.
+-- The fixes that stand after a content of a file: what they are fixed to, that they lie within it, and that
+-- no word begins right before another of them.
 use Rattle.object_laws.proofs.Prelude.{◌≡◌, ℕ, ◌+◌, ◌<◌, ◌≤◌, ◌==◌, Bool, true, false, not, ◌&&◌, ◌||◌, nat_lt, List, [], ◌∷◌, ◌++◌, length, map, flat_map, Some, None, refl, ap, sym, ◌∙◌, arith, list_all, list_any, AllByRecursion, option_or, and_parts, and_from, lt-ltb, ltb-true, eqb-true, list_all-append, list_any-append, Fix, FixKind, Low, High, Both, Segment, Absolute, Code, Data, Stack, InSegment, width_of, is_both, holds_bytes, is_movable, is_target, Reference, Content, Part, HeaderPart, ExternalNamesPart, PublicsPart, ContentPart, ExternalReferencesPart, RelocationPart, IntersegmentPart, ModuleEndPart, EndOfFilePart, kind_of_part, is_empty, is_fix_record, externals_of, content_of, latest_content, fixes_of, leading_fixes, is_other_segment, is_body, is_within, fix_end, share_a_byte, are_apart, fit_content, are_accepted, not-true}
 use Rattle.object_laws.proofs.Files.Bytes.{InRange}
 use Rattle.object_laws.proofs.Files.Accepted.{both_fit, any_moved}
@@ -87,7 +87,8 @@ clash_moved :
     (offset : ℕ) (rest : List Fix) (fix : Fix) (others : List Fix)
     → clash offset (rest ++ fix ∷ others) ≡ clash offset (fix ∷ rest ++ others)
 clash_moved offset rest fix others =
-    ap (λ t. t && list_any (begins_at (offset + 1)) (rest ++ fix ∷ others)) (any_moved (word_at offset) rest fix others)
+    ap (λ t. t && list_any (begins_at (offset + 1)) (rest ++ fix ∷ others))
+    (any_moved (word_at offset) rest fix others)
     ∙ ap (λ t. list_any (word_at offset) (fix ∷ rest ++ others) && t)
     (any_moved (begins_at (offset + 1)) rest fix others)
 
@@ -106,7 +107,8 @@ or_turned true false c = refl
 or_turned false b c = refl
 
 any_turned :
-    {A : Type 0} (p : A → Bool) (xs ys zs : List A) → list_any p ((xs ++ ys) ++ zs) ≡ list_any p (ys ++ (xs ++ zs))
+    {A : Type 0} (p : A → Bool) (xs ys zs : List A)
+    → list_any p ((xs ++ ys) ++ zs) ≡ list_any p (ys ++ (xs ++ zs))
 any_turned p xs ys zs =
     list_any-append p (xs ++ ys) zs
     ∙ ap (λ t. t || list_any p zs) (list_any-append p xs ys)
@@ -118,10 +120,12 @@ clash_turned :
     (offset : ℕ) (xs ys zs : List Fix) → clash offset ((xs ++ ys) ++ zs) ≡ clash offset (ys ++ (xs ++ zs))
 clash_turned offset xs ys zs =
     ap (λ t. t && list_any (begins_at (offset + 1)) ((xs ++ ys) ++ zs)) (any_turned (word_at offset) xs ys zs)
-    ∙ ap (λ t. list_any (word_at offset) (ys ++ (xs ++ zs)) && t) (any_turned (begins_at (offset + 1)) xs ys zs)
+    ∙ ap (λ t. list_any (word_at offset) (ys ++ (xs ++ zs)) && t)
+    (any_turned (begins_at (offset + 1)) xs ys zs)
 
 fix_part_alone :
-    (part : Part) → is_fix_record (kind_of_part part) ≡ true → (content_of part ≡ None) × (externals_of part ≡ [])
+    (part : Part) → is_fix_record (kind_of_part part) ≡ true
+    → (content_of part ≡ None) × (externals_of part ≡ [])
 fix_part_alone (HeaderPart name translator version entries) h = (refl, refl)
 fix_part_alone (ExternalNamesPart names) h = absurd (let bad : false ≡ true = h in cc)
 fix_part_alone (PublicsPart segment definitions) h = (refl, refl)
@@ -162,7 +166,8 @@ offsets_valid :
     → list_all (has_target count)
     (map (λ offset. record { kind = kind; target = InSegment target; offset = offset }) offsets) ≡ true
 offsets_valid count target kind [] h = refl
-offsets_valid count target kind (offset ∷ others) h = and_from (is_movable target) _ h (offsets_valid count target kind others h)
+offsets_valid count target kind (offset ∷ others) h =
+    and_from (is_movable target) _ h (offsets_valid count target kind others h)
 
 part_targets :
     (count : ℕ) (before : List Part) (own : Segment) (part : Part) → is_body before part ≡ true → InRange part
@@ -205,7 +210,8 @@ fixes_sound count content before (part ∷ others) holds latest known range acce
     (both_fit before part others accepted).1 c)
   where
     go : (b : Bool) → is_fix_record (kind_of_part part) ≡ b
-        → (latest_content (part ∷ before) ≡ Some content → length (flat_map externals_of (part ∷ before)) ≤ count
+        → (latest_content (part ∷ before) ≡ Some content
+        → length (flat_map externals_of (part ∷ before)) ≤ count
         → ((offset : ℕ) → clash offset (leading_fixes content.segment (part ∷ before)) ≡ false)
         → FixesSound count content (part ∷ before) others)
         → FixesSound count content before (part ∷ others)
@@ -214,7 +220,8 @@ fixes_sound count content before (part ∷ others) holds latest known range acce
         record {
           targets = ap (list_all (has_target count)) none;
           within = ap (list_all (is_within content)) none;
-          clear = λ offset. ap (λ f. clash offset (f ++ leading_fixes content.segment before)) none ∙ clear offset;
+          clear = λ offset. ap (λ f. clash offset (f ++ leading_fixes content.segment before)) none
+              ∙ clear offset;
         }
     go true e later =
         let here = both_fit before part others accepted in
@@ -229,15 +236,19 @@ fixes_sound count content before (part ∷ others) holds latest known range acce
         let next = later (ap (λ c. option_or c (latest_content before)) alone.0 ∙ latest) (omega arith)
         (λ offset.
         ap (clash offset) again
-        ∙ clash_all offset (fixes_of content.segment part) (leading_fixes content.segment before) cut.1 (clear offset)) in
+        ∙ clash_all offset (fixes_of content.segment part) (leading_fixes content.segment before)
+        cut.1 (clear offset)) in
         record {
           targets =
               ap (list_all (has_target count)) more
-              ∙ list_all-append (has_target count) (fixes_of content.segment part) (leading_fixes content.segment others)
-              ∙ and_from _ _ (part_targets count before content.segment part here.0.body range.0 known holds) next.targets;
+              ∙ list_all-append (has_target count) (fixes_of content.segment part)
+              (leading_fixes content.segment others)
+              ∙ and_from _ _ (part_targets count before content.segment part here.0.body range.0 known holds)
+              next.targets;
           within =
               ap (list_all (is_within content)) more
-              ∙ list_all-append (is_within content) (fixes_of content.segment part) (leading_fixes content.segment others)
+              ∙ list_all-append (is_within content) (fixes_of content.segment part)
+              (leading_fixes content.segment others)
               ∙ and_from _ _ cut.0 next.within;
           clear = λ offset.
               ap (λ f. clash offset (f ++ leading_fixes content.segment before)) more

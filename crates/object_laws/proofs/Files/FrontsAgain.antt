@@ -38,7 +38,8 @@ pub listed_name_again : ReadsAgain listed_name_bytes listed_name_in_front
 listed_name_again = record {
   again = λ name rest.
       ap (λ b. listed_name_in_front (length name ∷ b)) (append_assoc name (0 ∷ []) rest)
-      ∙ ap (option_and_then (λ (named : List ℕ × List ℕ). ended_name named.0 named.1)) (name_again name (0 ∷ rest));
+      ∙ ap (option_and_then (λ (named : List ℕ × List ℕ). ended_name named.0 named.1))
+      (name_again name (0 ∷ rest));
   some = λ name. omega arith;
 }
 
@@ -77,14 +78,16 @@ references_again (x ∷ xs) =
     (word_of x.offset)
     ∙ ap (option_map (λ (others : List Reference). x ∷ others)) (references_again xs)
 
-pub segment_entries_again : (xs : List SegmentEntry) → segment_entries_in (flat_map segment_entry_bytes xs) ≡ Some xs
+pub segment_entries_again : (xs : List SegmentEntry)
+    → segment_entries_in (flat_map segment_entry_bytes xs) ≡ Some xs
 segment_entries_again [] = refl
 segment_entries_again (x ∷ xs) =
     ap (option_and_then
     (λ (segment : Segment).
     option_map
     (λ (others : List SegmentEntry).
-    record { segment = segment; length = x.length % 256 + 256 * (x.length / 256); alignment = x.alignment } ∷ others)
+    record { segment = segment; length = x.length % 256 + 256 * (x.length / 256); alignment = x.alignment }
+    ∷ others)
     (segment_entries_in (flat_map segment_entry_bytes xs))))
     (segment_again x.segment)
     ∙ ap (λ n.
@@ -98,7 +101,8 @@ segment_entries_again (x ∷ xs) =
 at_most_step :
     {A : Type 0} (front : List ℕ → Front A) (count : ℕ) (bytes : List ℕ) (x : A) (rest : List ℕ)
     → 0 < length bytes → front bytes ≡ Some (x, rest)
-    → at_most (suc count) front bytes ≡ option_map (λ (others : List A). x ∷ others) (at_most count front rest)
+    → at_most (suc count) front bytes ≡ option_map (λ (others : List A). x ∷ others)
+    (at_most count front rest)
 at_most_step front count [] x rest h e = absurd (omega arith)
 at_most_step {A} front count (byte ∷ others) x rest h e =
     ap (option_and_then

@@ -17,7 +17,8 @@ pub record Allowed (before : List Part) (kind : RecordKind) (body : List ℕ) : 
   pub follows : may_follow before kind ≡ true
   pub no_fault : part_fault before part ≡ None
 
-allowed : (before : List Part) (kind : RecordKind) (body : List ℕ) → fault_of_record before kind body ≡ None → Allowed before kind body
+allowed : (before : List Part) (kind : RecordKind) (body : List ℕ) → fault_of_record before kind body ≡ None
+    → Allowed before kind body
 allowed before kind body h = go (may_follow before kind) refl (part_in kind body) refl h
   where
     go : (follows : Bool) → may_follow before kind ≡ follows → (read : Option Part) → part_in kind body ≡ read
@@ -45,8 +46,10 @@ next_by before bytes b a =
           (ap (λ fault. option_map_or (λ _. false) fault true) a.no_fault);
       spelled =
           b.spelled
-          ∙ ap (λ kind. record_bytes (type_byte kind) (first_body bytes) ++ drop (record_end bytes) bytes) (sym is.0)
-          ∙ ap (λ body. record_bytes (type_byte (kind_of_part a.part)) body ++ drop (record_end bytes) bytes) is.1;
+          ∙ ap (λ kind. record_bytes (type_byte kind) (first_body bytes) ++ drop (record_end bytes) bytes)
+          (sym is.0)
+          ∙ ap (λ body. record_bytes (type_byte (kind_of_part a.part)) body ++ drop (record_end bytes) bytes)
+          is.1;
       rest_bytes = b.rest_bytes;
       shorter = b.shorter;
     }
@@ -55,7 +58,8 @@ next_by before bytes b a =
 not_ended :
     (before : List Part) (bytes : List ℕ) → IsBytes bytes
     → option_or (option_map fault_from_record (record_fault bytes))
-    (option_and_then (λ kind. fault_of_record before kind (first_body bytes)) (kind_of_type (slice_index bytes 0)))
+    (option_and_then (λ kind. fault_of_record before kind (first_body bytes))
+    (kind_of_type (slice_index bytes 0)))
     ≡ None
     → Next before bytes
 not_ended before bytes all h =
@@ -89,7 +93,8 @@ Judges before bytes (Ok all) = FileAfter before bytes all
 Judges before bytes (Err fault) = FaultAfter before bytes fault
 
 -- the latest first, after one part and then others
-turned : (part : Part) (later before : List Part) → reverse later ++ (part ∷ before) ≡ reverse (part ∷ later) ++ before
+turned : (part : Part) (later before : List Part)
+    → reverse later ++ (part ∷ before) ≡ reverse (part ∷ later) ++ before
 turned part later before =
     sym (append_assoc (reverse later) (part ∷ []) before)
     ∙ ap (λ r. r ++ before) (sym (reverse-append (part ∷ []) later))
@@ -142,7 +147,8 @@ judged_as judged_next before bytes all onward None e = go (is_ended before) refl
     go false is h =
         let n = not_ended before bytes all h in
         subst (λ found. Judges before bytes (judged_by judged_next before None found)) (sym n.found)
-        (after_part before bytes (drop (record_end bytes) bytes) n.part (judged_next (n.part ∷ before)) n.accepted
+        (after_part before bytes (drop (record_end bytes) bytes) n.part
+        (judged_next (n.part ∷ before)) n.accepted
         n.spelled (onward n.part n.rest_bytes n.shorter))
 
 pub judged_law :
@@ -163,7 +169,8 @@ file_judged :
     (bytes : List ℕ) (judged : Result (List Part) Fault) → Judges [] bytes judged → JudgesFile bytes judged
 file_judged bytes (Ok all) j = record {
   accepted = ap (are_accepted []) j.all_is ∙ j.accepted;
-  ended = ap (λ p. is_ended (reverse p)) j.all_is ∙ ap is_ended (sym (append-nil (reverse j.later))) ∙ j.ended;
+  ended = ap (λ p. is_ended (reverse p)) j.all_is
+      ∙ ap is_ended (sym (append-nil (reverse j.later))) ∙ j.ended;
   spelled = j.spelled ∙ ap (flat_map part_bytes) (sym j.all_is);
 }
 file_judged bytes (Err fault) j = record {

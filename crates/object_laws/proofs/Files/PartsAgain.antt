@@ -10,10 +10,12 @@ part_again (HeaderPart name translator version entries) =
     ∙ ap (option_map (HeaderPart name translator version))
     (segment_entries_again entries)
 part_again (ExternalNamesPart names) =
-    ap (option_map ExternalNamesPart) (all_again listed_name_bytes listed_name_in_front listed_name_again names)
+    ap (option_map ExternalNamesPart)
+    (all_again listed_name_bytes listed_name_in_front listed_name_again names)
 part_again (PublicsPart segment definitions) =
     ap (option_and_then
-    (λ (s : Segment). option_map (PublicsPart s) (all_in definition_in_front (flat_map definition_bytes definitions))))
+    (λ (s : Segment). option_map (PublicsPart s)
+    (all_in definition_in_front (flat_map definition_bytes definitions))))
     (segment_again segment)
     ∙ ap (option_map (PublicsPart segment))
     (all_again definition_bytes definition_in_front definition_again definitions)

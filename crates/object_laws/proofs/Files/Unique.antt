@@ -3,10 +3,13 @@ use Rattle.object_laws.proofs.Prelude.{◌≡◌, ℕ, List, Result, Ok, Err, re
 use Rattle.object_laws.proofs.Files.Judged.{JudgesFile, parts_law}
 use Rattle.object_laws.proofs.Files.FilesAgain.{parts_are, fault_is}
 
-pub same_parts : (bytes : List ℕ) (left right : List Part) → IsFileOf bytes left → IsFileOf bytes right → left ≡ right
-same_parts bytes left right l r = same_Ok {E = Fault} left right (sym (parts_are bytes left l) ∙ parts_are bytes right r)
+pub same_parts : (bytes : List ℕ) (left right : List Part) → IsFileOf bytes left
+    → IsFileOf bytes right → left ≡ right
+same_parts bytes left right l r =
+    same_Ok {E = Fault} left right (sym (parts_are bytes left l) ∙ parts_are bytes right r)
 
-pub spells_one : (bytes : List ℕ) (left right : ObjectModule) → Spells bytes left → Spells bytes right → left ≡ right
+pub spells_one : (bytes : List ℕ) (left right : ObjectModule) → Spells bytes left
+    → Spells bytes right → left ≡ right
 spells_one bytes left right l r =
     l.said ∙ ap module_of (same_parts bytes l.parts r.parts l.file r.file) ∙ sym r.said
 
@@ -16,8 +19,10 @@ no_fault bytes object fault s h =
     sym (parts_are bytes s.parts s.file) ∙ fault_is bytes fault h in
     cc
 
-pub one_fault : (bytes : List ℕ) (left right : Fault) → HasFirstFault bytes left → HasFirstFault bytes right → left ≡ right
-one_fault bytes left right l r = same_Err {A = List Part} left right (sym (fault_is bytes left l) ∙ fault_is bytes right r)
+pub one_fault : (bytes : List ℕ) (left right : Fault) → HasFirstFault bytes left
+    → HasFirstFault bytes right → left ≡ right
+one_fault bytes left right l r =
+    same_Err {A = List Part} left right (sym (fault_is bytes left l) ∙ fault_is bytes right r)
 
 -- each file of bytes spells a module or has a fault, as it is judged
 abbrev pub Judged : List ℕ → Result ObjectModule Fault → Type 0

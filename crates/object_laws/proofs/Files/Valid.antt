@@ -17,7 +17,8 @@ found_short p (entry ∷ others) range = go (p entry) (found_short p others rang
     go true later = let h : entry.length < 65536 = range.0 in omega (arith, h)
     go false later = later
 
-page_by_entry : (entry : SegmentEntry) → (not (is_page (alignment_with entry)) || nat_lt 0 entry.length) ≡ true
+page_by_entry : (entry : SegmentEntry)
+    → (not (is_page (alignment_with entry)) || nat_lt 0 entry.length) ≡ true
 page_by_entry entry = go (entry.alignment == 1) (nat_lt 0 entry.length)
   where
     go : (a b : Bool) → (not (is_page (cond (a && b) Page Byte)) || b) ≡ true
@@ -44,7 +45,8 @@ segment_valid :
     → AllByRecursion (λ (entry : SegmentEntry). entry.length < 65536) entries
     → fixed_contents (header ∷ others) ≡ fixed_contents others
     → Follow (length (flat_map externals_of (header ∷ others))) entries (header ∷ []) others
-    → is_valid_segment (length (flat_map externals_of (header ∷ others))) (places_in (header ∷ others) segment) ≡ true
+    → is_valid_segment (length (flat_map externals_of (header ∷ others)))
+    (places_in (header ∷ others) segment) ≡ true
 segment_valid entries segment header others lengths range contents follow =
     let count : ℕ = length (flat_map externals_of (header ∷ others)) in
     let size : ℕ = length_in entries segment in
@@ -53,8 +55,10 @@ segment_valid entries segment header others lengths range contents follow =
     let place : ℕ → Option SetByte = set_in (fixed_contents others) segment in
     let row : List (Option SetByte) = map place (range_with_len 0 size) in
     let long : length row ≡ size = length-map-range_with_len place 0 size in
-    let short : size ≤ 65535 = found_short (λ (entry : SegmentEntry). same_segment entry.segment segment) entries range in
-    let valid : is_valid_segment count (record { alignment = alignment_in entries segment; places = row }) ≡ true =
+    let short : size ≤ 65535 =
+    found_short (λ (entry : SegmentEntry). same_segment entry.segment segment) entries range in
+    let valid : is_valid_segment count (record { alignment = alignment_in entries segment; places = row })
+    ≡ true =
     and_from _ _
     (and_from _ _
     (and_from _ _
@@ -65,11 +69,13 @@ segment_valid entries segment header others lengths range contents follow =
     (λ offset h. let w = place_whole count size segment end offset (fixed_contents others) ascend h in
     let within : offset + 1 < size = w.within in
     (omega (arith, within), w.plain))))
-    (ap (λ n. not (is_page (alignment_in entries segment)) || nat_lt 0 n) long ∙ page_valid entries segment) in
+    (ap (λ n. not (is_page (alignment_in entries segment)) || nat_lt 0 n) long
+    ∙ page_valid entries segment) in
     ap (λ e.
     is_valid_segment count (record {
       alignment = alignment_in e segment;
-      places = map (set_in (fixed_contents (header ∷ others)) segment) (range_with_len 0 (length_in e segment));
+      places =
+          map (set_in (fixed_contents (header ∷ others)) segment) (range_with_len 0 (length_in e segment));
     })) lengths
     ∙ ap (λ c.
     is_valid_segment count (record {
@@ -91,7 +97,8 @@ header_valid name translator version entries others accepted range =
     let none = no_entries header [] others cut.1 in
     let lengths : flat_map entries_of (header ∷ others) ≡ entries =
     ap (λ e. entries ++ e) none ∙ append-nil entries in
-    let follow : Follow (length (flat_map externals_of (header ∷ others))) entries (header ∷ []) others = record {
+    let follow : Follow (length (flat_map externals_of (header ∷ others))) entries (header ∷ []) others =
+    record {
       header = append-nil entries;
       known = omega arith;
       range = range.1;
@@ -122,17 +129,22 @@ parts_valid [] accepted ended range = absurd (let bad : false ≡ true = ended i
 parts_valid (HeaderPart name translator version entries ∷ others) accepted ended range =
     header_valid name translator version entries others accepted range
 parts_valid (ExternalNamesPart names ∷ others) accepted ended range =
-    absurd (not_first (ExternalNamesPart names) (both_fit [] (ExternalNamesPart names) others accepted).0.follows)
+    absurd (not_first (ExternalNamesPart names)
+    (both_fit [] (ExternalNamesPart names) others accepted).0.follows)
 parts_valid (PublicsPart segment definitions ∷ others) accepted ended range =
-    absurd (not_first (PublicsPart segment definitions) (both_fit [] (PublicsPart segment definitions) others accepted).0.follows)
+    absurd (not_first (PublicsPart segment definitions)
+    (both_fit [] (PublicsPart segment definitions) others accepted).0.follows)
 parts_valid (ContentPart content ∷ others) accepted ended range =
     absurd (not_first (ContentPart content) (both_fit [] (ContentPart content) others accepted).0.follows)
 parts_valid (ExternalReferencesPart kind references ∷ others) accepted ended range =
-    absurd (not_first (ExternalReferencesPart kind references) (both_fit [] (ExternalReferencesPart kind references) others accepted).0.follows)
+    absurd (not_first (ExternalReferencesPart kind references)
+    (both_fit [] (ExternalReferencesPart kind references) others accepted).0.follows)
 parts_valid (RelocationPart kind offsets ∷ others) accepted ended range =
-    absurd (not_first (RelocationPart kind offsets) (both_fit [] (RelocationPart kind offsets) others accepted).0.follows)
+    absurd (not_first (RelocationPart kind offsets)
+    (both_fit [] (RelocationPart kind offsets) others accepted).0.follows)
 parts_valid (IntersegmentPart target kind offsets ∷ others) accepted ended range =
-    absurd (not_first (IntersegmentPart target kind offsets) (both_fit [] (IntersegmentPart target kind offsets) others accepted).0.follows)
+    absurd (not_first (IntersegmentPart target kind offsets)
+    (both_fit [] (IntersegmentPart target kind offsets) others accepted).0.follows)
 parts_valid (ModuleEndPart start ∷ others) accepted ended range =
     absurd (not_first (ModuleEndPart start) (both_fit [] (ModuleEndPart start) others accepted).0.follows)
 parts_valid (EndOfFilePart ∷ others) accepted ended range =

@@ -23,7 +23,8 @@ fixes_append offset (None ∷ xs) ys =
 fixes_append offset (Some here ∷ xs) ys =
     let same : (offset + 1) + length xs ≡ offset + suc (length xs) = omega arith in
     ap (before_fixes offset here.fixup) (fixes_append (offset + 1) xs ys)
-    ∙ sym (before_append offset here.fixup (place_fixes (offset + 1) xs) (place_fixes ((offset + 1) + length xs) ys))
+    ∙ sym (before_append offset here.fixup (place_fixes (offset + 1) xs)
+    (place_fixes ((offset + 1) + length xs) ys))
     ∙ ap (λ n. before_fixes offset here.fixup (place_fixes (offset + 1) xs) ++ place_fixes n ys) same
 
 -- places where nothing is set have no fixes
@@ -38,7 +39,8 @@ fixes_after_gap offset (suc count) places =
 
 kept_before :
     (by offset : ℕ) (kept : Target → Option Target) (fixup : Option Fixup) (fixes : List Fix)
-    → before_fixes (by + offset) (option_and_then (fixup_moved kept) fixup) (filter_map (fix_kept by kept) fixes)
+    → before_fixes (by + offset) (option_and_then (fixup_moved kept) fixup)
+    (filter_map (fix_kept by kept) fixes)
     ≡ filter_map (fix_kept by kept) (before_fixes offset fixup fixes)
 kept_before by offset kept None fixes = refl
 kept_before by offset kept (Some fixup) fixes = go (kept fixup.target)
@@ -119,4 +121,5 @@ pub high_fixes :
 high_fixes object =
     filter_map-append high_at (places_of object Code) (places_of object Data)
     ∙ ap (λ t. t ++ filter_map high_at object.data_places.places) (high_places 0 object.code.places)
-    ∙ ap (λ t. filter_map high_of (place_fixes 0 object.code.places) ++ t) (high_places 0 object.data_places.places)
+    ∙ ap (λ t. filter_map high_of (place_fixes 0 object.code.places) ++ t)
+    (high_places 0 object.data_places.places)

@@ -17,7 +17,8 @@ any_mapped q h [] = refl
 any_mapped {A} {B} q h (x ∷ xs) = go (h x) ∙ ap (λ t. option_map_or q (h x) false || t) (any_mapped q h xs)
   where
     go : (found : Option B)
-        → list_any q (cons_option found (filter_map h xs)) ≡ (option_map_or q found false || list_any q (filter_map h xs))
+        → list_any q (cons_option found (filter_map h xs))
+        ≡ (option_map_or q found false || list_any q (filter_map h xs))
     go None = refl
     go (Some y) = refl
 
@@ -36,7 +37,9 @@ high_moves_by_fixes publics linked =
     (any_mapped (gains_part publics linked) high_of code)
     ∙ ap (λ t. list_any (high_byte_moves publics linked) code || t)
     (any_mapped (gains_part publics linked) high_of data_fixes)
-    ∙ ap (λ f. list_any (high_byte_moves publics linked) f || list_any (high_byte_moves publics linked) data_fixes)
+    ∙ ap (λ f. list_any (high_byte_moves publics linked) f
+    || list_any (high_byte_moves publics linked) data_fixes)
     (sym (runs_fixes 0 (linked.object).code.places))
-    ∙ ap (λ f. list_any (high_byte_moves publics linked) (fixes_in linked.object Code) || list_any (high_byte_moves publics linked) f)
+    ∙ ap (λ f. list_any (high_byte_moves publics linked) (fixes_in linked.object Code)
+    || list_any (high_byte_moves publics linked) f)
     (sym (runs_fixes 0 (linked.object).data_places.places))

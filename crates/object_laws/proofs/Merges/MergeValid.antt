@@ -10,7 +10,8 @@ pub record IsMerge (objects : List ObjectModule) (object : ObjectModule) : Type 
   pub resolved : unresolved objects ≡ None
   pub fits : some_segment_is_too_long objects (linked_modules objects) ≡ false
   pub main : not (length (main_modules (linked_modules objects)) == 1) ≡ false
-  pub high : list_any (some_high_byte_moves (all_publics (linked_modules objects))) (linked_modules objects) ≡ false
+  pub high : list_any (some_high_byte_moves (all_publics (linked_modules objects))) (linked_modules objects)
+      ≡ false
 
 pub unless_ok :
     {A R : Type 0} (value : A) (refusal : Option R) (result : A) → unless_refused value refusal ≡ Ok result
@@ -22,16 +23,21 @@ unless_ok {A} {R} value None result h = (ap given h, refl)
     given (Err r) = value
 unless_ok value (Some refusal) result h = absurd (let bad : Err refusal ≡ Ok result = h in cc)
 
-pub merge_is : (objects : List ObjectModule) (object : ObjectModule) → merge_of objects ≡ Ok object → IsMerge objects object
+pub merge_is : (objects : List ObjectModule) (object : ObjectModule) → merge_of objects ≡ Ok object
+    → IsMerge objects object
 unfolding merge_of link_refusal
 merge_is objects object h =
-    let is = unless_ok (joined objects (linked_modules objects)) (refusal_of objects (linked_modules objects)) object h in
+    let is =
+    unless_ok (joined objects (linked_modules objects))
+    (refusal_of objects (linked_modules objects)) object h in
     let linked : List Linked = linked_modules objects in
     let long : Bool × LinkRefusal = (some_segment_is_too_long objects linked, SegmentTooLong) in
     let mains : Bool × LinkRefusal = (not (length (main_modules linked) == 1), NotOneMain) in
-    let high : Bool × LinkRefusal = (list_any (some_high_byte_moves (all_publics linked)) linked, HighByteMoves) in
+    let high : Bool × LinkRefusal =
+    (list_any (some_high_byte_moves (all_publics linked)) linked, HighByteMoves) in
     let first = both_are_none (option_map DuplicatePublic (repeated_after [] (public_names objects)))
-    (option_or (option_map UnresolvedExternal (unresolved objects)) (first_that_holds (long ∷ mains ∷ high ∷ []))) is.1 in
+    (option_or (option_map UnresolvedExternal (unresolved objects))
+    (first_that_holds (long ∷ mains ∷ high ∷ []))) is.1 in
     let second = both_are_none (option_map UnresolvedExternal (unresolved objects))
     (first_that_holds (long ∷ mains ∷ high ∷ [])) first.1 in
     let third = none_holds long.0 SegmentTooLong (mains ∷ high ∷ []) second.1 in
@@ -60,7 +66,8 @@ none_repeated known (name ∷ others) h = go (is_among name known) refl (none_re
     go false e later is = and_from _ _ (ap not e) (later is)
 
 names_stay :
-    (linked : Linked) (publics : List Public) → map public_name (map (public_moved linked) publics) ≡ map public_name publics
+    (linked : Linked) (publics : List Public)
+    → map public_name (map (public_moved linked) publics) ≡ map public_name publics
 names_stay linked [] = refl
 names_stay linked (public ∷ others) = ap (λ names. public.name ∷ names) (names_stay linked others)
 
@@ -70,16 +77,19 @@ pub names_from :
 names_from code data_before [] = refl
 names_from code data_before (object ∷ others) =
     let one : Linked = linked_after code data_before object in
-    map-append public_name (publics_moved one) (all_publics (linked_from (code_end one) (data_end one) others))
+    map-append public_name (publics_moved one)
+    (all_publics (linked_from (code_end one) (data_end one) others))
     ∙ ap (λ names. names ++ map public_name (all_publics (linked_from (code_end one) (data_end one) others)))
     (names_stay one object.publics)
     ∙ ap (λ names. map public_name object.publics ++ names) (names_from (code_end one) (data_end one) others)
 
 names_valid :
-    (objects : List ObjectModule) → AllByRecursion IsObjectModule objects → list_all is_name (public_names objects) ≡ true
+    (objects : List ObjectModule) → AllByRecursion IsObjectModule objects
+    → list_all is_name (public_names objects) ≡ true
 names_valid [] all = refl
 names_valid (object ∷ others) all =
-    let names = and_parts (list_all is_name object.externals) (list_all is_name (map public_name object.publics))
+    let names =
+    and_parts (list_all is_name object.externals) (list_all is_name (map public_name object.publics))
     (sym (list_all-append is_name object.externals (map public_name object.publics)) ∙ all.0.names) in
     list_all-append is_name (map public_name object.publics) (public_names others)
     ∙ and_from _ _ names.1 (names_valid others all.1)
@@ -104,7 +114,9 @@ publics_valid linked [] h = refl
 publics_valid linked (public ∷ others) h =
     let cut = and_parts (is_valid_public public) (list_all is_valid_public others) h in
     let here = and_parts (may_have_publics public.segment) (nat_lt public.offset 65536) cut.0 in
-    and_from _ _ (and_from _ _ here.0 (lt-ltb ((public.offset + displacement_in linked public.segment) % 65536) 65536 (omega arith)))
+    and_from _ _
+    (and_from _ _ here.0 (lt-ltb ((public.offset + displacement_in linked public.segment) % 65536)
+    65536 (omega arith)))
     (publics_valid linked others cut.1)
 
 all_publics_valid :
@@ -117,7 +129,8 @@ all_publics_valid (one ∷ others) all =
 
 -- the main module
 abbrev pub main_of : Linked → Option (List ℕ × ℕ)
-main_of one = option_map (λ offset. ((one.object).name, (offset + (one.start).code) % 65536)) (one.object).start
+main_of one =
+    option_map (λ offset. ((one.object).name, (offset + (one.start).code) % 65536)) (one.object).start
 
 pub mains_are : (linked : List Linked) → main_modules linked ≡ filter_map main_of linked
 mains_are linked = refl
@@ -129,12 +142,14 @@ more_mains :
     (one : Linked) (start : Option ℕ) (others : List (List ℕ × ℕ)) → is_name (one.object).name ≡ true
     → AllByRecursion ValidMain others
     → AllByRecursion ValidMain
-    (cons_option (option_map (λ offset. ((one.object).name, (offset + (one.start).code) % 65536)) start) others)
+    (cons_option (option_map (λ offset. ((one.object).name, (offset + (one.start).code) % 65536)) start)
+    others)
 more_mains one None others h later = later
 more_mains one (Some offset) others h later = ((h, omega arith), later)
 
 mains_valid :
-    (linked : List Linked) → AllByRecursion ValidLinked linked → AllByRecursion ValidMain (filter_map main_of linked)
+    (linked : List Linked) → AllByRecursion ValidLinked linked
+    → AllByRecursion ValidMain (filter_map main_of linked)
 mains_valid [] all = tt
 mains_valid (one ∷ others) all =
     more_mains one (one.object).start (filter_map main_of others) all.0.name (mains_valid others all.1)
@@ -152,17 +167,20 @@ first_start [] all = tt
 first_start (main ∷ others) all = all.0.1
 
 -- Segments.
-pub target_kept_keeps : (publics : List Public) (linked : Linked) (count : ℕ) → Keeps count (target_kept publics linked)
+pub target_kept_keeps : (publics : List Public) (linked : Linked) (count : ℕ)
+    → Keeps count (target_kept publics linked)
 target_kept_keeps publics linked count (InSegment segment) h = h
 target_kept_keeps publics linked count (External number) h = go (public_meant publics linked.object number)
   where
     by_segment : (segment : Segment) (b : Bool) → is_movable segment ≡ b
-        → option_map_or (λ (other : Target). is_target 0 other) (cond b (Some (InSegment segment)) None) true ≡ true
+        → option_map_or (λ (other : Target). is_target 0 other) (cond b (Some (InSegment segment)) None) true
+        ≡ true
     by_segment segment true e = e
     by_segment segment false e = refl
 
     go : (found : Option Public)
-        → option_map_or (λ (other : Target). is_target 0 other) (option_and_then target_of_public found) true ≡ true
+        → option_map_or (λ (other : Target). is_target 0 other) (option_and_then target_of_public found) true
+        ≡ true
     go None = refl
     go (Some public) = by_segment public.segment (is_movable public.segment) refl
 
@@ -172,7 +190,8 @@ pub record ValidPlaces (count : ℕ) (segment : Places) : Type 0 where
   pub whole : words_are_whole segment.places ≡ true
   pub page : (not (is_page segment.alignment) || nat_lt 0 (length segment.places)) ≡ true
 
-pub places_are : (count : ℕ) (segment : Places) → is_valid_segment count segment ≡ true → ValidPlaces count segment
+pub places_are : (count : ℕ) (segment : Places) → is_valid_segment count segment ≡ true
+    → ValidPlaces count segment
 places_are count segment h =
     let first = and_parts
     (nat_le (length segment.places) 65535 && are_valid count segment.places && words_are_whole segment.places)
@@ -224,7 +243,8 @@ code_follow publics code data_before [] = tt
 code_follow publics code data_before (object ∷ others) =
     let one : Linked = linked_after code data_before object in (
       later_start code object.code.alignment,
-      subst (λ end. PiecesFollow end (map (code_piece publics) (linked_from (code_end one) (data_end one) others)))
+      subst (λ end. PiecesFollow end (map (code_piece publics)
+          (linked_from (code_end one) (data_end one) others)))
           (sym (same_end publics one (one.start).code object.code.places))
           (code_follow publics (code_end one) (data_end one) others),
     )
@@ -236,7 +256,8 @@ data_follow publics code data_before [] = tt
 data_follow publics code data_before (object ∷ others) =
     let one : Linked = linked_after code data_before object in (
       later_start data_before object.data_places.alignment,
-      subst (λ end. PiecesFollow end (map (data_piece publics) (linked_from (code_end one) (data_end one) others)))
+      subst (λ end. PiecesFollow end (map (data_piece publics)
+          (linked_from (code_end one) (data_end one) others)))
           (sym (same_end publics one (one.start).data_start object.data_places.places))
           (data_follow publics (code_end one) (data_end one) others),
     )
@@ -280,15 +301,19 @@ data_ends_all publics (one ∷ others) =
 
 -- a page-aligned piece has bytes
 page_length :
-    (publics : List Public) (one : Linked) (count : ℕ) (segment : Places) (page : Bool) (gap rest : List (Option SetByte))
-    → is_page segment.alignment ≡ page → is_valid_segment count segment ≡ true → (page ≡ false → 0 < length rest)
+    (publics : List Public) (one : Linked) (count : ℕ) (segment : Places) (page : Bool)
+    (gap rest : List (Option SetByte))
+    → is_page segment.alignment ≡ page → is_valid_segment count segment ≡ true
+    → (page ≡ false → 0 < length rest)
     → 0 < length ((gap ++ places_moved publics one segment.places) ++ rest)
 page_length publics one count segment page gap rest is valid later =
     let piece : List (Option SetByte) = places_moved publics one segment.places in
-    let outer : length ((gap ++ piece) ++ rest) ≡ length (gap ++ piece) + length rest = length-append (gap ++ piece) rest in
+    let outer : length ((gap ++ piece) ++ rest) ≡ length (gap ++ piece) + length rest =
+    length-append (gap ++ piece) rest in
     let inner : length (gap ++ piece) ≡ length gap + length piece = length-append gap piece in
     let same : length piece ≡ length segment.places = moved_length _ _ None segment.places in
-    let some : 0 < length segment.places + length rest = go page is later (places_are count segment valid).page in
+    let some : 0 < length segment.places + length rest =
+    go page is later (places_are count segment valid).page in
     omega (arith, outer, inner, same, some)
   where
     go : (b : Bool) → is_page segment.alignment ≡ b → (b ≡ false → 0 < length rest)
@@ -296,7 +321,8 @@ page_length publics one count segment page gap rest is valid later =
         → 0 < length segment.places + length rest
     go true e more page =
         let some : 0 < length segment.places =
-        ltb-true 0 (length segment.places) (sym (ap (λ t. not t || nat_lt 0 (length segment.places)) e) ∙ page) in
+        ltb-true 0 (length segment.places)
+        (sym (ap (λ t. not t || nat_lt 0 (length segment.places)) e) ∙ page) in
         omega (arith, some)
     go false e more page = let some : 0 < length rest = more refl in omega (arith, some)
 
@@ -305,8 +331,10 @@ other_page true b h e = absurd (let bad : true ≡ false = e in cc)
 other_page false b h e = h
 
 code_page :
-    (publics : List Public) (end code data_before : ℕ) (objects : List ObjectModule) → AllByRecursion IsObjectModule objects
-    → list_any (λ (segment : Places). is_page segment.alignment) (map (λ (object : ObjectModule). object.code) objects) ≡ true
+    (publics : List Public) (end code data_before : ℕ) (objects : List ObjectModule)
+    → AllByRecursion IsObjectModule objects
+    → list_any (λ (segment : Places). is_page segment.alignment)
+    (map (λ (object : ObjectModule). object.code) objects) ≡ true
     → 0 < length (joined_after end (map (code_piece publics) (linked_from code data_before objects)))
 code_page publics end code data_before [] all h = absurd (let bad : false ≡ true = h in cc)
 code_page publics end code data_before (object ∷ others) all h =
@@ -321,20 +349,23 @@ code_page publics end code data_before (object ∷ others) all h =
     (data_end one) others all.1 (other_page (is_page object.code.alignment) _ h e))
 
 data_page :
-    (publics : List Public) (end code data_before : ℕ) (objects : List ObjectModule) → AllByRecursion IsObjectModule objects
+    (publics : List Public) (end code data_before : ℕ) (objects : List ObjectModule)
+    → AllByRecursion IsObjectModule objects
     → list_any (λ (segment : Places). is_page segment.alignment)
     (map (λ (object : ObjectModule). object.data_places) objects) ≡ true
     → 0 < length (joined_after end (map (data_piece publics) (linked_from code data_before objects)))
 data_page publics end code data_before [] all h = absurd (let bad : false ≡ true = h in cc)
 data_page publics end code data_before (object ∷ others) all h =
     let one : Linked = linked_after code data_before object in
-    page_length publics one (length object.externals) object.data_places (is_page object.data_places.alignment)
+    page_length publics one (length object.externals) object.data_places
+    (is_page object.data_places.alignment)
     (replicate ((one.start).data_start - end) None)
     (joined_after ((one.start).data_start + length (places_moved publics one object.data_places.places))
     (map (data_piece publics) (linked_from (code_end one) (data_end one) others)))
     refl all.0.data_places
     (λ e.
-    data_page publics ((one.start).data_start + length (places_moved publics one object.data_places.places)) (code_end one)
+    data_page publics ((one.start).data_start + length (places_moved publics one object.data_places.places))
+    (code_end one)
     (data_end one) others all.1 (other_page (is_page object.data_places.alignment) _ h e))
 
 page_is :
@@ -349,15 +380,19 @@ page_is segments size h = go (list_any (λ (segment : Places). is_page segment.a
     go false e = refl
 
 joined_segment :
-    (segments : List Places) (pieces : List (ℕ × List (Option SetByte))) → AllByRecursion Piece pieces → PiecesFollow 0 pieces
+    (segments : List Places) (pieces : List (ℕ × List (Option SetByte))) → AllByRecursion Piece pieces
+    → PiecesFollow 0 pieces
     → end_after 0 pieces ≤ 65535
-    → (list_any (λ (segment : Places). is_page segment.alignment) segments ≡ true → 0 < length (joined_after 0 pieces))
-    → is_valid_segment 0 (record { alignment = joined_alignment segments; places = joined_after 0 pieces }) ≡ true
+    → (list_any (λ (segment : Places). is_page segment.alignment) segments ≡ true
+    → 0 < length (joined_after 0 pieces))
+    → is_valid_segment 0 (record { alignment = joined_alignment segments; places = joined_after 0 pieces })
+    ≡ true
 joined_segment segments pieces all follow short page =
     let long : 0 + length (joined_after 0 pieces) ≡ end_after 0 pieces = joined_length 0 pieces follow in
     and_from _ _
     (and_from _ _
-    (and_from _ _ (le-leb (length (joined_after 0 pieces)) 65535 (omega (arith, long, short))) (joined_valid 0 pieces all))
+    (and_from _ _ (le-leb (length (joined_after 0 pieces)) 65535 (omega (arith, long, short)))
+    (joined_valid 0 pieces all))
     (joined_whole 0 pieces all))
     (page_is segments (length (joined_after 0 pieces)) page)
 
@@ -366,7 +401,8 @@ pub short_end : (count : ℕ) → is_too_long count ≡ false → count ≤ 6553
 short_end count h = ltb-false 65535 count h
 
 merge_of_valid :
-    (objects : List ObjectModule) (object : ObjectModule) → AllByRecursion IsObjectModule objects → IsMerge objects object
+    (objects : List ObjectModule) (object : ObjectModule) → AllByRecursion IsObjectModule objects
+    → IsMerge objects object
     → IsObjectModule object
 merge_of_valid objects object all m =
     let linked : List Linked = linked_modules objects in
@@ -376,7 +412,9 @@ merge_of_valid objects object all m =
     let lengths = or_parts
     (is_too_long (last_end code_end linked) || is_too_long (last_end data_end linked))
     (is_too_long (sum_by (λ (o : ObjectModule). o.stack_length) objects)) m.fits in
-    let ends = or_parts (is_too_long (last_end code_end linked)) (is_too_long (last_end data_end linked)) lengths.0 in
+    let ends =
+    or_parts (is_too_long (last_end code_end linked))
+    (is_too_long (last_end data_end linked)) lengths.0 in
     let names = names_from 0 0 objects in
     subst IsObjectModule (sym m.said)
     (record {

@@ -36,7 +36,8 @@ pub module_merged :
     → module_of_parts parts ≡ joined objects (linked_modules objects)
 module_merged objects parts made =
     let code : places_stored Code parts.code ≡ merged_code objects =
-    ap (places_stored Code) made.code ∙ kept_places Code (merged_code objects).alignment (merged_code objects).places in
+    ap (places_stored Code) made.code ∙ kept_places Code (merged_code objects).alignment
+    (merged_code objects).places in
     let data_places : places_stored Data parts.data_bytes ≡ merged_data objects =
     ap (places_stored Data) made.data_bytes
     ∙ kept_places Data (merged_data objects).alignment (merged_data objects).places in
@@ -51,15 +52,18 @@ module_merged objects parts made =
     }
 
 pub parts_merged :
-    (objects : List ObjectModule) (parts : ModuleParts) → link_refusal objects ≡ None → AreMerged objects parts
+    (objects : List ObjectModule) (parts : ModuleParts) → link_refusal objects ≡ None
+    → AreMerged objects parts
     → merge_of objects ≡ Ok (module_of_parts parts)
 unfolding merge_of
 parts_merged objects parts allowed made =
-    ap (unless_refused (joined objects (linked_modules objects))) allowed ∙ ap Ok (sym (module_merged objects parts made))
+    ap (unless_refused (joined objects (linked_modules objects))) allowed
+    ∙ ap Ok (sym (module_merged objects parts made))
 
 -- and they keep to what parts of a module keep to
 pub merged_kept :
-    (objects : List ObjectModule) (parts : ModuleParts) → All IsObjectModule objects → link_refusal objects ≡ None
+    (objects : List ObjectModule) (parts : ModuleParts) → All IsObjectModule objects
+    → link_refusal objects ≡ None
     → AreMerged objects parts → AreKept parts
 merged_kept objects parts all allowed made =
     let object : IsObjectModule (module_of_parts parts) =

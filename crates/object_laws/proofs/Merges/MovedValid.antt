@@ -14,7 +14,8 @@ Keeps count kept =
 fixup_valid :
     (count : ℕ) (kept : Target → Option Target) (fixup : Option Fixup) → Keeps count kept
     → option_map_or (λ (f : Fixup). is_target count f.target) fixup true ≡ true
-    → option_map_or (λ (f : Fixup). is_target 0 f.target) (option_and_then (fixup_moved kept) fixup) true ≡ true
+    → option_map_or (λ (f : Fixup). is_target 0 f.target) (option_and_then (fixup_moved kept) fixup) true
+    ≡ true
 fixup_valid count kept None keeps h = refl
 fixup_valid count kept (Some fixup) keeps h = go (kept fixup.target) (keeps fixup.target h)
   where
@@ -25,7 +26,8 @@ fixup_valid count kept (Some fixup) keeps h = go (kept fixup.target) (keeps fixu
     go (Some target) k = k
 
 place_moved_valid :
-    (count : ℕ) (gain_of : Target → ℕ) (kept : Target → Option Target) (before here : Option SetByte) → Keeps count kept
+    (count : ℕ) (gain_of : Target → ℕ) (kept : Target → Option Target) (before here : Option SetByte)
+    → Keeps count kept
     → option_map_or (is_valid_byte count) here true ≡ true
     → option_map_or (is_valid_byte 0) (option_map (byte_moved gain_of kept before) here) true ≡ true
 place_moved_valid count gain_of kept before None keeps h = refl
@@ -74,26 +76,30 @@ fixup_plain kept None h = refl
 fixup_plain kept (Some fixup) h = absurd (let bad : false ≡ true = h in cc)
 
 plain_after :
-    (gain_of : Target → ℕ) (kept : Target → Option Target) (before here : Option SetByte) → is_plain here ≡ true
+    (gain_of : Target → ℕ) (kept : Target → Option Target) (before here : Option SetByte)
+    → is_plain here ≡ true
     → is_plain (option_map (byte_moved gain_of kept before) here) ≡ true
 plain_after gain_of kept before None h = h
 plain_after gain_of kept before (Some here) h = fixup_plain kept here.fixup h
 
 -- a test that is passed by fewer, before one that more pass
-implies : (a b x y : Bool) → (x ≡ true → a ≡ true) → (b ≡ true → y ≡ true) → (not a || b) ≡ true → (not x || y) ≡ true
+implies : (a b x y : Bool) → (x ≡ true → a ≡ true) → (b ≡ true → y ≡ true) → (not a || b) ≡ true
+    → (not x || y) ≡ true
 implies a b false y f g h = refl
 implies true b true y f g h = g h
 implies false b true y f g h = absurd (let bad : false ≡ true = f refl in cc)
 
 next_plain :
-    (gain_of : Target → ℕ) (kept : Target → Option Target) (before : Option SetByte) (others : List (Option SetByte))
+    (gain_of : Target → ℕ) (kept : Target → Option Target) (before : Option SetByte)
+    (others : List (Option SetByte))
     → is_plain (option_flatten (slice_get others 0)) ≡ true
     → is_plain (option_flatten (slice_get (moved_after gain_of kept before others) 0)) ≡ true
 next_plain gain_of kept before [] h = h
 next_plain gain_of kept before (next ∷ others) h = plain_after gain_of kept before next h
 
 pub moved_whole :
-    (gain_of : Target → ℕ) (kept : Target → Option Target) (before : Option SetByte) (places : List (Option SetByte))
+    (gain_of : Target → ℕ) (kept : Target → Option Target) (before : Option SetByte)
+    (places : List (Option SetByte))
     → words_are_whole places ≡ true → words_are_whole (moved_after gain_of kept before places) ≡ true
 moved_whole gain_of kept before [] h = refl
 moved_whole gain_of kept before (here ∷ others) h =
@@ -105,7 +111,8 @@ moved_whole gain_of kept before (here ∷ others) h =
     (moved_whole gain_of kept here others cut.1)
 
 pub moved_length :
-    (gain_of : Target → ℕ) (kept : Target → Option Target) (before : Option SetByte) (places : List (Option SetByte))
+    (gain_of : Target → ℕ) (kept : Target → Option Target) (before : Option SetByte)
+    (places : List (Option SetByte))
     → length (moved_after gain_of kept before places) ≡ length places
 moved_length gain_of kept before [] = refl
 moved_length gain_of kept before (here ∷ others) = ap suc (moved_length gain_of kept here others)
@@ -179,7 +186,8 @@ joined_length end [] follow = omega arith
 joined_length end (piece ∷ others) follow =
     let rest : List (Option SetByte) = joined_after (piece.0 + length piece.1) others in
     let gap : List (Option SetByte) = replicate (piece.0 - end) None in
-    let a : length ((gap ++ piece.1) ++ rest) ≡ length (gap ++ piece.1) + length rest = length-append (gap ++ piece.1) rest in
+    let a : length ((gap ++ piece.1) ++ rest) ≡ length (gap ++ piece.1) + length rest =
+    length-append (gap ++ piece.1) rest in
     let b : length (gap ++ piece.1) ≡ length gap + length piece.1 = length-append gap piece.1 in
     let c : length gap ≡ piece.0 - end = length-replicate {A = Option SetByte} (piece.0 - end) None in
     let d : (piece.0 + length piece.1) + length rest ≡ end_after (piece.0 + length piece.1) others =

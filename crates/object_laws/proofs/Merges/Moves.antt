@@ -7,7 +7,8 @@ last_place before [] = before
 last_place before (here ∷ others) = last_place here others
 
 pub moved_append :
-    (gain_of : Target → ℕ) (kept : Target → Option Target) (before : Option SetByte) (xs ys : List (Option SetByte))
+    (gain_of : Target → ℕ) (kept : Target → Option Target) (before : Option SetByte)
+    (xs ys : List (Option SetByte))
     → moved_after gain_of kept before (xs ++ ys)
     ≡ moved_after gain_of kept before xs ++ moved_after gain_of kept (last_place before xs) ys
 moved_append gain_of kept before [] ys = refl
@@ -36,14 +37,16 @@ value_stays gain_of None value h = refl
 value_stays gain_of (Some before) value h = fixup_stays gain_of before.value value before.fixup h
 
 value_alone :
-    (gain_of : Target → ℕ) (before : Option SetByte) (value : ℕ) (fixup : Option Fixup) → begins_word before ≡ false
+    (gain_of : Target → ℕ) (before : Option SetByte) (value : ℕ) (fixup : Option Fixup)
+    → begins_word before ≡ false
     → value_moved gain_of before (record { value = value; fixup = fixup })
     ≡ value_moved gain_of None (record { value = value; fixup = fixup })
 value_alone gain_of before value None h = value_stays gain_of before value h
 value_alone gain_of before value (Some fixup) h = refl
 
 place_alone :
-    (gain_of : Target → ℕ) (kept : Target → Option Target) (before here : Option SetByte) → begins_word before ≡ false
+    (gain_of : Target → ℕ) (kept : Target → Option Target) (before here : Option SetByte)
+    → begins_word before ≡ false
     → option_map (byte_moved gain_of kept before) here ≡ option_map (byte_moved gain_of kept None) here
 place_alone gain_of kept before None h = refl
 place_alone gain_of kept before (Some here) h =
@@ -51,7 +54,8 @@ place_alone gain_of kept before (Some here) h =
     (value_alone gain_of before here.value here.fixup h)
 
 rest_alone :
-    (gain_of : Target → ℕ) (kept : Target → Option Target) (before : Option SetByte) (ys : List (Option SetByte))
+    (gain_of : Target → ℕ) (kept : Target → Option Target) (before : Option SetByte)
+    (ys : List (Option SetByte))
     → begins_word before ≡ false → moved_after gain_of kept before ys ≡ moved gain_of kept ys
 rest_alone gain_of kept before [] h = refl
 rest_alone gain_of kept before (here ∷ ys) h =

@@ -1,4 +1,5 @@
--- A piece run by run: each run takes the fixes in front that begin within it, and its bytes are moved by these.
+-- A piece run by run: each run takes the fixes in front that begin within it, and its bytes are moved by
+-- these.
 use Rattle.object_laws.proofs.Prelude.{◌≡◌, ℕ, suc, ◌+◌, ◌<◌, ◌≤◌, Bool, true, false, cond, not, ◌||◌, ◌==◌, List, [], ◌∷◌, ◌++◌, length, map, flat_map, Option, Some, None, refl, ap, sym, subst, ◌∙◌, le_trans, arith, AllByRecursion, and_parts, and_from, eq-eqb, ne_eqb, lt-ltb, le-ltb, length-map, Fix, Target, Fixup, SetByte, begins_word, is_plain, words_are_whole, bytes_of_run, fixes_of_run, Run, before_runs, runs_from, fixes_from, run_at, before_fixes, fixes_below, fixes_past, run_end, run_fixed, runs_fixed, fixes_step}
 use Rattle.object_laws.proofs.Merges.RunsMoved.{FirstFrom, first_from, fixes_later, row_of, values_of, bytes_moved}
 use Rattle.object_laws.proofs.Merges.PlacesKept.{AllFrom, all_earlier, all_from}
@@ -43,7 +44,8 @@ before_below offset end None fixes h all = all
 before_below offset end (Some fixup) fixes h all = (h, all)
 
 fixes_within :
-    (offset end : ℕ) (items : List SetByte) → offset + length items ≤ end → AllBelow end (fixes_from offset items)
+    (offset end : ℕ) (items : List SetByte) → offset + length items ≤ end
+    → AllBelow end (fixes_from offset items)
 fixes_within offset end [] h = tt
 fixes_within offset end (here ∷ others) h =
     subst (AllBelow end) (sym (fixes_step offset here.value here.fixup others))
@@ -65,11 +67,13 @@ fixes_past_runs end (run ∷ others) all =
 abbrev pub Apart : List (Run SetByte) → Type 0
 Apart [] = Unit {0}
 Apart (run ∷ others) =
-    (words_are_whole (row_of run.items) ≡ true) × AllFrom (run.offset + length run.items) others × Apart others
+    (words_are_whole (row_of run.items) ≡ true)
+    × AllFrom (run.offset + length run.items) others × Apart others
 
 -- such runs with their fixes are placed run by run
 pub runs_placed :
-    (start : ℕ) (gain_of : Target → ℕ) (kept : Target → Option Target) (runs : List (Run SetByte)) → Apart runs
+    (start : ℕ) (gain_of : Target → ℕ) (kept : Target → Option Target) (runs : List (Run SetByte))
+    → Apart runs
     → runs_fixed start gain_of (flat_map fixes_of_run runs) (map bytes_of_run runs)
     ≡ map (run_placed start gain_of kept) runs
 runs_placed start gain_of kept [] apart = refl
@@ -86,9 +90,11 @@ runs_placed start gain_of kept (run ∷ others) apart =
     run_fixed start gain_of f (bytes_of_run run)
     ∷ runs_fixed start gain_of (fixes_past end (own ++ later)) (map bytes_of_run others))
     (below_first end own later below past)
-    ∙ ap (λ f. run_fixed start gain_of own (bytes_of_run run) ∷ runs_fixed start gain_of f (map bytes_of_run others))
+    ∙ ap (λ f. run_fixed start gain_of own (bytes_of_run run)
+    ∷ runs_fixed start gain_of f (map bytes_of_run others))
     (past_others end own later below past)
-    ∙ ap (λ (bytes : List ℕ). run_at (start + run.offset) bytes ∷ runs_fixed start gain_of later (map bytes_of_run others))
+    ∙ ap (λ (bytes : List ℕ). run_at (start + run.offset) bytes
+    ∷ runs_fixed start gain_of later (map bytes_of_run others))
     (bytes_moved gain_of kept run.offset run.items apart.0)
     ∙ ap (λ r. run_placed start gain_of kept run ∷ r) (runs_placed start gain_of kept others apart.2)
 
@@ -113,9 +119,11 @@ joined_apart offset here next items others whole apart =
     Apart (cond b (run_at offset (here ∷ next ∷ items) ∷ others)
     (run_at offset (here ∷ []) ∷ run_at (offset + 1) (next ∷ items) ∷ others)))
     (sym (eq-eqb (offset + 1) (offset + 1) refl)) (
-      and_from (not (begins_word (Some here)) || is_plain (Some next)) (words_are_whole (row_of (next ∷ items))) whole
+      and_from (not (begins_word (Some here)) || is_plain (Some next))
+          (words_are_whole (row_of (next ∷ items))) whole
           apart.0,
-      all_earlier (offset + suc (suc (length items))) ((offset + 1) + suc (length items)) others (omega arith) apart.1,
+      all_earlier (offset + suc (suc (length items))) ((offset + 1) + suc (length items)) others
+          (omega arith) apart.1,
       apart.2,
     )
 
@@ -135,12 +143,14 @@ next_apart offset here next (third ∷ others) whole apart = go (third.offset ==
     go true a = joined_apart offset here next third.items others whole a
     go false a = joined_apart offset here next [] (third ∷ others) whole a
 
-first_later : {A : Type 0} (low high : ℕ) (runs : List (Run A)) → low ≤ high → FirstFrom high runs → FirstFrom low runs
+first_later : {A : Type 0} (low high : ℕ) (runs : List (Run A)) → low ≤ high → FirstFrom high runs
+    → FirstFrom low runs
 first_later low high [] h first = tt
 first_later low high (run ∷ others) h first = let k : high ≤ run.offset = first in le_trans h k
 
 pub runs_apart :
-    (offset : ℕ) (places : List (Option SetByte)) → words_are_whole places ≡ true → Apart (runs_from offset places)
+    (offset : ℕ) (places : List (Option SetByte)) → words_are_whole places ≡ true
+    → Apart (runs_from offset places)
 runs_apart offset [] h = tt
 runs_apart offset (None ∷ others) h = runs_apart (offset + 1) others h
 runs_apart offset (Some here ∷ []) h = (h, tt, tt)
@@ -155,5 +165,8 @@ runs_apart offset (Some here ∷ None ∷ others) h =
       runs_apart ((offset + 1) + 1) others cut.1,
     )
 runs_apart offset (Some here ∷ Some next ∷ others) h =
-    let cut = and_parts (not (begins_word (Some here)) || is_plain (Some next)) (words_are_whole (Some next ∷ others)) h in
-    next_apart offset here next (runs_from ((offset + 1) + 1) others) cut.0 (runs_apart (offset + 1) (Some next ∷ others) cut.1)
+    let cut =
+    and_parts (not (begins_word (Some here)) || is_plain (Some next))
+    (words_are_whole (Some next ∷ others)) h in
+    next_apart offset here next (runs_from ((offset + 1) + 1) others) cut.0
+    (runs_apart (offset + 1) (Some next ∷ others) cut.1)

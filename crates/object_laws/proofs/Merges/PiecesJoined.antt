@@ -1,5 +1,5 @@
--- A segment that is joined piece by piece: the runs and the fixes of what is made so far and of the next piece
--- are those of both, so one pass over the modules makes the segment of their merge.
+-- A segment that is joined piece by piece: the runs and the fixes of what is made so far and of the next
+-- piece are those of both, so one pass over the modules makes the segment of their merge.
 use Rattle.object_laws.proofs.Prelude.{◌≡◌, ℕ, ◌+◌, ◌-◌, ◌≤◌, List, [], ◌∷◌, ◌++◌, length, map, filter_map, replicate, Option, None, refl, ap, sym, ◌∙◌, arith, append_assoc, Target, SetByte, moved, Run, runs_from, bytes_of_run, joined_after, with_runs, run_displaced, place_fixes, fix_kept, run_moved}
 use Rattle.object_laws.proofs.Merges.RunsJoined.{runs_append, runs_after_gap, runs_displaced, bytes_with_runs}
 use Rattle.object_laws.proofs.Merges.FixesOfPlaces.{fixes_append, fixes_after_gap, fixes_moved}
@@ -14,7 +14,8 @@ pub joined_step :
     → made ++ joined_after (length made) ((start, piece) ∷ others)
     ≡ with_piece start made piece ++ joined_after (start + length piece) others
 joined_step start made piece others =
-    sym (append_assoc made (replicate (start - length made) None ++ piece) (joined_after (start + length piece) others))
+    sym (append_assoc made (replicate (start - length made) None ++ piece)
+    (joined_after (start + length piece) others))
 
 -- the runs of a piece as they are pushed: later by its start, with its bytes moved
 abbrev pub run_placed :
@@ -26,7 +27,8 @@ displaced_bytes :
     → map bytes_of_run (map (run_displaced start) runs)
     ≡ map (λ (run : Run SetByte). run_displaced start (bytes_of_run run)) runs
 displaced_bytes start [] = refl
-displaced_bytes start (run ∷ others) = ap (λ r. run_displaced start (bytes_of_run run) ∷ r) (displaced_bytes start others)
+displaced_bytes start (run ∷ others) =
+    ap (λ r. run_displaced start (bytes_of_run run) ∷ r) (displaced_bytes start others)
 
 placed_runs :
     (start : ℕ) (gain_of : Target → ℕ) (kept : Target → Option Target) (runs : List (Run SetByte))
@@ -45,7 +47,8 @@ piece_runs start gain_of kept places =
     ap (λ n. map bytes_of_run (runs_from n (moved gain_of kept places))) same
     ∙ ap (map bytes_of_run) (runs_displaced start 0 (moved gain_of kept places))
     ∙ displaced_bytes start (runs_from 0 (moved gain_of kept places))
-    ∙ ap (map (λ (run : Run SetByte). run_displaced start (bytes_of_run run))) (moved_runs gain_of kept 0 places)
+    ∙ ap (map (λ (run : Run SetByte). run_displaced start (bytes_of_run run)))
+    (moved_runs gain_of kept 0 places)
     ∙ placed_runs start gain_of kept (runs_from 0 places)
 
 -- the runs after a piece: those before, and then those of the piece, each pushed
@@ -53,7 +56,8 @@ pub runs_with_piece :
     (start : ℕ) (gain_of : Target → ℕ) (kept : Target → Option Target) (made places : List (Option SetByte))
     → length made ≤ start
     → map bytes_of_run (runs_from 0 (with_piece start made (moved gain_of kept places)))
-    ≡ with_runs (map bytes_of_run (runs_from 0 made)) (map (run_placed start gain_of kept) (runs_from 0 places))
+    ≡ with_runs (map bytes_of_run (runs_from 0 made))
+    (map (run_placed start gain_of kept) (runs_from 0 places))
 runs_with_piece start gain_of kept made places h =
     let piece : List (Option SetByte) = moved gain_of kept places in
     let same : (0 + length made) + (start - length made) ≡ start = omega arith in

@@ -20,7 +20,8 @@ byte_by fixes x run = record { value = slice_index run.items (x - run.offset); f
 
 abbrev place_by : List Fix → List (Run ℕ) → ℕ → Option SetByte
 place_by fixes [] x = None
-place_by fixes (run ∷ others) x = cond (has_place x run) (Some (byte_by fixes x run)) (place_by fixes others x)
+place_by fixes (run ∷ others) x =
+    cond (has_place x run) (Some (byte_by fixes x run)) (place_by fixes others x)
 
 abbrev content_by : Segment → List Fix → Run ℕ → FixedContent
 content_by segment fixes run = record { content = content_of_run segment run; fixes = fixes }
@@ -42,7 +43,8 @@ set_is segment fixes (run ∷ others) x =
 abbrev pub AllFrom : {A : Type 0} → (offset : ℕ) → List (Run A) → Type 0
 AllFrom {A} offset runs = AllByRecursion (λ (run : Run A). offset ≤ run.offset) runs
 
-pub all_earlier : {A : Type 0} (low high : ℕ) (runs : List (Run A)) → low ≤ high → AllFrom high runs → AllFrom low runs
+pub all_earlier : {A : Type 0} (low high : ℕ) (runs : List (Run A)) → low ≤ high
+    → AllFrom high runs → AllFrom low runs
 all_earlier low high [] h all = tt
 all_earlier low high (run ∷ others) h all =
     let k : high ≤ run.offset = all.0 in (omega (arith, h, k), all_earlier low high others h all.1)
@@ -53,7 +55,8 @@ all_before :
 all_before offset item [] all = (le_refl offset, tt)
 all_before {A} offset item (next ∷ others) all =
     let k : offset + 1 ≤ next.offset = all.0 in
-    go (next.offset == offset + 1) (omega (arith, k)) (all_earlier offset (offset + 1) others (omega arith) all.1)
+    go (next.offset == offset + 1) (omega (arith, k))
+    (all_earlier offset (offset + 1) others (omega arith) all.1)
   where
     go : (b : Bool) → offset ≤ next.offset → AllFrom offset others
         → AllFrom offset (cond b (run_at offset (item ∷ next.items) ∷ others)
@@ -64,7 +67,8 @@ all_before {A} offset item (next ∷ others) all =
 pub all_from : {A : Type 0} (offset : ℕ) (places : List (Option A)) → AllFrom offset (runs_from offset places)
 all_from offset [] = tt
 all_from offset (None ∷ others) =
-    all_earlier offset (offset + 1) (runs_from (offset + 1) others) (omega arith) (all_from (offset + 1) others)
+    all_earlier offset (offset + 1) (runs_from (offset + 1) others) (omega arith)
+    (all_from (offset + 1) others)
 all_from offset (Some item ∷ others) =
     all_before offset item (runs_from (offset + 1) others) (all_from (offset + 1) others)
 
@@ -92,7 +96,8 @@ first_place :
 first_place fixes offset value values others =
     let none : offset - offset ≡ 0 = omega arith in
     let has : has_place offset (run_at offset (value ∷ values)) ≡ true =
-    and_from _ _ (le-leb offset offset (omega arith)) (lt-ltb offset (offset + suc (length values)) (omega arith)) in
+    and_from _ _ (le-leb offset offset (omega arith))
+    (lt-ltb offset (offset + suc (length values)) (omega arith)) in
     ap (λ b.
     cond b (Some (byte_by fixes offset (run_at offset (value ∷ values))))
     (place_by fixes others offset)) has
@@ -139,7 +144,8 @@ past_one :
 past_one fixes offset value x others h =
     ap (λ b.
     cond b (Some (byte_by fixes x (run_at offset (value ∷ [])))) (place_by fixes others x))
-    (ap (λ b. nat_le offset x && b) (le-ltb x (offset + 1) (omega (arith, h))) ∙ and_right (nat_le offset x) false refl)
+    (ap (λ b. nat_le offset x && b) (le-ltb x (offset + 1) (omega (arith, h)))
+    ∙ and_right (nat_le offset x) false refl)
 
 past_first :
     (fixes : List Fix) (offset value x : ℕ) (next : Run ℕ) (others : List (Run ℕ)) → offset < x
@@ -151,7 +157,8 @@ past_first fixes offset value x next others h at =
     let begins : nat_le offset x ≡ nat_le next.offset x =
     same_le offset x next.offset x (λ k. omega (arith, h, at)) (λ k. omega (arith, h)) in
     let ends : nat_lt x (offset + suc (length next.items)) ≡ nat_lt x (next.offset + length next.items) =
-    same_lt x (offset + suc (length next.items)) x (next.offset + length next.items) (λ k. omega (arith, at, k))
+    same_lt x (offset + suc (length next.items)) x (next.offset + length next.items)
+    (λ k. omega (arith, at, k))
     (λ k. omega (arith, at, k)) in
     ap (λ b.
     cond (b && nat_lt x (offset + suc (length next.items)))
@@ -166,7 +173,8 @@ past_first fixes offset value x next others h at =
 
 later_place :
     (fixes : List Fix) (offset x : ℕ) (here : SetByte) (runs : List (Run SetByte)) → offset < x
-    → place_by fixes (map bytes_of_run (before_runs offset here runs)) x ≡ place_by fixes (map bytes_of_run runs) x
+    → place_by fixes (map bytes_of_run (before_runs offset here runs)) x
+    ≡ place_by fixes (map bytes_of_run runs) x
 later_place fixes offset x here [] h = past_one fixes offset here.value x [] h
 later_place fixes offset x here (next ∷ others) h = go (next.offset == offset + 1) refl
   where
@@ -196,10 +204,12 @@ fixes_before offset None fixes all = fixes_earlier offset (offset + 1) fixes (om
 fixes_before offset (Some fixup) fixes all =
     (le_refl offset, fixes_earlier offset (offset + 1) fixes (omega arith) all)
 
-fixes_from_place : (offset : ℕ) (places : List (Option SetByte)) → FixesFrom offset (place_fixes offset places)
+fixes_from_place : (offset : ℕ) (places : List (Option SetByte))
+    → FixesFrom offset (place_fixes offset places)
 fixes_from_place offset [] = tt
 fixes_from_place offset (None ∷ others) =
-    fixes_earlier offset (offset + 1) (place_fixes (offset + 1) others) (omega arith) (fixes_from_place (offset + 1) others)
+    fixes_earlier offset (offset + 1) (place_fixes (offset + 1) others) (omega arith)
+    (fixes_from_place (offset + 1) others)
 fixes_from_place offset (Some here ∷ others) =
     fixes_before offset here.fixup (place_fixes (offset + 1) others) (fixes_from_place (offset + 1) others)
 
@@ -249,7 +259,8 @@ row_is place offset (here ∷ others) g =
     ∙ ap (λ r. here ∷ r) (row_is place (offset + 1) others g.1)
 
 -- a function that from an offset on says what runs and fixes of places from there say
-abbrev SaysFrom : (place : ℕ → Option SetByte) → (all : List Fix) → (offset : ℕ) → List (Option SetByte) → Type 0
+abbrev SaysFrom : (place : ℕ → Option SetByte) → (all : List Fix) → (offset : ℕ)
+    → List (Option SetByte) → Type 0
 SaysFrom place all offset places =
     (x : ℕ) → offset ≤ x → place x ≡ place_by all (map bytes_of_run (runs_from offset places)) x
 
@@ -273,9 +284,11 @@ gives place all offset (Some here ∷ others) says fixes = (
       (fixes offset (omega arith)
       ∙ fix_here offset here.fixup (place_fixes (offset + 1) others) (fixes_from_place (offset + 1) others)),
   gives place all (offset + 1) others
-      (λ x h. says x (omega (arith, h)) ∙ later_place all offset x here (runs_from (offset + 1) others) (omega (arith, h)))
+      (λ x h. says x (omega (arith, h)) ∙ later_place all offset x here
+      (runs_from (offset + 1) others) (omega (arith, h)))
       (λ x h.
-      fixes x (omega (arith, h)) ∙ fix_later offset x here.fixup (place_fixes (offset + 1) others) (omega (arith, h))),
+      fixes x (omega (arith, h)) ∙ fix_later offset x here.fixup (place_fixes (offset + 1) others)
+      (omega (arith, h))),
 )
 
 -- the places of the segment that keeps places are these
@@ -299,7 +312,8 @@ less a b h not_same = go (nat_lt a b) refl
     go false e = let k : b ≤ a = ltb-false a b e in absurd (not_same (omega (arith, h, k)))
 
 longest_before :
-    (offset size : ℕ) (here : SetByte) (runs : List (Run SetByte)) → offset + 1 ≤ size → AllFrom (offset + 1) runs
+    (offset size : ℕ) (here : SetByte) (runs : List (Run SetByte)) → offset + 1 ≤ size
+    → AllFrom (offset + 1) runs
     → are_longest size (map bytes_of_run runs) ≡ true
     → are_longest size (map bytes_of_run (before_runs offset here runs)) ≡ true
 longest_before offset size here [] h all longest = le-leb (offset + 1) size h
@@ -318,7 +332,8 @@ longest_before offset size here (next ∷ []) h all longest = go (next.offset ==
         le-leb (offset + suc last) size (omega (arith, at, ends))
     go false e =
         let k : offset + 1 ≤ next.offset = all.0 in
-        let not_next : next.offset ≡ offset + 1 → ⊥ = λ same. true≢false (sym (eq-eqb next.offset (offset + 1) same) ∙ e) in
+        let not_next : next.offset ≡ offset + 1 → ⊥ =
+        λ same. true≢false (sym (eq-eqb next.offset (offset + 1) same) ∙ e) in
         and_from (nat_lt (offset + 1) next.offset) (are_longest size (bytes_of_run next ∷ []))
         (lt-ltb (offset + 1) next.offset (less (offset + 1) next.offset k not_next)) longest
 longest_before offset size here (next ∷ third ∷ others) h all longest = go (next.offset == offset + 1) refl
@@ -330,17 +345,22 @@ longest_before offset size here (next ∷ third ∷ others) h all longest = go (
     go true e =
         let at : next.offset ≡ offset + 1 = eqb-true next.offset (offset + 1) e in
         let last : ℕ = length (map (λ (item : SetByte). item.value) next.items) in
-        let cut = and_parts (not (is_empty (bytes_of_run next).items) && nat_lt (next.offset + last) third.offset)
+        let cut =
+        and_parts (not (is_empty (bytes_of_run next).items) && nat_lt (next.offset + last) third.offset)
         (are_longest size (map bytes_of_run (third ∷ others))) longest in
         let ends : next.offset + last < third.offset =
         ltb-true (next.offset + last) third.offset
-        (and_parts (not (is_empty (bytes_of_run next).items)) (nat_lt (next.offset + last) third.offset) cut.0).1 in
-        and_from (nat_lt (offset + suc last) third.offset) (are_longest size (map bytes_of_run (third ∷ others)))
+        (and_parts (not (is_empty (bytes_of_run next).items))
+        (nat_lt (next.offset + last) third.offset) cut.0).1 in
+        and_from (nat_lt (offset + suc last) third.offset)
+        (are_longest size (map bytes_of_run (third ∷ others)))
         (lt-ltb (offset + suc last) third.offset (omega (arith, at, ends))) cut.1
     go false e =
         let k : offset + 1 ≤ next.offset = all.0 in
-        let not_next : next.offset ≡ offset + 1 → ⊥ = λ same. true≢false (sym (eq-eqb next.offset (offset + 1) same) ∙ e) in
-        and_from (nat_lt (offset + 1) next.offset) (are_longest size (map bytes_of_run (next ∷ third ∷ others)))
+        let not_next : next.offset ≡ offset + 1 → ⊥ =
+        λ same. true≢false (sym (eq-eqb next.offset (offset + 1) same) ∙ e) in
+        and_from (nat_lt (offset + 1) next.offset)
+        (are_longest size (map bytes_of_run (next ∷ third ∷ others)))
         (lt-ltb (offset + 1) next.offset (less (offset + 1) next.offset k not_next)) longest
 
 longest_from :
@@ -349,7 +369,8 @@ longest_from :
 longest_from offset size [] h = refl
 longest_from offset size (None ∷ others) h = longest_from (offset + 1) size others (omega (arith, h))
 longest_from offset size (Some here ∷ others) h =
-    longest_before offset size here (runs_from (offset + 1) others) (omega (arith, h)) (all_from (offset + 1) others)
+    longest_before offset size here (runs_from (offset + 1) others) (omega (arith, h))
+    (all_from (offset + 1) others)
     (longest_from (offset + 1) size others (omega (arith, h)))
 
 -- fixes ascend
@@ -391,7 +412,8 @@ ascend_step :
     → fixes_ascend (before_fixes offset fixup (place_fixes (offset + 1) others)) ≡ true
 ascend_step offset None others h k = k
 ascend_step offset (Some fixup) others h k =
-    ascend_more (record { kind = fixup.kind; target = fixup.target; offset = offset }) (place_fixes (offset + 1) others)
+    ascend_more (record { kind = fixup.kind; target = fixup.target; offset = offset })
+    (place_fixes (offset + 1) others)
     (after_fix offset fixup.kind others h) k
 
 ascend_from_place :
@@ -413,7 +435,9 @@ in_longer :
     → within_run segment fix next ≡ true
     → within_run segment fix (run_at offset (value ∷ next.items)) ≡ true
 in_longer segment offset value next fix at h =
-    let cut = and_parts (nat_le next.offset fix.offset) (nat_le (fix_end fix) (next.offset + length next.items)) h in
+    let cut =
+    and_parts (nat_le next.offset fix.offset)
+    (nat_le (fix_end fix) (next.offset + length next.items)) h in
     let begins : next.offset ≤ fix.offset = leb-true next.offset fix.offset cut.0 in
     let ends : fix_end fix ≤ next.offset + length next.items =
     leb-true (fix_end fix) (next.offset + length next.items) cut.1 in
@@ -436,7 +460,8 @@ in_more segment offset here (next ∷ others) fix h = go (next.offset == offset 
         (map bytes_of_run (cond b (run_at offset (here ∷ next.items) ∷ others)
         (run_at offset (here ∷ []) ∷ next ∷ others))) fix ≡ true
     go true e =
-        or_map (within_run segment fix (bytes_of_run next)) _ (is_in_a_run segment (map bytes_of_run others) fix)
+        or_map (within_run segment fix (bytes_of_run next)) _
+        (is_in_a_run segment (map bytes_of_run others) fix)
         (in_longer segment offset here.value (bytes_of_run next) fix (eqb-true next.offset (offset + 1) e)) h
     go false e =
         or_right (within_run segment fix (run_at offset (here.value ∷ [])))
@@ -449,11 +474,13 @@ all_in_more :
 all_in_more segment offset here runs [] h = refl
 all_in_more segment offset here runs (fix ∷ others) h =
     let cut = and_parts (is_in_a_run segment (map bytes_of_run runs) fix) _ h in
-    and_from _ _ (in_more segment offset here runs fix cut.0) (all_in_more segment offset here runs others cut.1)
+    and_from _ _ (in_more segment offset here runs fix cut.0)
+    (all_in_more segment offset here runs others cut.1)
 
 -- a fix at the first place of a run that is long enough
 in_first :
-    (segment : Segment) (fix : Fix) (values : List ℕ) (others : List (Run ℕ)) → width_of fix.kind ≤ length values
+    (segment : Segment) (fix : Fix) (values : List ℕ) (others : List (Run ℕ))
+    → width_of fix.kind ≤ length values
     → is_in_a_run segment (run_at fix.offset values ∷ others) fix ≡ true
 in_first segment fix values others h =
     or_left (within_run segment fix (run_at fix.offset values)) (is_in_a_run segment others fix)
@@ -471,7 +498,8 @@ one_place segment fix here (next ∷ others) h = go (next.offset == fix.offset +
         (map bytes_of_run (cond b (run_at fix.offset (here ∷ next.items) ∷ others)
         (run_at fix.offset (here ∷ []) ∷ next ∷ others))) fix ≡ true
     go true =
-        in_first segment fix (here.value ∷ (bytes_of_run next).items) (map bytes_of_run others) (omega (arith, h))
+        in_first segment fix (here.value ∷ (bytes_of_run next).items)
+        (map bytes_of_run others) (omega (arith, h))
     go false = in_first segment fix (here.value ∷ []) (map bytes_of_run (next ∷ others)) (omega (arith, h))
 
 two_places_by :
@@ -484,7 +512,8 @@ two_places_by segment fix here run others h at some =
     (map bytes_of_run (cond b (run_at fix.offset (here ∷ run.items) ∷ others)
     (run_at fix.offset (here ∷ []) ∷ run ∷ others))) fix)
     (eq-eqb run.offset (fix.offset + 1) at)
-    ∙ in_first segment fix (here.value ∷ (bytes_of_run run).items) (map bytes_of_run others) (omega (arith, h, some))
+    ∙ in_first segment fix (here.value ∷ (bytes_of_run run).items) (map bytes_of_run others)
+    (omega (arith, h, some))
 
 two_places :
     (segment : Segment) (fix : Fix) (here next : SetByte) (runs : List (Run SetByte)) → width_of fix.kind ≤ 2
@@ -513,9 +542,11 @@ first_fix :
     → is_in_a_run segment (map bytes_of_run (before_runs offset here (runs_from (offset + 1) others)))
     (record { kind = kind; target = target; offset = offset }) ≡ true
 first_fix segment offset here Low target others h =
-    one_place segment (record { kind = Low; target = target; offset = offset }) here (runs_from (offset + 1) others) (omega arith)
+    one_place segment (record { kind = Low; target = target; offset = offset }) here
+    (runs_from (offset + 1) others) (omega arith)
 first_fix segment offset here High target others h =
-    one_place segment (record { kind = High; target = target; offset = offset }) here (runs_from (offset + 1) others) (omega arith)
+    one_place segment (record { kind = High; target = target; offset = offset }) here
+    (runs_from (offset + 1) others) (omega arith)
 first_fix segment offset here Both target [] h = absurd (let bad : false ≡ true = h in cc)
 first_fix segment offset here Both target (None ∷ others) h = absurd (let bad : false ≡ true = h in cc)
 first_fix segment offset here Both target (Some next ∷ others) h =
@@ -526,9 +557,11 @@ within_step :
     (segment : Segment) (offset : ℕ) (here : SetByte) (fixup : Option Fixup) (others : List (Option SetByte))
     → (not (option_map_or (λ (f : Fixup). is_both f.kind) fixup false)
     || is_plain (option_flatten (slice_get others 0))) ≡ true
-    → list_all (is_in_a_run segment (map bytes_of_run (runs_from (offset + 1) others))) (place_fixes (offset + 1) others)
+    → list_all (is_in_a_run segment (map bytes_of_run (runs_from (offset + 1) others)))
+    (place_fixes (offset + 1) others)
     ≡ true
-    → list_all (is_in_a_run segment (map bytes_of_run (before_runs offset here (runs_from (offset + 1) others))))
+    → list_all
+    (is_in_a_run segment (map bytes_of_run (before_runs offset here (runs_from (offset + 1) others))))
     (before_fixes offset fixup (place_fixes (offset + 1) others)) ≡ true
 within_step segment offset here None others h k =
     all_in_more segment offset here (runs_from (offset + 1) others) (place_fixes (offset + 1) others) k
@@ -538,17 +571,20 @@ within_step segment offset here (Some fixup) others h k =
 
 within_from_place :
     (segment : Segment) (offset : ℕ) (places : List (Option SetByte)) → words_are_whole places ≡ true
-    → list_all (is_in_a_run segment (map bytes_of_run (runs_from offset places))) (place_fixes offset places) ≡ true
+    → list_all (is_in_a_run segment (map bytes_of_run (runs_from offset places))) (place_fixes offset places)
+    ≡ true
 within_from_place segment offset [] h = refl
 within_from_place segment offset (None ∷ others) h = within_from_place segment (offset + 1) others h
 within_from_place segment offset (Some here ∷ others) h =
     let cut = and_parts (not (begins_word (Some here)) || is_plain (option_flatten (slice_get others 0)))
     (words_are_whole others) h in
-    within_step segment offset here here.fixup others cut.0 (within_from_place segment (offset + 1) others cut.1)
+    within_step segment offset here here.fixup others cut.0
+    (within_from_place segment (offset + 1) others cut.1)
 
 -- the segment that keeps places without cut words keeps to all of that
 pub kept_stored :
-    (segment : Segment) (alignment : Alignment) (places : List (Option SetByte)) → words_are_whole places ≡ true
+    (segment : Segment) (alignment : Alignment) (places : List (Option SetByte))
+    → words_are_whole places ≡ true
     → IsStored segment (stored_of alignment places)
 kept_stored segment alignment places h = record {
   runs = longest_from 0 (length places) places (omega arith);

@@ -9,38 +9,56 @@ one_before :
 one_before {A} offset item last run joins true e f =
     let at : last.offset ≡ offset + 1 = eqb-true last.offset (offset + 1) f in
     let same : last.offset + length last.items ≡ offset + suc (length last.items) = omega arith in
-    ap (λ (b : Bool). before_runs offset item (cond b (run_at last.offset (last.items ++ run.items) ∷ []) (last ∷ run ∷ []))) e
+    ap (λ (b : Bool). before_runs offset item
+    (cond b (run_at last.offset (last.items ++ run.items) ∷ []) (last ∷ run ∷ []))) e
     ∙ by_joins joins (sym (ap (λ n. run.offset == n) same) ∙ e)
-    ∙ ap (λ (b : Bool). with_run (cond b (run_at offset (item ∷ last.items) ∷ []) (run_at offset (item ∷ []) ∷ last ∷ [])) run) (sym f)
+    ∙ ap (λ (b : Bool). with_run (cond b (run_at offset (item ∷ last.items) ∷ [])
+    (run_at offset (item ∷ []) ∷ last ∷ [])) run) (sym f)
   where
     by_joins : (j : Bool) → (run.offset == offset + suc (length last.items)) ≡ j
-        → before_runs offset item (cond j (run_at last.offset (last.items ++ run.items) ∷ []) (last ∷ run ∷ [])) ≡ with_run (run_at offset (item ∷ last.items) ∷ []) run
+        → before_runs offset item
+        (cond j (run_at last.offset (last.items ++ run.items) ∷ []) (last ∷ run ∷ []))
+        ≡ with_run (run_at offset (item ∷ last.items) ∷ []) run
     by_joins true is =
-        ap (λ (b : Bool). cond b (run_at offset (item ∷ (last.items ++ run.items)) ∷ []) (run_at offset (item ∷ []) ∷ run_at last.offset (last.items ++ run.items) ∷ [])) f
-        ∙ sym (ap (λ (b : Bool). cond b (run_at offset (item ∷ (last.items ++ run.items)) ∷ []) (run_at offset (item ∷ last.items) ∷ run ∷ [])) is)
+        ap (λ (b : Bool). cond b (run_at offset (item ∷ (last.items ++ run.items)) ∷ [])
+        (run_at offset (item ∷ []) ∷ run_at last.offset (last.items ++ run.items) ∷ [])) f
+        ∙ sym (ap (λ (b : Bool). cond b (run_at offset (item ∷ (last.items ++ run.items)) ∷ [])
+        (run_at offset (item ∷ last.items) ∷ run ∷ [])) is)
     by_joins false is =
-        ap (λ (b : Bool). cond b (run_at offset (item ∷ last.items) ∷ run ∷ []) (run_at offset (item ∷ []) ∷ last ∷ run ∷ [])) f
-        ∙ sym (ap (λ (b : Bool). cond b (run_at offset (item ∷ (last.items ++ run.items)) ∷ []) (run_at offset (item ∷ last.items) ∷ run ∷ [])) is)
+        ap (λ (b : Bool). cond b (run_at offset (item ∷ last.items) ∷ run ∷ [])
+        (run_at offset (item ∷ []) ∷ last ∷ run ∷ [])) f
+        ∙ sym (ap (λ (b : Bool). cond b (run_at offset (item ∷ (last.items ++ run.items)) ∷ [])
+        (run_at offset (item ∷ last.items) ∷ run ∷ [])) is)
 one_before {A} offset item last run joins false e f =
-    by_joins joins e ∙ ap (λ (b : Bool). with_run (cond b (run_at offset (item ∷ last.items) ∷ []) (run_at offset (item ∷ []) ∷ last ∷ [])) run) (sym f)
+    by_joins joins e
+    ∙ ap (λ (b : Bool). with_run (cond b (run_at offset (item ∷ last.items) ∷ [])
+    (run_at offset (item ∷ []) ∷ last ∷ [])) run) (sym f)
   where
     by_joins : (j : Bool) → (run.offset == last.offset + length last.items) ≡ j
-        → before_runs offset item (with_run (last ∷ []) run) ≡ run_at offset (item ∷ []) ∷ with_run (last ∷ []) run
+        → before_runs offset item (with_run (last ∷ []) run)
+        ≡ run_at offset (item ∷ []) ∷ with_run (last ∷ []) run
     by_joins true is =
-        ap (λ (b : Bool). before_runs offset item (cond b (run_at last.offset (last.items ++ run.items) ∷ []) (last ∷ run ∷ []))) is
-        ∙ ap (λ (b : Bool). cond b (run_at offset (item ∷ (last.items ++ run.items)) ∷ []) (run_at offset (item ∷ []) ∷ run_at last.offset (last.items ++ run.items) ∷ [])) f
-        ∙ sym (ap (λ (b : Bool). run_at offset (item ∷ []) ∷ cond b (run_at last.offset (last.items ++ run.items) ∷ []) (last ∷ run ∷ [])) is)
+        ap (λ (b : Bool). before_runs offset item
+        (cond b (run_at last.offset (last.items ++ run.items) ∷ []) (last ∷ run ∷ []))) is
+        ∙ ap (λ (b : Bool). cond b (run_at offset (item ∷ (last.items ++ run.items)) ∷ [])
+        (run_at offset (item ∷ []) ∷ run_at last.offset (last.items ++ run.items) ∷ [])) f
+        ∙ sym (ap (λ (b : Bool). run_at offset (item ∷ [])
+        ∷ cond b (run_at last.offset (last.items ++ run.items) ∷ []) (last ∷ run ∷ [])) is)
     by_joins false is =
-        ap (λ (b : Bool). before_runs offset item (cond b (run_at last.offset (last.items ++ run.items) ∷ []) (last ∷ run ∷ []))) is
-        ∙ ap (λ (b : Bool). cond b (run_at offset (item ∷ last.items) ∷ run ∷ []) (run_at offset (item ∷ []) ∷ last ∷ run ∷ [])) f
-        ∙ sym (ap (λ (b : Bool). run_at offset (item ∷ []) ∷ cond b (run_at last.offset (last.items ++ run.items) ∷ []) (last ∷ run ∷ [])) is)
+        ap (λ (b : Bool). before_runs offset item
+        (cond b (run_at last.offset (last.items ++ run.items) ∷ []) (last ∷ run ∷ []))) is
+        ∙ ap (λ (b : Bool). cond b (run_at offset (item ∷ last.items) ∷ run ∷ [])
+        (run_at offset (item ∷ []) ∷ last ∷ run ∷ [])) f
+        ∙ sym (ap (λ (b : Bool). run_at offset (item ∷ [])
+        ∷ cond b (run_at last.offset (last.items ++ run.items) ∷ []) (last ∷ run ∷ [])) is)
 
 before_with_run :
     {A : Type 0} (offset : ℕ) (item : A) (runs : List (Run A)) (run : Run A)
     → before_runs offset item (with_run runs run) ≡ with_run (before_runs offset item runs) run
 before_with_run offset item [] run = refl
 before_with_run offset item (last ∷ []) run =
-    one_before offset item last run (run.offset == last.offset + length last.items) (last.offset == offset + 1) refl refl
+    one_before offset item last run (run.offset == last.offset + length last.items)
+    (last.offset == offset + 1) refl refl
 before_with_run {A} offset item (first ∷ next ∷ others) run = go (first.offset == offset + 1)
   where
     go : (b : Bool)
@@ -72,11 +90,13 @@ first_pushed {A} offset item (next ∷ others) = go (next.offset == offset + 1) 
         ≡ with_runs (with_run (run_at offset (item ∷ []) ∷ []) next) others
     go true e =
         sym (ap (λ (b : Bool).
-        with_runs (cond b (run_at offset (item ∷ next.items) ∷ []) (run_at offset (item ∷ []) ∷ next ∷ [])) others) e)
+        with_runs (cond b (run_at offset (item ∷ next.items) ∷ []) (run_at offset (item ∷ []) ∷ next ∷ []))
+        others) e)
     go false e = refl
 
 -- the runs of places, pushed after none
-all_pushed : {A : Type 0} (offset : ℕ) (places : List (Option A)) → with_runs [] (runs_from offset places) ≡ runs_from offset places
+all_pushed : {A : Type 0} (offset : ℕ) (places : List (Option A))
+    → with_runs [] (runs_from offset places) ≡ runs_from offset places
 all_pushed offset [] = refl
 all_pushed offset (None ∷ others) = all_pushed (offset + 1) others
 all_pushed offset (Some item ∷ others) =
@@ -127,7 +147,8 @@ before_displaced :
 before_displaced by offset item [] = refl
 before_displaced {A} by offset item (next ∷ others) =
     go (next.offset == offset + 1) (by + next.offset == (by + offset) + 1)
-    (same_test next.offset (offset + 1) (by + next.offset) ((by + offset) + 1) (λ h. omega arith) (λ h. omega arith))
+    (same_test next.offset (offset + 1) (by + next.offset) ((by + offset) + 1)
+    (λ h. omega arith) (λ h. omega arith))
   where
     go : (a b : Bool) → a ≡ b
         → map (run_displaced by) (cond a (run_at offset (item ∷ next.items) ∷ others)
@@ -179,7 +200,8 @@ bytes_with_run (last ∷ []) run =
         (bytes_of_run last ∷ bytes_of_run run ∷ [])
     go true = ap (λ (r : Run ℕ). r ∷ []) (values_joined last run)
     go false = refl
-bytes_with_run (first ∷ next ∷ others) run = ap (λ r. bytes_of_run first ∷ r) (bytes_with_run (next ∷ others) run)
+bytes_with_run (first ∷ next ∷ others) run =
+    ap (λ r. bytes_of_run first ∷ r) (bytes_with_run (next ∷ others) run)
 
 pub bytes_with_runs :
     (runs more : List (Run SetByte))

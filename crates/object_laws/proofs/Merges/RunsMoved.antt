@@ -7,7 +7,8 @@ abbrev pub FirstFrom : {A : Type 0} → (offset : ℕ) → List (Run A) → Type
 FirstFrom offset [] = Unit {0}
 FirstFrom offset (run ∷ others) = offset ≤ run.offset
 
-first_before : {A : Type 0} (offset : ℕ) (item : A) (runs : List (Run A)) → FirstFrom offset (before_runs offset item runs)
+first_before : {A : Type 0} (offset : ℕ) (item : A) (runs : List (Run A))
+    → FirstFrom offset (before_runs offset item runs)
 first_before offset item [] = le_refl offset
 first_before {A} offset item (next ∷ others) = go (next.offset == offset + 1)
   where
@@ -17,13 +18,16 @@ first_before {A} offset item (next ∷ others) = go (next.offset == offset + 1)
     go true = le_refl offset
     go false = le_refl offset
 
-from_earlier : {A : Type 0} (offset : ℕ) (runs : List (Run A)) → FirstFrom (offset + 1) runs → FirstFrom offset runs
+from_earlier : {A : Type 0} (offset : ℕ) (runs : List (Run A)) → FirstFrom (offset + 1) runs
+    → FirstFrom offset runs
 from_earlier offset [] h = tt
 from_earlier offset (run ∷ others) h = let k : offset + 1 ≤ run.offset = h in omega (arith, k)
 
-pub first_from : {A : Type 0} (offset : ℕ) (places : List (Option A)) → FirstFrom offset (runs_from offset places)
+pub first_from : {A : Type 0} (offset : ℕ) (places : List (Option A))
+    → FirstFrom offset (runs_from offset places)
 first_from offset [] = tt
-first_from offset (None ∷ others) = from_earlier offset (runs_from (offset + 1) others) (first_from (offset + 1) others)
+first_from offset (None ∷ others) =
+    from_earlier offset (runs_from (offset + 1) others) (first_from (offset + 1) others)
 first_from offset (Some item ∷ others) = first_before offset item (runs_from (offset + 1) others)
 
 -- runs that move, of which the first may begin right after a place
@@ -58,9 +62,11 @@ not_first gain_of kept before offset (run ∷ others) h =
     (sym (ne_eqb run.offset offset (λ e. absurd (omega (arith, k, e)))))
 
 item_first :
-    (gain_of : Target → ℕ) (kept : Target → Option Target) (before : Option SetByte) (offset : ℕ) (here : SetByte)
+    (gain_of : Target → ℕ) (kept : Target → Option Target) (before : Option SetByte)
+    (offset : ℕ) (here : SetByte)
     (runs : List (Run SetByte))
-    → before_runs offset (byte_moved gain_of kept before here) (first_moved gain_of kept (Some here) (offset + 1) runs)
+    → before_runs offset (byte_moved gain_of kept before here)
+    (first_moved gain_of kept (Some here) (offset + 1) runs)
     ≡ first_moved gain_of kept before offset (before_runs offset here runs)
 item_first gain_of kept before offset here [] =
     ap (λ (b : Bool).
@@ -72,7 +78,8 @@ item_first gain_of kept before offset here (next ∷ others) =
     go : (b : Bool)
         → cond b
         (run_at offset (byte_moved gain_of kept before here
-        ∷ items_moved gain_of kept (cond b (Some here) None) next.items) ∷ map (run_moved gain_of kept) others)
+        ∷ items_moved gain_of kept (cond b (Some here) None) next.items)
+        ∷ map (run_moved gain_of kept) others)
         (run_at offset (byte_moved gain_of kept before here ∷ [])
         ∷ (run_at next.offset (items_moved gain_of kept (cond b (Some here) None) next.items))
         ∷ map (run_moved gain_of kept) others)
@@ -123,10 +130,12 @@ before_later low offset (Some fixup) fixes h all = (h, all)
 
 later_by_step :
     (low offset : ℕ) (here : SetByte) (others : List SetByte)
-    → AllByRecursion (λ (fix : Fix). low ≤ fix.offset) (before_fixes offset here.fixup (fixes_from (offset + 1) others))
+    → AllByRecursion (λ (fix : Fix). low ≤ fix.offset)
+    (before_fixes offset here.fixup (fixes_from (offset + 1) others))
     → AllByRecursion (λ (fix : Fix). low ≤ fix.offset) (fixes_from offset (here ∷ others))
 later_by_step low offset here others all =
-    subst (AllByRecursion (λ (fix : Fix). low ≤ fix.offset)) (sym (fixes_step offset here.value here.fixup others)) all
+    subst (AllByRecursion (λ (fix : Fix). low ≤ fix.offset))
+    (sym (fixes_step offset here.value here.fixup others)) all
 
 pub fixes_later :
     (low offset : ℕ) (items : List SetByte) → low ≤ offset
@@ -184,18 +193,21 @@ next_plain gain_of value (next ∷ others) = refl
 next_low :
     (gain_of : Target → ℕ) (value : ℕ) (target : Target) (others : List SetByte)
     → values_of others
-    ≡ values_next gain_of (record { value = value; fixup = Some (record { kind = Low; target = target }) }) others
+    ≡ values_next gain_of (record { value = value; fixup = Some (record { kind = Low; target = target }) })
+    others
 next_low gain_of value target [] = refl
 next_low gain_of value target (next ∷ others) = refl
 
 next_high :
     (gain_of : Target → ℕ) (value : ℕ) (target : Target) (others : List SetByte)
     → values_of others
-    ≡ values_next gain_of (record { value = value; fixup = Some (record { kind = High; target = target }) }) others
+    ≡ values_next gain_of (record { value = value; fixup = Some (record { kind = High; target = target }) })
+    others
 next_high gain_of value target [] = refl
 next_high gain_of value target (next ∷ others) = refl
 
-not_word : (before : Option SetByte) (fixup : Fixup) → (begins_word before ≡ true → Some fixup ≡ None) → begins_word before ≡ false
+not_word : (before : Option SetByte) (fixup : Fixup) → (begins_word before ≡ true → Some fixup ≡ None)
+    → begins_word before ≡ false
 not_word before fixup h = go (begins_word before) refl
   where
     go : (b : Bool) → begins_word before ≡ b → b ≡ false
@@ -209,12 +221,15 @@ first_fixed :
     → begins_word before ≡ false
     → bytes_fixed kind 0 (gain_of target) (value ∷ values_of others)
     ≡ first_byte_moved kind value (gain_of target)
-    ∷ values_next gain_of (record { value = value; fixup = Some (record { kind = kind; target = target }) }) others
+    ∷ values_next gain_of (record { value = value; fixup = Some (record { kind = kind; target = target }) })
+    others
     → bytes_after gain_of (offset + 1) (fixes_from (offset + 1) others)
-    (values_next gain_of (record { value = value; fixup = Some (record { kind = kind; target = target }) }) others)
+    (values_next gain_of (record { value = value; fixup = Some (record { kind = kind; target = target }) })
+    others)
     ≡ rest
     → bytes_after gain_of offset
-    (fixes_from offset (record { value = value; fixup = Some (record { kind = kind; target = target }) } ∷ others))
+    (fixes_from offset (record { value = value; fixup = Some (record { kind = kind; target = target }) }
+    ∷ others))
     (value_after gain_of before value ∷ values_of others)
     ≡ first_byte_moved kind value (gain_of target) ∷ rest
 first_fixed gain_of before offset value kind target others rest alone fixed later =
@@ -225,19 +240,23 @@ first_fixed gain_of before offset value kind target others rest alone fixed late
     bytes_after gain_of offset fixes
     (bytes_fixed kind (offset - offset) (gain_of target) (v ∷ values_of others)))
     (value_stays gain_of before value alone)
-    ∙ ap (λ i. bytes_after gain_of offset fixes (bytes_fixed kind i (gain_of target) (value ∷ values_of others))) none
+    ∙ ap (λ i. bytes_after gain_of offset fixes
+    (bytes_fixed kind i (gain_of target) (value ∷ values_of others))) none
     ∙ ap (bytes_after gain_of offset fixes) fixed
-    ∙ after_first gain_of offset (first_byte_moved kind value (gain_of target)) fixes (values_next gain_of here others)
+    ∙ after_first gain_of offset (first_byte_moved kind value (gain_of target)) fixes
+    (values_next gain_of here others)
     (fixes_later (offset + 1) (offset + 1) others (omega arith))
     ∙ ap (λ r. first_byte_moved kind value (gain_of target) ∷ r) later
 
 by_kind :
     (gain_of : Target → ℕ) (value : ℕ) (kind : FixKind) (target : Target) (others : List SetByte)
     → words_are_whole
-    (row_of (record { value = value; fixup = Some (record { kind = kind; target = target }) } ∷ others)) ≡ true
+    (row_of (record { value = value; fixup = Some (record { kind = kind; target = target }) } ∷ others))
+    ≡ true
     → bytes_fixed kind 0 (gain_of target) (value ∷ values_of others)
     ≡ first_byte_moved kind value (gain_of target)
-    ∷ values_next gain_of (record { value = value; fixup = Some (record { kind = kind; target = target }) }) others
+    ∷ values_next gain_of (record { value = value; fixup = Some (record { kind = kind; target = target }) })
+    others
 by_kind gain_of value Low target others whole =
     ap (λ r. first_byte_moved Low value (gain_of target) ∷ r) (next_low gain_of value target others)
 by_kind gain_of value High target others whole =
@@ -257,7 +276,8 @@ item_fixed :
     (value_after gain_of before value ∷ values_of others)
     ≡ value_moved gain_of before (record { value = value; fixup = fixup }) ∷ rest
 item_fixed gain_of before offset value None others rest alone whole later =
-    ap (λ r. bytes_after gain_of offset (fixes_from (offset + 1) others) (value_after gain_of before value ∷ r))
+    ap (λ r. bytes_after gain_of offset (fixes_from (offset + 1) others)
+    (value_after gain_of before value ∷ r))
     (next_plain gain_of value others)
     ∙ after_first gain_of offset (value_after gain_of before value) (fixes_from (offset + 1) others)
     (values_next gain_of (record { value = value; fixup = None }) others)
@@ -279,7 +299,8 @@ word_then_plain here next h k =
 
 -- the bytes of items that move are their bytes after their fixes, one after another
 bytes_moved_after :
-    (gain_of : Target → ℕ) (kept : Target → Option Target) (before : Option SetByte) (offset : ℕ) (here : SetByte)
+    (gain_of : Target → ℕ) (kept : Target → Option Target) (before : Option SetByte)
+    (offset : ℕ) (here : SetByte)
     (others : List SetByte)
     → (begins_word before ≡ true → here.fixup ≡ None) → words_are_whole (row_of (here ∷ others)) ≡ true
     → bytes_after gain_of offset (fixes_from offset (here ∷ others))
@@ -292,7 +313,8 @@ bytes_moved_after gain_of kept before offset here (next ∷ others) alone whole 
     (words_are_whole (row_of (next ∷ others))) whole in
     item_fixed gain_of before offset here.value here.fixup (next ∷ others)
     (values_of (items_moved gain_of kept (Some here) (next ∷ others))) alone whole
-    (bytes_moved_after gain_of kept (Some here) (offset + 1) next others (word_then_plain here next cut.0) cut.1)
+    (bytes_moved_after gain_of kept (Some here) (offset + 1) next others
+    (word_then_plain here next cut.0) cut.1)
 
 pub bytes_moved :
     (gain_of : Target → ℕ) (kept : Target → Option Target) (offset : ℕ) (items : List SetByte)
@@ -301,7 +323,8 @@ pub bytes_moved :
     ≡ values_of (items_moved gain_of kept None items)
 bytes_moved gain_of kept offset [] whole = refl
 bytes_moved gain_of kept offset (here ∷ others) whole =
-    bytes_moved_after gain_of kept None offset here others (λ h. absurd (let bad : false ≡ true = h in cc)) whole
+    bytes_moved_after gain_of kept None offset here others
+    (λ h. absurd (let bad : false ≡ true = h in cc)) whole
 
 -- bytes after others: only they change
 pub fixed_after :

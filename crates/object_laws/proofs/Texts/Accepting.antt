@@ -17,7 +17,8 @@ accepted_append before (part ∷ first) second h k =
     and_from (is_accepted before part) (are_accepted (part ∷ before) (first ++ second)) t.0
     (accepted_append (part ∷ before) first second t.1 k)
 
-pub onto_append : (first second before : List Part) → onto (first ++ second) before ≡ onto second (onto first before)
+pub onto_append : (first second before : List Part)
+    → onto (first ++ second) before ≡ onto second (onto first before)
 onto_append [] second before = refl
 onto_append (part ∷ first) second before = onto_append first second (part ∷ before)
 
@@ -37,13 +38,16 @@ none_of holds fault others e h = subst (λ b. first_that_holds ((b, fault) ∷ o
 
 pub accepted_by : (before : List Part) (part : Part) → Acceptable before part → is_accepted before part ≡ true
 accepted_by before part a =
-    let misplaced : Bool = option_map_or (λ (c : Content). not (fits_segment before c)) (content_of part) false in
+    let misplaced : Bool =
+    option_map_or (λ (c : Content). not (fits_segment before c)) (content_of part) false in
     let unfit : Bool = not (fit_content before part (latest_content before)) in
     let from_fourth : List (Bool × Fault) = (unfit, FixMisplaced) ∷ [] in
     let from_third : List (Bool × Fault) = (misplaced, ContentMisplaced) ∷ from_fourth in
-    let from_second : List (Bool × Fault) = (not (list_all is_served (entries_of part)), WrongAlignment) ∷ from_third in
+    let from_second : List (Bool × Fault) =
+    (not (list_all is_served (entries_of part)), WrongAlignment) ∷ from_third in
     let fourth : first_that_holds from_fourth ≡ None = none_of unfit FixMisplaced [] (ap not a.fixes) refl in
-    let third : first_that_holds from_third ≡ None = none_of misplaced ContentMisplaced from_fourth a.content fourth in
+    let third : first_that_holds from_third ≡ None =
+    none_of misplaced ContentMisplaced from_fourth a.content fourth in
     let second : first_that_holds from_second ≡ None =
     none_of (not (list_all is_served (entries_of part))) WrongAlignment from_third (ap not a.served) third in
     let none : part_fault before part ≡ None =
@@ -103,11 +107,13 @@ abbrev pub AtContents : List Part → Type 0
 AtContents [] = ⊥
 AtContents (latest ∷ others) = rank_of (kind_of_part latest) ≡ 3
 
-by_rank : (latest : RecordKind) → rank_of latest ≡ 3 → (nat_le (rank_of latest) 3 && (rank_of latest == 3)) ≡ true
+by_rank : (latest : RecordKind) → rank_of latest ≡ 3
+    → (nat_le (rank_of latest) 3 && (rank_of latest == 3)) ≡ true
 by_rank latest h = ap (λ rank. nat_le rank 3 && (rank == 3)) h
 
 fix_may_come :
-    (latest kind : RecordKind) → rank_of latest ≡ 3 → is_fix_record kind ≡ true → may_come_after latest kind ≡ true
+    (latest kind : RecordKind) → rank_of latest ≡ 3 → is_fix_record kind ≡ true
+    → may_come_after latest kind ≡ true
 fix_may_come latest kinds.ExternalReferences h k = by_rank latest h
 fix_may_come latest kinds.Relocation h k = by_rank latest h
 fix_may_come latest kinds.IntersegmentReferences h k = by_rank latest h
@@ -134,11 +140,13 @@ flat_map_onto f (part ∷ later) before all =
 
 pub times_onto :
     {A : Type 0} (test : A → Bool) (f : Part → List A) (later before : List Part)
-    → times test (flat_map f (onto later before)) ≡ times test (flat_map f later) + times test (flat_map f before)
+    → times test (flat_map f (onto later before))
+    ≡ times test (flat_map f later) + times test (flat_map f before)
 times_onto test f [] before = omega arith
 times_onto test f (part ∷ later) before =
     let a : times test (flat_map f (onto later (part ∷ before)))
-    ≡ times test (flat_map f later) + times test (f part ++ flat_map f before) = times_onto test f later (part ∷ before) in
+    ≡ times test (flat_map f later) + times test (f part ++ flat_map f before) =
+    times_onto test f later (part ∷ before) in
     let b : times test (f part ++ flat_map f before) ≡ times test (f part) + times test (flat_map f before) =
     times_append test (f part) (flat_map f before) in
     let c : times test (f part ++ flat_map f later) ≡ times test (f part) + times test (flat_map f later) =
@@ -151,7 +159,8 @@ pub length_onto :
 length_onto f [] before = omega arith
 length_onto f (part ∷ later) before =
     let a : length (flat_map f (onto later (part ∷ before)))
-    ≡ length (flat_map f later) + length (f part ++ flat_map f before) = length_onto f later (part ∷ before) in
+    ≡ length (flat_map f later) + length (f part ++ flat_map f before) =
+    length_onto f later (part ∷ before) in
     let b : length (f part ++ flat_map f before) ≡ length (f part) + length (flat_map f before) =
     length-append (f part) (flat_map f before) in
     let c : length (f part ++ flat_map f later) ≡ length (f part) + length (flat_map f later) =
@@ -179,14 +188,16 @@ pub leading_more :
     → leading_fixes own (part ∷ before) ≡ fixes_of own part ++ leading_fixes own before
 leading_more own part before h =
     ap (flat_map (fixes_of own)) (take_while-cons (λ p. is_fix_record (kind_of_part p)) part before)
-    ∙ ap (λ b. flat_map (fixes_of own) (cond b (part ∷ take_while (λ p. is_fix_record (kind_of_part p)) before) [])) h
+    ∙ ap (λ b. flat_map (fixes_of own) (cond b
+    (part ∷ take_while (λ p. is_fix_record (kind_of_part p)) before) [])) h
 
 pub leading_none :
     (own : Segment) (part : Part) (before : List Part) → is_fix_record (kind_of_part part) ≡ false
     → leading_fixes own (part ∷ before) ≡ []
 leading_none own part before h =
     ap (flat_map (fixes_of own)) (take_while-cons (λ p. is_fix_record (kind_of_part p)) part before)
-    ∙ ap (λ b. flat_map (fixes_of own) (cond b (part ∷ take_while (λ p. is_fix_record (kind_of_part p)) before) [])) h
+    ∙ ap (λ b. flat_map (fixes_of own) (cond b
+    (part ∷ take_while (λ p. is_fix_record (kind_of_part p)) before) [])) h
 
 -- lists with an item
 pub some_items : {A : Type 0} (xs : List A) → 0 < length xs → not (is_empty xs) ≡ true
@@ -194,19 +205,22 @@ some_items [] h = absurd (omega (arith, h))
 some_items (x ∷ xs) h = refl
 
 pub all_pass :
-    {A : Type 0} (test : A → Bool) (xs : List A) → AllByRecursion (λ x. test x ≡ true) xs → list_all test xs ≡ true
+    {A : Type 0} (test : A → Bool) (xs : List A) → AllByRecursion (λ x. test x ≡ true) xs
+    → list_all test xs ≡ true
 all_pass test [] all = refl
 all_pass test (x ∷ xs) all = and_from (test x) (list_all test xs) all.0 (all_pass test xs all.1)
 
 pub each_passes :
-    {A : Type 0} (test : A → Bool) (xs : List A) → list_all test xs ≡ true → AllByRecursion (λ x. test x ≡ true) xs
+    {A : Type 0} (test : A → Bool) (xs : List A) → list_all test xs ≡ true
+    → AllByRecursion (λ x. test x ≡ true) xs
 each_passes test [] h = tt
 each_passes test (x ∷ xs) h =
     let t = and_parts (test x) (list_all test xs) h in (t.0, each_passes test xs t.1)
 
 -- what holds of all items made
 pub all_flat_map :
-    {X A : Type 0} (P : A → Type 0) (f : X → List A) (xs : List X) → AllByRecursion (λ x. AllByRecursion P (f x)) xs
+    {X A : Type 0} (P : A → Type 0) (f : X → List A) (xs : List X)
+    → AllByRecursion (λ x. AllByRecursion P (f x)) xs
     → AllByRecursion P (flat_map f xs)
 all_flat_map P f [] h = tt
 all_flat_map P f (x ∷ xs) h = all_append P (f x) (flat_map f xs) h.0 (all_flat_map P f xs h.1)

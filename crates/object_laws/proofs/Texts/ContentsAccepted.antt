@@ -35,7 +35,8 @@ reference_parts content external_count kind group h =
     length_total reference_bytes group in
     let limit : total (λ (reference : Reference). 4) group ≤ 1026 = h.0.1 in
     record {
-      limit = (let l : suc (length (flat_map reference_bytes group)) ≤ BODY_LIMIT = omega (arith, long, limit) in l);
+      limit = (let l : suc (length (flat_map reference_bytes
+          group)) ≤ BODY_LIMIT = omega (arith, long, limit) in l);
       fix_record = refl;
       rank = refl;
       no_entries = refl;
@@ -47,13 +48,15 @@ reference_parts content external_count kind group h =
       body = λ before latest count.
           and_from (not (is_empty group))
           (list_all
-          (λ (reference : Reference). nat_lt reference.external (length (flat_map externals_of before))) group)
+          (λ (reference : Reference). nat_lt reference.external (length (flat_map externals_of before)))
+          group)
           (some_items group h.0.0)
           (ap (λ n. list_all (λ (reference : Reference). nat_lt reference.external n) group) count
           ∙ all_pass (λ (reference : Reference). nat_lt reference.external external_count) group h.1);
     }
 
-small : {A : Type 0} (size limit : ℕ) → size ≤ limit → (items : List A) → AllByRecursion (λ (item : A). size ≤ limit) items
+small : {A : Type 0} (size limit : ℕ) → size ≤ limit → (items : List A)
+    → AllByRecursion (λ (item : A). size ≤ limit) items
 small size limit h [] = tt
 small size limit h (item ∷ items) = (h, small size limit h items)
 
@@ -62,12 +65,14 @@ kept_reference :
     → is_target external_count target ≡ true → AllByRecursion (IsReference external_count) others
     → AllByRecursion (IsReference external_count)
     (cons_option (reference_for kind (record { kind = own; target = target; offset = offset })) others)
-kept_reference external_count kind own (InSegment segment) offset others h all = go (fix_kind_number own == fix_kind_number kind)
+kept_reference external_count kind own (InSegment segment) offset others h all =
+    go (fix_kind_number own == fix_kind_number kind)
   where
     go : (b : Bool) → AllByRecursion (IsReference external_count) (cons_option (cond b None None) others)
     go true = all
     go false = all
-kept_reference external_count kind own (External number) offset others h all = go (fix_kind_number own == fix_kind_number kind)
+kept_reference external_count kind own (External number) offset others h all =
+    go (fix_kind_number own == fix_kind_number kind)
   where
     go : (b : Bool)
         → AllByRecursion (IsReference external_count)
@@ -83,7 +88,8 @@ all_references :
     → AllByRecursion (IsReference external_count) (filter_map (reference_for kind) fixes)
 all_references external_count kind [] all = tt
 all_references external_count kind (fix ∷ fixes) all =
-    kept_reference external_count kind fix.kind fix.target fix.offset (filter_map (reference_for kind) fixes) all.0
+    kept_reference external_count kind fix.kind fix.target fix.offset
+    (filter_map (reference_for kind) fixes) all.0
     (all_references external_count kind fixes all.1)
 
 each_of : {A : Type 0} (P : A → Type 0) → ((x : A) → P x) → (xs : List A) → AllByRecursion P xs
@@ -91,17 +97,20 @@ each_of P h [] = tt
 each_of P h (x ∷ xs) = (h x, each_of P h xs)
 
 externals_are :
-    (content : Content) (external_count : ℕ) (fixes : List Fix) → AllByRecursion (IsTarget external_count) fixes
+    (content : Content) (external_count : ℕ) (fixes : List Fix)
+    → AllByRecursion (IsTarget external_count) fixes
     → (kind : FixKind) → AllByRecursion (IsFixPart content external_count) (external_fix_parts fixes kind)
 externals_are content external_count fixes all kind =
     let references : List Reference = filter_map (reference_for kind) fixes in
     let groups : List (List Reference) = packed (λ (reference : Reference). 4) (BODY_LIMIT - 1) references in
     all_mapped
-    (λ group. Fits (λ (reference : Reference). 4) 1026 group × AllByRecursion (IsReference external_count) group)
+    (λ group. Fits (λ (reference : Reference). 4) 1026 group
+    × AllByRecursion (IsReference external_count) group)
     (IsFixPart content external_count) (ExternalReferencesPart kind)
     (λ group h. reference_parts content external_count kind group h) groups
     (all_both (Fits (λ (reference : Reference). 4) 1026) (AllByRecursion (IsReference external_count)) groups
-    (packed_fit (λ (reference : Reference). 4) (BODY_LIMIT - 1) references (small 4 1026 (omega arith) references))
+    (packed_fit (λ (reference : Reference). 4) (BODY_LIMIT - 1) references
+    (small 4 1026 (omega arith) references))
     (all_in_groups (IsReference external_count) groups
     (subst (AllByRecursion (IsReference external_count))
     (sym (packed_joined (λ (reference : Reference). 4) (BODY_LIMIT - 1) references))
@@ -109,13 +118,16 @@ externals_are content external_count fixes all kind =
 
 -- relocation
 relocation_part :
-    (content : Content) (external_count : ℕ) (kind : FixKind) (group : List ℕ) → Fits (λ (offset : ℕ). 2) 1026 group
+    (content : Content) (external_count : ℕ) (kind : FixKind) (group : List ℕ)
+    → Fits (λ (offset : ℕ). 2) 1026 group
     → IsFixPart content external_count (RelocationPart kind group)
 relocation_part content external_count kind group h =
-    let long : length (flat_map word_bytes group) ≡ total (λ (offset : ℕ). 2) group = length_total word_bytes group in
+    let long : length (flat_map word_bytes group) ≡ total (λ (offset : ℕ). 2) group =
+    length_total word_bytes group in
     let limit : total (λ (offset : ℕ). 2) group ≤ 1026 = h.1 in
     record {
-      limit = (let l : suc (length (flat_map word_bytes group)) ≤ BODY_LIMIT = omega (arith, long, limit) in l);
+      limit = (let l : suc (length (flat_map word_bytes
+          group)) ≤ BODY_LIMIT = omega (arith, long, limit) in l);
       fix_record = refl;
       rank = refl;
       no_entries = refl;
@@ -152,10 +164,12 @@ intersegment_part :
     → (kind : FixKind) (group : List ℕ) → Fits (λ (offset : ℕ). 2) 1025 group
     → IsFixPart content external_count (IntersegmentPart target kind group)
 intersegment_part content external_count target other kind group h =
-    let long : length (flat_map word_bytes group) ≡ total (λ (offset : ℕ). 2) group = length_total word_bytes group in
+    let long : length (flat_map word_bytes group) ≡ total (λ (offset : ℕ). 2) group =
+    length_total word_bytes group in
     let limit : total (λ (offset : ℕ). 2) group ≤ 1025 = h.1 in
     record {
-      limit = (let l : suc (suc (length (flat_map word_bytes group))) ≤ BODY_LIMIT = omega (arith, long, limit) in l);
+      limit = (let l : suc (suc (length (flat_map word_bytes
+          group))) ≤ BODY_LIMIT = omega (arith, long, limit) in l);
       fix_record = refl;
       rank = refl;
       no_entries = refl;
@@ -165,40 +179,52 @@ intersegment_part content external_count target other kind group h =
       no_name = refl;
       no_start = refl;
       body = λ before latest count.
-          and_from (not (is_empty group)) (is_other_segment target (latest_content before)) (some_items group h.0)
+          and_from (not (is_empty group)) (is_other_segment target (latest_content before))
+          (some_items group h.0)
           (ap (is_other_segment target) latest ∙ other);
     }
 
 intersegments_are :
-    (content : Content) (external_count : ℕ) (fixes : List Fix) (target : Segment) → IsOther content.segment target
-    → (kind : FixKind) → AllByRecursion (IsFixPart content external_count) (intersegment_parts fixes target kind)
+    (content : Content) (external_count : ℕ) (fixes : List Fix) (target : Segment)
+    → IsOther content.segment target
+    → (kind : FixKind) → AllByRecursion (IsFixPart content external_count)
+    (intersegment_parts fixes target kind)
 intersegments_are content external_count fixes target other kind =
     let offsets : List ℕ = filter_map (offset_for target kind) fixes in
-    all_mapped (Fits (λ (offset : ℕ). 2) 1025) (IsFixPart content external_count) (IntersegmentPart target kind)
+    all_mapped (Fits (λ (offset : ℕ). 2) 1025) (IsFixPart content external_count)
+    (IntersegmentPart target kind)
     (λ group h. intersegment_part content external_count target other kind group h)
     (packed (λ (offset : ℕ). 2) (BODY_LIMIT - 2) offsets)
     (packed_fit (λ (offset : ℕ). 2) (BODY_LIMIT - 2) offsets (small 2 1025 (omega arith) offsets))
 
 pub fix_parts_are :
-    (content : Content) (external_count : ℕ) (fixes : List Fix) → AllByRecursion (IsTarget external_count) fixes
+    (content : Content) (external_count : ℕ) (fixes : List Fix)
+    → AllByRecursion (IsTarget external_count) fixes
     → AllByRecursion (IsFixPart content external_count) (fix_parts content.segment fixes)
 fix_parts_are content external_count fixes all =
     let externals : List Part = flat_map (external_fix_parts fixes) fix_kinds in
     let relocations : List Part = flat_map (relocation_parts content.segment fixes) fix_kinds in
     let others : List Part =
-    flat_map (λ target. flat_map (intersegment_parts fixes target) fix_kinds) (other_segments content.segment) in
+    flat_map (λ target. flat_map (intersegment_parts fixes target) fix_kinds)
+    (other_segments content.segment) in
     all_append (IsFixPart content external_count) (externals ++ relocations) others
     (all_append (IsFixPart content external_count) externals relocations
     (all_flat_map (IsFixPart content external_count) (external_fix_parts fixes) fix_kinds
-    (each_of (λ kind. AllByRecursion (IsFixPart content external_count) (external_fix_parts fixes kind)) (externals_are content external_count fixes all) fix_kinds))
+    (each_of (λ kind. AllByRecursion (IsFixPart content external_count) (external_fix_parts fixes kind))
+    (externals_are content external_count fixes all) fix_kinds))
     (all_flat_map (IsFixPart content external_count) (relocation_parts content.segment fixes) fix_kinds
-    (each_of (λ kind. AllByRecursion (IsFixPart content external_count) (relocation_parts content.segment fixes kind))
+    (each_of (λ kind. AllByRecursion (IsFixPart content external_count)
+    (relocation_parts content.segment fixes kind))
     (relocations_are content external_count content.segment fixes) fix_kinds)))
-    (all_flat_map (IsFixPart content external_count) (λ target. flat_map (intersegment_parts fixes target) fix_kinds) (other_segments content.segment)
-    (all_weaker (IsOther content.segment) (λ target. AllByRecursion (IsFixPart content external_count) (flat_map (intersegment_parts fixes target) fix_kinds))
+    (all_flat_map (IsFixPart content external_count)
+    (λ target. flat_map (intersegment_parts fixes target) fix_kinds) (other_segments content.segment)
+    (all_weaker (IsOther content.segment)
+    (λ target. AllByRecursion (IsFixPart content external_count)
+    (flat_map (intersegment_parts fixes target) fix_kinds))
     (λ target other.
     all_flat_map (IsFixPart content external_count) (intersegment_parts fixes target) fix_kinds
-    (each_of (λ kind. AllByRecursion (IsFixPart content external_count) (intersegment_parts fixes target kind))
+    (each_of (λ kind. AllByRecursion (IsFixPart content external_count)
+    (intersegment_parts fixes target kind))
     (intersegments_are content external_count fixes target other) fix_kinds))
     (other_segments content.segment) (others_are content.segment)))
 
@@ -229,13 +255,15 @@ fixes_accepted content external_count (part ∷ parts) before at latest count al
       follows = follows_fix before (kind_of_part part) at is_part.fix_record;
       body = is_part.body before latest count;
       served = ap (list_all is_served) is_part.no_entries;
-      content = ap (λ c. option_map_or (λ (c : Content). not (fits_segment before c)) c false) is_part.no_content;
+      content =
+          ap (λ c. option_map_or (λ (c : Content). not (fits_segment before c)) c false) is_part.no_content;
       fixes =
           ap (fit_content before part) latest
           ∙ and_from (list_all (is_within content) own) (are_apart own there) t.0
           (once_apart own there
           (λ place.
-          let s : times (covers place) (own ++ later) ≡ times (covers place) own + times (covers place) later =
+          let s : times (covers place) (own ++ later)
+          ≡ times (covers place) own + times (covers place) later =
           split place in
           let o : times (covers place) (own ++ later) + times (covers place) there ≤ 1 = once place in
           omega (arith, s, o)));
@@ -247,7 +275,8 @@ fixes_accepted content external_count (part ∷ parts) before at latest count al
     let s : times (covers place) (own ++ later) ≡ times (covers place) own + times (covers place) later =
     split place in
     let o : times (covers place) (own ++ later) + times (covers place) there ≤ 1 = once place in
-    let m : times (covers place) (leading_fixes content.segment (part ∷ before)) ≡ times (covers place) (own ++ there) =
+    let m : times (covers place) (leading_fixes content.segment (part ∷ before))
+    ≡ times (covers place) (own ++ there) =
     ap (times (covers place)) (leading_more content.segment part before is_part.fix_record) in
     let n : times (covers place) (own ++ there) ≡ times (covers place) own + times (covers place) there =
     times_append (covers place) own there in
@@ -265,13 +294,15 @@ abbrev pub HasTargets : (external_count : ℕ) → Run SetByte → Type 0
 HasTargets external_count cut = AllByRecursion (HasTarget external_count) cut.items
 
 -- what the parts before the contents of a segment tell
-pub record BeforeContents (segment : Segment) (external_count size filled : ℕ) (before : List Part) : Type 0 where
+pub record BeforeContents (segment : Segment) (external_count size filled : ℕ)
+    (before : List Part) : Type 0 where
   pub up : UpTo 3 before
   pub stated : stated_length_of segment before ≡ size
   pub to_here : filled_to segment before ≤ filled
   pub count : length (flat_map externals_of before) ≡ external_count
 
-pub content_end_is : (segment : Segment) (cut : Run SetByte) → content_end (content_for segment cut) ≡ cut.offset + length cut.items
+pub content_end_is : (segment : Segment) (cut : Run SetByte)
+    → content_end (content_for segment cut) ≡ cut.offset + length cut.items
 content_end_is segment cut = ap (λ n. cut.offset + n) (length-map cut.items (λ (here : SetByte). here.value))
 
 content_accepted :
@@ -281,7 +312,8 @@ content_accepted :
     → is_accepted before (ContentPart (content_for segment cut)) ≡ true
 content_accepted segment holds external_count size filled cut before facts from to is_cut =
     let content : Content = content_for segment cut in
-    let long : length content.bytes ≡ length cut.items = length-map cut.items (λ (here : SetByte). here.value) in
+    let long : length content.bytes ≡ length cut.items =
+    length-map cut.items (λ (here : SetByte). here.value) in
     let counted : total (λ (here : SetByte). 1) cut.items ≡ length cut.items = count_total cut.items in
     let limit : total (λ (here : SetByte). 1) cut.items ≤ 1024 = is_cut.fits.1 in
     let some : 0 < length cut.items = is_cut.fits.0 in
@@ -289,7 +321,8 @@ content_accepted segment holds external_count size filled cut before facts from 
     let stated : stated_length_of segment before ≡ size = facts.stated in
     let to_here : filled_to segment before ≤ filled = facts.to_here in
     accepted_by before (ContentPart content) (record {
-      limit = (let l : suc (suc (suc (length content.bytes))) ≤ BODY_LIMIT = omega (arith, long, counted, limit) in l);
+      limit = (let l : suc (suc (suc (length
+          content.bytes))) ≤ BODY_LIMIT = omega (arith, long, counted, limit) in l);
       follows = follows_content before facts.up;
       body = and_from (holds_bytes segment) (not (is_empty content.bytes)) holds
           (some_items content.bytes (omega (arith, long, some)));
@@ -307,7 +340,8 @@ is_in_content :
     → (cut.offset ≤ fix.offset) × (fix_end fix ≤ cut.offset + length cut.items)
     → is_within (content_for segment cut) fix ≡ true
 is_in_content segment cut fix h =
-    let end : content_end (content_for segment cut) ≡ cut.offset + length cut.items = content_end_is segment cut in
+    let end : content_end (content_for segment cut) ≡ cut.offset + length cut.items =
+    content_end_is segment cut in
     let to : fix_end fix ≤ cut.offset + length cut.items = h.1 in
     and_from (nat_le cut.offset fix.offset) (nat_le (fix_end fix) (content_end (content_for segment cut)))
     (le-leb cut.offset fix.offset h.0)
@@ -328,8 +362,10 @@ pub cut_accepted :
 cut_accepted segment holds external_count size filled cut before facts from to is_cut targets =
     let content : Content = content_for segment cut in
     let fixes : List Fix = fixes_from cut.offset cut.items in
-    let go_to : AllByRecursion (IsTarget external_count) fixes = fixes_have_targets external_count cut.offset cut.items targets in
-    let classed : AllByRecursion (InOneClass segment) fixes = all_classed external_count segment holds fixes go_to in
+    let go_to : AllByRecursion (IsTarget external_count) fixes =
+    fixes_have_targets external_count cut.offset cut.items targets in
+    let classed : AllByRecursion (InOneClass segment) fixes =
+    all_classed external_count segment holds fixes go_to in
     let first : Part = ContentPart content in
     and_from (is_accepted before first) (are_accepted (first ∷ before) (fix_parts segment fixes))
     (content_accepted segment holds external_count size filled cut before facts from to is_cut)
@@ -339,10 +375,13 @@ cut_accepted segment holds external_count size filled cut before facts from to i
     ∙ all_laid (is_within content) segment fixes classed
     (all_weaker (λ (fix : Fix). (cut.offset ≤ fix.offset) × (fix_end fix ≤ cut.offset + length cut.items))
     (λ fix. is_within content fix ≡ true) (is_in_content segment cut) fixes
-    (fixes_within cut.offset (cut.offset + length cut.items) cut.offset cut.items (omega arith) (omega arith) is_cut.whole)))
+    (fixes_within cut.offset (cut.offset + length cut.items) cut.offset cut.items (omega arith)
+    (omega arith) is_cut.whole)))
     (λ place.
-    let a : times (covers place) (flat_map (fixes_of segment) (fix_parts segment fixes)) ≡ times (covers place) fixes =
-    ap (times (covers place)) (fix_parts_laid segment fixes) ∙ times_laid (covers place) segment fixes classed in
+    let a : times (covers place) (flat_map (fixes_of segment) (fix_parts segment fixes))
+    ≡ times (covers place) fixes =
+    ap (times (covers place)) (fix_parts_laid segment fixes)
+    ∙ times_laid (covers place) segment fixes classed in
     let b : times (covers place) fixes ≤ 1 = fixes_once place cut.offset cut.items is_cut.whole in
     let c : times (covers place) (leading_fixes segment (first ∷ before)) ≡ 0 =
     ap (times (covers place)) (leading_none segment first before refl) in
@@ -352,18 +391,21 @@ cut_accepted segment holds external_count size filled cut before facts from to i
 pub after_cut :
     (segment : Segment) (external_count size filled : ℕ) (cut : Run SetByte) (before : List Part)
     → BeforeContents segment external_count size filled before → HasTargets external_count cut
-    → BeforeContents segment external_count size (cut.offset + length cut.items) (onto (content_parts segment cut) before)
+    → BeforeContents segment external_count size (cut.offset + length cut.items)
+    (onto (content_parts segment cut) before)
 after_cut segment external_count size filled cut before facts targets =
     let content : Content = content_for segment cut in
     let fixes : List Fix = fixes_from cut.offset cut.items in
     let first : Part = ContentPart content in
     let parts : List Part = fix_parts segment fixes in
     let all : AllByRecursion (IsFixPart content external_count) parts =
-    fix_parts_are content external_count fixes (fixes_have_targets external_count cut.offset cut.items targets) in
+    fix_parts_are content external_count fixes
+    (fixes_have_targets external_count cut.offset cut.items targets) in
     let end : content_end content ≡ cut.offset + length cut.items = content_end_is segment cut in
     let filled_is : filled_to segment (onto parts (first ∷ before)) ≡ content_end content =
     filled_onto segment parts (first ∷ before)
-    (all_weaker (IsFixPart content external_count) (λ part. (end : ℕ) → end_by_content segment (content_of part) end ≡ end)
+    (all_weaker (IsFixPart content external_count)
+    (λ part. (end : ℕ) → end_by_content segment (content_of part) end ≡ end)
     (λ part is before_end. ap (λ c. end_by_content segment c before_end) is.no_content) parts all)
     ∙ ap (λ b. cond b (content_end content) (filled_to segment before)) (same_self segment) in
     record {
@@ -373,20 +415,24 @@ after_cut segment external_count size filled cut before facts targets =
       stated =
           ap (λ entries. length_in entries segment)
           (flat_map_onto entries_of parts (first ∷ before)
-          (all_weaker (IsFixPart content external_count) (λ part. entries_of part ≡ []) (λ part is. is.no_entries) parts all))
+          (all_weaker (IsFixPart content external_count) (λ part. entries_of part ≡ [])
+          (λ part is. is.no_entries) parts all))
           ∙ facts.stated;
       to_here = omega (arith, filled_is, end);
       count =
           ap length
           (flat_map_onto externals_of parts (first ∷ before)
-          (all_weaker (IsFixPart content external_count) (λ part. externals_of part ≡ []) (λ part is. is.no_externals) parts all))
+          (all_weaker (IsFixPart content external_count) (λ part. externals_of part ≡ [])
+          (λ part is. is.no_externals) parts all))
           ∙ facts.count;
     }
 
 -- the records of all contents of a segment
 pub contents_accepted :
-    (segment : Segment) → holds_bytes segment ≡ true → (external_count size filled : ℕ) (cuts : List (Run SetByte))
-    → (before : List Part) → BeforeContents segment external_count size filled before → InOrder filled size cuts
+    (segment : Segment) → holds_bytes segment ≡ true
+    → (external_count size filled : ℕ) (cuts : List (Run SetByte))
+    → (before : List Part) → BeforeContents segment external_count size filled before
+    → InOrder filled size cuts
     → AllByRecursion IsCut cuts → AllByRecursion (HasTargets external_count) cuts
     → are_accepted before (flat_map (content_parts segment) cuts) ≡ true
 contents_accepted segment holds external_count size filled [] before facts order all targets = refl
@@ -395,5 +441,6 @@ contents_accepted segment holds external_count size filled (cut ∷ cuts) before
     (cut_accepted segment holds external_count size filled cut before facts order.0
     (order_ends (cut.offset + length cut.items) size cuts order.2) all.0 targets.0)
     (contents_accepted segment holds external_count size (cut.offset + length cut.items) cuts
-    (onto (content_parts segment cut) before) (after_cut segment external_count size filled cut before facts targets.0)
+    (onto (content_parts segment cut) before)
+    (after_cut segment external_count size filled cut before facts targets.0)
     order.2 all.1 targets.1)

@@ -20,10 +20,12 @@ leading_all :
 leading_all own [] [] all h = refl
 leading_all own [] (part ∷ others) all h = leading_none own part others h
 leading_all own (part ∷ parts) others all h =
-    leading_more own part (parts ++ others) all.0 ∙ ap (λ r. fixes_of own part ++ r) (leading_all own parts others all.1 h)
+    leading_more own part (parts ++ others) all.0
+    ∙ ap (λ r. fixes_of own part ++ r) (leading_all own parts others all.1 h)
 
 -- contents among other parts
-fixed_past : (part : Part) (others : List Part) → content_of part ≡ None → fixed_contents (part ∷ others) ≡ fixed_contents others
+fixed_past : (part : Part) (others : List Part) → content_of part ≡ None
+    → fixed_contents (part ∷ others) ≡ fixed_contents others
 fixed_past (HeaderPart name translator version entries) others h = refl
 fixed_past (ExternalNamesPart names) others h = refl
 fixed_past (PublicsPart segment definitions) others h = refl
@@ -55,7 +57,8 @@ no_fix_first segment [] others h = h
 no_fix_first segment (cut ∷ cuts) others h = refl
 
 pub fixed_cuts :
-    (segment : Segment) (external_count : ℕ) (cuts : List (Run SetByte)) (others : List Part) → NoFixFirst others
+    (segment : Segment) (external_count : ℕ) (cuts : List (Run SetByte)) (others : List Part)
+    → NoFixFirst others
     → AllByRecursion (HasTargets external_count) cuts
     → fixed_contents (flat_map (content_parts segment) cuts ++ others)
     ≡ map (fixed_for segment) cuts ++ fixed_contents others
@@ -66,7 +69,8 @@ fixed_cuts segment external_count (cut ∷ cuts) others h targets =
     let parts : List Part = fix_parts segment fixes in
     let later : List Part = flat_map (content_parts segment) cuts in
     let all : AllByRecursion (IsFixPart content external_count) parts =
-    fix_parts_are content external_count fixes (fixes_have_targets external_count cut.offset cut.items targets.0) in
+    fix_parts_are content external_count fixes
+    (fixes_have_targets external_count cut.offset cut.items targets.0) in
     let grouped : (parts ++ later) ++ others ≡ parts ++ (later ++ others) = append_assoc parts later others in
     ap (λ r. fixed_with content (leading_fixes segment r) ∷ fixed_contents r) grouped
     ∙ ap (λ f. fixed_with content f ∷ fixed_contents (parts ++ (later ++ others)))
@@ -77,7 +81,8 @@ fixed_cuts segment external_count (cut ∷ cuts) others h targets =
     ∙ fix_parts_laid segment fixes)
     ∙ ap (λ r. fixed_for segment cut ∷ r)
     (fixed_skip parts (later ++ others)
-    (all_weaker (IsFixPart content external_count) (λ part. content_of part ≡ None) (λ part is. is.no_content) parts all)
+    (all_weaker (IsFixPart content external_count) (λ part. content_of part ≡ None)
+    (λ part is. is.no_content) parts all)
     ∙ fixed_cuts segment external_count cuts others h targets.1)
 
 -- what a content sets at a place that it has
@@ -97,13 +102,16 @@ set_here segment holds external_count place number cut here is_cut targets at fo
     let fixes : List Fix = fixes_from cut.offset cut.items in
     let counted : place - cut.offset ≡ number = omega (arith, at) in
     let values : List ℕ = map (λ (b : SetByte). b.value) cut.items in
-    same_byte (slice_index values (place - cut.offset)) (fixup_of (find (begins_at place) (laid (classes segment) fixes))) here
+    same_byte (slice_index values (place - cut.offset))
+    (fixup_of (find (begins_at place) (laid (classes segment) fixes))) here
     (ap (slice_index values) counted
     ∙ get_or_from_slice_get values number here.value 0
-    (slice_get-map (λ (b : SetByte). b.value) cut.items number ∙ ap (option_map (λ (b : SetByte). b.value)) found))
+    (slice_get-map (λ (b : SetByte). b.value) cut.items number
+    ∙ ap (option_map (λ (b : SetByte). b.value)) found))
     (ap fixup_of
     (find_laid (begins_at place) segment fixes
-    (all_classed external_count segment holds fixes (fixes_have_targets external_count cut.offset cut.items targets))
+    (all_classed external_count segment holds fixes
+    (fixes_have_targets external_count cut.offset cut.items targets))
     (begins_once place cut.offset cut.items is_cut.whole))
     ∙ ap (λ p. fixup_of (find (begins_at p) fixes)) (sym at)
     ∙ fix_found cut.offset number cut.items here found)
@@ -132,7 +140,8 @@ set_first segment holds external_count place cut is_cut targets h =
     let number : ℕ = place - cut.offset in
     let within : number < length cut.items = omega (arith, from, to) in
     let some = item_there cut.items number within in
-    ap Some (set_here segment holds external_count place number cut some.item is_cut targets (omega (arith, from)) some.is)
+    ap Some (set_here segment holds external_count place number cut some.item is_cut targets
+    (omega (arith, from)) some.is)
     ∙ sym some.is
 
 holds_is :
@@ -140,19 +149,22 @@ holds_is :
     → holds_place segment place (fixed_for segment cut)
     ≡ (nat_le cut.offset place && nat_lt place (cut.offset + length cut.items))
 holds_is segment place cut =
-    ap (λ b. b && nat_le cut.offset place && nat_lt place (content_end (content_for segment cut))) (same_self segment)
+    ap (λ b. b && nat_le cut.offset place && nat_lt place (content_end (content_for segment cut)))
+    (same_self segment)
     ∙ ap (λ end. nat_le cut.offset place && nat_lt place end) (content_end_is segment cut)
 
 pub set_in_cuts :
     (segment : Segment) → holds_bytes segment ≡ true → (external_count place : ℕ) (cuts : List (Run SetByte))
-    → (others : List FixedContent) → AllByRecursion IsCut cuts → AllByRecursion (HasTargets external_count) cuts
+    → (others : List FixedContent) → AllByRecursion IsCut cuts
+    → AllByRecursion (HasTargets external_count) cuts
     → set_in (map (fixed_for segment) cuts ++ others) segment place
     ≡ option_or (item_at place cuts) (set_in others segment place)
 set_in_cuts segment holds external_count place [] others all targets = refl
 set_in_cuts segment holds external_count place (cut ∷ cuts) others all targets =
     ap (λ b.
     option_map (set_at place)
-    (cond b (Some (fixed_for segment cut)) (find (holds_place segment place) (map (fixed_for segment) cuts ++ others))))
+    (cond b (Some (fixed_for segment cut))
+    (find (holds_place segment place) (map (fixed_for segment) cuts ++ others))))
     (holds_is segment place cut)
     ∙ go (nat_le cut.offset place && nat_lt place (cut.offset + length cut.items)) refl
     (set_in_cuts segment holds external_count place cuts others all.1 targets.1)
@@ -161,8 +173,10 @@ set_in_cuts segment holds external_count place (cut ∷ cuts) others all targets
         → set_in (map (fixed_for segment) cuts ++ others) segment place
         ≡ option_or (item_at place cuts) (set_in others segment place)
         → option_map (set_at place)
-        (cond b (Some (fixed_for segment cut)) (find (holds_place segment place) (map (fixed_for segment) cuts ++ others)))
-        ≡ option_or (cond b (slice_get cut.items (place - cut.offset)) (item_at place cuts)) (set_in others segment place)
+        (cond b (Some (fixed_for segment cut))
+        (find (holds_place segment place) (map (fixed_for segment) cuts ++ others)))
+        ≡ option_or (cond b (slice_get cut.items (place - cut.offset)) (item_at place cuts))
+        (set_in others segment place)
     go true e later =
         ap (λ o. option_or o (set_in others segment place))
         (set_first segment holds external_count place cut all.0 targets.0 e)
@@ -177,7 +191,8 @@ set_past_cuts own segment h place [] others = refl
 set_past_cuts own segment h place (cut ∷ cuts) others =
     ap (λ b.
     option_map (set_at place)
-    (cond (b && nat_le cut.offset place && nat_lt place (content_end (content_for own cut))) (Some (fixed_for own cut))
+    (cond (b && nat_le cut.offset place && nat_lt place (content_end (content_for own cut)))
+    (Some (fixed_for own cut))
     (find (holds_place segment place) (map (fixed_for own) cuts ++ others)))) h
     ∙ set_past_cuts own segment h place cuts others
 

@@ -1,4 +1,5 @@
--- Names that differ, and fixes that share no byte, by counting: each name, and each place, is counted at most once.
+-- Names that differ, and fixes that share no byte, by counting: each name, and each place, is counted at most
+-- once.
 use Rattle.object_laws.proofs.Prelude.{◌≡◌, ℕ, zero, suc, ◌+◌, ◌<◌, ◌≤◌, Bool, true, false, cond, not, ◌&&◌, nat_lt, nat_le, List, [], ◌∷◌, ◌++◌, refl, ap, sym, subst, ◌∙◌, ⊎_elim, arith, list_any, bytes_eq, and_parts, and_from, or_cases, or_parts, ltb-true, lt-ltb, le-leb, false_from_ne_true, not-true, not_from_false, cases_lt, bytes_eq-Decides, Fix, FixKind, Low, High, Both, width_of, is_among, are_new, fix_end, share_a_byte, are_apart}
 
 -- how many items pass a test
@@ -13,12 +14,15 @@ times_append test (x ∷ xs) ys =
     let e : times test (xs ++ ys) ≡ times test xs + times test ys = times_append test xs ys in
     omega (arith, e)
 
-pub times_pass : {A : Type 0} (test : A → Bool) (x : A) (xs : List A) → test x ≡ true → times test (x ∷ xs) ≡ 1 + times test xs
+pub times_pass : {A : Type 0} (test : A → Bool) (x : A) (xs : List A) → test x ≡ true
+    → times test (x ∷ xs) ≡ 1 + times test xs
 times_pass test x xs e = ap (λ b. cond b 1 0 + times test xs) e
 
-pub times_fail : {A : Type 0} (test : A → Bool) (x : A) (xs : List A) → test x ≡ false → times test (x ∷ xs) ≡ times test xs
+pub times_fail : {A : Type 0} (test : A → Bool) (x : A) (xs : List A) → test x ≡ false
+    → times test (x ∷ xs) ≡ times test xs
 times_fail test x xs e =
-    let f : times test (x ∷ xs) ≡ 0 + times test xs = ap (λ b. cond b 1 0 + times test xs) e in omega (arith, f)
+    let f : times test (x ∷ xs) ≡ 0 + times test xs = ap (λ b. cond b 1 0 + times test xs) e in
+    omega (arith, f)
 
 pub none_times : {A : Type 0} (test : A → Bool) (xs : List A) → list_any test xs ≡ false → times test xs ≡ 0
 none_times test [] h = refl
@@ -55,7 +59,8 @@ new_counts (first ∷ others) known h name =
         subst (λ n. times (bytes_eq n) known ≡ 0) (sym same)
         (none_times (bytes_eq first) known (not-true (is_among first known) unknown)) in
         let no_more : times (bytes_eq name) others ≡ 0 = nothing (times (bytes_eq name) others)
-        (λ some. let z : times (bytes_eq name) (first ∷ known) ≡ 0 = later.1 some in omega (arith, z, of_known)) in
+        (λ some. let z : times (bytes_eq name) (first
+        ∷ known) ≡ 0 = later.1 some in omega (arith, z, of_known)) in
         (omega (arith, of_names, no_more), λ _. none)
     go unknown later false e =
         let of_known : times (bytes_eq name) (first ∷ known) ≡ times (bytes_eq name) known =
@@ -64,18 +69,22 @@ new_counts (first ∷ others) known h name =
         times_fail (bytes_eq name) first others e in
         let once : times (bytes_eq name) others ≤ 1 = later.0 in (
           omega (arith, of_names, once),
-          λ some. sym of_known ∙ later.1 (let s : 0 < times (bytes_eq name) others = omega (arith, some, of_names) in s),
+          λ some. sym of_known
+              ∙ later.1 (let s : 0 < times (bytes_eq name) others = omega (arith, some, of_names) in s),
         )
 
-pub new_once : (names : List (List ℕ)) → are_new names [] ≡ true → (name : List ℕ) → times (bytes_eq name) names ≤ 1
+pub new_once : (names : List (List ℕ)) → are_new names [] ≡ true → (name : List ℕ)
+    → times (bytes_eq name) names ≤ 1
 new_once names h name = (new_counts names [] h name).0
 
 some_times : {A : Type 0} (test : A → Bool) (xs : List A) → list_any test xs ≡ true → 0 < times test xs
 some_times test [] h = absurd (let bad : false ≡ true = h in cc)
 some_times test (x ∷ xs) h =
     ⊎_elim
-    (λ (e : test x ≡ true). let t : times test (x ∷ xs) ≡ 1 + times test xs = times_pass test x xs e in omega (arith, t))
-    (λ (e : list_any test xs ≡ true). let later : 0 < times test xs = some_times test xs e in omega (arith, later))
+    (λ (e : test x ≡ true). let t : times test (x
+    ∷ xs) ≡ 1 + times test xs = times_pass test x xs e in omega (arith, t))
+    (λ (e : list_any test xs
+    ≡ true). let later : 0 < times test xs = some_times test xs e in omega (arith, later))
     (or_cases (test x) (list_any test xs) h)
 
 -- names are new where none is counted twice, with those that are known
@@ -114,7 +123,8 @@ record Shared (fix : Fix) (others : List Fix) : Type 0 where
   own : covers place fix ≡ true
   of_another : 0 < times (covers place) others
 
-shared_place : (left right : Fix) (others : List Fix) → share_a_byte left right ≡ true → Shared left (right ∷ others)
+shared_place : (left right : Fix) (others : List Fix) → share_a_byte left right ≡ true
+    → Shared left (right ∷ others)
 shared_place left right others h =
     let t = and_parts (nat_lt left.offset (fix_end right)) (nat_lt right.offset (fix_end left)) h in
     let before_right : left.offset < fix_end right = ltb-true left.offset (fix_end right) t.0 in
@@ -168,7 +178,8 @@ once_apart (fix ∷ rest) others once =
     (false_from_ne_true (list_any (share_a_byte fix) others)
     (λ shares.
     let s = shared_among fix others shares in
-    let own : times (covers s.place) (fix ∷ rest) ≡ 1 + times (covers s.place) rest = times_pass (covers s.place) fix rest s.own in
+    let own : times (covers s.place) (fix ∷ rest) ≡ 1 + times (covers s.place) rest =
+    times_pass (covers s.place) fix rest s.own in
     let some : 0 < times (covers s.place) others = s.of_another in
     let bound : times (covers s.place) (fix ∷ rest) + times (covers s.place) others ≤ 1 = once s.place in
     omega (arith, own, some, bound))))

@@ -4,7 +4,8 @@ use Rattle.object_laws.proofs.Texts.Groups.{Fits, joined, groups_joined, groups_
 use Rattle.object_laws.proofs.Texts.Runs.{InOrder, item_at, item_inside, item_past, item_before, order_earlier, AreWhole, whole_plain, whole_word, IsWholeRun}
 
 -- a byte where no fix begins is no word
-plain_fixup : (value : ℕ) (fixup : Option Fixup) → is_plain (Some (record { value = value; fixup = fixup })) ≡ true
+plain_fixup : (value : ℕ) (fixup : Option Fixup)
+    → is_plain (Some (record { value = value; fixup = fixup })) ≡ true
     → bytes_wanted (record { value = value; fixup = fixup }) ≡ 1
 plain_fixup value None h = refl
 plain_fixup value (Some fixup) h = absurd (let bad : false ≡ true = h in cc)
@@ -55,7 +56,8 @@ onto_whole limit room first others roomy h all = go (begins_word (Some first)) r
     go : (b : Bool) → begins_word (Some first) ≡ b
         → AllByRecursion AreWhole (onto_first first (groups_after bytes_wanted (λ here. 1) limit room others))
     go true e =
-        let t = and_parts (not (begins_word (Some first)) || is_plain (option_flatten (slice_get (map Some others) 0)))
+        let t = and_parts
+        (not (begins_word (Some first)) || is_plain (option_flatten (slice_get (map Some others) 0)))
         (words_are_whole (map Some others)) h in
         onto_word limit room first others (roomy e)
         (sym (ap (λ b. not b || is_plain (option_flatten (slice_get (map Some others) 0))) e) ∙ t.0) all
@@ -113,7 +115,8 @@ all_want (here ∷ others) = (wants_two here, all_want others)
 
 -- each has a byte, and no more than a content may have
 pub run_groups_fit : (run : Run SetByte) → AllByRecursion (Fits (λ here. 1) content_limit) (run_groups run)
-run_groups_fit run = groups_fit bytes_wanted (λ here. 1) content_limit run.items wants_some (all_want run.items)
+run_groups_fit run =
+    groups_fit bytes_wanted (λ here. 1) content_limit run.items wants_some (all_want run.items)
 
 pub run_groups_whole : (run : Run SetByte) → AreWhole run.items → AllByRecursion AreWhole (run_groups run)
 run_groups_whole run whole = groups_whole content_limit run.items (omega arith) whole
@@ -140,11 +143,13 @@ both_hold P Q R f [] h k = tt
 both_hold P Q R f (x ∷ xs) h k = (f x h.0 k.0, both_hold P Q R f xs h.1 k.1)
 
 pub all_cut :
-    (runs : List (Run SetByte)) → AllByRecursion IsWholeRun runs → AllByRecursion IsCut (flat_map contents_of_run runs)
+    (runs : List (Run SetByte)) → AllByRecursion IsWholeRun runs
+    → AllByRecursion IsCut (flat_map contents_of_run runs)
 all_cut [] h = tt
 all_cut (run ∷ others) h =
     all_append IsCut (contents_of_run run) (flat_map contents_of_run others)
-    (both_hold (λ (cut : Run SetByte). Fits (λ here. 1) content_limit cut.items) (λ cut. AreWhole cut.items) IsCut
+    (both_hold (λ (cut : Run SetByte). Fits (λ here. 1) content_limit cut.items)
+    (λ cut. AreWhole cut.items) IsCut
     (λ cut fits whole. record { fits = fits; whole = whole }) (contents_of_run run)
     (placed_hold (Fits (λ here. 1) content_limit) run.offset (run_groups run) (run_groups_fit run))
     (placed_hold AreWhole run.offset (run_groups run) (run_groups_whole run h.0)))
@@ -153,7 +158,8 @@ all_cut (run ∷ others) h =
 -- the order of contents
 placed_in_order :
     (offset to : ℕ) (groups : List (List SetByte)) (others : List (Run SetByte))
-    → AllByRecursion (Fits (λ here. 1) content_limit) groups → InOrder (offset + length (joined groups)) to others
+    → AllByRecursion (Fits (λ here. 1) content_limit) groups
+    → InOrder (offset + length (joined groups)) to others
     → InOrder offset to (placed_from offset groups ++ others)
 placed_in_order offset to [] others fits o = order_earlier offset (offset + 0) to others (omega arith) o
 placed_in_order offset to (group ∷ groups) others fits o =
@@ -163,11 +169,13 @@ placed_in_order offset to (group ∷ groups) others fits o =
     omega (arith, longer) in (
       omega arith,
       fits.0.0,
-      placed_in_order (offset + length group) to groups others fits.1 (subst (λ from. InOrder from to others) same o),
+      placed_in_order (offset + length group) to groups others fits.1
+          (subst (λ from. InOrder from to others) same o),
     )
 
 pub contents_in_order :
-    (from to : ℕ) (runs : List (Run SetByte)) → InOrder from to runs → InOrder from to (flat_map contents_of_run runs)
+    (from to : ℕ) (runs : List (Run SetByte)) → InOrder from to runs
+    → InOrder from to (flat_map contents_of_run runs)
 contents_in_order from to [] o = o
 contents_in_order from to (run ∷ others) o =
     order_earlier from run.offset to (contents_of_run run ++ flat_map contents_of_run others) o.0
@@ -175,7 +183,8 @@ contents_in_order from to (run ∷ others) o =
     (subst (λ items. InOrder (run.offset + length items) to (flat_map contents_of_run others))
     (sym (run_groups_joined run)) (contents_in_order (run.offset + length run.items) to others o.2)))
 
-got_right : {A : Type 0} (xs ys : List A) (k n : ℕ) → n ≡ length xs + k → slice_get (xs ++ ys) n ≡ slice_get ys k
+got_right : {A : Type 0} (xs ys : List A) (k n : ℕ) → n ≡ length xs + k
+    → slice_get (xs ++ ys) n ≡ slice_get ys k
 got_right [] ys k n e = ap (slice_get ys) (let s : n ≡ k = omega (arith, e) in s)
 got_right (x ∷ xs) ys k zero e = absurd (omega (arith, e))
 got_right (x ∷ xs) ys k (suc n) e = got_right xs ys k n (omega (arith, e))
@@ -215,7 +224,8 @@ placed_item {A} place offset (group ∷ groups) others =
     ∙ ⊎_elim
     (λ (k : place < offset + length group + length (joined groups)).
     item_inside place later others h k
-    ∙ sym (got_right group (joined groups) (place - (offset + length group)) (place - offset) (omega (arith, h, from)))
+    ∙ sym (got_right group (joined groups) (place - (offset + length group)) (place - offset)
+    (omega (arith, h, from)))
     ∙ sym (item_inside place whole others from (omega (arith, k, longer))))
     (λ (k : offset + length group + length (joined groups) ≤ place).
     item_past place later others k ∙ sym (item_past place whole others (omega (arith, k, longer))))
@@ -232,10 +242,12 @@ same_first place run xs ys h =
 
 -- contents have at each place what their runs have
 pub contents_tell :
-    (place : ℕ) (runs : List (Run SetByte)) → item_at place (flat_map contents_of_run runs) ≡ item_at place runs
+    (place : ℕ) (runs : List (Run SetByte))
+    → item_at place (flat_map contents_of_run runs) ≡ item_at place runs
 contents_tell place [] = refl
 contents_tell place (run ∷ others) =
     placed_item place run.offset (run_groups run) (flat_map contents_of_run others)
-    ∙ ap (λ items. item_at place (record { offset = run.offset; items = items } ∷ flat_map contents_of_run others))
+    ∙ ap (λ items. item_at place (record { offset = run.offset; items = items }
+    ∷ flat_map contents_of_run others))
     (run_groups_joined run)
     ∙ same_first place run (flat_map contents_of_run others) others (contents_tell place others)

@@ -9,7 +9,8 @@ fix_at offset fixup = record { kind = fixup.kind; target = fixup.target; offset 
 
 -- a place before the bytes is in no fix
 fixes_before :
-    (place offset : ℕ) (items : List SetByte) → place < offset → times (covers place) (fixes_from offset items) ≡ 0
+    (place offset : ℕ) (items : List SetByte) → place < offset
+    → times (covers place) (fixes_from offset items) ≡ 0
 fixes_before place offset [] h = refl
 fixes_before place offset (here ∷ others) h =
     go here.value here.fixup (fixes_before place (offset + 1) others (omega (arith, h)))
@@ -19,7 +20,8 @@ fixes_before place offset (here ∷ others) h =
     go value None later = later
     go value (Some fixup) later =
         times_fail (covers place) (fix_at offset fixup) (fixes_from (offset + 1) others)
-        (and_left (nat_le offset place) (nat_lt place (fix_end (fix_at offset fixup))) (lt-leb offset place h))
+        (and_left (nat_le offset place) (nat_lt place (fix_end (fix_at offset fixup)))
+        (lt-leb offset place h))
         ∙ later
 
 -- no fix begins at the second byte of a word
@@ -45,10 +47,12 @@ free_after place offset Both others e h = next_free place (offset + 1) others e 
 
 -- no place is in two fixes
 pub fixes_once :
-    (place offset : ℕ) (items : List SetByte) → AreWhole items → times (covers place) (fixes_from offset items) ≤ 1
+    (place offset : ℕ) (items : List SetByte) → AreWhole items
+    → times (covers place) (fixes_from offset items) ≤ 1
 fixes_once place offset [] whole = omega arith
 fixes_once place offset (here ∷ others) whole =
-    let t = and_parts (not (begins_word (Some here)) || is_plain (option_flatten (slice_get (map Some others) 0)))
+    let t = and_parts
+    (not (begins_word (Some here)) || is_plain (option_flatten (slice_get (map Some others) 0)))
     (words_are_whole (map Some others)) whole in
     go here.value here.fixup t.0 (fixes_once place (offset + 1) others t.1)
   where
@@ -92,14 +96,17 @@ pub fixes_within :
     → AllByRecursion (λ (fix : Fix). (from ≤ fix.offset) × (fix_end fix ≤ to)) (fixes_from offset items)
 fixes_within from to offset [] h k whole = tt
 fixes_within from to offset (here ∷ others) h k whole =
-    let t = and_parts (not (begins_word (Some here)) || is_plain (option_flatten (slice_get (map Some others) 0)))
+    let t = and_parts
+    (not (begins_word (Some here)) || is_plain (option_flatten (slice_get (map Some others) 0)))
     (words_are_whole (map Some others)) whole in
-    go here.value here.fixup t.0 (fixes_within from to (offset + 1) others (omega (arith, h)) (omega (arith, k)) t.1)
+    go here.value here.fixup t.0
+    (fixes_within from to (offset + 1) others (omega (arith, h)) (omega (arith, k)) t.1)
   where
     go : (value : ℕ) (fixup : Option Fixup)
         → (not (begins_word (Some (record { value = value; fixup = fixup })))
         || is_plain (option_flatten (slice_get (map Some others) 0))) ≡ true
-        → AllByRecursion (λ (fix : Fix). (from ≤ fix.offset) × (fix_end fix ≤ to)) (fixes_from (offset + 1) others)
+        → AllByRecursion (λ (fix : Fix). (from ≤ fix.offset) × (fix_end fix ≤ to))
+        (fixes_from (offset + 1) others)
         → AllByRecursion (λ (fix : Fix). (from ≤ fix.offset) × (fix_end fix ≤ to))
         (fixes_from offset (record { value = value; fixup = fixup } ∷ others))
     go value None e later = later
@@ -117,8 +124,10 @@ fixes_have_targets external_count offset [] all = tt
 fixes_have_targets external_count offset (here ∷ others) all =
     go here.value here.fixup all.0 (fixes_have_targets external_count (offset + 1) others all.1)
   where
-    go : (value : ℕ) (fixup : Option Fixup) → HasTarget external_count (record { value = value; fixup = fixup })
-        → AllByRecursion (λ (fix : Fix). is_target external_count fix.target ≡ true) (fixes_from (offset + 1) others)
+    go : (value : ℕ) (fixup : Option Fixup)
+        → HasTarget external_count (record { value = value; fixup = fixup })
+        → AllByRecursion (λ (fix : Fix). is_target external_count fix.target ≡ true)
+        (fixes_from (offset + 1) others)
         → AllByRecursion (λ (fix : Fix). is_target external_count fix.target ≡ true)
         (fixes_from offset (record { value = value; fixup = fixup } ∷ others))
     go value None e later = later
@@ -150,14 +159,17 @@ begins_covers : (place : ℕ) (fix : Fix) → begins_at place fix ≡ true → c
 begins_covers place fix h =
     let same : fix.offset ≡ place = eqb-true fix.offset place h in
     let wide : 0 < width_of fix.kind = has_width fix.kind in
-    and_from (nat_le fix.offset place) (nat_lt place (fix_end fix)) (le-leb fix.offset place (omega (arith, same)))
+    and_from (nat_le fix.offset place) (nat_lt place (fix_end fix))
+    (le-leb fix.offset place (omega (arith, same)))
     (lt-ltb place (fix_end fix) (let k : place < fix_end fix = omega (arith, same, wide) in k))
 
 -- at most one fix begins at a place
 pub begins_once :
-    (place offset : ℕ) (items : List SetByte) → AreWhole items → times (begins_at place) (fixes_from offset items) ≤ 1
+    (place offset : ℕ) (items : List SetByte) → AreWhole items
+    → times (begins_at place) (fixes_from offset items) ≤ 1
 begins_once place offset items whole =
-    let few : times (begins_at place) (fixes_from offset items) ≤ times (covers place) (fixes_from offset items) =
+    let few : times (begins_at place) (fixes_from offset items)
+    ≤ times (covers place) (fixes_from offset items) =
     fewer (begins_at place) (covers place) (begins_covers place) (fixes_from offset items) in
     let once : times (covers place) (fixes_from offset items) ≤ 1 = fixes_once place offset items whole in
     omega (arith, few, once)
@@ -177,7 +189,8 @@ found_before place offset (here ∷ others) h =
         → find (begins_at place) (fixes_from offset (record { value = value; fixup = fixup } ∷ others)) ≡ None
     go value None later = later
     go value (Some fixup) later =
-        ap (λ b. cond b (Some (fix_at offset fixup)) (find (begins_at place) (fixes_from (offset + 1) others)))
+        ap (λ b. cond b (Some (fix_at offset fixup))
+        (find (begins_at place) (fixes_from (offset + 1) others)))
         (ne_eqb offset place (λ e. omega (arith, e, h)))
         ∙ later
 
@@ -190,12 +203,16 @@ fix_found offset zero (first ∷ others) here e =
     go first.value first.fixup ∙ ap (λ (h : SetByte). h.fixup) (same_Some first here e)
   where
     go : (value : ℕ) (fixup : Option Fixup)
-        → fixup_of (find (begins_at (offset + 0)) (fixes_from offset (record { value = value; fixup = fixup } ∷ others)))
+        → fixup_of
+        (find (begins_at (offset + 0)) (fixes_from offset
+        (record { value = value; fixup = fixup } ∷ others)))
         ≡ fixup
     go value None = ap fixup_of (found_before (offset + 0) (offset + 1) others (omega arith))
     go value (Some fixup) =
         ap (λ b.
-        fixup_of (cond b (Some (fix_at offset fixup)) (find (begins_at (offset + 0)) (fixes_from (offset + 1) others))))
+        fixup_of
+        (cond b (Some (fix_at offset fixup))
+        (find (begins_at (offset + 0)) (fixes_from (offset + 1) others))))
         (eq-eqb offset (offset + 0) (omega arith))
 fix_found offset (suc number) (first ∷ others) here e =
     go first.value first.fixup
@@ -206,12 +223,14 @@ fix_found offset (suc number) (first ∷ others) here e =
     go : (value : ℕ) (fixup : Option Fixup)
         → fixup_of (find (begins_at (offset + suc number)) (fixes_from (offset + 1) others)) ≡ here.fixup
         → fixup_of
-        (find (begins_at (offset + suc number)) (fixes_from offset (record { value = value; fixup = fixup } ∷ others)))
+        (find (begins_at (offset + suc number))
+        (fixes_from offset (record { value = value; fixup = fixup } ∷ others)))
         ≡ here.fixup
     go value None later = later
     go value (Some fixup) later =
         ap (λ b.
         fixup_of
-        (cond b (Some (fix_at offset fixup)) (find (begins_at (offset + suc number)) (fixes_from (offset + 1) others))))
+        (cond b (Some (fix_at offset fixup))
+        (find (begins_at (offset + suc number)) (fixes_from (offset + 1) others))))
         (ne_eqb offset (offset + suc number) (λ same. omega (arith, same)))
         ∙ later

@@ -5,7 +5,8 @@ use Rattle.object_laws.proofs.Prelude.{◌≡◌, ℕ, ◌+◌, ◌-◌, ◌<◌
 abbrev pub joined : {A : Type 0} → List (List A) → List A
 joined groups = flat_map (λ group. group) groups
 
-joined_onto : {A : Type 0} (item : A) (groups : List (List A)) → joined (onto_first item groups) ≡ item ∷ joined groups
+joined_onto : {A : Type 0} (item : A) (groups : List (List A))
+    → joined (onto_first item groups) ≡ item ∷ joined groups
 joined_onto item [] = refl
 joined_onto item (group ∷ groups) = refl
 
@@ -70,9 +71,11 @@ all_fit takes limit [] f = absurd f
 all_fit takes limit (group ∷ groups) f = f
 
 fit_after :
-    {A : Type 0} (needs takes : A → ℕ) (limit room : ℕ) (items : List A) → ((item : A) → takes item ≤ needs item)
+    {A : Type 0} (needs takes : A → ℕ) (limit room : ℕ) (items : List A)
+    → ((item : A) → takes item ≤ needs item)
     → AllByRecursion (λ item. needs item ≤ limit) items
-    → FirstAndOthers (λ group. total takes group ≤ room) (Fits takes limit) (groups_after needs takes limit room items)
+    → FirstAndOthers (λ group. total takes group ≤ room) (Fits takes limit)
+    (groups_after needs takes limit room items)
 fit_after needs takes limit room [] less small = (omega arith, tt)
 fit_after {A} needs takes limit room (item ∷ others) less small =
     let fresh : List (List A) = groups_after needs takes limit (limit - takes item) others in
@@ -113,7 +116,8 @@ groups_fit {A} needs takes limit (item ∷ others) less small =
     first
 
 pub packed_fit :
-    {A : Type 0} (size : A → ℕ) (limit : ℕ) (items : List A) → AllByRecursion (λ item. size item ≤ limit) items
+    {A : Type 0} (size : A → ℕ) (limit : ℕ) (items : List A)
+    → AllByRecursion (λ item. size item ≤ limit) items
     → AllByRecursion (Fits size limit) (packed size limit items)
 packed_fit size limit items small = groups_fit size size limit items (λ item. omega arith) small
 
@@ -123,11 +127,13 @@ pub length_total :
     → length (flat_map spell items) ≡ total (λ item. length (spell item)) items
 length_total spell [] = refl
 length_total spell (item ∷ others) =
-    length-append (spell item) (flat_map spell others) ∙ ap (λ n. length (spell item) + n) (length_total spell others)
+    length-append (spell item) (flat_map spell others)
+    ∙ ap (λ n. length (spell item) + n) (length_total spell others)
 
 pub count_total : {A : Type 0} (items : List A) → total (λ _. 1) items ≡ length items
 count_total [] = refl
-count_total (item ∷ others) = let e : total (λ _. 1) others ≡ length others = count_total others in omega (arith, e)
+count_total (item ∷ others) =
+    let e : total (λ _. 1) others ≡ length others = count_total others in omega (arith, e)
 
 -- what holds of all items of two lists
 pub all_halves :

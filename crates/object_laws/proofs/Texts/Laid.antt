@@ -36,7 +36,8 @@ kept_map : {X Y Z : Type 0} (f : Y → Z) (h : X → Option Y) (xs : List X)
 kept_map f h [] = refl
 kept_map {X} {Y} {Z} f h (x ∷ xs) = go (h x) ∙ ap (cons_option (option_map f (h x))) (kept_map f h xs)
   where
-    go : (o : Option Y) → map f (cons_option o (filter_map h xs)) ≡ cons_option (option_map f o) (map f (filter_map h xs))
+    go : (o : Option Y) → map f (cons_option o (filter_map h xs))
+        ≡ cons_option (option_map f o) (map f (filter_map h xs))
     go None = refl
     go (Some y) = refl
 
@@ -72,7 +73,8 @@ relocation_laid own fixes kind =
 
 intersegment_laid :
     (own : Segment) (fixes : List Fix) (target : Segment) (kind : FixKind)
-    → flat_map (fixes_of own) (intersegment_parts fixes target kind) ≡ filter_map (segment_class target kind) fixes
+    → flat_map (fixes_of own) (intersegment_parts fixes target kind)
+    ≡ filter_map (segment_class target kind) fixes
 intersegment_laid own fixes target kind =
     mapped_groups own (IntersegmentPart target kind) (as_fix_to target kind) (λ group. refl)
     (packed (λ (offset : ℕ). 2) (BODY_LIMIT - 2) (filter_map (offset_for target kind) fixes))
@@ -92,7 +94,8 @@ kinds_laid own fixes parts class h (kind ∷ kinds) =
 
 targets_laid :
     (own : Segment) (fixes : List Fix) (targets : List Segment)
-    → flat_map (fixes_of own) (flat_map (λ target. flat_map (intersegment_parts fixes target) fix_kinds) targets)
+    → flat_map (fixes_of own)
+    (flat_map (λ target. flat_map (intersegment_parts fixes target) fix_kinds) targets)
     ≡ laid (flat_map (λ target. map (segment_class target) fix_kinds) targets) fixes
 targets_laid own fixes [] = refl
 targets_laid own fixes (target ∷ targets) =
@@ -108,7 +111,8 @@ targets_laid own fixes (target ∷ targets) =
 
 -- the fixes that the fix records of a content list
 pub fix_parts_laid :
-    (own : Segment) (fixes : List Fix) → flat_map (fixes_of own) (fix_parts own fixes) ≡ laid (classes own) fixes
+    (own : Segment) (fixes : List Fix) → flat_map (fixes_of own) (fix_parts own fixes)
+    ≡ laid (classes own) fixes
 fix_parts_laid own fixes =
     let externals : List Part = flat_map (external_fix_parts fixes) fix_kinds in
     let relocations : List Part = flat_map (relocation_parts own fixes) fix_kinds in
@@ -116,14 +120,17 @@ fix_parts_laid own fixes =
     flat_map (λ target. flat_map (intersegment_parts fixes target) fix_kinds) (other_segments own) in
     let of_externals : List Class = map reference_class fix_kinds in
     let of_own : List Class = map (segment_class own) fix_kinds in
-    let of_others : List Class = flat_map (λ target. map (segment_class target) fix_kinds) (other_segments own) in
+    let of_others : List Class =
+    flat_map (λ target. map (segment_class target) fix_kinds) (other_segments own) in
     flat_map-append (fixes_of own) (externals ++ relocations) others
     ∙ ap (λ r. r ++ flat_map (fixes_of own) others) (flat_map-append (fixes_of own) externals relocations)
     ∙ ap (λ r. (r ++ flat_map (fixes_of own) relocations) ++ flat_map (fixes_of own) others)
     (kinds_laid own fixes (external_fix_parts fixes) reference_class (external_laid own fixes) fix_kinds)
     ∙ ap (λ r. (laid of_externals fixes ++ r) ++ flat_map (fixes_of own) others)
-    (kinds_laid own fixes (relocation_parts own fixes) (segment_class own) (relocation_laid own fixes) fix_kinds)
-    ∙ ap (λ r. (laid of_externals fixes ++ laid of_own fixes) ++ r) (targets_laid own fixes (other_segments own))
+    (kinds_laid own fixes (relocation_parts own fixes) (segment_class own)
+    (relocation_laid own fixes) fix_kinds)
+    ∙ ap (λ r. (laid of_externals fixes ++ laid of_own fixes) ++ r)
+    (targets_laid own fixes (other_segments own))
     ∙ ap (λ r. r ++ laid of_others fixes)
     (sym (flat_map-append (λ (class : Class). filter_map class fixes) of_externals of_own))
     ∙ sym (flat_map-append (λ (class : Class). filter_map class fixes) (of_externals ++ of_own) of_others)
@@ -136,7 +143,8 @@ abbrev pub InOneClass : (own : Segment) → Fix → Type 0
 InOneClass own fix = classed (classes own) fix ≡ fix ∷ []
 
 class_of :
-    (external_count : ℕ) (own : Segment) (kind : FixKind) (target : Target) (offset : ℕ) → holds_bytes own ≡ true
+    (external_count : ℕ) (own : Segment) (kind : FixKind) (target : Target) (offset : ℕ)
+    → holds_bytes own ≡ true
     → is_target external_count target ≡ true
     → InOneClass own (record { kind = kind; target = target; offset = offset })
 class_of external_count Absolute kind target offset h k = absurd (let bad : false ≡ true = h in cc)
@@ -200,7 +208,8 @@ times_more test fix fixes (class ∷ all) =
     let a : times test (cons_option (class fix) kept ++ laid all (fix ∷ fixes))
     ≡ times test (cons_option (class fix) kept) + times test (laid all (fix ∷ fixes)) =
     times_append test (cons_option (class fix) kept) (laid all (fix ∷ fixes)) in
-    let b : times test (cons_option (class fix) kept) ≡ times test (cons_option (class fix) []) + times test kept =
+    let b : times test (cons_option (class fix) kept)
+    ≡ times test (cons_option (class fix) []) + times test kept =
     times_cons test (class fix) kept in
     let c : times test (laid all (fix ∷ fixes)) ≡ times test (laid all fixes) + times test (classed all fix) =
     times_more test fix fixes all in
@@ -221,7 +230,8 @@ times_laid test own (fix ∷ fixes) all =
     times_more test fix fixes (classes own) in
     let b : times test (laid (classes own) fixes) ≡ times test fixes = times_laid test own fixes all.1 in
     let c : times test (classed (classes own) fix) ≡ times test (fix ∷ []) = ap (times test) all.0 in
-    let d : times test (fix ∷ fixes) ≡ times test (fix ∷ []) + times test fixes = times_append test (fix ∷ []) fixes in
+    let d : times test (fix ∷ fixes) ≡ times test (fix ∷ []) + times test fixes =
+    times_append test (fix ∷ []) fixes in
     omega (arith, a, b, c, d)
 
 -- what is found among fixes by their classes
@@ -235,7 +245,8 @@ neither_found {A} test xs ys h = go (find test xs) (find test ys) (sym (find-app
     go (Some x) b e = absurd (let bad : Some x ≡ None = e in cc)
 
 neither_finds :
-    {A : Type 0} (test : A → Bool) (xs ys : List A) → find test xs ≡ None → find test (xs ++ ys) ≡ find test ys
+    {A : Type 0} (test : A → Bool) (xs ys : List A) → find test xs ≡ None
+    → find test (xs ++ ys) ≡ find test ys
 neither_finds test xs ys h = find-append test xs ys ∙ ap (λ o. option_or o (find test ys)) h
 
 nothing_found : (test : Fix → Bool) (all : List Class) → find test (laid all []) ≡ None
@@ -287,7 +298,8 @@ none_found : {A : Type 0} (test : A → Bool) (xs : List A) → times test xs �
 none_found test [] h = refl
 none_found test (x ∷ xs) h =
     ⊎_elim
-    (λ (e : test x ≡ true). absurd (let t : times test (x ∷ xs) ≡ 1 + times test xs = times_pass test x xs e in omega (arith, t, h)))
+    (λ (e : test x ≡ true). absurd (let t : times test (x
+    ∷ xs) ≡ 1 + times test xs = times_pass test x xs e in omega (arith, t, h)))
     (λ (e : test x ≡ false).
     ap (λ b. cond b (Some x) (find test xs)) e ∙ none_found test xs (sym (times_fail test x xs e) ∙ h))
     (cases_Bool (test x))
@@ -303,10 +315,12 @@ find_laid test own (fix ∷ fixes) all once =
     let none : times test fixes ≡ 0 = omega (arith, t, once) in
     found_here test fix fixes (classes own)
     (find_laid test own fixes all.1 (omega (arith, none)) ∙ none_found test fixes none)
-    ∙ ap (find test) all.0 ∙ ap (λ b. cond b (Some fix) None) e ∙ sym (ap (λ b. cond b (Some fix) (find test fixes)) e))
+    ∙ ap (find test) all.0 ∙ ap (λ b. cond b (Some fix) None) e
+    ∙ sym (ap (λ b. cond b (Some fix) (find test fixes)) e))
     (λ (e : test fix ≡ false).
     let t : times test (fix ∷ fixes) ≡ times test fixes = times_fail test fix fixes e in
-    found_past test fix fixes (classes own) (subst (AllByRecursion (λ other. test other ≡ false)) (sym all.0) (e, tt))
+    found_past test fix fixes (classes own)
+    (subst (AllByRecursion (λ other. test other ≡ false)) (sym all.0) (e, tt))
     ∙ find_laid test own fixes all.1 (omega (arith, t, once))
     ∙ sym (ap (λ b. cond b (Some fix) (find test fixes)) e))
     (cases_Bool (test fix))
@@ -318,13 +332,15 @@ none_fails test [] all = refl
 none_fails test (fix ∷ fixes) all =
     times_fail (λ f. not (test f)) fix fixes (not_from_true (test fix) all.0) ∙ none_fails test fixes all.1
 
-all_pass_if : (test : Fix → Bool) (fixes : List Fix) → times (λ fix. not (test fix)) fixes ≡ 0 → list_all test fixes ≡ true
+all_pass_if : (test : Fix → Bool) (fixes : List Fix) → times (λ fix. not (test fix)) fixes ≡ 0
+    → list_all test fixes ≡ true
 all_pass_if test [] h = refl
 all_pass_if test (fix ∷ fixes) h =
     ⊎_elim
     (λ (e : test fix ≡ true).
     and_from (test fix) (list_all test fixes) e
-    (all_pass_if test fixes (sym (times_fail (λ f. not (test f)) fix fixes (not_from_true (test fix) e)) ∙ h)))
+    (all_pass_if test fixes (sym (times_fail (λ f. not (test f)) fix fixes (not_from_true (test fix) e))
+    ∙ h)))
     (λ (e : test fix ≡ false).
     absurd (let t : times (λ f. not (test f)) (fix ∷ fixes) ≡ 1 + times (λ f. not (test f)) fixes =
     times_pass (λ f. not (test f)) fix fixes (ap not e) in

@@ -14,7 +14,8 @@ pub record IsNamesPart (rank : ℕ) (part : Part) : Type 0 where
   pub no_name : name_of_header part ≡ None
   pub no_start : start_of_end part ≡ None
 
-mapped_are : {X A : Type 0} (P : A → Type 0) (f : X → A) → ((x : X) → P (f x)) → (xs : List X) → AllByRecursion P (map f xs)
+mapped_are : {X A : Type 0} (P : A → Type 0) (f : X → A) → ((x : X) → P (f x)) → (xs : List X)
+    → AllByRecursion P (map f xs)
 mapped_are P f h [] = tt
 mapped_are P f h (x ∷ xs) = (h x, mapped_are P f h xs)
 
@@ -25,12 +26,14 @@ external_parts_are names =
     (λ group. record { up = (let u : 1 ≤ 1 = omega arith in u); no_entries = refl; no_content = refl; no_name = refl; no_start = refl })
     (packed (λ name. length (listed_name_bytes name)) BODY_LIMIT names)
 
-pub no_publics_there : (names : List (List ℕ)) → AllByRecursion (λ part. publics_of part ≡ []) (external_parts names)
+pub no_publics_there : (names : List (List ℕ))
+    → AllByRecursion (λ part. publics_of part ≡ []) (external_parts names)
 no_publics_there names =
     mapped_are (λ part. publics_of part ≡ []) ExternalNamesPart (λ group. refl)
     (packed (λ name. length (listed_name_bytes name)) BODY_LIMIT names)
 
-names_in_groups : (groups : List (List (List ℕ))) → flat_map names_of (map ExternalNamesPart groups) ≡ joined groups
+names_in_groups : (groups : List (List (List ℕ)))
+    → flat_map names_of (map ExternalNamesPart groups) ≡ joined groups
 names_in_groups [] = refl
 names_in_groups (group ∷ groups) = ap (λ r. group ++ r) (names_in_groups groups)
 
@@ -39,7 +42,8 @@ names_of_externals names =
     names_in_groups (packed (λ name. length (listed_name_bytes name)) BODY_LIMIT names)
     ∙ packed_joined (λ name. length (listed_name_bytes name)) BODY_LIMIT names
 
-externals_in_groups : (groups : List (List (List ℕ))) → flat_map externals_of (map ExternalNamesPart groups) ≡ joined groups
+externals_in_groups : (groups : List (List (List ℕ)))
+    → flat_map externals_of (map ExternalNamesPart groups) ≡ joined groups
 externals_in_groups [] = refl
 externals_in_groups (group ∷ groups) = ap (λ r. group ++ r) (externals_in_groups groups)
 
@@ -48,10 +52,12 @@ externals_again names =
     externals_in_groups (packed (λ name. length (listed_name_bytes name)) BODY_LIMIT names)
     ∙ packed_joined (λ name. length (listed_name_bytes name)) BODY_LIMIT names
 
-short_names : (names : List (List ℕ)) → AllByRecursion IsName names → AllByRecursion (λ name. length (listed_name_bytes name) ≤ BODY_LIMIT) names
+short_names : (names : List (List ℕ)) → AllByRecursion IsName names
+    → AllByRecursion (λ name. length (listed_name_bytes name) ≤ BODY_LIMIT) names
 short_names names valid =
     all_weaker IsName (λ name. length (listed_name_bytes name) ≤ BODY_LIMIT)
-    (λ name h. let short : length (listed_name_bytes name) ≤ 33 = listed_short name h in omega (arith, short)) names valid
+    (λ name h. let short : length (listed_name_bytes name) ≤ 33 = listed_short name h in omega (arith, short))
+    names valid
 
 pub externals_stage :
     (names : List (List ℕ)) (before : List Part) → AllByRecursion IsName names → UpTo 1 before
@@ -65,7 +71,8 @@ externals_stage names before valid up latest once =
     externals_accepted groups before up latest (packed_fit size BODY_LIMIT names (short_names names valid))
     (all_in_groups IsName groups (subst (AllByRecursion IsName) (sym all) valid))
     (λ name.
-    subst (λ ns. times (bytes_eq name) ns + times (bytes_eq name) (flat_map names_of before) ≤ 1) (sym all) (once name))
+    subst (λ ns. times (bytes_eq name) ns + times (bytes_eq name) (flat_map names_of before) ≤ 1)
+    (sym all) (once name))
 
 -- publics of a segment
 abbrev pub names_in : List Public → Segment → List (List ℕ)
@@ -77,16 +84,19 @@ HasName public = IsName public.name
 named_in : (publics : List Public) (segment : Segment) → AllByRecursion HasName publics
     → AllByRecursion IsNamed (map definition_of (publics_in_segment segment publics))
 named_in [] segment all = tt
-named_in (public ∷ publics) segment all = go (same_segment public.segment segment) (named_in publics segment all.1)
+named_in (public ∷ publics) segment all =
+    go (same_segment public.segment segment) (named_in publics segment all.1)
   where
     go : (b : Bool) → AllByRecursion IsNamed (map definition_of (publics_in_segment segment publics))
         → AllByRecursion IsNamed
-        (map definition_of (cond b (public ∷ publics_in_segment segment publics) (publics_in_segment segment publics)))
+        (map definition_of (cond b (public ∷ publics_in_segment segment publics)
+        (publics_in_segment segment publics)))
     go true later = (all.0, later)
     go false later = later
 
 pub public_parts_are :
-    (publics : List Public) (segment : Segment) → AllByRecursion (IsNamesPart 2) (public_parts publics segment)
+    (publics : List Public) (segment : Segment)
+    → AllByRecursion (IsNamesPart 2) (public_parts publics segment)
 public_parts_are publics segment =
     mapped_are (IsNamesPart 2) (PublicsPart segment)
     (λ group. record { up = (let u : 2 ≤ 2 = omega arith in u); no_entries = refl; no_content = refl; no_name = refl; no_start = refl })
@@ -126,7 +136,8 @@ short_definitions :
 short_definitions definitions valid =
     all_weaker IsNamed (λ definition. length (definition_bytes definition) ≤ 1026)
     (λ definition h.
-    let short : length (definition_bytes definition) ≤ 35 = definition_short definition h in omega (arith, short))
+    let short : length (definition_bytes definition) ≤ 35 = definition_short definition h in
+    omega (arith, short))
     definitions valid
 
 pub publics_stage :
@@ -141,7 +152,8 @@ publics_stage publics segment before may valid up latest once =
     let groups : List (List Definition) = packed size (BODY_LIMIT - 1) definitions in
     let all : joined groups ≡ definitions = packed_joined size (BODY_LIMIT - 1) definitions in
     publics_accepted segment may groups before up latest
-    (packed_fit size (BODY_LIMIT - 1) definitions (short_definitions definitions (named_in publics segment valid)))
+    (packed_fit size (BODY_LIMIT - 1) definitions
+    (short_definitions definitions (named_in publics segment valid)))
     (all_in_groups IsNamed groups (subst (AllByRecursion IsNamed) (sym all) (named_in publics segment valid)))
     (λ name.
     subst
@@ -151,7 +163,8 @@ publics_stage publics segment before may valid up latest once =
 -- the names of all publics, segment by segment
 names_split :
     (test : List ℕ → Bool) (segment : Segment) (offset : ℕ) (name : List ℕ) (publics : List Public)
-    → times test (names_in publics Absolute) + times test (names_in publics Code) + times test (names_in publics Data)
+    → times test (names_in publics Absolute) + times test (names_in publics Code)
+    + times test (names_in publics Data)
     ≤ times test (map (λ (public : Public). public.name) publics)
     → times test (names_in (record { segment = segment; offset = offset; name = name } ∷ publics) Absolute)
     + times test (names_in (record { segment = segment; offset = offset; name = name } ∷ publics) Code)
@@ -162,33 +175,38 @@ names_split test Absolute offset name publics h =
     let a : ℕ = times test (names_in publics Absolute) in
     let b : ℕ = times test (names_in publics Code) in
     let c : ℕ = times test (names_in publics Data) in
-    let bound : (k + a) + b + c ≤ k + times test (map (λ (public : Public). public.name) publics) = omega (arith, h) in
+    let bound : (k + a) + b + c ≤ k + times test (map (λ (public : Public). public.name) publics) =
+    omega (arith, h) in
     bound
 names_split test Code offset name publics h =
     let k : ℕ = cond (test name) 1 0 in
     let a : ℕ = times test (names_in publics Absolute) in
     let b : ℕ = times test (names_in publics Code) in
     let c : ℕ = times test (names_in publics Data) in
-    let bound : a + (k + b) + c ≤ k + times test (map (λ (public : Public). public.name) publics) = omega (arith, h) in
+    let bound : a + (k + b) + c ≤ k + times test (map (λ (public : Public). public.name) publics) =
+    omega (arith, h) in
     bound
 names_split test Data offset name publics h =
     let k : ℕ = cond (test name) 1 0 in
     let a : ℕ = times test (names_in publics Absolute) in
     let b : ℕ = times test (names_in publics Code) in
     let c : ℕ = times test (names_in publics Data) in
-    let bound : a + b + (k + c) ≤ k + times test (map (λ (public : Public). public.name) publics) = omega (arith, h) in
+    let bound : a + b + (k + c) ≤ k + times test (map (λ (public : Public). public.name) publics) =
+    omega (arith, h) in
     bound
 names_split test Stack offset name publics h =
     let k : ℕ = cond (test name) 1 0 in
     let a : ℕ = times test (names_in publics Absolute) in
     let b : ℕ = times test (names_in publics Code) in
     let c : ℕ = times test (names_in publics Data) in
-    let bound : a + b + c ≤ k + times test (map (λ (public : Public). public.name) publics) = omega (arith, h) in
+    let bound : a + b + c ≤ k + times test (map (λ (public : Public). public.name) publics) =
+    omega (arith, h) in
     bound
 
 pub publics_counted :
     (test : List ℕ → Bool) (publics : List Public)
-    → times test (names_in publics Absolute) + times test (names_in publics Code) + times test (names_in publics Data)
+    → times test (names_in publics Absolute) + times test (names_in publics Code)
+    + times test (names_in publics Data)
     ≤ times test (map (λ (public : Public). public.name) publics)
 publics_counted test [] = omega arith
 publics_counted test (public ∷ publics) =
@@ -196,7 +214,8 @@ publics_counted test (public ∷ publics) =
 
 -- publics are read again as they were
 abbrev as_public : Segment → Definition → Public
-as_public segment definition = record { segment = segment; offset = definition.offset; name = definition.name }
+as_public segment definition =
+    record { segment = segment; offset = definition.offset; name = definition.name }
 
 publics_in_groups :
     (segment : Segment) (groups : List (List Definition))
@@ -214,15 +233,18 @@ same_segment_is left right h =
 
 public_again :
     (segment : Segment) (publics : List Public)
-    → map (as_public segment) (map definition_of (publics_in_segment segment publics)) ≡ publics_in_segment segment publics
+    → map (as_public segment) (map definition_of (publics_in_segment segment publics))
+    ≡ publics_in_segment segment publics
 public_again segment [] = refl
-public_again segment (public ∷ publics) = go (same_segment public.segment segment) refl (public_again segment publics)
+public_again segment (public ∷ publics) =
+    go (same_segment public.segment segment) refl (public_again segment publics)
   where
     go : (b : Bool) → same_segment public.segment segment ≡ b
         → map (as_public segment) (map definition_of (publics_in_segment segment publics))
         ≡ publics_in_segment segment publics
         → map (as_public segment)
-        (map definition_of (cond b (public ∷ publics_in_segment segment publics) (publics_in_segment segment publics)))
+        (map definition_of (cond b (public ∷ publics_in_segment segment publics)
+        (publics_in_segment segment publics)))
         ≡ cond b (public ∷ publics_in_segment segment publics) (publics_in_segment segment publics)
     go true e later =
         ap (λ s.

@@ -35,7 +35,8 @@ pub item_before :
     → item_at place (run ∷ others) ≡ item_at place others
 item_before place run others h =
     cond-false _ (slice_get run.items (place - run.offset)) (item_at place others)
-    (and_left (nat_le run.offset place) (nat_lt place (run.offset + length run.items)) (lt-leb run.offset place h))
+    (and_left (nat_le run.offset place) (nat_lt place (run.offset + length run.items))
+    (lt-leb run.offset place h))
 
 pub order_earlier :
     {A : Type 0} (earlier from to : ℕ) (runs : List (Run A)) → earlier ≤ from → InOrder from to runs
@@ -64,7 +65,8 @@ item_none from to place (run ∷ others) o h =
 before_in_order :
     {A : Type 0} (offset to : ℕ) (item : A) (runs : List (Run A)) → InOrder (offset + 1) to runs
     → InOrder offset to (before_runs offset item runs)
-before_in_order offset to item [] o = let p : offset + 1 ≤ to = o in (omega arith, omega arith, omega (arith, p))
+before_in_order offset to item [] o =
+    let p : offset + 1 ≤ to = o in (omega arith, omega arith, omega (arith, p))
 before_in_order {A} offset to item (next ∷ others) o = go (next.offset == offset + 1) refl
   where
     merged : List (Run A)
@@ -76,7 +78,8 @@ before_in_order {A} offset to item (next ∷ others) o = go (next.offset == offs
     go : (b : Bool) → (next.offset == offset + 1) ≡ b → InOrder offset to (cond b merged apart)
     go true e =
         let next_is : next.offset ≡ offset + 1 = eqb-true next.offset (offset + 1) e in
-        let same : next.offset + length next.items ≡ offset + length (item ∷ next.items) = omega (arith, next_is) in
+        let same : next.offset + length next.items ≡ offset + length (item ∷ next.items) =
+        omega (arith, next_is) in
         (omega arith, omega arith, subst (λ from. InOrder from to others) same o.2)
     go false e =
         let p : offset + 1 ≤ next.offset = o.0 in
@@ -88,17 +91,21 @@ pub runs_in_order :
 runs_in_order offset [] = omega arith
 runs_in_order {A} offset (None ∷ others) =
     let e : offset + 1 + length others ≡ offset + length {A = Option A} (None ∷ others) = omega arith in
-    order_earlier offset (offset + 1) (offset + length {A = Option A} (None ∷ others)) (runs_from (offset + 1) others)
+    order_earlier offset (offset + 1) (offset + length {A = Option A} (None ∷ others))
+    (runs_from (offset + 1) others)
     (omega arith)
-    (subst (λ to. InOrder (offset + 1) to (runs_from (offset + 1) others)) e (runs_in_order (offset + 1) others))
+    (subst (λ to. InOrder (offset + 1) to (runs_from (offset + 1) others)) e
+    (runs_in_order (offset + 1) others))
 runs_in_order offset (Some item ∷ others) =
     let e : offset + 1 + length others ≡ offset + length (Some item ∷ others) = omega arith in
     before_in_order offset (offset + length (Some item ∷ others)) item (runs_from (offset + 1) others)
-    (subst (λ to. InOrder (offset + 1) to (runs_from (offset + 1) others)) e (runs_in_order (offset + 1) others))
+    (subst (λ to. InOrder (offset + 1) to (runs_from (offset + 1) others)) e
+    (runs_in_order (offset + 1) others))
 
 -- what runs have at a place, with an item in front
 item_first :
-    {A : Type 0} (offset : ℕ) (item : A) (runs : List (Run A)) → item_at offset (before_runs offset item runs) ≡ Some item
+    {A : Type 0} (offset : ℕ) (item : A) (runs : List (Run A))
+    → item_at offset (before_runs offset item runs) ≡ Some item
 item_first {A} offset item [] =
     item_inside offset (record { offset = offset; items = item ∷ [] }) [] (omega arith) (omega arith)
     ∙ ap (slice_get (item ∷ [])) (let z : offset - offset ≡ 0 = omega arith in z)
@@ -112,16 +119,19 @@ item_first {A} offset item (next ∷ others) = go (next.offset == offset + 1)
 
     go : (b : Bool) → item_at offset (cond b merged apart) ≡ Some item
     go true =
-        item_inside offset (record { offset = offset; items = item ∷ next.items }) others (omega arith) (omega arith)
+        item_inside offset (record { offset = offset; items = item ∷ next.items }) others
+        (omega arith) (omega arith)
         ∙ ap (slice_get (item ∷ next.items)) (let z : offset - offset ≡ 0 = omega arith in z)
     go false =
-        item_inside offset (record { offset = offset; items = item ∷ [] }) (next ∷ others) (omega arith) (omega arith)
+        item_inside offset (record { offset = offset; items = item ∷ [] }) (next ∷ others)
+        (omega arith) (omega arith)
         ∙ ap (slice_get (item ∷ [])) (let z : offset - offset ≡ 0 = omega arith in z)
 
 item_later :
     {A : Type 0} (offset place : ℕ) (item : A) (runs : List (Run A)) → offset < place
     → item_at place (before_runs offset item runs) ≡ item_at place runs
-item_later offset place item [] h = item_past place (record { offset = offset; items = item ∷ [] }) [] (omega (arith, h))
+item_later offset place item [] h =
+    item_past place (record { offset = offset; items = item ∷ [] }) [] (omega (arith, h))
 item_later {A} offset place item (next ∷ others) h = go (next.offset == offset + 1) refl
   where
     merged : Run A
@@ -145,7 +155,9 @@ item_later {A} offset place item (next ∷ others) h = go (next.offset == offset
         let beyond : offset + length (item ∷ next.items) ≤ place = omega (arith, past, next_is) in
         item_past place merged others beyond ∙ sym (item_past place next others past))
         (cases_lt place (next.offset + length next.items))
-    go false e = item_past place single (next ∷ others) (let q : offset + length (item ∷ []) ≤ place = omega (arith, h) in q)
+    go false e =
+        item_past place single (next ∷ others)
+        (let q : offset + length (item ∷ []) ≤ place = omega (arith, h) in q)
 
 -- the runs of places tell each place
 pub runs_tell :
@@ -186,7 +198,8 @@ pub whole_word :
     (first next : SetByte) (items : List SetByte) → is_plain (Some next) ≡ true → AreWhole (next ∷ items)
     → AreWhole (first ∷ next ∷ items)
 whole_word first next items e h =
-    and_from (not (begins_word (Some first)) || is_plain (Some next)) (words_are_whole (map Some (next ∷ items)))
+    and_from (not (begins_word (Some first)) || is_plain (Some next))
+    (words_are_whole (map Some (next ∷ items)))
     (go (begins_word (Some first))) h
   where
     go : (b : Bool) → (not b || is_plain (Some next)) ≡ true
@@ -215,7 +228,8 @@ record Begin {A : Type 0} (offset : ℕ) (item : A) (runs : List (Run A)) : Type
   others : List (Run A)
   is : runs ≡ record { offset = offset; items = item ∷ items } ∷ others
 
-before_begins : {A : Type 0} (offset : ℕ) (item : A) (runs : List (Run A)) → Begin offset item (before_runs offset item runs)
+before_begins : {A : Type 0} (offset : ℕ) (item : A) (runs : List (Run A))
+    → Begin offset item (before_runs offset item runs)
 before_begins offset item [] = record { items = []; others = []; is = refl }
 before_begins {A} offset item (next ∷ others) = go (next.offset == offset + 1)
   where

@@ -38,13 +38,15 @@ cuts_hold :
     → AllByRecursion (λ (run : Run SetByte). AllByRecursion P run.items) (flat_map contents_of_run runs)
 cuts_hold P [] all = tt
 cuts_hold P (run ∷ others) all =
-    all_append (λ (cut : Run SetByte). AllByRecursion P cut.items) (contents_of_run run) (flat_map contents_of_run others)
+    all_append (λ (cut : Run SetByte). AllByRecursion P cut.items) (contents_of_run run)
+    (flat_map contents_of_run others)
     (placed_hold (AllByRecursion P) run.offset (run_groups run)
     (all_in_groups P (run_groups run) (subst (AllByRecursion P) (sym (run_groups_joined run)) all.0)))
     (cuts_hold P others all.1)
 
 place_has_target :
-    (external_count : ℕ) (place : Option SetByte) → option_map_or (is_valid_byte external_count) place true ≡ true
+    (external_count : ℕ) (place : Option SetByte)
+    → option_map_or (is_valid_byte external_count) place true ≡ true
     → IfSome place (HasTarget external_count)
 place_has_target external_count None h = tt
 place_has_target external_count (Some here) h =
@@ -110,7 +112,8 @@ content_is own cut = record {
 }
 
 fix_part_is :
-    (own : Segment) (content : Content) (external_count : ℕ) (part : Part) → IsFixPart content external_count part
+    (own : Segment) (content : Content) (external_count : ℕ) (part : Part)
+    → IsFixPart content external_count part
     → IsSegmentPart own part
 fix_part_is own content external_count part is =
     let rank : rank_of (kind_of_part part) ≡ 3 = is.rank in
@@ -130,18 +133,21 @@ cut_parts_are :
 cut_parts_are own external_count cut targets =
     let content : Content = content_for own cut in (
       content_is own cut,
-      all_weaker (IsFixPart content external_count) (IsSegmentPart own) (fix_part_is own content external_count)
+      all_weaker (IsFixPart content external_count) (IsSegmentPart own)
+          (fix_part_is own content external_count)
           (fix_parts own (fixes_from cut.offset cut.items))
           (fix_parts_are content external_count (fixes_from cut.offset cut.items)
           (fixes_have_targets external_count cut.offset cut.items targets)),
     )
 
 pub segment_parts_are :
-    (own : Segment) (external_count : ℕ) (cuts : List (Run SetByte)) → AllByRecursion (HasTargets external_count) cuts
+    (own : Segment) (external_count : ℕ) (cuts : List (Run SetByte))
+    → AllByRecursion (HasTargets external_count) cuts
     → AllByRecursion (IsSegmentPart own) (flat_map (content_parts own) cuts)
 segment_parts_are own external_count cuts targets =
     all_flat_map (IsSegmentPart own) (content_parts own) cuts
-    (all_weaker (HasTargets external_count) (λ cut. AllByRecursion (IsSegmentPart own) (content_parts own cut))
+    (all_weaker (HasTargets external_count)
+    (λ cut. AllByRecursion (IsSegmentPart own) (content_parts own cut))
     (cut_parts_are own external_count) cuts targets)
 
 -- what they leave as it was for another segment
@@ -158,16 +164,19 @@ past_segment own segment other external_count size filled parts before all facts
     let to_here : filled_to segment before ≤ filled = facts.to_here in
     record {
       up = up_to_onto 3 parts before facts.up
-          (all_weaker (IsSegmentPart own) (λ part. rank_of (kind_of_part part) ≤ 3) (λ part is. is.rank) parts all);
+          (all_weaker (IsSegmentPart own) (λ part. rank_of (kind_of_part part) ≤ 3)
+          (λ part is. is.rank) parts all);
       stated =
           ap (λ entries. length_in entries segment)
           (flat_map_onto entries_of parts before
-          (all_weaker (IsSegmentPart own) (λ part. entries_of part ≡ []) (λ part is. is.no_entries) parts all))
+          (all_weaker (IsSegmentPart own) (λ part. entries_of part ≡ [])
+          (λ part is. is.no_entries) parts all))
           ∙ facts.stated;
       to_here = omega (arith, filled_is, to_here);
       count =
           ap length
           (flat_map_onto externals_of parts before
-          (all_weaker (IsSegmentPart own) (λ part. externals_of part ≡ []) (λ part is. is.no_externals) parts all))
+          (all_weaker (IsSegmentPart own) (λ part. externals_of part ≡ [])
+          (λ part is. is.no_externals) parts all))
           ∙ facts.count;
     }

@@ -18,10 +18,14 @@ pub valid_segment :
     (external_count : ℕ) (segment : Places) → is_valid_segment external_count segment ≡ true
     → IsValid external_count segment
 valid_segment external_count segment h =
-    let all : Bool = list_all (λ place. option_map_or (is_valid_byte external_count) place true) segment.places in
-    let first = and_parts (nat_le (length segment.places) SEGMENT_LIMIT && all && words_are_whole segment.places)
+    let all : Bool =
+    list_all (λ place. option_map_or (is_valid_byte external_count) place true) segment.places in
+    let first =
+    and_parts (nat_le (length segment.places) SEGMENT_LIMIT && all && words_are_whole segment.places)
     (not (is_page segment.alignment) || nat_lt 0 (length segment.places)) h in
-    let second = and_parts (nat_le (length segment.places) SEGMENT_LIMIT && all) (words_are_whole segment.places) first.0 in
+    let second =
+    and_parts (nat_le (length segment.places) SEGMENT_LIMIT && all)
+    (words_are_whole segment.places) first.0 in
     let third = and_parts (nat_le (length segment.places) SEGMENT_LIMIT) all second.0 in
     record { cuts = cuts_are external_count segment.places third.1 second.1; begins = first.1 }
 
@@ -38,7 +42,8 @@ end_parts object = ModuleEndPart object.start ∷ EndOfFilePart ∷ []
 
 pub written_is :
     (object : ObjectModule)
-    → written_parts object ≡ header_for object ∷ (names_parts object ++ contents_parts object) ++ end_parts object
+    → written_parts object ≡ header_for object
+    ∷ (names_parts object ++ contents_parts object) ++ end_parts object
 unfolding written_parts
 written_is object = refl
 
@@ -46,7 +51,8 @@ written_is object = refl
 all_named : (object : ObjectModule) → IsObjectModule object → AllByRecursion IsName (linkage_names object)
 all_named object valid = each_passes is_name (linkage_names object) valid.names
 
-with_names : (publics : List Public) → AllByRecursion IsName (map (λ (public : Public). public.name) publics) → AllByRecursion HasName publics
+with_names : (publics : List Public) → AllByRecursion IsName (map (λ (public : Public). public.name) publics)
+    → AllByRecursion HasName publics
 with_names [] all = tt
 with_names (public ∷ publics) all = (all.0, with_names publics all.1)
 
@@ -57,7 +63,8 @@ headed object = header_for object ∷ []
 names_before : (test : List ℕ → Bool) (object : ObjectModule) (parts : List Part)
     → times test (flat_map names_of (onto parts (headed object))) ≡ times test (flat_map names_of parts)
 names_before test object parts =
-    let e : times test (flat_map names_of (onto parts (headed object))) ≡ times test (flat_map names_of parts) + 0 =
+    let e : times test (flat_map names_of (onto parts (headed object)))
+    ≡ times test (flat_map names_of parts) + 0 =
     times_onto test names_of parts (headed object) in
     omega (arith, e)
 
@@ -65,15 +72,18 @@ names_before test object parts =
 all_once :
     (object : ObjectModule) → IsObjectModule object → (name : List ℕ)
     → times (bytes_eq name) object.externals + (times (bytes_eq name) (names_in object.publics Absolute)
-    + times (bytes_eq name) (names_in object.publics Code) + times (bytes_eq name) (names_in object.publics Data)) ≤ 1
+    + times (bytes_eq name) (names_in object.publics Code)
+    + times (bytes_eq name) (names_in object.publics Data)) ≤ 1
 all_once object valid name =
     let own : List (List ℕ) = map (λ (public : Public). public.name) object.publics in
     let split : times (bytes_eq name) (object.externals ++ own)
     ≡ times (bytes_eq name) object.externals + times (bytes_eq name) own =
     times_append (bytes_eq name) object.externals own in
-    let once : times (bytes_eq name) (object.externals ++ own) ≤ 1 = new_once (linkage_names object) valid.different name in
+    let once : times (bytes_eq name) (object.externals ++ own) ≤ 1 =
+    new_once (linkage_names object) valid.different name in
     let counted : times (bytes_eq name) (names_in object.publics Absolute)
-    + times (bytes_eq name) (names_in object.publics Code) + times (bytes_eq name) (names_in object.publics Data)
+    + times (bytes_eq name) (names_in object.publics Code)
+    + times (bytes_eq name) (names_in object.publics Data)
     ≤ times (bytes_eq name) own = publics_counted (bytes_eq name) object.publics in
     omega (arith, split, once, counted)
 
@@ -83,7 +93,8 @@ public_ranks :
     → AllByRecursion (IsNamesPart 2) (flat_map (public_parts object.publics) segments)
 public_ranks object [] = tt
 public_ranks object (segment ∷ segments) =
-    all_append (IsNamesPart 2) (public_parts object.publics segment) (flat_map (public_parts object.publics) segments)
+    all_append (IsNamesPart 2) (public_parts object.publics segment)
+    (flat_map (public_parts object.publics) segments)
     (public_parts_are object.publics segment) (public_ranks object segments)
 
 pub names_are : (object : ObjectModule) → AllByRecursion (IsNamesPart 2) (names_parts object)
@@ -103,17 +114,20 @@ names_are object =
     (public_ranks object (Absolute ∷ Code ∷ Data ∷ []))
 
 -- what parts of names leave as it was
-up_after : (object : ObjectModule) (parts : List Part) → AllByRecursion (IsNamesPart 2) parts → UpTo 2 (onto parts (headed object))
+up_after : (object : ObjectModule) (parts : List Part) → AllByRecursion (IsNamesPart 2) parts
+    → UpTo 2 (onto parts (headed object))
 up_after object parts all =
     up_to_onto 2 parts (headed object) (let u : 0 ≤ 2 = omega arith in u)
     (all_weaker (IsNamesPart 2) (λ part. rank_of (kind_of_part part) ≤ 2) (λ part is. is.up) parts all)
 
-no_content_after : (object : ObjectModule) (parts : List Part) → AllByRecursion (IsNamesPart 2) parts → latest_content (onto parts (headed object)) ≡ None
+no_content_after : (object : ObjectModule) (parts : List Part) → AllByRecursion (IsNamesPart 2) parts
+    → latest_content (onto parts (headed object)) ≡ None
 no_content_after object parts all =
     latest_onto parts (headed object)
     (all_weaker (IsNamesPart 2) (λ part. content_of part ≡ None) (λ part is. is.no_content) parts all)
 
-names_accepted : (object : ObjectModule) → IsObjectModule object → are_accepted (headed object) (names_parts object) ≡ true
+names_accepted : (object : ObjectModule) → IsObjectModule object
+    → are_accepted (headed object) (names_parts object) ≡ true
 names_accepted object valid =
     let E : List Part = external_parts object.externals in
     let A : List Part = public_parts object.publics Absolute in
@@ -124,22 +138,27 @@ names_accepted object valid =
     (all_named object valid) in
     let named : AllByRecursion HasName object.publics = with_names object.publics halves.1 in
     let E_are : AllByRecursion (IsNamesPart 2) E =
-    (all_halves (IsNamesPart 2) E (flat_map (public_parts object.publics) (Absolute ∷ Code ∷ Data ∷ [])) (names_are object)).0 in
+    (all_halves (IsNamesPart 2) E (flat_map (public_parts object.publics) (Absolute ∷ Code ∷ Data ∷ []))
+    (names_are object)).0 in
     let EA_are : AllByRecursion (IsNamesPart 2) (E ++ A) =
     all_append (IsNamesPart 2) E A E_are (public_parts_are object.publics Absolute) in
     let EAC_are : AllByRecursion (IsNamesPart 2) ((E ++ A) ++ C) =
     all_append (IsNamesPart 2) (E ++ A) C EA_are (public_parts_are object.publics Code) in
-    let e_once : (name : List ℕ) → times (bytes_eq name) (flat_map names_of E) ≡ times (bytes_eq name) object.externals =
+    let e_once : (name : List ℕ) → times (bytes_eq name) (flat_map names_of E)
+    ≡ times (bytes_eq name) object.externals =
     λ name. ap (times (bytes_eq name)) (names_of_externals object.externals) in
-    let a_once : (name : List ℕ) → times (bytes_eq name) (flat_map names_of A) ≡ times (bytes_eq name) (names_in object.publics Absolute) =
+    let a_once : (name : List ℕ) → times (bytes_eq name) (flat_map names_of A)
+    ≡ times (bytes_eq name) (names_in object.publics Absolute) =
     λ name. ap (times (bytes_eq name)) (names_of_publics object.publics Absolute) in
-    let c_once : (name : List ℕ) → times (bytes_eq name) (flat_map names_of C) ≡ times (bytes_eq name) (names_in object.publics Code) =
+    let c_once : (name : List ℕ) → times (bytes_eq name) (flat_map names_of C)
+    ≡ times (bytes_eq name) (names_in object.publics Code) =
     λ name. ap (times (bytes_eq name)) (names_of_publics object.publics Code) in
     accepted_append before E (A ++ (C ++ (D ++ [])))
     (externals_stage object.externals before halves.0 (let u : 0 ≤ 1 = omega arith in u) refl
     (λ name.
     let o : times (bytes_eq name) object.externals + (times (bytes_eq name) (names_in object.publics Absolute)
-    + times (bytes_eq name) (names_in object.publics Code) + times (bytes_eq name) (names_in object.publics Data)) ≤ 1 =
+    + times (bytes_eq name) (names_in object.publics Code)
+    + times (bytes_eq name) (names_in object.publics Data)) ≤ 1 =
     all_once object valid name in
     let bound : times (bytes_eq name) object.externals + 0 ≤ 1 = omega (arith, o) in
     bound))
@@ -148,9 +167,11 @@ names_accepted object valid =
     (no_content_after object E E_are)
     (λ name.
     let o : times (bytes_eq name) object.externals + (times (bytes_eq name) (names_in object.publics Absolute)
-    + times (bytes_eq name) (names_in object.publics Code) + times (bytes_eq name) (names_in object.publics Data)) ≤ 1 =
+    + times (bytes_eq name) (names_in object.publics Code)
+    + times (bytes_eq name) (names_in object.publics Data)) ≤ 1 =
     all_once object valid name in
-    let there : times (bytes_eq name) (flat_map names_of (onto E before)) ≡ times (bytes_eq name) (flat_map names_of E) =
+    let there : times (bytes_eq name) (flat_map names_of (onto E before))
+    ≡ times (bytes_eq name) (flat_map names_of E) =
     names_before (bytes_eq name) object E in
     omega (arith, o, there, e_once name)))
     (subst (λ b. are_accepted b (C ++ (D ++ [])) ≡ true) (onto_append E A before)
@@ -159,7 +180,8 @@ names_accepted object valid =
     (no_content_after object (E ++ A) EA_are)
     (λ name.
     let o : times (bytes_eq name) object.externals + (times (bytes_eq name) (names_in object.publics Absolute)
-    + times (bytes_eq name) (names_in object.publics Code) + times (bytes_eq name) (names_in object.publics Data)) ≤ 1 =
+    + times (bytes_eq name) (names_in object.publics Code)
+    + times (bytes_eq name) (names_in object.publics Data)) ≤ 1 =
     all_once object valid name in
     let there : times (bytes_eq name) (flat_map names_of (onto (E ++ A) before))
     ≡ times (bytes_eq name) (flat_map names_of E) + times (bytes_eq name) (flat_map names_of A) =
@@ -168,11 +190,13 @@ names_accepted object valid =
     omega (arith, o, there, e_once name, a_once name)))
     (subst (λ b. are_accepted b (D ++ []) ≡ true) (onto_append (E ++ A) C before)
     (accepted_append (onto ((E ++ A) ++ C) before) D []
-    (publics_stage object.publics Data (onto ((E ++ A) ++ C) before) refl named (up_after object ((E ++ A) ++ C) EAC_are)
+    (publics_stage object.publics Data (onto ((E ++ A) ++ C) before) refl named
+    (up_after object ((E ++ A) ++ C) EAC_are)
     (no_content_after object ((E ++ A) ++ C) EAC_are)
     (λ name.
     let o : times (bytes_eq name) object.externals + (times (bytes_eq name) (names_in object.publics Absolute)
-    + times (bytes_eq name) (names_in object.publics Code) + times (bytes_eq name) (names_in object.publics Data)) ≤ 1 =
+    + times (bytes_eq name) (names_in object.publics Code)
+    + times (bytes_eq name) (names_in object.publics Data)) ≤ 1 =
     all_once object valid name in
     let there : times (bytes_eq name) (flat_map names_of (onto ((E ++ A) ++ C) before))
     ≡ times (bytes_eq name) (flat_map names_of (E ++ A)) + times (bytes_eq name) (flat_map names_of C) =
@@ -187,7 +211,8 @@ names_accepted object valid =
     refl)))))
 
 -- what is told before the contents
-pub nothing : {A : Type 0} (f : Part → List A) (parts : List Part) → AllByRecursion (λ part. f part ≡ []) parts → flat_map f parts ≡ []
+pub nothing : {A : Type 0} (f : Part → List A) (parts : List Part)
+    → AllByRecursion (λ part. f part ≡ []) parts → flat_map f parts ≡ []
 nothing f [] all = refl
 nothing f (part ∷ parts) all = ap (λ r. r ++ flat_map f parts) all.0 ∙ nothing f parts all.1
 
@@ -196,7 +221,8 @@ no_externals_in :
     → flat_map externals_of (flat_map (public_parts object.publics) segments) ≡ []
 no_externals_in object [] = refl
 no_externals_in object (segment ∷ segments) =
-    flat_map-append externals_of (public_parts object.publics segment) (flat_map (public_parts object.publics) segments)
+    flat_map-append externals_of (public_parts object.publics segment)
+    (flat_map (public_parts object.publics) segments)
     ∙ ap (λ r. r ++ flat_map externals_of (flat_map (public_parts object.publics) segments))
     (nothing externals_of (public_parts object.publics segment) (no_externals_there object.publics segment))
     ∙ no_externals_in object segments
@@ -205,7 +231,8 @@ pub externals_told : (object : ObjectModule) → flat_map externals_of (names_pa
 externals_told object =
     flat_map-append externals_of (external_parts object.externals)
     (flat_map (public_parts object.publics) (Absolute ∷ Code ∷ Data ∷ []))
-    ∙ ap (λ r. r ++ flat_map externals_of (flat_map (public_parts object.publics) (Absolute ∷ Code ∷ Data ∷ [])))
+    ∙ ap (λ r. r ++ flat_map externals_of
+    (flat_map (public_parts object.publics) (Absolute ∷ Code ∷ Data ∷ [])))
     (externals_again object.externals)
     ∙ ap (λ r. object.externals ++ r) (no_externals_in object (Absolute ∷ Code ∷ Data ∷ []))
     ∙ append-nil object.externals
@@ -221,9 +248,11 @@ before_contents object segment size told =
     filled_onto segment parts before
     (all_weaker (IsNamesPart 2) (λ part. (end : ℕ) → end_by_content segment (content_of part) end ≡ end)
     (λ part is end. ap (λ c. end_by_content segment c end) is.no_content) parts are) in
-    let counted : length (flat_map externals_of (onto parts before)) ≡ length (flat_map externals_of parts) + 0 =
+    let counted : length (flat_map externals_of (onto parts before))
+    ≡ length (flat_map externals_of parts) + 0 =
     length_onto externals_of parts before in
-    let same : length (flat_map externals_of parts) ≡ length object.externals = ap length (externals_told object) in
+    let same : length (flat_map externals_of parts) ≡ length object.externals =
+    ap length (externals_told object) in
     record {
       up = up_to_more 2 3 (onto parts before) (omega arith) (up_after object parts are);
       stated =
@@ -248,10 +277,12 @@ contents_parts_accepted object code data_valid =
     let D : List Part = segment_parts object Data in
     accepted_append before C (D ++ [])
     (contents_accepted Code refl count (length object.code.places) 0 (cuts_of object.code.places) before
-    (before_contents object Code (length object.code.places) (code_length_is object)) code.cuts.order code.cuts.cut
+    (before_contents object Code (length object.code.places) (code_length_is object))
+    code.cuts.order code.cuts.cut
     code.cuts.targets)
     (accepted_append (onto C before) D []
-    (contents_accepted Data refl count (length object.data_places.places) 0 (cuts_of object.data_places.places)
+    (contents_accepted Data refl count (length object.data_places.places) 0
+    (cuts_of object.data_places.places)
     (onto C before)
     (past_segment Code Data refl count (length object.data_places.places) 0 C before
     (segment_parts_are Code count (cuts_of object.code.places) code.cuts.targets)
@@ -297,7 +328,8 @@ end_short : (start : Option ℕ) → length (body_of (ModuleEndPart start)) ≤ 
 end_short None = (let l : 4 ≤ BODY_LIMIT = omega arith in l)
 end_short (Some offset) = (let l : 4 ≤ BODY_LIMIT = omega arith in l)
 
-end_accepted : (start : Option ℕ) (before : List Part) → UpTo 3 before → are_accepted before (ModuleEndPart start ∷ EndOfFilePart ∷ []) ≡ true
+end_accepted : (start : Option ℕ) (before : List Part) → UpTo 3 before
+    → are_accepted before (ModuleEndPart start ∷ EndOfFilePart ∷ []) ≡ true
 end_accepted start before up =
     let last : Part = ModuleEndPart start in
     and_from (is_accepted before last) (are_accepted (last ∷ before) (EndOfFilePart ∷ []))
@@ -323,15 +355,18 @@ end_accepted start before up =
 pub parts_accepted :
     (object : ObjectModule) → IsObjectModule object → IsValid (length object.externals) object.code
     → IsValid (length object.externals) object.data_places
-    → are_accepted [] (header_for object ∷ (names_parts object ++ contents_parts object) ++ end_parts object) ≡ true
+    → are_accepted [] (header_for object ∷ (names_parts object ++ contents_parts object) ++ end_parts object)
+    ≡ true
 parts_accepted object valid code data_valid =
     let before : List Part = headed object in
     let names : List Part = names_parts object in
     let contents : List Part = contents_parts object in
-    and_from (is_accepted [] (header_for object)) (are_accepted before ((names ++ contents) ++ end_parts object))
+    and_from (is_accepted [] (header_for object))
+    (are_accepted before ((names ++ contents) ++ end_parts object))
     (header_accepted object valid.name)
     (accepted_append before (names ++ contents) (end_parts object)
-    (accepted_append before names contents (names_accepted object valid) (contents_parts_accepted object code data_valid))
+    (accepted_append before names contents (names_accepted object valid)
+    (contents_parts_accepted object code data_valid))
     (end_accepted object.start (onto (names ++ contents) before)
     (up_to_onto 3 (names ++ contents) before (let u : 0 ≤ 3 = omega arith in u)
     (all_weaker IsMiddle (λ part. rank_of (kind_of_part part) ≤ 3) (λ part is. is.up) (names ++ contents)

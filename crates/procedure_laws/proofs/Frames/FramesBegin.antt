@@ -20,8 +20,9 @@ start_of :
 start_of bytes count zero same = ((λ none. refl), (λ some. absurd (omega (arith, same, some))))
 start_of bytes count (suc others) same = ((λ none. absurd (omega (arith, same, none))), (λ some. refl))
 
--- The frame of a call is made: the machine has zeros for the variables and the arguments in their words; A and HL are as
--- before, and no other byte changed but those from one below the level up to the return address.
+-- The frame of a call is made: the machine has zeros for the variables and the arguments in their words; A
+-- and HL are as before, and no other byte changed but those from one below the level up to the return
+-- address.
 record IsMade
     (level bytes top : ℕ) (types : List ScalarType) (values : List ℕ) (r : Registers) (memory : List ℕ)
     (now : Registers) (ended : List ℕ) : Type 0 where
@@ -82,7 +83,9 @@ module _ (code : ModuleCode) (entries : Entries) (bound : ℕ) (lies : ModuleLie
       let count = (is.frame kind).parameter_count
       ∙ parameter_count code.typed index found (nodes_of code.tree.now).homes procedure.parameters.items has
       lowered.has_body.parameters in
-      let starts = start_of body.frame.now.variable_bytes (length found.parameters) body.frame.now.parameter_count count in
+      let starts =
+      start_of body.frame.now.variable_bytes (length found.parameters)
+      body.frame.now.parameter_count count in
       let low = enters.low in
       let high = enters.high in
       let charge = charge_is found in
@@ -91,7 +94,8 @@ module _ (code : ModuleCode) (entries : Entries) (bound : ℕ) (lies : ModuleLie
       let some : (1 ≤ length found.parameters → (return_of body.frame.now).start ≡ found.frame_bytes + 2)
       = λ one. starts.1 one ∙ ap (λ (n : ℕ). n + 2) bytes in
       let levels = level_of top (return_of body.frame.now).start (top + 2 - room) room
-      (length found.parameters) found.frame_bytes none some (omega (arith, charge, charge_fits)) (omega (arith, low)) in
+      (length found.parameters) found.frame_bytes none some (omega (arith, charge, charge_fits))
+      (omega (arith, low)) in
       record {
         bytes = bytes;
         few = (frame_fits code.typed index found lies.frames is.is).bytes;
@@ -111,16 +115,22 @@ module _ (code : ModuleCode) (entries : Entries) (bound : ℕ) (lies : ModuleLie
       → IsMade level found.frame_bytes top found.parameter_types values r memory now ended
       → Know at.context facts now ended
       → Does code.program.script s.budget 0 (at_place place now ended s.events)
-      (parameters_set (surroundings_in code (room - charge_of found)) found.parameter_types found.parameters values
+      (parameters_set (surroundings_in code (room - charge_of found)) found.parameter_types
+      found.parameters values
       (record s { frame = frame_of index code.typed }))
       (λ given t end. HasBegun at to (top + 2 + bytes_pushed values) back facts memory t end)
   made_does to place facts now ended same made known =
-      let set = all_set (surroundings_in code (room - charge_of found)) at.context.activation found.frame_bytes ended
-      made.is_memory found.parameter_types found.parameters values (record s { frame = frame_of index code.typed })
-      (parameters_in_words code entries index procedure found body.frame.now (room - charge_of found) (top + 2 - room) level lies is.there
+      let set =
+      all_set (surroundings_in code (room - charge_of found)) at.context.activation
+      found.frame_bytes ended
+      made.is_memory found.parameter_types found.parameters values
+      (record s { frame = frame_of index code.typed })
+      (parameters_in_words code entries index procedure found body.frame.now (room - charge_of found)
+      (top + 2 - room) level lies is.there
       is.is (is.frame kind) kind)
       made.words
-      (new_lies code entries index procedure found body.frame.now (room - charge_of found) (top + 2 - room) level lies is.there is.is (is.frame kind)
+      (new_lies code entries index procedure found body.frame.now (room - charge_of found) (top + 2 - room)
+      level lies is.there is.is (is.frame kind)
       ended made.zeros) in
       does_same (Gave tt (record s { frame = set.frame })) set.is
       (does_without_step (record {
@@ -137,7 +147,8 @@ module _ (code : ModuleCode) (entries : Entries) (bound : ℕ) (lies : ModuleLie
                 made.kept address (λ from below. not_declared address declared from below)
                 ∙ enters.shares.declared address declared;
             code = λ address within.
-                made.kept address (λ from below. not_code address within from below) ∙ enters.shares.code address within;
+                made.kept address (λ from below. not_code address within from below)
+                ∙ enters.shares.code address within;
           };
           frame_lies = set.lies;
           kept = keeps_all (Owns at.context.activation level) ended;
@@ -169,12 +180,14 @@ module _ (code : ModuleCode) (entries : Entries) (bound : ℕ) (lies : ModuleLie
       not_declared : (address : ℕ) → Rattle.meaning.specs.Access.is_declared code.program address ≡ true
           → frame_level body.frame.now top ≤ address + 1 → address < top → ⊥
       not_declared address declared from below =
-          lies.placed.stack_free address declared (omega (arith, bottom, low, from)) (omega (arith, below, high))
+          lies.placed.stack_free address declared (omega (arith, bottom, low, from))
+          (omega (arith, below, high))
 
       not_code : (address : ℕ) → Rattle.mem80.specs.Range.IsIn address code.program.placement.code
           → frame_level body.frame.now top ≤ address + 1 → address < top → ⊥
       not_code address within from below =
-          lies.placed.apart address within.0 within.1 (omega (arith, bottom, low, from)) (omega (arith, below, high))
+          lies.placed.apart address within.0 within.1 (omega (arith, bottom, low, from))
+          (omega (arith, below, high))
 
       of_call : (address : ℕ) → frame_level body.frame.now top ≤ address + 1 → address < top
           → IsOfCall code.program (top + 2 - room) (top + 2 + bytes_pushed values) address
@@ -190,7 +203,8 @@ module _ (code : ModuleCode) (entries : Entries) (bound : ℕ) (lies : ModuleLie
 
   as_many : length found.parameters ≡ length found.parameter_types
   as_many =
-      as_many_parameters code.typed (home_of_parameters index found.is_reentrant found.visibility) found.parameter_types
+      as_many_parameters code.typed (home_of_parameters index found.is_reentrant found.visibility)
+      found.parameter_types
       found.parameters has.objects
 
   count_is : length body.procedure.now.parameters.items ≡ length found.parameter_types
@@ -207,10 +221,12 @@ module _ (code : ModuleCode) (entries : Entries) (bound : ℕ) (lies : ModuleLie
       ≡ option_map (parameter_at code.tree.now.homes.items) entry
   last_there entry same =
       ap (λ (count : ℕ). slice_get body.procedure.now.parameters.items (count - 1)) count_is
-      ∙ ap (λ (parameters : List Parameter). slice_get parameters (length found.parameter_types - 1)) parameters_are
+      ∙ ap (λ (parameters : List Parameter). slice_get parameters (length found.parameter_types - 1))
+      parameters_are
       ∙ slice_get-map (parameter_at code.tree.now.homes.items) (zip found.parameter_types found.parameters)
       (length found.parameter_types - 1)
-      ∙ ap (λ (entry : Option (ScalarType × ℕ)). option_map (parameter_at code.tree.now.homes.items) entry) same
+      ∙ ap (λ (entry : Option (ScalarType × ℕ)). option_map (parameter_at code.tree.now.homes.items) entry)
+      same
 
   -- the steps of the entry, with what they are of the last argument
   entry_is :
@@ -218,13 +234,15 @@ module _ (code : ModuleCode) (entries : Entries) (bound : ℕ) (lies : ModuleLie
       → last_argument_steps body.procedure.now.parameters.items ≡ front
       → entry_steps body first
       ≡ front
-      ++ (zeros_steps found.frame_bytes first ++ (holds (last_argument_facts body.procedure.now.parameters.items) ∷ []))
+      ++ (zeros_steps found.frame_bytes first
+      ++ (holds (last_argument_facts body.procedure.now.parameters.items) ∷ []))
   unfolding entry_steps_by frame_entry_steps
   entry_is first front same =
       ap (λ (kind : ProcedureKind). entry_steps_by kind body first) kind_is
       ∙ ap (λ (bytes : ℕ).
       last_argument_steps body.procedure.now.parameters.items
-      ++ (zeros_steps bytes first ++ (holds (last_argument_facts body.procedure.now.parameters.items) ∷ []))) placed.bytes
+      ++ (zeros_steps bytes first ++ (holds (last_argument_facts body.procedure.now.parameters.items) ∷ [])))
+      placed.bytes
       ∙ ap (λ (front : List Planned).
       front
       ++ (zeros_steps found.frame_bytes first
@@ -233,14 +251,16 @@ module _ (code : ModuleCode) (entries : Entries) (bound : ℕ) (lies : ModuleLie
   -- what is known at the end
   known_last :
       (scalar : ScalarType) (value parameter : ℕ) (now : Registers) (ended : List ℕ)
-      → at.context.activation.distance parameter ≡ parameter_distance found.frame_bytes 0 (size_of_scalar scalar)
+      → at.context.activation.distance parameter
+      ≡ parameter_distance found.frame_bytes 0 (size_of_scalar scalar)
       → at.context.activation.size parameter ≡ size_of_scalar scalar
       → InRegister scalar value now
       → InWord scalar value ended (level + found.frame_bytes)
       → level + found.frame_bytes + 2 ≤ MEMORY_SIZE
       → Know at.context
       (with_facts no_facts
-      (argument_facts scalar (locations.Frame (frame_number code.typed index parameter) 0) no_facts)) now ended
+      (argument_facts scalar (locations.Frame (frame_number code.typed index parameter) 0) no_facts)) now
+      ended
   known_last Byte value parameter now ended distance size register lie limit = record {
     byte_holds = (
       register ∙ sym lie
@@ -292,7 +312,8 @@ module _ (code : ModuleCode) (entries : Entries) (bound : ℕ) (lies : ModuleLie
 
   made_with_last :
       (now : Registers) (ended : List ℕ)
-      → (last : LastIs code.typed (InFrame index) found.parameter_types found.parameters values (top + 2) r memory)
+      → (last : LastIs code.typed (InFrame index) found.parameter_types found.parameters values (top
+      + 2) r memory)
       → IsFilled level (top - 2) pushed_registers (pushed_memory last.scalar) now ended
       → IsMade level found.frame_bytes top found.parameter_types values r memory now ended
       × InWord last.scalar last.value ended (level + found.frame_bytes)
@@ -339,7 +360,8 @@ module _ (code : ModuleCode) (entries : Entries) (bound : ℕ) (lies : ModuleLie
           (word_kept last.scalar last.value (top - 2) (pushed_memory last.scalar) ended
           (are.kept (top - 2) (λ from below. omega (arith, below)))
           (are.kept (top - 2 + 1) (λ from below. omega (arith, below)))
-          (last_in_word last.scalar last.value top r memory some limit enters.shares.is_memory.size enters.registers
+          (last_in_word last.scalar last.value top r memory some limit
+          enters.shares.is_memory.size enters.registers
           last.in_register))
 
   -- the code of a procedure with parameters
@@ -348,12 +370,14 @@ module _ (code : ModuleCode) (entries : Entries) (bound : ℕ) (lies : ModuleLie
       → StepsLie at at_start begun (entry_steps body first) from to
       → LastIs code.typed (InFrame index) found.parameter_types found.parameters values (top + 2) r memory
       → Does code.program.script s.budget 0 (at_place from r memory s.events)
-      (parameters_set (surroundings_in code (room - charge_of found)) found.parameter_types found.parameters values
+      (parameters_set (surroundings_in code (room - charge_of found)) found.parameter_types
+      found.parameters values
       (record s { frame = frame_of index code.typed }))
       (λ given t end. HasBegun at to (top + 2 + bytes_pushed values) back begun.facts memory t end)
   with_last first from to begun stand last =
       plain_goes at (Push (pair_of last.scalar))
-      (zeros_steps found.frame_bytes first ++ (holds (last_argument_facts body.procedure.now.parameters.items) ∷ [])) r
+      (zeros_steps found.frame_bytes first
+      ++ (holds (last_argument_facts body.procedure.now.parameters.items) ∷ [])) r
       well enters.shares.code
       (same_steps at
       (entry_is first (plain (Push (pair_of last.scalar)) ∷ [])
@@ -362,14 +386,17 @@ module _ (code : ModuleCode) (entries : Entries) (bound : ℕ) (lies : ModuleLie
       (λ more.
       subst (λ (state : State).
       Does code.program.script s.budget 0 state
-      (parameters_set (surroundings_in code (room - charge_of found)) found.parameter_types found.parameters values
+      (parameters_set (surroundings_in code (room - charge_of found)) found.parameter_types
+      found.parameters values
       (record s { frame = frame_of index code.typed }))
       (λ given t end. HasBegun at to (top + 2 + bytes_pushed values) back begun.facts memory t end))
-      (sym (last_pushed code.program.script last.scalar (from + size_of_instruction (Push (pair_of last.scalar))) top r
+      (sym (last_pushed code.program.script last.scalar
+      (from + size_of_instruction (Push (pair_of last.scalar))) top r
       memory s.events enters.pointer limit some))
       (zeros_go {high = top - 2} {r = pushed_registers} {memory = pushed_memory last.scalar} at well agrees
       (omega (arith, high)) found.frame_bytes first (from + size_of_instruction (Push (pair_of last.scalar)))
-      (holds (last_argument_facts body.procedure.now.parameters.items) ∷ []) placed.few (omega (arith, low, place))
+      (holds (last_argument_facts body.procedure.now.parameters.items) ∷ []) placed.few
+      (omega (arith, low, place))
       (record {
         a = enters.registers.a;
         b = enters.registers.b;
@@ -379,10 +406,13 @@ module _ (code : ModuleCode) (entries : Entries) (bound : ℕ) (lies : ModuleLie
         h = enters.registers.h;
         l = enters.registers.l;
       }) refl
-      (pushed_is_memory top (pushed_word last.scalar r) memory (pushed_word_small last.scalar r enters.registers)
+      (pushed_is_memory top (pushed_word last.scalar r) memory
+      (pushed_word_small last.scalar r enters.registers)
       enters.shares.is_memory) more
       (λ after now ended stand_after filled.
-      let end = end_goes at (holds_goes at (last_argument_facts body.procedure.now.parameters.items) [] stand_after) in
+      let end =
+      end_goes at
+      (holds_goes at (last_argument_facts body.procedure.now.parameters.items) [] stand_after) in
       let made = made_with_last now ended last
       (subst (λ (address : ℕ).
       IsFilled address (top - 2) pushed_registers (pushed_memory last.scalar) now ended) level_is filled) in
@@ -398,7 +428,8 @@ module _ (code : ModuleCode) (entries : Entries) (bound : ℕ) (lies : ModuleLie
       object : IsObjectOf code.typed index last.scalar last.parameter
       object = object_of code.typed index last.scalar last.parameter last.object
 
-      last_listed : slice_get body.procedure.now.parameters.items (length body.procedure.now.parameters.items - 1)
+      last_listed : slice_get body.procedure.now.parameters.items
+          (length body.procedure.now.parameters.items - 1)
           ≡ Some (parameter_at code.tree.now.homes.items (last.scalar, last.parameter))
       last_listed = last_there (Some (last.scalar, last.parameter)) last.pair
 
@@ -434,12 +465,15 @@ module _ (code : ModuleCode) (entries : Entries) (bound : ℕ) (lies : ModuleLie
       agrees : AgreesIn code.program.placement.code code.image (pushed_memory last.scalar)
       agrees address within =
           pushed_keeps top (pushed_word last.scalar r) memory address
-          (λ same. lies.placed.apart address within.0 within.1 (omega (arith, same, bottom, low, place)) (omega (arith, same, high)))
-          (λ same. lies.placed.apart address within.0 within.1 (omega (arith, same, bottom, low, place)) (omega (arith, same, high)))
+          (λ same. lies.placed.apart address within.0 within.1 (omega (arith, same, bottom, low, place))
+          (omega (arith, same, high)))
+          (λ same. lies.placed.apart address within.0 within.1 (omega (arith, same, bottom, low, place))
+          (omega (arith, same, high)))
           ∙ enters.shares.code address within
 
       facts_are : last_argument_facts body.procedure.now.parameters.items
-          ≡ argument_facts last.scalar (locations.Frame (frame_number code.typed index last.parameter) 0) no_facts
+          ≡ argument_facts last.scalar (locations.Frame (frame_number code.typed index last.parameter) 0)
+          no_facts
       facts_are =
           facts_of_last body.procedure.now.parameters.items
           (parameter_at code.tree.now.homes.items (last.scalar, last.parameter)) last_listed
@@ -454,10 +488,13 @@ module _ (code : ModuleCode) (entries : Entries) (bound : ℕ) (lies : ModuleLie
       distance : distance_of body.frame.now (frame_number code.typed index last.parameter)
           ≡ parameter_distance found.frame_bytes 0 (size_of_scalar last.scalar)
       distance =
-          parameter_lies code.typed (nodes_of code.tree.now) code.storage index procedure found body.frame.now lies.sized
-          lies.parameters lies.frames is.is lowered (is.frame kind) last.parameter (length found.parameter_types - 1) last.scalar
+          parameter_lies code.typed (nodes_of code.tree.now) code.storage index procedure found
+          body.frame.now lies.sized
+          lies.parameters lies.frames is.is lowered (is.frame kind) last.parameter
+          (length found.parameter_types - 1) last.scalar
           object.found object.there object.home object.scalar_is last.stands
-          ∙ ap (λ (count : ℕ). parameter_distance found.frame_bytes count (size_of_scalar last.scalar)) followers
+          ∙ ap (λ (count : ℕ). parameter_distance found.frame_bytes count (size_of_scalar last.scalar))
+          followers
 
   -- and of one without
   without_last :
@@ -465,16 +502,21 @@ module _ (code : ModuleCode) (entries : Entries) (bound : ℕ) (lies : ModuleLie
       → StepsLie at at_start begun (entry_steps body first) from to
       → NoneAre found.parameter_types found.parameters values
       → Does code.program.script s.budget 0 (at_place from r memory s.events)
-      (parameters_set (surroundings_in code (room - charge_of found)) found.parameter_types found.parameters values
+      (parameters_set (surroundings_in code (room - charge_of found)) found.parameter_types
+      found.parameters values
       (record s { frame = frame_of index code.typed }))
       (λ given t end. HasBegun at to (top + 2 + bytes_pushed values) back begun.facts memory t end)
   without_last first from to begun stand none =
-      zeros_go {high = top} {r = r} {memory = memory} at well enters.shares.code (omega (arith, high)) found.frame_bytes
+      zeros_go {high = top} {r = r} {memory = memory} at well enters.shares.code
+      (omega (arith, high)) found.frame_bytes
       first from (holds (last_argument_facts body.procedure.now.parameters.items) ∷ []) placed.few
       (omega (arith, low, place)) enters.registers enters.pointer enters.shares.is_memory
-      (same_steps at (entry_is first [] (steps_of_none body.procedure.now.parameters.items none_listed)) stand)
+      (same_steps at (entry_is first [] (steps_of_none body.procedure.now.parameters.items none_listed))
+      stand)
       (λ after now ended stand_after filled.
-      let end = end_goes at (holds_goes at (last_argument_facts body.procedure.now.parameters.items) [] stand_after) in
+      let end =
+      end_goes at
+      (holds_goes at (last_argument_facts body.procedure.now.parameters.items) [] stand_after) in
       let are = subst (λ (address : ℕ). IsFilled address top r memory now ended) level_is filled in
       made_does to after begun.facts now ended end.place
       (record {
@@ -494,10 +536,12 @@ module _ (code : ModuleCode) (entries : Entries) (bound : ℕ) (lies : ModuleLie
       (facts_of_none body.procedure.now.parameters.items none_listed)))
       no_facts_hold))
     where
-      none_listed : slice_get body.procedure.now.parameters.items (length body.procedure.now.parameters.items - 1) ≡ None
+      none_listed : slice_get body.procedure.now.parameters.items
+          (length body.procedure.now.parameters.items - 1) ≡ None
       none_listed =
           last_there None
-          (ap (λ (types : List ScalarType). slice_get (zip types found.parameters) (length found.parameter_types - 1))
+          (ap (λ (types : List ScalarType). slice_get (zip types found.parameters)
+          (length found.parameter_types - 1))
           none.types)
 
       bottom : code.program.placement.stack.start ≤ top + 2 - room
@@ -520,26 +564,31 @@ module _ (code : ModuleCode) (entries : Entries) (bound : ℕ) (lies : ModuleLie
 
       no_words : (ended : List ℕ) → LieInWords level found.frame_bytes found.parameter_types values ended
       no_words ended =
-          subst (λ (types : List ScalarType). LieInWords level found.frame_bytes types values ended) (sym none.types)
-          (subst (λ (values : List ℕ). LieInWords level found.frame_bytes [] values ended) (sym none.values_are) tt)
+          subst (λ (types : List ScalarType). LieInWords level found.frame_bytes types values ended)
+          (sym none.types)
+          (subst (λ (values : List ℕ). LieInWords level found.frame_bytes [] values ended)
+          (sym none.values_are) tt)
 
   -- both
   pub entry_begins :
       (first from to : ℕ) (begun : Here)
       → StepsLie at at_start begun (entry_steps body first) from to
       → Does code.program.script s.budget 0 (at_place from r memory s.events)
-      (parameters_set (surroundings_in code (room - charge_of found)) found.parameter_types found.parameters values
+      (parameters_set (surroundings_in code (room - charge_of found)) found.parameter_types
+      found.parameters values
       (record s { frame = frame_of index code.typed }))
       (λ given t end. HasBegun at to (top + 2 + bytes_pushed values) back begun.facts memory t end)
   entry_begins first from to begun stand =
-      by_last (last_is code.typed (InFrame index) found.parameter_types found.parameters values (top + 2) r memory
+      by_last (last_is code.typed (InFrame index) found.parameter_types found.parameters
+      values (top + 2) r memory
       (subst (λ (home : Home). AreParameters code.typed home found.parameter_types found.parameters)
       (home_reentrant code.typed index found (sym lowered.kind ∙ kind)) has.objects) enters.arguments)
     where
       by_last : NoneAre found.parameter_types found.parameters values
           ⊎ LastIs code.typed (InFrame index) found.parameter_types found.parameters values (top + 2) r memory
           → Does code.program.script s.budget 0 (at_place from r memory s.events)
-          (parameters_set (surroundings_in code (room - charge_of found)) found.parameter_types found.parameters values
+          (parameters_set (surroundings_in code (room - charge_of found)) found.parameter_types
+          found.parameters values
           (record s { frame = frame_of index code.typed }))
           (λ given t end. HasBegun at to (top + 2 + bytes_pushed values) back begun.facts memory t end)
       by_last (inl none) = without_last first from to begun stand none
@@ -548,6 +597,8 @@ module _ (code : ModuleCode) (entries : Entries) (bound : ℕ) (lies : ModuleLie
 -- REENTRANT procedures of a module begin
 pub reentrant_begins :
     (code : ModuleCode) (entries : Entries) (bound : ℕ) → ModuleLies code entries → ReentrantBegins code bound
-reentrant_begins code entries bound lies index number room from to top first procedure found body list begun is kind charge_fits sound written there back values s r memory enters =
-    entry_begins code entries bound lies index number room top procedure found body is kind charge_fits sound.sound.lies back
+reentrant_begins code entries bound lies index number room from to top first procedure found body list begun
+    is kind charge_fits sound written there back values s r memory enters =
+    entry_begins code entries bound lies index number room top procedure found body is kind charge_fits
+    sound.sound.lies back
     values s r memory enters first from to begun (record { list = list; written = written; there = there })

@@ -39,7 +39,8 @@ abbrev pub pushed_word : ScalarType → Registers → ℕ
 pushed_word Byte r = word r.a (flag_byte r.flags)
 pushed_word Address r = word r.h r.l
 
-pub pushed_word_small : (scalar : ScalarType) (r : Registers) → HoldBytes r → pushed_word scalar r < MEMORY_SIZE
+pub pushed_word_small : (scalar : ScalarType) (r : Registers) → HoldBytes r
+    → pushed_word scalar r < MEMORY_SIZE
 pushed_word_small Byte r bytes =
     let a = bytes.a in
     let f = flag_byte_small r.flags in
@@ -90,8 +91,8 @@ last_in_word Address value top r memory room limit size bytes is = (
       ∙ high_of r.h r.l (value / 256) bytes.l is.0,
 )
 
--- The last one of parameters and arguments; and all arguments lie in their words where that one does, and the others are
--- where they were.
+-- The last one of parameters and arguments; and all arguments lie in their words where that one does, and the
+-- others are where they were.
 pub record LastIs
     (typed : TypedModule) (home : Home) (scalars : List ScalarType) (parameters values : List ℕ) (top : ℕ)
     (r : Registers) (memory : List ℕ) : Type 0 where
@@ -130,26 +131,30 @@ one_more :
     → InWord scalar value memory (top + 2 * length scalars)
     → LastIs typed home (next ∷ scalars) parameters values top r memory
     → LastIs typed home (scalar ∷ next ∷ scalars) (parameter ∷ parameters) (value ∷ values) top r memory
-one_more {scalars = scalars} {parameters = parameters} {values = values} {top = top} {memory = memory} {next = next} scalar parameter value lie last = record {
-  scalar = last.scalar;
-  parameter = last.parameter;
-  value = last.value;
-  pair =
-      ap (λ (place : ℕ). slice_get (zip (scalar ∷ next ∷ scalars) (parameter ∷ parameters)) place)
-      (last_place (length scalars))
-      ∙ last.pair;
-  stands =
-      ap (λ (place : ℕ). slice_get (parameter ∷ parameters) place) (last_place (length scalars)) ∙ last.stands;
-  object = last.object;
-  in_register = last.in_register;
-  some = omega arith;
-  words = λ level bytes ended same in_word stays. (
-    subst (λ (address : ℕ). InWord scalar value ended address) (word_place level bytes top (length scalars) same)
-        (word_kept scalar value (top + 2 * length scalars) memory ended (stays (top + 2 * length scalars) (omega arith))
-        (stays (top + 2 * length scalars + 1) (omega arith)) lie),
-    last.words level bytes ended same in_word stays,
-  );
-}
+one_more {scalars = scalars} {parameters = parameters} {values = values} {top = top} {memory = memory}
+    {next = next} scalar parameter value lie last = record {
+      scalar = last.scalar;
+      parameter = last.parameter;
+      value = last.value;
+      pair =
+          ap (λ (place : ℕ). slice_get (zip (scalar ∷ next ∷ scalars) (parameter ∷ parameters)) place)
+          (last_place (length scalars))
+          ∙ last.pair;
+      stands =
+          ap (λ (place : ℕ). slice_get (parameter ∷ parameters) place) (last_place (length scalars))
+          ∙ last.stands;
+      object = last.object;
+      in_register = last.in_register;
+      some = omega arith;
+      words = λ level bytes ended same in_word stays. (
+        subst (λ (address : ℕ). InWord scalar value ended address)
+            (word_place level bytes top (length scalars) same)
+            (word_kept scalar value (top + 2 * length scalars) memory ended
+            (stays (top + 2 * length scalars) (omega arith))
+            (stays (top + 2 * length scalars + 1) (omega arith)) lie),
+        last.words level bytes ended same in_word stays,
+      );
+    }
 
 pub last_is :
     (typed : TypedModule) (home : Home) (scalars : List ScalarType) (parameters values : List ℕ) (top : ℕ)
@@ -178,13 +183,16 @@ last_is typed home (scalar ∷ []) (parameter ∷ []) (value ∷ []) top r memor
       words = λ level bytes ended same in_word stays. (in_word, tt);
     })
 last_is typed home (scalar ∷ next ∷ scalars) (parameter ∷ []) values top r memory are lie = absurd are.1
-last_is typed home (scalar ∷ next ∷ scalars) (parameter ∷ second ∷ parameters) [] top r memory are lie = absurd lie
-last_is typed home (scalar ∷ next ∷ scalars) (parameter ∷ second ∷ parameters) (value ∷ values) top r memory are lie =
+last_is typed home (scalar ∷ next ∷ scalars) (parameter ∷ second ∷ parameters) [] top r memory are lie =
+    absurd lie
+last_is typed home (scalar ∷ next ∷ scalars) (parameter ∷ second ∷ parameters) (value ∷ values)
+    top r memory are lie =
     by_rest (last_is typed home (next ∷ scalars) (second ∷ parameters) values top r memory are.1 lie.1)
   where
     by_rest : NoneAre (next ∷ scalars) (second ∷ parameters) values
         ⊎ LastIs typed home (next ∷ scalars) (second ∷ parameters) values top r memory
         → NoneAre (scalar ∷ next ∷ scalars) (parameter ∷ second ∷ parameters) (value ∷ values)
-        ⊎ LastIs typed home (scalar ∷ next ∷ scalars) (parameter ∷ second ∷ parameters) (value ∷ values) top r memory
+        ⊎ LastIs typed home (scalar ∷ next ∷ scalars) (parameter ∷ second ∷ parameters)
+        (value ∷ values) top r memory
     by_rest (inl none) = let types = none.types in let bad : ⊥ = cc in absurd bad
     by_rest (inr last) = inr (one_more scalar parameter value lie.0 last)

@@ -19,7 +19,8 @@ same_test procedure Nowhere = refl
 
 -- the bytes of an object in a new frame
 abbrev new_bytes : (procedure : ℕ) → TypedObject → List ℕ
-new_bytes procedure object = if is_frame_of procedure object.home then replicate (size_of_object object) 0 else []
+new_bytes procedure object =
+    if is_frame_of procedure object.home then replicate (size_of_object object) 0 else []
 
 abbrev size_of_found : (procedure : ℕ) → TypedObject → ℕ
 size_of_found procedure object = if is_in_frame procedure object.home then size_of_object object else 0
@@ -65,7 +66,8 @@ zeros_from :
     → byte_at (slice_index_or (map (new_bytes procedure) objects) object []) offset ≡ 0
 zeros_from procedure object offset [] within = absurd (omega (arith, within))
 zeros_from procedure zero offset (first ∷ others) within = new_zero procedure first offset within
-zeros_from procedure (suc object) offset (first ∷ others) within = zeros_from procedure object offset others within
+zeros_from procedure (suc object) offset (first ∷ others) within =
+    zeros_from procedure object offset others within
 
 -- what stands in a list is among its items
 stands_among : (items : List ℕ) (index item : ℕ) → slice_get items index ≡ Some item → IsAmong item items
@@ -82,10 +84,13 @@ home_reentrant typed index found is = by found.visibility found.is_reentrant ref
   where
     kind_by : (visibility : Visibility) (is_reentrant : Bool)
         → found.visibility ≡ visibility → found.is_reentrant ≡ is_reentrant
-        → kind_of typed index (record found { visibility = visibility; is_reentrant = is_reentrant }) ≡ kinds.Reentrant
+        → kind_of typed index (record found { visibility = visibility; is_reentrant = is_reentrant })
+        ≡ kinds.Reentrant
     kind_by visibility is_reentrant one other =
-        sym (ap (λ (visibility : Visibility). kind_of typed index (record found { visibility = visibility })) one
-        ∙ ap (λ (test : Bool). kind_of typed index (record found { visibility = visibility; is_reentrant = test })) other)
+        sym (ap (λ (visibility : Visibility). kind_of typed index (record found { visibility = visibility }))
+        one
+        ∙ ap (λ (test : Bool). kind_of typed index
+        (record found { visibility = visibility; is_reentrant = test })) other)
         ∙ is
 
     home_by : (visibility : Visibility) (is_reentrant : Bool)
@@ -127,7 +132,8 @@ object_of typed index scalar parameter is = by_object (slice_get typed.objects p
   where
     by_object : (entry : Option TypedObject) → slice_get typed.objects parameter ≡ entry
         → IsSomeAnd entry
-        (λ (object : TypedObject). IsScalar scalar object × (object.home ≡ InFrame index) × (object.is_parameter ≡ true))
+        (λ (object : TypedObject). IsScalar scalar object × (object.home ≡ InFrame index)
+        × (object.is_parameter ≡ true))
         → IsObjectOf typed index scalar parameter
     by_object None there holds = absurd holds
     by_object (Some object) there holds =
@@ -140,10 +146,12 @@ pub size_in_frame_is :
 size_in_frame_is typed index scalar parameter object =
     ap (λ (entry : Option TypedObject). option_map_or (size_of_found index) entry 0) object.there
     ∙ ap (λ (home : Home). if is_in_frame index home then size_of_object object.found else 0) object.home
-    ∙ ap (λ (test : Bool). if test then size_of_object object.found else 0) (Rattle.std.proofs.lemmas.Bool.eq-eqb index index refl)
+    ∙ ap (λ (test : Bool). if test then size_of_object object.found else 0)
+    (Rattle.std.proofs.lemmas.Bool.eq-eqb index index refl)
     ∙ scalar_size object.found scalar object.scalar_is
 
-module _ (code : ModuleCode) (entries : Entries) (index : ℕ) (procedure : TreeProcedure) (found : TypedProcedure)
+module _ (code : ModuleCode) (entries : Entries) (index : ℕ) (procedure : TreeProcedure)
+    (found : TypedProcedure)
     (plan : FramePlan) (room floor level : ℕ) (lies : ModuleLies code entries)
     (there : slice_get code.tree.now.procedures.items index ≡ Some procedure)
     (stands : slice_get code.typed.procedures index ≡ Some found) (planned : IsPlanOf procedure plan) where
@@ -155,7 +163,8 @@ module _ (code : ModuleCode) (entries : Entries) (index : ℕ) (procedure : Tree
       (memory : List ℕ)
       → ((address : ℕ) → level ≤ address → address < level + found.frame_bytes → byte_at memory address ≡ 0)
       → LiesBut (activation_in code room (frame_shape code.typed index found plan floor level))
-      (IsOfParameters (activation_in code room (frame_shape code.typed index found plan floor level)) found.parameters)
+      (IsOfParameters (activation_in code room (frame_shape code.typed index found plan floor level))
+      found.parameters)
       (frame_of index code.typed) memory
   new_lies memory zeros = record {
     sizes = λ object. lengths_from index object code.typed.objects;
@@ -169,7 +178,8 @@ module _ (code : ModuleCode) (entries : Entries) (index : ℕ) (procedure : Tree
 
       zero_of : (object offset : ℕ) (one : TypedObject)
           → slice_get code.typed.objects object ≡ Some one
-          → (IsOfParameters (activation_in code room (frame_shape code.typed index found plan floor level)) found.parameters object
+          → (IsOfParameters (activation_in code room (frame_shape code.typed index found plan floor level))
+          found.parameters object
           offset → ⊥)
           → offset < size_in_frame code.typed index object
           → one.home ≡ InFrame index
@@ -180,26 +190,32 @@ module _ (code : ModuleCode) (entries : Entries) (index : ℕ) (procedure : Tree
           let its = listed code.typed index found object one has object_there home named in
           absurd (closed (inside, stands_among found.parameters its.index object its.stands))
       zero_of object offset one object_there closed inside home within false named =
-          let below = variable_lies code.typed (nodes_of code.tree.now) code.storage index procedure found plan lies.sized
-          lies.parameters lies.frames stands lowered planned object offset one object_there home named within in
+          let below =
+          variable_lies code.typed (nodes_of code.tree.now) code.storage index procedure
+          found plan lies.sized
+          lies.parameters lies.frames stands lowered planned object offset one object_there
+          home named within in
           zeros (level + distance_of plan (frame_number code.typed index object) + offset) (omega arith)
           (omega (arith, below))
 
       by_test : (object offset : ℕ) (one : TypedObject)
           → slice_get code.typed.objects object ≡ Some one
-          → (IsOfParameters (activation_in code room (frame_shape code.typed index found plan floor level)) found.parameters object
+          → (IsOfParameters (activation_in code room (frame_shape code.typed index found plan floor level))
+          found.parameters object
           offset → ⊥)
           → offset < size_in_frame code.typed index object
           → (test : Bool) → is_in_frame index one.home ≡ test
           → offset < (if test then size_of_object one else 0)
           → byte_at memory (level + distance_of plan (frame_number code.typed index object) + offset) ≡ 0
       by_test object offset one object_there closed inside true is within =
-          zero_of object offset one object_there closed inside (frame_home index one.home is) within one.is_parameter refl
+          zero_of object offset one object_there closed inside (frame_home index one.home is) within
+          one.is_parameter refl
       by_test object offset one object_there closed inside false is within = absurd (omega (arith, within))
 
       by_object : (object offset : ℕ)
           → offset < size_in_frame code.typed index object
-          → (IsOfParameters (activation_in code room (frame_shape code.typed index found plan floor level)) found.parameters object
+          → (IsOfParameters (activation_in code room (frame_shape code.typed index found plan floor level))
+          found.parameters object
           offset → ⊥)
           → (entry : Option TypedObject) → slice_get code.typed.objects object ≡ entry
           → byte_at memory (level + distance_of plan (frame_number code.typed index object) + offset) ≡ 0
@@ -209,7 +225,8 @@ module _ (code : ModuleCode) (entries : Entries) (index : ℕ) (procedure : Tree
           absurd (omega (arith, within, none))
       by_object object offset within closed (Some one) object_there =
           by_test object offset one object_there closed within (is_in_frame index one.home) refl
-          (subst (λ (entry : Option TypedObject). offset < option_map_or (size_of_found index) entry 0) object_there within)
+          (subst (λ (entry : Option TypedObject). offset < option_map_or (size_of_found index) entry 0)
+          object_there within)
 
   -- where a parameter lies
   place_there :
@@ -220,7 +237,8 @@ module _ (code : ModuleCode) (entries : Entries) (index : ℕ) (procedure : Tree
       ap (λ (home : Home). place_in home (surroundings_in code room) parameter 0 true)
       (ap (λ (option : Option TypedModule).
       option_map_or (λ (typed : TypedModule). home_in typed parameter) option Nowhere) lies.is_module
-      ∙ ap (λ (option : Option TypedObject). option_map_or (λ (found : TypedObject). found.home) option Nowhere)
+      ∙ ap (λ (option : Option TypedObject). option_map_or
+      (λ (found : TypedObject). found.home) option Nowhere)
       object.there
       ∙ object.home)
 
@@ -231,7 +249,8 @@ module _ (code : ModuleCode) (entries : Entries) (index : ℕ) (procedure : Tree
       → length found.parameters ≡ before + length scalars
       → ((place parameter : ℕ) → slice_get parameters place ≡ Some parameter
       → slice_get found.parameters (before + place) ≡ Some parameter)
-      → AreInWords (surroundings_in code room) (activation_in code room (frame_shape code.typed index found plan floor level))
+      → AreInWords (surroundings_in code room)
+      (activation_in code room (frame_shape code.typed index found plan floor level))
       found.frame_bytes scalars parameters
   words_from before [] [] are count stand = tt
   words_from before [] (parameter ∷ parameters) are count stand = absurd are
@@ -242,8 +261,10 @@ module _ (code : ModuleCode) (entries : Entries) (index : ℕ) (procedure : Tree
           place = place_there scalar parameter object;
           size = size_in_frame_is code.typed index scalar parameter object;
           distance =
-              parameter_lies code.typed (nodes_of code.tree.now) code.storage index procedure found plan lies.sized
-              lies.parameters lies.frames stands lowered planned parameter before scalar object.found object.there
+              parameter_lies code.typed (nodes_of code.tree.now) code.storage index procedure
+              found plan lies.sized
+              lies.parameters lies.frames stands lowered planned parameter before scalar
+              object.found object.there
               object.home object.scalar_is
               (ap (λ (place : ℕ). slice_get found.parameters place) at_first ∙ stand 0 parameter refl)
               ∙ ap (λ (followers : ℕ).
@@ -251,7 +272,8 @@ module _ (code : ModuleCode) (entries : Entries) (index : ℕ) (procedure : Tree
         },
         words_from (suc before) scalars parameters are.1 (omega (arith, count))
             (λ place other its.
-            ap (λ (place : ℕ). slice_get found.parameters place) (at_next place) ∙ stand (suc place) other its),
+            ap (λ (place : ℕ). slice_get found.parameters place) (at_next place)
+            ∙ stand (suc place) other its),
       )
     where
       at_first : before ≡ before + 0
@@ -266,7 +288,8 @@ module _ (code : ModuleCode) (entries : Entries) (index : ℕ) (procedure : Tree
   -- all parameters lie in their words
   pub parameters_in_words :
       procedure.kind ≡ kinds.Reentrant
-      → AreInWords (surroundings_in code room) (activation_in code room (frame_shape code.typed index found plan floor level))
+      → AreInWords (surroundings_in code room)
+      (activation_in code room (frame_shape code.typed index found plan floor level))
       found.frame_bytes found.parameter_types found.parameters
   parameters_in_words kind =
       words_from 0 found.parameter_types found.parameters
@@ -278,5 +301,6 @@ module _ (code : ModuleCode) (entries : Entries) (index : ℕ) (procedure : Tree
     where
       count : length found.parameters ≡ length found.parameter_types
       count =
-          as_many_parameters code.typed (home_of_parameters index found.is_reentrant found.visibility) found.parameter_types
+          as_many_parameters code.typed (home_of_parameters index found.is_reentrant found.visibility)
+          found.parameter_types
           found.parameters (has_parameters code.typed index found lies.parameters stands).objects

@@ -13,7 +13,8 @@ module _ (typed : TypedModule) (nodes : Nodes) (storage : Storage) (index : ℕ)
       (object : ℕ) (found : TypedObject)
       → slice_get typed.objects object ≡ Some found
       → found.home ≡ InFrame index
-      → slice_get procedure.frame.items (frame_number typed index object) ≡ Some (frame_variable typed (object, found))
+      → slice_get procedure.frame.items (frame_number typed index object)
+      ≡ Some (frame_variable typed (object, found))
   stands_there object found there home =
       ap (λ (frame : List FrameVariable). slice_get frame (frame_number typed index object)) is.frame
       ∙ slice_get-map (frame_variable typed) (entries index 0 typed.objects) (frame_number typed index object)
@@ -25,7 +26,8 @@ module _ (typed : TypedModule) (nodes : Nodes) (storage : Storage) (index : ℕ)
       → slice_get typed.objects object ≡ Some found
       → found.home ≡ InFrame index
       → distance_of plan (frame_number typed index object)
-      ≡ distance_in procedure.frame.items (length procedure.parameters.items) (frame_number typed index object)
+      ≡ distance_in procedure.frame.items (length procedure.parameters.items)
+      (frame_number typed index object)
       (frame_variable typed (object, found))
   distance_there object found there home =
       planned.distances (frame_number typed index object) (frame_variable typed (object, found))
@@ -38,7 +40,8 @@ module _ (typed : TypedModule) (nodes : Nodes) (storage : Storage) (index : ℕ)
       → min (size_of_object found) 65535 ≡ size_of_object found
   size_there object found there home =
       let small =
-      object_fits typed index heading object found has (frame_fits typed index heading frames_fit stands) there home in
+      object_fits typed index heading object found has
+      (frame_fits typed index heading frames_fit stands) there home in
       omega (arith, small)
 
   all_bytes : variable_bytes procedure.frame.items ≡ heading.frame_bytes
@@ -54,7 +57,8 @@ module _ (typed : TypedModule) (nodes : Nodes) (storage : Storage) (index : ℕ)
       → distance_of plan (frame_number typed index object) + offset < heading.frame_bytes
   variable_lies object offset found there home named within =
       by_search (parameter_number typed.procedures object) refl (distance_there object found there home)
-      (ends_within procedure.frame.items (frame_number typed index object) (frame_variable typed (object, found))
+      (ends_within procedure.frame.items (frame_number typed index object)
+      (frame_variable typed (object, found))
       (stands_there object found there home))
     where
       by_search : (search : Option ℕ)
@@ -110,7 +114,8 @@ module _ (typed : TypedModule) (nodes : Nodes) (storage : Storage) (index : ℕ)
       by_search : (search : Option ℕ)
           → parameter_number typed.procedures object ≡ search
           → distance_of plan (frame_number typed index object)
-          ≡ parameter_distance heading.frame_bytes (length heading.parameters - place - 1) (size_of_scalar scalar)
+          ≡ parameter_distance heading.frame_bytes (length heading.parameters - place - 1)
+          (size_of_scalar scalar)
       by_search None search =
           absurd (none_found typed.procedures object index place heading search stands listed)
       by_search (Some other) search =
@@ -121,14 +126,17 @@ module _ (typed : TypedModule) (nodes : Nodes) (storage : Storage) (index : ℕ)
           (frame_number typed index object) (min (size_of_object found) 65535)
           (option_map (λ (index : ℕ). index % 65536) search)) search
           ∙ ap (λ (place : ℕ).
-          parameter_distance (variable_bytes procedure.frame.items) (length procedure.parameters.items - place - 1)
+          parameter_distance (variable_bytes procedure.frame.items)
+          (length procedure.parameters.items - place - 1)
           (min (size_of_object found) 65535)) (of_place other its.stands)
           ∙ ap (λ (bytes : ℕ).
-          parameter_distance bytes (length procedure.parameters.items - place - 1) (min (size_of_object found) 65535))
+          parameter_distance bytes (length procedure.parameters.items - place - 1)
+          (min (size_of_object found) 65535))
           all_bytes
           ∙ ap (λ (count : ℕ).
           parameter_distance heading.frame_bytes (count - place - 1) (min (size_of_object found) 65535))
-          (parameter_count typed index heading nodes.homes procedure.parameters.items has is.has_body.parameters)
+          (parameter_count typed index heading nodes.homes procedure.parameters.items has
+          is.has_body.parameters)
           ∙ ap (λ (size : ℕ).
           parameter_distance heading.frame_bytes (length heading.parameters - place - 1) size)
           (size_there object found there home ∙ scalar_size found scalar scalar_is)

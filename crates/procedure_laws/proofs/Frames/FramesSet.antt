@@ -1,11 +1,12 @@
--- The parameters are set in a new frame: beside the memory that the machine has in the end, in which each argument lies in
--- the word of its parameter.
+-- The parameters are set in a new frame: beside the memory that the machine has in the end, in which each
+-- argument lies in the word of its parameter.
 use Rattle.procedure_laws.proofs.Prelude.{◌≡◌, ◌≢◌, ℕ, ◌+◌, ◌-◌, ◌/◌, ◌%◌, ◌<◌, ◌==◌, ◌⊎◌, inl, inr, Bool, true, false, List, [], ◌∷◌, length, slice_set, refl, sym, ap, subst, ◌∙◌, arith, eqb-true, eqb-false, length-set, get_or-set_same, get_or-set_other, IsMemory, byte_at, byte_small, ScalarType, Byte, Address, size_of_scalar, InTheFrame, Surroundings, frame_bytes, place_of, write_scalar, parameters_set, Gave, Outcome, SourceState, then_do, byte_kept, byte_put, parameter_distance, word_distance, Activation, FrameLies, InWord, sized_in_frame}
 use Rattle.meaning.specs.Access.{Place}
 
 -- a frame lies in a memory, but for some of its bytes
 pub record LiesBut
-    (activation : Activation) (Open : (object offset : ℕ) → Type 0) (frame : List (List ℕ)) (memory : List ℕ) :
+    (activation : Activation) (Open : (object offset : ℕ) → Type 0)
+    (frame : List (List ℕ)) (memory : List ℕ) :
     Type 0 where
   pub sizes : (object : ℕ) → length (frame_bytes frame object) ≡ activation.size object
   pub bytes : (object offset : ℕ) → offset < activation.size object → (Open object offset → ⊥)
@@ -14,13 +15,15 @@ pub record LiesBut
 
 -- more may be open
 opens :
-    {activation : Activation} {frame : List (List ℕ)} {memory : List ℕ} {Less More : (object offset : ℕ) → Type 0}
+    {activation : Activation} {frame : List (List ℕ)} {memory : List ℕ}
+    {Less More : (object offset : ℕ) → Type 0}
     → ((object offset : ℕ) → Less object offset → More object offset)
     → LiesBut activation Less frame memory
     → LiesBut activation More frame memory
 opens wider lies = record {
   sizes = lies.sizes;
-  bytes = λ object offset within closed. lies.bytes object offset within (λ less. closed (wider object offset less));
+  bytes = λ object offset within closed. lies.bytes object offset within
+      (λ less. closed (wider object offset less));
 }
 
 -- a frame with another byte
@@ -36,13 +39,16 @@ byte_set :
     → LiesBut activation Open frame memory
     → LiesBut activation (λ one place. Open one place × ((one ≡ object) × (place ≡ offset) → ⊥))
     (with_byte frame object offset byte) memory
-byte_set {activation = activation} {frame = frame} {memory = memory} {Open = Open} object offset byte within is lies =
+byte_set {activation = activation} {frame = frame} {memory = memory} {Open = Open} object offset
+    byte within is lies =
     record {
       sizes = λ other. sizes_by other (other == object) refl;
-      bytes = λ other place other_within closed. bytes_by other place other_within closed (other == object) refl;
+      bytes = λ other place other_within closed. bytes_by other place other_within closed
+          (other == object) refl;
     }
   where
-    here : frame_bytes (with_byte frame object offset byte) object ≡ slice_set (frame_bytes frame object) offset byte
+    here : frame_bytes (with_byte frame object offset byte) object
+        ≡ slice_set (frame_bytes frame object) offset byte
     here =
         get_or-set_same frame object (slice_set (frame_bytes frame object) offset byte) []
         (sized_in_frame activation frame object offset within (lies.sizes object))
@@ -58,7 +64,8 @@ byte_set {activation = activation} {frame = frame} {memory = memory} {Open = Ope
         let same_object : other ≡ object = eqb-true other object same in
         subst (λ (n : ℕ). length (frame_bytes (with_byte frame object offset byte) n) ≡ activation.size n)
         (sym same_object)
-        (ap (λ (xs : List ℕ). length xs) here ∙ length-set (frame_bytes frame object) offset byte ∙ lies.sizes object)
+        (ap (λ (xs : List ℕ). length xs) here ∙ length-set (frame_bytes frame object) offset byte
+        ∙ lies.sizes object)
     sizes_by other false same =
         ap (λ (xs : List ℕ). length xs) (elsewhere other (eqb-false other object same)) ∙ lies.sizes other
 
@@ -92,7 +99,8 @@ byte_set {activation = activation} {frame = frame} {memory = memory} {Open = Ope
         → byte_at memory (activation.level + activation.distance n + place)
         ≡ byte_at (frame_bytes (with_byte frame object offset byte) n) place) same_object
         (λ here_within here_closed.
-        same_by place here_within here_closed (place == offset) refl ∙ sym (ap (λ (xs : List ℕ). byte_at xs place) here))
+        same_by place here_within here_closed (place == offset) refl
+        ∙ sym (ap (λ (xs : List ℕ). byte_at xs place) here))
         other_within closed
     bytes_by other place other_within closed false same =
         let differ : other ≢ object = eqb-false other object same in
@@ -106,17 +114,20 @@ IsAmong object (one ∷ others) = (object ≡ one) ⊎ IsAmong object others
 
 -- the bytes of parameters
 abbrev pub IsOfParameters : Activation → List ℕ → (object offset : ℕ) → Type 0
-IsOfParameters activation parameters object offset = (offset < activation.size object) × IsAmong object parameters
+IsOfParameters activation parameters object offset =
+    (offset < activation.size object) × IsAmong object parameters
 
 -- a parameter that so many others follow lies in the frame, in its word
 pub record IsInWord
-    (around : Surroundings) (activation : Activation) (bytes : ℕ) (scalar : ScalarType) (parameter followers : ℕ) :
+    (around : Surroundings) (activation : Activation) (bytes : ℕ) (scalar : ScalarType)
+    (parameter followers : ℕ) :
     Type 0 where
   pub place : place_of around parameter ≡ InTheFrame parameter 0 true
   pub size : activation.size parameter ≡ size_of_scalar scalar
   pub distance : activation.distance parameter ≡ parameter_distance bytes followers (size_of_scalar scalar)
 
-abbrev pub AreInWords : Surroundings → Activation → (bytes : ℕ) → List ScalarType → (parameters : List ℕ) → Type 0
+abbrev pub AreInWords : Surroundings → Activation → (bytes : ℕ) → List ScalarType
+    → (parameters : List ℕ) → Type 0
 AreInWords around activation bytes [] [] = Unit {0}
 AreInWords around activation bytes (scalar ∷ scalars) (parameter ∷ parameters) =
     IsInWord around activation bytes scalar parameter (length scalars)
@@ -133,7 +144,8 @@ LieInWords level bytes scalars values memory = ⊥
 
 -- the parameters have been set, and the frame lies
 pub record AreSet
-    (activation : Activation) (memory : List ℕ) (s : SourceState) (outcome : Outcome (Unit {0})) : Type 0 where
+    (activation : Activation) (memory : List ℕ) (s : SourceState)
+    (outcome : Outcome (Unit {0})) : Type 0 where
   pub frame : List (List ℕ)
   pub is : outcome ≡ Gave tt (record s { frame = frame })
   pub lies : FrameLies activation frame memory
@@ -156,7 +168,8 @@ high_address level distance word is = omega (arith, is)
 byte_address : (level distance word : ℕ) → distance ≡ word + (2 - 1) → level + distance + 0 ≡ level + word + 1
 byte_address level distance word is = omega (arith, is)
 
-module _ (around : Surroundings) (activation : Activation) (bytes : ℕ) (memory : List ℕ) (is_memory : IsMemory memory)
+module _ (around : Surroundings) (activation : Activation) (bytes : ℕ) (memory : List ℕ)
+    (is_memory : IsMemory memory)
   where
     -- one parameter
     one_set :
@@ -165,7 +178,8 @@ module _ (around : Surroundings) (activation : Activation) (bytes : ℕ) (memory
         → InWord scalar value memory (activation.level + word_distance bytes followers)
         → LiesBut activation (IsOfParameters activation (parameter ∷ parameters)) s.frame memory
         → (frame : List (List ℕ))
-        × (write_scalar around.program scalar (place_of around parameter) value s ≡ Gave tt (record s { frame = frame }))
+        × (write_scalar around.program scalar (place_of around parameter) value s
+        ≡ Gave tt (record s { frame = frame }))
         × LiesBut activation (IsOfParameters activation parameters) frame memory
     one_set Byte parameter followers value parameters s is lie lies = (
       with_byte s.frame parameter 0 (value % 256),
@@ -177,7 +191,8 @@ module _ (around : Surroundings) (activation : Activation) (bytes : ℕ) (memory
         put : byte_at memory (activation.level + activation.distance parameter + 0) ≡ value
         put =
             ap (byte_at memory)
-            (byte_address activation.level (activation.distance parameter) (word_distance bytes followers) is.distance)
+            (byte_address activation.level (activation.distance parameter)
+            (word_distance bytes followers) is.distance)
             ∙ lie
 
         small : value ≡ value % 256
@@ -192,7 +207,8 @@ module _ (around : Surroundings) (activation : Activation) (bytes : ℕ) (memory
             → IsOfParameters activation parameters object offset
         still object offset is_open = by_place is_open.0.1
           where
-            by_place : IsAmong object (parameter ∷ parameters) → IsOfParameters activation parameters object offset
+            by_place : IsAmong object (parameter ∷ parameters)
+                → IsOfParameters activation parameters object offset
             by_place (inl same) =
                 let within : offset < activation.size object = is_open.0.0 in
                 let size = ap (λ (one : ℕ). activation.size one) same ∙ is.size in
@@ -209,13 +225,15 @@ module _ (around : Surroundings) (activation : Activation) (bytes : ℕ) (memory
         low : byte_at memory (activation.level + activation.distance parameter + 0) ≡ value % 256
         low =
             ap (byte_at memory)
-            (low_address activation.level (activation.distance parameter) (word_distance bytes followers) is.distance)
+            (low_address activation.level (activation.distance parameter)
+            (word_distance bytes followers) is.distance)
             ∙ lie.0
 
         high : byte_at memory (activation.level + activation.distance parameter + 1) ≡ value / 256
         high =
             ap (byte_at memory)
-            (high_address activation.level (activation.distance parameter) (word_distance bytes followers) is.distance)
+            (high_address activation.level (activation.distance parameter)
+            (word_distance bytes followers) is.distance)
             ∙ lie.1
 
         still : (object offset : ℕ)
@@ -228,7 +246,8 @@ module _ (around : Surroundings) (activation : Activation) (bytes : ℕ) (memory
             by_offset : (offset : ℕ) → offset < 2 → (offset ≡ 0 → ⊥) → (offset ≡ 1 → ⊥) → ⊥
             by_offset offset below not_low not_high = omega (arith, below, not_low, not_high)
 
-            by_place : IsAmong object (parameter ∷ parameters) → IsOfParameters activation parameters object offset
+            by_place : IsAmong object (parameter ∷ parameters)
+                → IsOfParameters activation parameters object offset
             by_place (inl same) =
                 let within : offset < activation.size object = is_open.0.0.0 in
                 let size = ap (λ (one : ℕ). activation.size one) same ∙ is.size in

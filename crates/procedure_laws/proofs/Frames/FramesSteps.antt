@@ -3,18 +3,22 @@ use Rattle.procedure_laws.proofs.Prelude.{◌≡◌, ℕ, ◌+◌, Bool, true, f
 use Rattle.asm8080.specs.declared.item.Item.TheVariants as items
 use Rattle.code_meaning.proofs.Standing.{after_word}
 
--- planned steps whose code stands from one place to another, where the code is here before them and there after them
-pub record StepsLie (at : BodyContext) (here last : Here) (planned : List Planned) (from to : ℕ) : Type 0 where
+-- planned steps whose code stands from one place to another, where the code is here before them and there
+-- after them
+pub record StepsLie (at : BodyContext) (here last : Here) (planned : List Planned)
+    (from to : ℕ) : Type 0 where
   pub list : List Item
   pub written : AreCarriedOut at.body at.context.called here None planned list last
   pub there : IsThere at.context.activation list from to
 
 -- the first one, by its items, and the others
-record Taken (at : BodyContext) (known : Facts) (goes_on : Bool) (first : List Item) (others : List Planned) (last : Here)
+record Taken (at : BodyContext) (known : Facts) (goes_on : Bool) (first : List Item)
+    (others : List Planned) (last : Here)
     (list : List Item) : Type 0 where
   more : List Item
   is : list ≡ first ++ more
-  written : AreCarriedOut at.body at.context.called (record { facts = known; goes_on = goes_on }) None others more last
+  written : AreCarriedOut at.body at.context.called (record { facts = known; goes_on = goes_on })
+      None others more last
 
 take_plain :
     (at : BodyContext) {here last : Here} (i : Instr) (others : List Planned) {list : List Item}
@@ -28,7 +32,8 @@ take_jump :
     (at : BodyContext) {here last : Here} (c : Condition) (label : LabelNumber) (others : List Planned)
     {list : List Item}
     → AreCarriedOut at.body at.context.called here None (jump (JumpWhere c) label ∷ others) list last
-    → Taken at here.facts here.goes_on (items.WithWord (JumpWhere c) (AtLabel label.index) ∷ []) others last list
+    → Taken at here.facts here.goes_on (items.WithWord (JumpWhere c) (AtLabel label.index) ∷ []) others last
+    list
 unfolding carried_steps here_after waiting_after
 take_jump at c label others (StepCarriedOut {more = more} holds (JumpWritten NoneWritten) rest) =
     record { more = more; is = refl; written = rest }
@@ -60,10 +65,12 @@ pub plain_goes :
     → (StepsLie at (record { facts = after here.facts i; goes_on = here.goes_on }) last others
     (from + size_of_instruction i) to
     → Does at.context.activation.around.program.script budget 0
-    (act at.context.activation.around.program.script i (at_place (from + size_of_instruction i) r memory events)) outcome
+    (act at.context.activation.around.program.script i
+    (at_place (from + size_of_instruction i) r memory events)) outcome
     Good)
     → Does at.context.activation.around.program.script budget 0 (at_place from r memory events) outcome Good
-plain_goes {A = A} {budget = budget} {outcome = outcome} {Good = Good} {here = here} {last = last} {from = from} {to = to} {memory = memory} {events = events} at i others r lies agrees stand rest =
+plain_goes {A = A} {budget = budget} {outcome = outcome} {Good = Good} {here = here} {last = last}
+    {from = from} {to = to} {memory = memory} {events = events} at i others r lies agrees stand rest =
     let taken = take_plain at i others stand.written in
     let there : IsThere at.context.activation (items.Plain i ∷ taken.more) from to
     = subst (λ (list : List Item). IsThere at.context.activation list from to) taken.is stand.there in
@@ -71,7 +78,8 @@ plain_goes {A = A} {budget = budget} {outcome = outcome} {Good = Good} {here = h
     (rest (record { list = taken.more; written = taken.written; there = after_plain there }))
 
 -- a label stands there, and the others
-pub record MarkLies (at : BodyContext) (last : Here) (goes_on : Bool) (label : LabelNumber) (others : List Planned)
+pub record MarkLies (at : BodyContext) (last : Here) (goes_on : Bool) (label : LabelNumber)
+    (others : List Planned)
     (from to : ℕ) : Type 0 where
   pub place : at.context.activation.layout.place_of label.index ≡ from
   pub lie : StepsLie at (record { facts = no_facts; goes_on = goes_on }) last others from to
@@ -114,7 +122,8 @@ none_left :
 none_left at NoneCarriedOut = (refl, refl)
 
 pub end_goes :
-    {here last : Here} {from to : ℕ} (at : BodyContext) → StepsLie at here last [] from to → IsEnd here last from to
+    {here last : Here} {from to : ℕ} (at : BodyContext) → StepsLie at here last [] from to
+    → IsEnd here last from to
 end_goes {here = here} {last = last} {from = from} {to = to} at stand =
     let none = none_left at stand.written in
     let there : IsThere at.context.activation [] from to
@@ -149,7 +158,8 @@ pub jump_stays :
     → StepsLie at here last (jump (JumpWhere c) label ∷ others) from to
     → holds_of c r.flags ≡ false
     → (StepsLie at here last others (from + 3) to
-    → Does at.context.activation.around.program.script budget 0 (at_place (from + 3) r memory events) outcome Good)
+    → Does at.context.activation.around.program.script budget 0
+    (at_place (from + 3) r memory events) outcome Good)
     → Does at.context.activation.around.program.script budget 0 (at_place from r memory events) outcome Good
 jump_stays {here = here} {last = last} {from = from} {to = to} at c label others r lies agrees stand is rest =
     let taken = take_jump at c label others stand.written in

@@ -23,18 +23,22 @@ GoesOnAt at last others budget outcome Good events top to kept memory =
     (here : Here) (place : ℕ) (now : Registers)
     → StepsLie at here last others place to
     → IsAt top kept now
-    → Does at.context.activation.around.program.script budget 0 (at_place place now memory events) outcome Good
+    → Does at.context.activation.around.program.script budget 0
+    (at_place place now memory events) outcome Good
 
 -- the word at an address
 abbrev pub word_there : List ℕ → (address : ℕ) → ℕ
 word_there memory address = byte_at memory address + 256 * byte_at memory (address + 1)
 
-pub is_pushed : (top : ℕ) (memory : List ℕ) → IsMemory memory → IsPushed (top + 2) (word_there memory top) memory
+pub is_pushed : (top : ℕ) (memory : List ℕ) → IsMemory memory
+    → IsPushed (top + 2) (word_there memory top) memory
 is_pushed top memory is =
     let low = byte_small memory top is in
     record {
-      high = ap (byte_at memory) (two_more_one top) ∙ high_of_two (byte_at memory top) (byte_at memory (top + 1)) low;
-      low = ap (byte_at memory) (two_less_again top) ∙ low_of_two (byte_at memory top) (byte_at memory (top + 1)) low;
+      high = ap (byte_at memory) (two_more_one top)
+          ∙ high_of_two (byte_at memory top) (byte_at memory (top + 1)) low;
+      low = ap (byte_at memory) (two_less_again top)
+          ∙ low_of_two (byte_at memory top) (byte_at memory (top + 1)) low;
     }
 
 pub word_small : (top : ℕ) (memory : List ℕ) → IsMemory memory → word_there memory top < MEMORY_SIZE
@@ -51,9 +55,11 @@ pub pop_is :
     → top + 2 ≤ MEMORY_SIZE
     → IsMemory memory
     → act script (Pop pair) (at_place place now memory events)
-    ≡ at_place place (record (with_popped pair (word_there memory top) now) { sp = wrap (top + 2) }) memory events
+    ≡ at_place place (record (with_popped pair (word_there memory top) now) { sp = wrap (top + 2) }) memory
+    events
 pop_is script pair place top now memory events pointer limit is =
-    pop_does script pair place (top + 2) (word_there memory top) now memory events (pointer ∙ ap wrap (two_more_less top)) (omega arith)
+    pop_does script pair place (top + 2) (word_there memory top) now memory events
+    (pointer ∙ ap wrap (two_more_less top)) (omega arith)
     limit (is_pushed top memory is)
 
 -- words of a sum in HL
@@ -63,8 +69,10 @@ halves n small = omega (arith, small)
 sum_is : (bytes sp top : ℕ) → bytes < MEMORY_SIZE → sp ≡ wrap top → wrap (bytes + sp) ≡ wrap (top + bytes)
 sum_is bytes sp top small is = omega (arith, small, is)
 
-module _ {A : Type 0} {budget : ℕ} {outcome : Outcome A} {Good : A → SourceState → State → Type 0} {last : Here}
-    {to : ℕ} {memory : List ℕ} {events : List Event} (at : BodyContext) (lies : LiesWell at.context.activation)
+module _ {A : Type 0} {budget : ℕ} {outcome : Outcome A}
+    {Good : A → SourceState → State → Type 0} {last : Here}
+    {to : ℕ} {memory : List ℕ} {events : List Event} (at : BodyContext)
+    (lies : LiesWell at.context.activation)
     (agrees : AgreesIn at.context.activation.around.program.placement.code at.context.activation.image memory)
     (is_memory : IsMemory memory) where
   -- POP B, so many times
@@ -74,7 +82,8 @@ module _ {A : Type 0} {budget : ℕ} {outcome : Outcome A} {Good : A → SourceS
       → StepsLie at here last (pops_steps words ++ others) from to
       → IsAt top kept now
       → GoesOnAt at last others budget outcome Good events (top + 2 * words) to kept memory
-      → Does at.context.activation.around.program.script budget 0 (at_place from now memory events) outcome Good
+      → Does at.context.activation.around.program.script budget 0
+      (at_place from now memory events) outcome Good
   unfolding pops_steps
   words_dropped zero top from kept now others {here = here} limit stand is rest =
       rest here from now stand
@@ -87,10 +96,12 @@ module _ {A : Type 0} {budget : ℕ} {outcome : Outcome A} {Good : A → SourceS
       plain_goes at (Pop StackBc) (replicate words (plain (Pop StackBc)) ++ others) now lies agrees stand
       (λ more.
       subst (λ (state : State). Does at.context.activation.around.program.script budget 0 state outcome Good)
-      (sym (pop_is at.context.activation.around.program.script StackBc (from + 1) top now memory events is.pointer
+      (sym (pop_is at.context.activation.around.program.script StackBc (from + 1) top now
+      memory events is.pointer
       (omega (arith, limit)) is_memory))
       (words_dropped words (top + 2) (from + 1) kept
-      (record (with_popped StackBc (word_there memory top) now) { sp = wrap (top + 2) }) others (omega (arith, limit)) more
+      (record (with_popped StackBc (word_there memory top) now) { sp = wrap (top + 2) }) others
+      (omega (arith, limit)) more
       (record {
         a = is.a;
         d = is.d;
@@ -108,7 +119,8 @@ module _ {A : Type 0} {budget : ℕ} {outcome : Outcome A} {Good : A → SourceS
           l = is.registers.l;
         };
       })
-      (subst (λ (end : ℕ). GoesOnAt at last others budget outcome Good events end to kept memory) (up words top) rest)))
+      (subst (λ (end : ℕ). GoesOnAt at last others budget outcome Good events end to kept memory)
+      (up words top) rest)))
     where
       up : (words top : ℕ) → top + 2 * suc words ≡ top + 2 + 2 * words
       up words top = omega arith
@@ -119,7 +131,8 @@ module _ {A : Type 0} {budget : ℕ} {outcome : Outcome A} {Good : A → SourceS
       → StepsLie at here last (replicate bytes (plain (Inx Sp)) ++ others) from to
       → IsAt top kept now
       → GoesOnAt at last others budget outcome Good events (top + bytes) to kept memory
-      → Does at.context.activation.around.program.script budget 0 (at_place from now memory events) outcome Good
+      → Does at.context.activation.around.program.script budget 0
+      (at_place from now memory events) outcome Good
   bytes_dropped zero top from kept now others {here = here} stand is rest =
       rest here from now stand
       (subst (λ (end : ℕ). IsAt end kept now) (none top) is)
@@ -147,7 +160,8 @@ module _ {A : Type 0} {budget : ℕ} {outcome : Outcome A} {Good : A → SourceS
           l = is.registers.l;
         };
       })
-      (subst (λ (end : ℕ). GoesOnAt at last others budget outcome Good events end to kept memory) (up bytes top) rest))
+      (subst (λ (end : ℕ). GoesOnAt at last others budget outcome Good events end to kept memory)
+      (up bytes top) rest))
     where
       up : (bytes top : ℕ) → top + suc bytes ≡ top + 1 + bytes
       up bytes top = omega arith
@@ -160,11 +174,13 @@ module _ {A : Type 0} {budget : ℕ} {outcome : Outcome A} {Good : A → SourceS
       → IsAt top kept now
       → GoesOnAt at last others budget outcome Good events (top + bytes) to
       (record kept { h = wrap (top + bytes) / 256; l = wrap (top + bytes) % 256 }) memory
-      → Does at.context.activation.around.program.script budget 0 (at_place from now memory events) outcome Good
+      → Does at.context.activation.around.program.script budget 0
+      (at_place from now memory events) outcome Good
   sum_dropped bytes top from kept now others small stand is rest =
       plain_goes at (Lxi Hl bytes) (plain (Dad Sp) ∷ plain Sphl ∷ others) now lies agrees stand
       (λ more.
-      plain_goes at (Dad Sp) (plain Sphl ∷ others) (record now { h = bytes / 256; l = bytes % 256 }) lies agrees more
+      plain_goes at (Dad Sp) (plain Sphl ∷ others)
+      (record now { h = bytes / 256; l = bytes % 256 }) lies agrees more
       (λ others_more.
       let sum : ℕ = wrap (word (bytes / 256) (bytes % 256) + now.sp) in
       let is_sum : sum ≡ wrap (top + bytes)
@@ -212,7 +228,8 @@ module _ {A : Type 0} {budget : ℕ} {outcome : Outcome A} {Good : A → SourceS
       → IsAt top kept now
       → GoesOnAt at last others budget outcome Good events top to
       (record kept { h = kept.d; l = kept.e; d = kept.h; e = kept.l }) memory
-      → Does at.context.activation.around.program.script budget 0 (at_place from now memory events) outcome Good
+      → Does at.context.activation.around.program.script budget 0
+      (at_place from now memory events) outcome Good
   exchanged top from kept now others stand is rest =
       plain_goes at Xchg others now lies agrees stand
       (λ more.
@@ -242,13 +259,16 @@ pub record IsBack
   pub pointer : now.sp ≡ wrap top
   pub lies : ResultLies result value now memory
 
-module _ {A : Type 0} {budget : ℕ} {outcome : Outcome A} {Good : A → SourceState → State → Type 0} {last : Here}
-    {to : ℕ} {memory : List ℕ} {events : List Event} (at : BodyContext) (lies : LiesWell at.context.activation)
+module _ {A : Type 0} {budget : ℕ} {outcome : Outcome A}
+    {Good : A → SourceState → State → Type 0} {last : Here}
+    {to : ℕ} {memory : List ℕ} {events : List Event} (at : BodyContext)
+    (lies : LiesWell at.context.activation)
     (agrees : AgreesIn at.context.activation.around.program.placement.code at.context.activation.image memory)
     (is_memory : IsMemory memory) where
   -- the bytes of a frame are dropped
   pub frame_dropped :
-      (bytes : ℕ) (result : Option ScalarType) (value top from : ℕ) (now : Registers) (others : List Planned) {here : Here}
+      (bytes : ℕ) (result : Option ScalarType) (value top from : ℕ) (now : Registers)
+      (others : List Planned) {here : Here}
       → bytes < MEMORY_SIZE
       → top + bytes ≤ MEMORY_SIZE
       → StepsLie at here last (drop_steps bytes result ++ others) from to
@@ -256,8 +276,10 @@ module _ {A : Type 0} {budget : ℕ} {outcome : Outcome A} {Good : A → SourceS
       → ((here : Here) (place : ℕ) (after : Registers)
       → StepsLie at here last others place to
       → IsBack (top + bytes) result value memory after
-      → Does at.context.activation.around.program.script budget 0 (at_place place after memory events) outcome Good)
-      → Does at.context.activation.around.program.script budget 0 (at_place from now memory events) outcome Good
+      → Does at.context.activation.around.program.script budget 0
+      (at_place place after memory events) outcome Good)
+      → Does at.context.activation.around.program.script budget 0
+      (at_place from now memory events) outcome Good
   unfolding drop_steps kept_steps
   frame_dropped bytes result value top from now others {here = here} small limit stand is rest =
       by_test (nat_le bytes 12) stand
@@ -282,8 +304,10 @@ module _ {A : Type 0} {budget : ℕ} {outcome : Outcome A} {Good : A → SourceS
           → ((here : Here) (place : ℕ) (after : Registers)
           → StepsLie at here last others place to
           → IsBack (top + bytes) result value memory after
-          → Does at.context.activation.around.program.script budget 0 (at_place place after memory events) outcome Good)
-          → Does at.context.activation.around.program.script budget 0 (at_place from now memory events) outcome Good
+          → Does at.context.activation.around.program.script budget 0
+          (at_place place after memory events) outcome Good)
+          → Does at.context.activation.around.program.script budget 0
+          (at_place from now memory events) outcome Good
       by_result None stand lie rest =
           sum_dropped at lies agrees is_memory bytes top from now now others small stand itself
           (λ here place after stand_after at_end.
@@ -299,10 +323,12 @@ module _ {A : Type 0} {budget : ℕ} {outcome : Outcome A} {Good : A → SourceS
           (plain (Lxi Hl bytes) ∷ plain (Dad Sp) ∷ plain Sphl ∷ plain Xchg ∷ others) stand itself
           (λ here place after stand_after at_end.
           sum_dropped at lies agrees is_memory bytes top place
-          (record now { h = now.d; l = now.e; d = now.h; e = now.l }) after (plain Xchg ∷ others) small stand_after at_end
+          (record now { h = now.d; l = now.e; d = now.h; e = now.l }) after (plain Xchg ∷ others)
+          small stand_after at_end
           (λ here_again place_again after_again stand_again at_end_again.
           exchanged at lies agrees is_memory (top + bytes) place_again
-          (record now { h = wrap (top + bytes) / 256; l = wrap (top + bytes) % 256; d = now.h; e = now.l }) after_again others
+          (record now { h = wrap (top + bytes) / 256; l = wrap (top + bytes) % 256; d = now.h; e = now.l })
+          after_again others
           stand_again at_end_again
           (λ last_here last_place last_registers last_stand last_end.
           rest last_here last_place last_registers last_stand
@@ -316,14 +342,17 @@ module _ {A : Type 0} {budget : ℕ} {outcome : Outcome A} {Good : A → SourceS
           → StepsLie at here last
           ((if test then pops_steps (bytes / 2) ++ replicate (bytes % 2) (plain (Inx Sp))
           else kept_steps result (Lxi Hl bytes ∷ Dad Sp ∷ Sphl ∷ [])) ++ others) from to
-          → Does at.context.activation.around.program.script budget 0 (at_place from now memory events) outcome Good
+          → Does at.context.activation.around.program.script budget 0
+          (at_place from now memory events) outcome Good
       by_test true stand =
           words_dropped at lies agrees is_memory (bytes / 2) top from now now
           (replicate (bytes % 2) (plain (Inx Sp)) ++ others) (omega (arith, limit))
-          (same_steps at (append_assoc (pops_steps (bytes / 2)) (replicate (bytes % 2) (plain (Inx Sp))) others) stand)
+          (same_steps at (append_assoc (pops_steps (bytes / 2))
+          (replicate (bytes % 2) (plain (Inx Sp))) others) stand)
           itself
           (λ here place after stand_after at_end.
-          bytes_dropped at lies agrees is_memory (bytes % 2) (top + 2 * (bytes / 2)) place now after others stand_after
+          bytes_dropped at lies agrees is_memory (bytes % 2) (top + 2 * (bytes / 2)) place now
+          after others stand_after
           at_end
           (λ last_here last_place last_registers last_stand last_end.
           rest last_here last_place last_registers last_stand
@@ -331,6 +360,7 @@ module _ {A : Type 0} {budget : ℕ} {outcome : Outcome A} {Good : A → SourceS
             registers = last_end.registers;
             pointer = last_end.pointer ∙ ap wrap end_is;
             lies =
-                result_kept result value now last_registers memory memory last_end.a last_end.h last_end.l is.lies;
+                result_kept result value now last_registers memory memory last_end.a
+                last_end.h last_end.l is.lies;
           })))
       by_test false stand = by_result result stand is.lies rest

@@ -1,20 +1,24 @@
--- A return over the words of arguments above the return address, and then all returns of REENTRANT procedures.
+-- A return over the words of arguments above the return address, and then all returns of REENTRANT
+-- procedures.
 use Rattle.procedure_laws.proofs.Prelude.{◌≡◌, ◌≢◌, ℕ, zero, suc, ◌+◌, ◌-◌, ◌*◌, ◌/◌, ◌%◌, ◌<◌, ◌≤◌, nat_eq, min, inr, Bool, true, false, if◌then◌else◌, List, [], ◌∷◌, ◌++◌, length, slice_get, Option, Some, None, refl, sym, ap, subst, ◌∙◌, arith, eqb-true, length-set, MEMORY_SIZE, byte_at, ScalarType, Byte, Address, Gave, SourceState, Pchl, Pop, Push, Ret, StackDe, StackHl, HoldBytes, Registers, State, high_byte, low_byte, word, wrap, with_popped, running, pushed, pushed_is_memory, pushed_is_pushed, pushed_keeps, push_does, LiesWell, Shares, Does, at_place, does_without_step, keeps_all, plain, Here, pops_steps, return_over_any_steps, return_over_steps, ResultLies, BodyContext, IsOfCall, ReturnLies, HasReturned, add-zero}
 use Rattle.procedure_laws.proofs.Frames.FramesSteps.{StepsLie, plain_goes}
 use Rattle.procedure_laws.proofs.Returns.ReturnsDrop.{IsBack, pop_is, word_small, word_there, words_dropped}
 use Rattle.procedure_laws.proofs.Returns.StaticReturns.{result_kept, return_does}
 
-word_back : (back low high : ℕ) → low ≡ wrap back % 256 → high ≡ wrap back / 256 → low + 256 * high ≡ wrap back
+word_back : (back low high : ℕ) → low ≡ wrap back % 256 → high ≡ wrap back / 256
+    → low + 256 * high ≡ wrap back
 word_back back low high one other = omega (arith, one, other)
 
 -- the word of a return address
-return_word : (top back : ℕ) (memory : List ℕ) → ReturnLies top back memory → word_there memory top ≡ wrap back
+return_word : (top back : ℕ) (memory : List ℕ) → ReturnLies top back memory
+    → word_there memory top ≡ wrap back
 return_word top back memory is = word_back back (byte_at memory top) (byte_at memory (top + 1)) is.low is.high
 
 pair_is : (high low n back : ℕ) → high ≡ n / 256 → low ≡ n % 256 → n ≡ wrap back → word high low ≡ wrap back
 pair_is high low n back one other same = omega (arith, one, other, same)
 
-module _ (at : BodyContext) (result : Option ScalarType) (value above back : ℕ) (t : SourceState) (memory : List ℕ)
+module _ (at : BodyContext) (result : Option ScalarType) (value above back : ℕ)
+    (t : SourceState) (memory : List ℕ)
     (lies : LiesWell at.context.activation)
     (shares : Shares at.context.activation.around.program at.context.activation.image t.memory memory)
     (low : at.context.activation.floor + 2 ≤ above)
@@ -31,7 +35,8 @@ module _ (at : BodyContext) (result : Option ScalarType) (value above back : ℕ
       → HoldBytes now
       → now.sp ≡ wrap above
       → ResultLies result value now memory
-      → Does at.context.activation.around.program.script t.budget 0 (at_place back now memory t.events) (Gave value t)
+      → Does at.context.activation.around.program.script t.budget 0
+      (at_place back now memory t.events) (Gave value t)
       (λ value t end. HasReturned at result above back memory value t end)
   returned_so now bytes pointer lie =
       does_without_step (record {
@@ -41,7 +46,8 @@ module _ (at : BodyContext) (result : Option ScalarType) (value above back : ℕ
         shares = shares;
         registers = bytes;
         pointer = pointer;
-        kept = keeps_all (IsOfCall at.context.activation.around.program at.context.activation.floor above) memory;
+        kept = keeps_all (IsOfCall at.context.activation.around.program at.context.activation.floor above)
+            memory;
         lies = lie;
       })
 
@@ -52,7 +58,8 @@ module _ (at : BodyContext) (result : Option ScalarType) (value above back : ℕ
       → StepsLie at here last (plain Ret ∷ []) from to
       → ReturnLies top back memory
       → IsBack top result value memory now
-      → Does at.context.activation.around.program.script t.budget 0 (at_place from now memory t.events) (Gave value t)
+      → Does at.context.activation.around.program.script t.budget 0
+      (at_place from now memory t.events) (Gave value t)
       (λ value t end. HasReturned at result above back memory value t end)
   ret_returns from to top here last now same stand return_lies is =
       plain_goes at Ret [] now lies shares.code stand
@@ -60,7 +67,8 @@ module _ (at : BodyContext) (result : Option ScalarType) (value above back : ℕ
       subst (λ (state : State).
       Does at.context.activation.around.program.script t.budget 0 state (Gave value t)
       (λ value t end. HasReturned at result above back memory value t end))
-      (sym (return_does at.context.activation.around.program.script (from + 1) top back now memory t.events is.pointer limit
+      (sym (return_does at.context.activation.around.program.script (from + 1) top back now memory
+      t.events is.pointer limit
       (record {
         low = ap (byte_at memory) (add-zero top) ∙ return_lies.low;
         high = ap (λ (n : ℕ). byte_at memory (n + 1)) (add-zero top) ∙ return_lies.high;
@@ -76,7 +84,8 @@ module _ (at : BodyContext) (result : Option ScalarType) (value above back : ℕ
         l = is.registers.l;
       })
       (ap wrap same)
-      (result_kept result value now (record now { sp = wrap (top + 2) }) memory memory refl refl refl is.lies)))
+      (result_kept result value now (record now { sp = wrap (top + 2) }) memory memory refl
+      refl refl is.lies)))
     where
       limit : top + 2 ≤ MEMORY_SIZE
       limit = let whole = above_in_memory in omega (arith, same, whole)
@@ -90,7 +99,8 @@ module _ (at : BodyContext) (result : Option ScalarType) (value above back : ℕ
       → HoldBytes now
       → now.sp ≡ wrap top
       → ((after : Registers) → after.a ≡ now.a → ResultLies result value after memory)
-      → Does at.context.activation.around.program.script t.budget 0 (at_place from now memory t.events) (Gave value t)
+      → Does at.context.activation.around.program.script t.budget 0
+      (at_place from now memory t.events) (Gave value t)
       (λ value t end. HasReturned at result above back memory value t end)
   pchl_returns words from to top here last now same stand return_lies bytes pointer lie =
       plain_goes at (Pop StackHl) (pops_steps words ++ (plain Pchl ∷ [])) now lies shares.code stand
@@ -98,7 +108,8 @@ module _ (at : BodyContext) (result : Option ScalarType) (value above back : ℕ
       subst (λ (state : State).
       Does at.context.activation.around.program.script t.budget 0 state (Gave value t)
       (λ value t end. HasReturned at result above back memory value t end))
-      (sym (pop_is at.context.activation.around.program.script StackHl (from + 1) top now memory t.events pointer limit
+      (sym (pop_is at.context.activation.around.program.script StackHl (from + 1) top now memory
+      t.events pointer limit
       shares.is_memory))
       (words_dropped at lies shares.code shares.is_memory words (top + 2) (from + 1)
       (record (with_popped StackHl (word_there memory top) now) { sp = wrap (top + 2) })
@@ -125,7 +136,8 @@ module _ (at : BodyContext) (result : Option ScalarType) (value above back : ℕ
       plain_goes at Pchl [] after lies shares.code stand_after
       (λ nothing.
       subst (λ (n : ℕ).
-      Does at.context.activation.around.program.script t.budget 0 (running (record after { pc = n }) memory t.events)
+      Does at.context.activation.around.program.script t.budget 0
+      (running (record after { pc = n }) memory t.events)
       (Gave value t) (λ value t end. HasReturned at result above back memory value t end))
       (sym (pair_is after.h after.l (word_there memory top) back is_at.h is_at.l
       (return_word top back memory return_lies)))
@@ -148,15 +160,18 @@ module _ (at : BodyContext) (result : Option ScalarType) (value above back : ℕ
       → now.sp ≡ wrap top
       → ((after : Registers) (ended : List ℕ) → after.a ≡ now.a → after.h ≡ now.h → after.l ≡ now.l
       → ResultLies result value after ended)
-      → Does at.context.activation.around.program.script t.budget 0 (at_place from now memory t.events) (Gave value t)
+      → Does at.context.activation.around.program.script t.budget 0
+      (at_place from now memory t.events) (Gave value t)
       (λ value t end. HasReturned at result above back memory value t end)
   push_returns words from to top here last now same stand return_lies bytes pointer lie =
-      plain_goes at (Pop StackDe) (pops_steps words ++ (plain (Push StackDe) ∷ plain Ret ∷ [])) now lies shares.code stand
+      plain_goes at (Pop StackDe) (pops_steps words ++ (plain (Push StackDe) ∷ plain Ret ∷ [])) now
+      lies shares.code stand
       (λ more.
       subst (λ (state : State).
       Does at.context.activation.around.program.script t.budget 0 state (Gave value t)
       (λ value t end. HasReturned at result above back memory value t end))
-      (sym (pop_is at.context.activation.around.program.script StackDe (from + 1) top now memory t.events pointer limit
+      (sym (pop_is at.context.activation.around.program.script StackDe (from + 1) top now memory
+      t.events pointer limit
       shares.is_memory))
       (words_dropped at lies shares.code shares.is_memory words (top + 2) (from + 1)
       (record (with_popped StackDe (word_there memory top) now) { sp = wrap (top + 2) })
@@ -186,9 +201,11 @@ module _ (at : BodyContext) (result : Option ScalarType) (value above back : ℕ
       subst (λ (state : State).
       Does at.context.activation.around.program.script t.budget 0 state (Gave value t)
       (λ value t end. HasReturned at result above back memory value t end))
-      (sym (push_does at.context.activation.around.program.script StackDe (place + 1) above after memory t.events
+      (sym (push_does at.context.activation.around.program.script StackDe (place + 1) above
+      after memory t.events
       (is_at.pointer ∙ ap wrap same) above_in_memory (omega (arith, low))
-      ∙ ap (λ (n : ℕ). at_place (place + 1) (record after { sp = wrap (above - 2) }) (pushed above n memory) t.events)
+      ∙ ap (λ (n : ℕ). at_place (place + 1) (record after { sp = wrap (above - 2) })
+      (pushed above n memory) t.events)
       (pair_is after.d after.e (word_there memory top) back is_at.d is_at.e
       (return_word top back memory return_lies))))
       (plain_goes at Ret [] (record after { sp = wrap (above - 2) }) lies now_shares.code ret_stands
@@ -216,7 +233,8 @@ module _ (at : BodyContext) (result : Option ScalarType) (value above back : ℕ
         pointer = ap wrap up;
         kept = record {
           size =
-              length-set (Rattle.std.proofs.Common.slice_set memory (above - 1) (high_byte (wrap back))) (above - 2)
+              length-set (Rattle.std.proofs.Common.slice_set memory (above - 1) (high_byte (wrap back)))
+              (above - 2)
               (low_byte (wrap back))
               ∙ length-set memory (above - 1) (high_byte (wrap back));
           bytes = λ address outside.
@@ -224,7 +242,8 @@ module _ (at : BodyContext) (result : Option ScalarType) (value above back : ℕ
               (λ is. outside (inr (omega (arith, is, low), omega (arith, is, low))))
               (λ is. outside (inr (omega (arith, is, low), omega (arith, is, low))));
         };
-        lies = lie (record after { sp = wrap (above - 2 + 2) }) (pushed above (wrap back) memory) is_at.a is_at.h is_at.l;
+        lies = lie (record after { sp = wrap (above - 2 + 2) }) (pushed above (wrap back) memory)
+            is_at.a is_at.h is_at.l;
       }))))))))
     where
       limit : top + 2 ≤ MEMORY_SIZE
@@ -238,10 +257,13 @@ module _ (at : BodyContext) (result : Option ScalarType) (value above back : ℕ
 
       pushed_return : ReturnLies (above - 2 + 0) back (pushed above (wrap back) memory)
       pushed_return =
-          let is = pushed_is_pushed above (wrap back) memory (omega (arith, low)) above_in_memory shares.is_memory.size in
+          let is =
+          pushed_is_pushed above (wrap back) memory (omega (arith, low)) above_in_memory
+          shares.is_memory.size in
           record {
             low = ap (byte_at (pushed above (wrap back) memory)) (at_low above) ∙ is.low;
-            high = ap (byte_at (pushed above (wrap back) memory)) (at_high above (omega (arith, low))) ∙ is.high;
+            high = ap (byte_at (pushed above (wrap back) memory)) (at_high above (omega (arith, low)))
+                ∙ is.high;
           }
         where
           at_low : (above : ℕ) → above - 2 + 0 ≡ above - 2
@@ -266,8 +288,10 @@ module _ (at : BodyContext) (result : Option ScalarType) (value above back : ℕ
                 ∙ shares.declared address there;
             code = λ address there.
                 pushed_keeps above (wrap back) memory address
-                (λ is. apart address there.0 there.1 (omega (arith, is, low, bottom)) (omega (arith, is, low, high)))
-                (λ is. apart address there.0 there.1 (omega (arith, is, low, bottom)) (omega (arith, is, low, high)))
+                (λ is. apart address there.0 there.1 (omega (arith, is, low, bottom))
+                (omega (arith, is, low, high)))
+                (λ is. apart address there.0 there.1 (omega (arith, is, low, bottom))
+                (omega (arith, is, low, high)))
                 ∙ shares.code address there;
           }
 
@@ -278,7 +302,8 @@ module _ (at : BodyContext) (result : Option ScalarType) (value above back : ℕ
       → StepsLie at here last (return_over_any_steps words result) from to
       → ReturnLies top back memory
       → IsBack top result value memory now
-      → Does at.context.activation.around.program.script t.budget 0 (at_place from now memory t.events) (Gave value t)
+      → Does at.context.activation.around.program.script t.budget 0
+      (at_place from now memory t.events) (Gave value t)
       (λ value t end. HasReturned at result above back memory value t end)
   unfolding return_over_any_steps return_over_steps
   over_returns words from to top here last now same stand return_lies is =
@@ -286,7 +311,8 @@ module _ (at : BodyContext) (result : Option ScalarType) (value above back : ℕ
     where
       by_result : (its : Option ScalarType) → result ≡ its
           → StepsLie at here last (return_over_steps words its) from to
-          → Does at.context.activation.around.program.script t.budget 0 (at_place from now memory t.events) (Gave value t)
+          → Does at.context.activation.around.program.script t.budget 0
+          (at_place from now memory t.events) (Gave value t)
           (λ value t end. HasReturned at result above back memory value t end)
       by_result None equal stand =
           pchl_returns words from to top here last now same stand return_lies is.registers is.pointer
@@ -302,7 +328,8 @@ module _ (at : BodyContext) (result : Option ScalarType) (value above back : ℕ
 
       by_test : (test : Bool) → nat_eq words 0 ≡ test
           → StepsLie at here last (if test then plain Ret ∷ [] else return_over_steps words result) from to
-          → Does at.context.activation.around.program.script t.budget 0 (at_place from now memory t.events) (Gave value t)
+          → Does at.context.activation.around.program.script t.budget 0
+          (at_place from now memory t.events) (Gave value t)
           (λ value t end. HasReturned at result above back memory value t end)
       by_test true none stand =
           let zero_words : words ≡ 0 = eqb-true words 0 none in

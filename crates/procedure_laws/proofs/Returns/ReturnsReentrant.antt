@@ -26,14 +26,17 @@ dropped_is bytes count few = by_test (nat_eq count 0) refl
 steps_are :
     (body : Body) → body.procedure.now.kind ≡ kinds.Reentrant
     → return_steps body
-    ≡ drop_steps (dropped body.frame.now.variable_bytes body.frame.now.parameter_count) body.procedure.now.result
+    ≡ drop_steps (dropped body.frame.now.variable_bytes body.frame.now.parameter_count)
+    body.procedure.now.result
     ++ return_over_any_steps (body.frame.now.parameter_count - 1) body.procedure.now.result
 unfolding return_steps_by return_of_frame_steps
 steps_are body reentrant = ap (λ (kind : ProcedureKind). return_steps_by kind body) reentrant
 
 pub reentrant_returns :
-    (code : ModuleCode) (entries : Entries) (bound : ℕ) → ModuleLies code entries → ReentrantReturns code bound
-reentrant_returns code entries bound lies index number room top procedure found body is kind charge_fits sound place back value base t r memory stands ready lie return_lies =
+    (code : ModuleCode) (entries : Entries) (bound : ℕ) → ModuleLies code entries
+    → ReentrantReturns code bound
+reentrant_returns code entries bound lies index number room top procedure found body is kind charge_fits sound
+    place back value base t r memory stands ready lie return_lies =
     does.told
   where
     lowered : IsProcedure code.typed (nodes_of code.tree.now) code.storage index procedure found
@@ -51,7 +54,8 @@ reentrant_returns code entries bound lies index number room top procedure found 
         let limit : found.frame_bytes ≤ 1024 = (frame_fits code.typed index found lies.frames is.is).bytes in
         omega (arith, bytes, limit)
 
-    below : dropped body.frame.now.variable_bytes body.frame.now.parameter_count ≡ (return_of body.frame.now).start
+    below : dropped body.frame.now.variable_bytes body.frame.now.parameter_count
+        ≡ (return_of body.frame.now).start
     below = dropped_is body.frame.now.variable_bytes body.frame.now.parameter_count few
 
     count : body.frame.now.parameter_count ≡ length found.parameters
@@ -66,7 +70,8 @@ reentrant_returns code entries bound lies index number room top procedure found 
         (return_is body.frame.now found.frame_bytes (length found.parameters)
         ((is.frame kind).variable_bytes ∙ lowered.frame_bytes) count).0
 
-    above_is : frame_level body.frame.now top + dropped body.frame.now.variable_bytes body.frame.now.parameter_count + 2
+    above_is : frame_level body.frame.now top
+        + dropped body.frame.now.variable_bytes body.frame.now.parameter_count + 2
         + 2 * (body.frame.now.parameter_count - 1)
         ≡ frame_level body.frame.now top + (2 + 2 * length found.parameters + found.frame_bytes)
     above_is = omega (arith, below, count, whole)
@@ -82,9 +87,11 @@ reentrant_returns code entries bound lies index number room top procedure found 
     in_memory = well.placed.stack_in_memory
 
     return_there : ReturnLies
-        (frame_level body.frame.now top + dropped body.frame.now.variable_bytes body.frame.now.parameter_count) back memory
+        (frame_level body.frame.now top + dropped body.frame.now.variable_bytes
+        body.frame.now.parameter_count) back memory
     return_there =
-        subst (λ (bytes : ℕ). ReturnLies (frame_level body.frame.now top + bytes) back memory) (sym below) return_lies
+        subst (λ (bytes : ℕ). ReturnLies (frame_level body.frame.now top + bytes) back memory)
+        (sym below) return_lies
 
     small : dropped body.frame.now.variable_bytes body.frame.now.parameter_count < MEMORY_SIZE
     small = omega arith
@@ -92,9 +99,11 @@ reentrant_returns code entries bound lies index number room top procedure found 
     does : Does code.program.script t.budget 0 (at_place place r memory t.events) (Gave value t)
         (λ (value : ℕ) (t : SourceState) (end : State).
         HasReturned (reentrant_body code index found body bound number room top) body.procedure.now.result
-        (frame_level body.frame.now top + (2 + 2 * length found.parameters + found.frame_bytes)) back memory value t end)
+        (frame_level body.frame.now top + (2 + 2 * length found.parameters + found.frame_bytes))
+        back memory value t end)
     does =
-        frame_dropped {memory = memory} (reentrant_body code index found body bound number room top) well ready.shares.code
+        frame_dropped {memory = memory} (reentrant_body code index found body bound number room top)
+        well ready.shares.code
         ready.shares.is_memory
         (dropped body.frame.now.variable_bytes body.frame.now.parameter_count) body.procedure.now.result value
         (frame_level body.frame.now top) place r
@@ -105,8 +114,11 @@ reentrant_returns code entries bound lies index number room top procedure found 
         (record { list = stands.list; written = stands.written; there = stands.there }))
         (record { registers = ready.registers; pointer = ready.pointer; lies = lie })
         (λ here after now stand_after is_back.
-        over_returns (reentrant_body code index found body bound number room top) body.procedure.now.result value
-        (frame_level body.frame.now top + (2 + 2 * length found.parameters + found.frame_bytes)) back t memory well
+        over_returns (reentrant_body code index found body bound number room top)
+        body.procedure.now.result value
+        (frame_level body.frame.now top + (2 + 2 * length found.parameters + found.frame_bytes)) back t memory
+        well
         ready.shares (omega (arith, low)) limit (body.frame.now.parameter_count - 1) after stands.to
-        (frame_level body.frame.now top + dropped body.frame.now.variable_bytes body.frame.now.parameter_count) here
+        (frame_level body.frame.now top + dropped body.frame.now.variable_bytes
+        body.frame.now.parameter_count) here
         stands.last now above_is stand_after return_there is_back)

@@ -28,7 +28,8 @@ pub return_does :
     → act script Ret (at_place place r memory events)
     ≡ at_place back (record r { sp = wrap (level + 2) }) memory events
 return_does script place level back r memory events pointer limit return_lies =
-    stack.return_does script place (level + 2) (wrap back) r memory events (pointer ∙ ap wrap (two_more_less level)) (omega arith) limit
+    stack.return_does script place (level + 2) (wrap back) r memory events
+    (pointer ∙ ap wrap (two_more_less level)) (omega arith) limit
     (record {
       high = ap (byte_at memory) (next_byte level) ∙ return_lies.high;
       low = ap (byte_at memory) (first_byte level) ∙ return_lies.low;
@@ -39,7 +40,8 @@ unfolding return_steps_by
 steps_are body static = ap (λ (kind : ProcedureKind). return_steps_by kind body) static
 
 pub static_returns : (code : ModuleCode) (bound : ℕ) → StaticReturns code bound
-static_returns code bound index number room top procedure found body is static fits sound place back value base t r memory stands ready lie return_lies =
+static_returns code bound index number room top procedure found body is static fits sound place back value
+    base t r memory stands ready lie return_lies =
     does.told
   where
     at : BodyContext
@@ -59,7 +61,8 @@ static_returns code bound index number room top procedure found body is static f
 
     planned : AreCarriedOut body code.called stands.here None (plain Ret ∷ []) stands.list stands.last
     planned =
-        subst (λ (steps : List Planned). AreCarriedOut body code.called stands.here None steps stands.list stands.last)
+        subst (λ (steps : List Planned). AreCarriedOut body code.called stands.here None steps
+        stands.list stands.last)
         (steps_are body (ap (λ (one : TreeProcedure). one.kind) is.is_procedure ∙ static)) stands.written
 
     now : Registers
@@ -69,12 +72,15 @@ static_returns code bound index number room top procedure found body is static f
         ≡ at_place back (record r { sp = wrap (static_level found top + 2) }) memory t.events
     step =
         let parts = plain_planned (static_body code index found body bound number room top) Ret [] planned in
-        plain_step code.program.script (static_body code index found body bound number room top).context.activation Ret
+        plain_step code.program.script
+        (static_body code index found body bound number room top).context.activation Ret
         parts.more place stands.to r memory t.events lies ready.shares.code
         (subst (λ (list : List Item).
-        IsThere (static_body code index found body bound number room top).context.activation list place stands.to)
+        IsThere (static_body code index found body bound number room top).context.activation
+        list place stands.to)
         parts.is stands.there)
-        ∙ return_does code.program.script (place + 1) (static_level found top) back r memory t.events ready.pointer limit
+        ∙ return_does code.program.script (place + 1) (static_level found top) back r memory
+        t.events ready.pointer limit
         return_lies
 
     does : Does code.program.script t.budget 0 (at_place place r memory t.events) (Gave value t)
@@ -94,6 +100,7 @@ static_returns code bound index number room top procedure found body is static f
           pointer = refl;
           kept = keeps_all (IsOfCall code.program (top + 2 - room) (static_level found top + 2)) memory;
           lies =
-              result_kept body.procedure.now.result value r (record r { sp = wrap (static_level found top + 2) }) memory
+              result_kept body.procedure.now.result value r
+              (record r { sp = wrap (static_level found top + 2) }) memory
               memory refl refl refl lie;
         }))

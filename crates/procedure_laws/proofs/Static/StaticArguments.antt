@@ -60,7 +60,8 @@ module _ (at : BodyContext) (sound : IsSound at.context)
 
   -- the return address is taken into DE, the arguments are taken, and it is put back
   pushed_does :
-      {A : Type 0} {outcome : Outcome A} {Good : A → SourceState → State → Type 0} {budget : ℕ} {events : List Event}
+      {A : Type 0} {outcome : Outcome A} {Good : A → SourceState → State → Type 0} {budget : ℕ}
+      {events : List Event}
       (rest : List Planned) (facts : Facts) (here last : Here) (list : List Item) (from to : ℕ)
       (source memory : List ℕ) (r : Registers)
       → AreCarriedOut at.body at.context.called here None (pushed_arguments_steps others ++ rest) list last
@@ -73,17 +74,22 @@ module _ (at : BodyContext) (sound : IsSound at.context)
       → Does at.context.activation.around.program.script budget 0 (at_place from r memory events) outcome Good
   unfolding pushed_arguments_steps limit
   pushed_does rest facts here last list from to source memory r written there on held go =
-      pop_goes at sound no_frame (top + 2 + 2 * length others) entered frame none StackDe (wrap back) r (wrapped_small back)
+      pop_goes at sound no_frame (top + 2 + 2 * length others) entered frame none StackDe (wrap back) r
+      (wrapped_small back)
       (on.stack top start (omega (arith, high)) ∙ return_lies.low)
-      (on.stack (top + 1) (omega (arith, start)) (omega (arith, high)) ∙ return_lies.high) (omega (arith, limit))
+      (on.stack (top + 1) (omega (arith, start)) (omega (arith, high)) ∙ return_lies.high)
+      (omega (arith, limit))
       first_parts.one on
       (λ popped.
-      loop_does at sound no_frame (top + 2 + 2 * length others) entered frame none others slots values entered (top + 2)
-      (length others) (omega (arith, start)) high taken (length others) (plain (Push StackDe) ∷ rest) facts first.here last
+      loop_does at sound no_frame (top + 2 + 2 * length others) entered frame none others slots
+      values entered (top + 2)
+      (length others) (omega (arith, start)) high taken (length others) (plain (Push StackDe) ∷ rest)
+      facts first.here last
       first.more (from + 1) to (top + 2) source memory
       (record r { d = high_byte (wrap back); e = low_byte (wrap back); sp = wrap (top + 2) }) (omega arith)
       (omega arith)
-      (subst (λ (steps : List Planned). AreCarriedOut at.body at.context.called first.here None steps first.more last)
+      (subst (λ (steps : List Planned). AreCarriedOut at.body at.context.called first.here None
+      steps first.more last)
       (append_assoc (popped_from others (length others)) (plain (Push StackDe) ∷ []) rest) first.written)
       first_parts.rest
       (subst (λ (known : Facts).
@@ -95,7 +101,8 @@ module _ (at : BodyContext) (sound : IsSound at.context)
       let last_step = plain_behind at (Push StackDe) rest written_then in
       let last_parts =
       plain_parted (Push StackDe) last_step.more
-      (subst (λ (list : List Item). IsThere at.context.activation list from_then to) last_step.is there_then) in
+      (subst (λ (list : List Item). IsThere at.context.activation list from_then to)
+      last_step.is there_then) in
       push_goes at sound no_frame (top + 2 + 2 * length others) entered frame none now (omega (arith, start))
       (omega arith) high last_parts.one on_then
       (λ stored.
@@ -105,24 +112,30 @@ module _ (at : BodyContext) (sound : IsSound at.context)
         from = from_then + 1;
         now = record now { sp = wrap (top + 2 + 2 * length others - 2) };
         stacked =
-            pushed (top + 2 + 2 * length others) (256 * now.d + now.e) (put_down (length others) slots values memory);
-        ended = pushed (top + 2 + 2 * length others) (256 * now.d + now.e) (put_down (length others) slots values memory);
+            pushed (top + 2 + 2 * length others) (256 * now.d + now.e)
+            (put_down (length others) slots values memory);
+        ended = pushed (top + 2 + 2 * length others) (256 * now.d + now.e)
+            (put_down (length others) slots values memory);
         written = last_step.written;
         there = last_parts.rest;
         on =
             subst (λ (level : ℕ).
             Underway at (top + 2 + 2 * length others) entered
-            (pushed (top + 2 + 2 * length others) (256 * now.d + now.e) (put_down (length others) slots values memory))
+            (pushed (top + 2 + 2 * length others) (256 * now.d + now.e)
+            (put_down (length others) slots values memory))
             last_step.here.facts level (put_down (length others) slots values source)
             (record now { sp = wrap (top + 2 + 2 * length others - 2) })
-            (pushed (top + 2 + 2 * length others) (256 * now.d + now.e) (put_down (length others) slots values memory)))
+            (pushed (top + 2 + 2 * length others) (256 * now.d + now.e)
+            (put_down (length others) slots values memory)))
             (level_is (length others))
             (subst (λ (known : Facts).
             Underway at (top + 2 + 2 * length others) entered
-            (pushed (top + 2 + 2 * length others) (256 * now.d + now.e) (put_down (length others) slots values memory))
+            (pushed (top + 2 + 2 * length others) (256 * now.d + now.e)
+            (put_down (length others) slots values memory))
             known (top + 2 + 2 * length others - 2) (put_down (length others) slots values source)
             (record now { sp = wrap (top + 2 + 2 * length others - 2) })
-            (pushed (top + 2 + 2 * length others) (256 * now.d + now.e) (put_down (length others) slots values memory)))
+            (pushed (top + 2 + 2 * length others) (256 * now.d + now.e)
+            (put_down (length others) slots values memory)))
             (sym last_step.facts) stored);
         returns =
             subst (λ (level : ℕ).
@@ -131,7 +144,8 @@ module _ (at : BodyContext) (sound : IsSound at.context)
             (over_is (length others))
             (pushed_return (top + 2 * length others) back (256 * now.d + now.e)
             (put_down (length others) slots values memory)
-            (ap (λ (d : ℕ). 256 * d + now.e) d ∙ ap (λ (e : ℕ). 256 * high_byte (wrap back) + e) e ∙ joined (wrap back))
+            (ap (λ (d : ℕ). 256 * d + now.e) d ∙ ap (λ (e : ℕ). 256 * high_byte (wrap back) + e) e
+            ∙ joined (wrap back))
             (omega (arith, limit)) on_then.shares.is_memory.size);
         held = record { byte = held_then.byte; word = held_then.word; address = held_then.address; zero = held_then.zero };
       }))))
@@ -145,17 +159,21 @@ module _ (at : BodyContext) (sound : IsSound at.context)
       first : IsBehind at (items.Plain (Pop StackDe) ∷ []) (after here.facts (Pop StackDe))
           ((popped_from others (length others) ++ (plain (Push StackDe) ∷ [])) ++ rest) list last
       first =
-          plain_behind at (Pop StackDe) ((popped_from others (length others) ++ (plain (Push StackDe) ∷ [])) ++ rest) written
+          plain_behind at (Pop StackDe)
+          ((popped_from others (length others) ++ (plain (Push StackDe) ∷ [])) ++ rest) written
 
-      first_parts : PartedThere at.context.activation (items.Plain (Pop StackDe) ∷ []) first.more from (from + 1) to
+      first_parts : PartedThere at.context.activation (items.Plain (Pop StackDe) ∷ [])
+          first.more from (from + 1) to
       first_parts =
           plain_parted (Pop StackDe) first.more
           (subst (λ (list : List Item). IsThere at.context.activation list from to) first.is there)
 
   -- a single ADDRESS changes places with the return address
   exchanged_does :
-      {A : Type 0} {outcome : Outcome A} {Good : A → SourceState → State → Type 0} {budget : ℕ} {events : List Event}
-      (only : Parameter) (rest : List Planned) (facts : Facts) (here last : Here) (list : List Item) (from to : ℕ)
+      {A : Type 0} {outcome : Outcome A} {Good : A → SourceState → State → Type 0} {budget : ℕ}
+      {events : List Event}
+      (only : Parameter) (rest : List Planned) (facts : Facts) (here last : Here)
+      (list : List Item) (from to : ℕ)
       (source memory : List ℕ) (r : Registers)
       → others ≡ only ∷ []
       → is_address only.scalar ≡ true
@@ -168,10 +186,13 @@ module _ (at : BodyContext) (sound : IsSound at.context)
       (at_place below.from below.now below.ended events) outcome Good)
       → Does at.context.activation.around.program.script budget 0 (at_place from r memory events) outcome Good
   unfolding exchanged_steps known_from known_at limit
-  exchanged_does only rest facts here last list from to source memory r alone address written there on held go =
-      pop_goes at sound no_frame (top + 2 + 2 * length others) entered frame none StackHl (wrap back) r (wrapped_small back)
+  exchanged_does only rest facts here last list from to source memory r alone address
+      written there on held go =
+      pop_goes at sound no_frame (top + 2 + 2 * length others) entered frame none StackHl (wrap back) r
+      (wrapped_small back)
       (on.stack top start (omega (arith, high)) ∙ return_lies.low)
-      (on.stack (top + 1) (omega (arith, start)) (omega (arith, high)) ∙ return_lies.high) (omega (arith, limit))
+      (on.stack (top + 1) (omega (arith, start)) (omega (arith, high)) ∙ return_lies.high)
+      (omega (arith, limit))
       first_parts.one on
       (λ popped.
       exchange_goes at sound no_frame (top + 2 + 2 * length others) entered frame none
@@ -179,14 +200,16 @@ module _ (at : BodyContext) (sound : IsSound at.context)
       (record r { h = high_byte (wrap back); l = low_byte (wrap back); sp = wrap (top + 2) })
       (omega (arith, low_small, high_small))
       (sym (low_of_sum (byte_at memory (top + 2)) (byte_at memory (top + 2 + 1)) low_small))
-      (sym (high_of_sum (byte_at memory (top + 2)) (byte_at memory (top + 2 + 1)) low_small)) (omega (arith, start))
+      (sym (high_of_sum (byte_at memory (top + 2)) (byte_at memory (top + 2 + 1)) low_small))
+      (omega (arith, start))
       (omega (arith, one_long)) high second_parts.one
       (subst (λ (known : Facts).
       Underway at (top + 2 + 2 * length others) entered entered known (top + 2) source
       (record r { h = high_byte (wrap back); l = low_byte (wrap back); sp = wrap (top + 2) }) memory)
       (sym first.facts) popped)
       (λ exchanged.
-      store_goes at sound no_frame (top + 2 + 2 * length others) entered frame none one.slot one.value now one.lies
+      store_goes at sound no_frame (top + 2 + 2 * length others) entered frame none one.slot
+      one.value now one.lies
       one.variables one.small lies_now third_parts.one exchanged
       (λ stored.
       go (record {
@@ -208,7 +231,8 @@ module _ (at : BodyContext) (sound : IsSound at.context)
             (pushed_return (top + 2 * 1) back (256 * high_byte (wrap back) + low_byte (wrap back)) memory
             (joined (wrap back)) (omega (arith, limit, one_long)) on.shares.is_memory.size);
         held =
-            subst (λ (list : List Parameter). Held slots values (known_from facts list (length list)) now) (sym alone)
+            subst (λ (list : List Parameter). Held slots values (known_from facts list (length list)) now)
+            (sym alone)
             (subst (λ (parameter : Parameter). Held slots values (known_from facts (parameter ∷ []) 1) now)
             (sym only_is) held_now);
       }))))
@@ -221,7 +245,8 @@ module _ (at : BodyContext) (sound : IsSound at.context)
 
       only_is : only ≡ record { scalar = one.slot.scalar; location = Static one.slot.place }
       only_is =
-          let same : Some only ≡ Some (record { scalar = one.slot.scalar; location = Static one.slot.place }) =
+          let same : Some only
+          ≡ Some (record { scalar = one.slot.scalar; location = Static one.slot.place }) =
           ap (λ (list : List Parameter). slice_get list 0) (sym alone) ∙ one.parameter in
           same_Some only
           (record { scalar = one.slot.scalar; location = Static one.slot.place }) same
@@ -238,7 +263,8 @@ module _ (at : BodyContext) (sound : IsSound at.context)
           (plain Xthl ∷ argument_step only ∷ rest) list last
       first = plain_behind at (Pop StackHl) (plain Xthl ∷ argument_step only ∷ rest) written
 
-      second : IsBehind at (items.Plain Xthl ∷ []) (after first.here.facts Xthl) (argument_step only ∷ rest) first.more last
+      second : IsBehind at (items.Plain Xthl ∷ []) (after first.here.facts Xthl)
+          (argument_step only ∷ rest) first.more last
       second = plain_behind at Xthl (argument_step only ∷ rest) first.written
 
       third : IsBehind at (word_item (store_form one.slot.scalar) one.slot.place ∷ [])
@@ -247,24 +273,30 @@ module _ (at : BodyContext) (sound : IsSound at.context)
           word_behind at (store_form one.slot.scalar) one.slot.place rest
           (subst (λ (step : Planned).
           AreCarriedOut at.body at.context.called second.here None (step ∷ rest) second.more last)
-          (ap (λ (parameter : Parameter). argument_step parameter) only_is ∙ store_is one.slot.scalar one.slot.place)
+          (ap (λ (parameter : Parameter). argument_step parameter) only_is
+          ∙ store_is one.slot.scalar one.slot.place)
           second.written)
 
-      first_parts : PartedThere at.context.activation (items.Plain (Pop StackHl) ∷ []) first.more from (from + 1) to
+      first_parts : PartedThere at.context.activation (items.Plain (Pop StackHl) ∷ [])
+          first.more from (from + 1) to
       first_parts =
           plain_parted (Pop StackHl) first.more
           (subst (λ (list : List Item). IsThere at.context.activation list from to) first.is there)
 
-      second_parts : PartedThere at.context.activation (items.Plain Xthl ∷ []) second.more (from + 1) (from + 1 + 1) to
+      second_parts : PartedThere at.context.activation (items.Plain Xthl ∷ []) second.more
+          (from + 1) (from + 1 + 1) to
       second_parts =
           plain_parted Xthl second.more
-          (subst (λ (list : List Item). IsThere at.context.activation list (from + 1) to) second.is first_parts.rest)
+          (subst (λ (list : List Item). IsThere at.context.activation list (from + 1) to)
+          second.is first_parts.rest)
 
-      third_parts : PartedThere at.context.activation (word_item (store_form one.slot.scalar) one.slot.place ∷ [])
+      third_parts : PartedThere at.context.activation
+          (word_item (store_form one.slot.scalar) one.slot.place ∷ [])
           third.more (from + 1 + 1) (from + 1 + 1 + 3) to
       third_parts =
           word_parted (store_form one.slot.scalar) one.slot.place third.more
-          (subst (λ (list : List Item). IsThere at.context.activation list (from + 1 + 1) to) third.is second_parts.rest)
+          (subst (λ (list : List Item). IsThere at.context.activation list (from + 1 + 1) to)
+          third.is second_parts.rest)
 
       low_small : byte_at memory (top + 2) < 256
       low_small = byte_small memory (top + 2) on.shares.is_memory
@@ -331,7 +363,8 @@ module _ (at : BodyContext) (sound : IsSound at.context)
       ended :
           Underway at (top + 2 + 2 * length others) entered
           (pushed (top + 2 + 2) (256 * high_byte (wrap back) + low_byte (wrap back)) memory)
-          (after_word (after first.here.facts Xthl) (store_form one.slot.scalar) one.slot.place) (top + 2 + 2 - 2)
+          (after_word (after first.here.facts Xthl) (store_form one.slot.scalar) one.slot.place)
+          (top + 2 + 2 - 2)
           (put one.slot.scalar one.slot.at one.value source) now
           (put one.slot.scalar one.slot.at one.value
           (pushed (top + 2 + 2) (256 * high_byte (wrap back) + low_byte (wrap back)) memory))
@@ -367,12 +400,14 @@ module _ (at : BodyContext) (sound : IsSound at.context)
           (top + 2 + 2 - 2) (put one.slot.scalar one.slot.at one.value source) now
           (put one.slot.scalar one.slot.at one.value
           (pushed (top + 2 + 2) (256 * high_byte (wrap back) + low_byte (wrap back)) memory)))
-          (ap (λ (known : Facts). after_word known (store_form one.slot.scalar) one.slot.place) (sym second.facts)
+          (ap (λ (known : Facts). after_word known (store_form one.slot.scalar) one.slot.place)
+          (sym second.facts)
           ∙ sym third.facts) stored)))
 
   -- the arguments that are on the stack go to their parameters
   pub below_does :
-      {A : Type 0} {outcome : Outcome A} {Good : A → SourceState → State → Type 0} {budget : ℕ} {events : List Event}
+      {A : Type 0} {outcome : Outcome A} {Good : A → SourceState → State → Type 0} {budget : ℕ}
+      {events : List Event}
       (rest : List Planned) (facts : Facts) (here last : Here) (list : List Item) (from to : ℕ)
       (source memory : List ℕ) (r : Registers)
       → AreCarriedOut at.body at.context.called here None (below_return_steps others ++ rest) list last
@@ -384,29 +419,36 @@ module _ (at : BodyContext) (sound : IsSound at.context)
       (at_place below.from below.now below.ended events) outcome Good)
       → Does at.context.activation.around.program.script budget 0 (at_place from r memory events) outcome Good
   unfolding below_return_steps known_from
-  below_does {A = A} {outcome = outcome} {Good = Good} {budget = budget} {events = events} rest facts here last list from to source memory r written there on held go =
+  below_does {A = A} {outcome = outcome} {Good = Good} {budget = budget} {events = events} rest facts here
+      last list from to source memory r written there on held go =
       by_others others refl written
     where
       pushed_then : (list_of : List Parameter) → others ≡ list_of
-          → AreCarriedOut at.body at.context.called here None (pushed_arguments_steps list_of ++ rest) list last
-          → Does at.context.activation.around.program.script budget 0 (at_place from r memory events) outcome Good
+          → AreCarriedOut at.body at.context.called here None
+          (pushed_arguments_steps list_of ++ rest) list last
+          → Does at.context.activation.around.program.script budget 0
+          (at_place from r memory events) outcome Good
       pushed_then list_of same written =
           pushed_does rest facts here last list from to source memory r
           (subst (λ (list_of : List Parameter).
-          AreCarriedOut at.body at.context.called here None (pushed_arguments_steps list_of ++ rest) list last) (sym same)
+          AreCarriedOut at.body at.context.called here None (pushed_arguments_steps list_of ++ rest)
+          list last) (sym same)
           written) there on held go
 
       by_test : (only : Parameter) (test : Bool) → others ≡ only ∷ [] → is_address only.scalar ≡ test
           → AreCarriedOut at.body at.context.called here None
           ((if test then exchanged_steps only else pushed_arguments_steps (only ∷ [])) ++ rest) list last
-          → Does at.context.activation.around.program.script budget 0 (at_place from r memory events) outcome Good
+          → Does at.context.activation.around.program.script budget 0
+          (at_place from r memory events) outcome Good
       by_test only true same is written =
-          exchanged_does only rest facts here last list from to source memory r same is written there on held go
+          exchanged_does only rest facts here last list from to source memory r same is
+          written there on held go
       by_test only false same is written = pushed_then (only ∷ []) same written
 
       by_others : (list_of : List Parameter) → others ≡ list_of
           → AreCarriedOut at.body at.context.called here None (below_return_steps list_of ++ rest) list last
-          → Does at.context.activation.around.program.script budget 0 (at_place from r memory events) outcome Good
+          → Does at.context.activation.around.program.script budget 0
+          (at_place from r memory events) outcome Good
       by_others [] same written =
           let no_others : length others ≡ 0 = ap (λ (list : List Parameter). length list) same in
           go (record {
@@ -428,7 +470,8 @@ module _ (at : BodyContext) (sound : IsSound at.context)
             returns =
                 subst (λ (level : ℕ). ReturnLies level back entered) (omega (arith, no_others)) return_lies;
             held =
-                subst (λ (count : ℕ). Held slots values (known_from facts others count) r) (sym no_others) held;
+                subst (λ (count : ℕ). Held slots values (known_from facts others count) r)
+                (sym no_others) held;
           })
       by_others (only ∷ []) same written = by_test only (is_address only.scalar) same refl written
       by_others (one ∷ next ∷ more) same written = pushed_then (one ∷ next ∷ more) same written

@@ -23,9 +23,11 @@ pub taken_first : {A : Type 0} (count : ℕ) (list : List A) (index : ℕ) → i
 taken_first zero list index below = absurd (omega (arith, below))
 taken_first (suc count) [] index below = refl
 taken_first (suc count) (first ∷ others) zero below = refl
-taken_first (suc count) (first ∷ others) (suc index) below = taken_first count others index (omega (arith, below))
+taken_first (suc count) (first ∷ others) (suc index) below =
+    taken_first count others index (omega (arith, below))
 
-pub taken_length : {A : Type 0} (count : ℕ) (list : List A) → count ≤ length list → length (take count list) ≡ count
+pub taken_length : {A : Type 0} (count : ℕ) (list : List A) → count ≤ length list
+    → length (take count list) ≡ count
 taken_length zero list few = refl
 taken_length (suc count) [] few = absurd (omega (arith, few))
 taken_length (suc count) (first ∷ others) few = ap suc (taken_length count others (omega (arith, few)))
@@ -47,11 +49,13 @@ pub variables_at : (program : Program) (slots : List Slot) (index : ℕ) (slot :
 variables_at program [] index slot are is = let bad : ⊥ = cc in absurd bad
 variables_at program (first ∷ slots) zero slot are is =
     let same : first ≡ slot = cc in
-    subst (λ (one : Slot). (address : ℕ) → IsPart one.scalar one.at address → IsVariable program address) same are.0
+    subst (λ (one : Slot). (address : ℕ) → IsPart one.scalar one.at address → IsVariable program address) same
+    are.0
 variables_at program (first ∷ slots) (suc index) slot are is = variables_at program slots index slot are.1 is
 
 -- the last argument is in its register, and the others are on the stack
-pub last_lies : (slots : List Slot) (values : List ℕ) (top index value : ℕ) (slot : Slot) (r : Registers) (memory : List ℕ)
+pub last_lies : (slots : List Slot) (values : List ℕ) (top index value : ℕ) (slot : Slot)
+    (r : Registers) (memory : List ℕ)
     → ArgumentsLie (map (λ (slot : Slot). slot.scalar) slots) values top r memory
     → suc index ≡ length slots
     → slice_get slots index ≡ Some slot
@@ -76,7 +80,8 @@ scalars_length : (slots : List Slot) → length (map (λ (slot : Slot). slot.sca
 scalars_length [] = refl
 scalars_length (first ∷ slots) = ap suc (scalars_length slots)
 
-pub other_lies : (slots : List Slot) (values : List ℕ) (top index value : ℕ) (slot : Slot) (r : Registers) (memory : List ℕ)
+pub other_lies : (slots : List Slot) (values : List ℕ) (top index value : ℕ) (slot : Slot)
+    (r : Registers) (memory : List ℕ)
     → ArgumentsLie (map (λ (slot : Slot). slot.scalar) slots) values top r memory
     → suc index < length slots
     → slice_get slots index ≡ Some slot
@@ -113,10 +118,12 @@ module _ (at : BodyContext) (sound : IsSound at.context)
     (many : length values ≡ length slots) (size : length source ≡ MEMORY_SIZE)
     (variables : AreVariables at.context.activation.around.program slots) where
   -- what is known of registers is true at the end
-  lies_at : {scalar : ScalarType} {location : Location} (value : ℕ) (held : HeldAs slots values scalar location value)
+  lies_at : {scalar : ScalarType} {location : Location} (value : ℕ)
+      (held : HeldAs slots values scalar location value)
       → Lies scalar held.slot.at value (put_down (length slots) slots values source)
   lies_at {scalar = scalar} value held =
-      subst (λ (scalar : ScalarType). Lies scalar held.slot.at value (put_down (length slots) slots values source))
+      subst (λ (scalar : ScalarType). Lies scalar held.slot.at value
+      (put_down (length slots) slots values source))
       held.scalar_is
       (lies_there slots values source held.index held.slot value apart many size held.there held.value_is
       (lie held.index held.slot held.there).1)
@@ -126,7 +133,8 @@ module _ (at : BodyContext) (sound : IsSound at.context)
       → IsPart scalar held.slot.at address
       → is_declared at.context.activation.around.program address ≡ true
   part_declared {scalar = scalar} held address part =
-      (variables_at at.context.activation.around.program slots held.index held.slot variables held.there address
+      (variables_at at.context.activation.around.program slots held.index held.slot
+      variables held.there address
       (subst (λ (scalar : ScalarType). IsPart scalar held.slot.at address) (sym held.scalar_is) part)).0
 
   place_is : {scalar : ScalarType} {location : Location} {value : ℕ}

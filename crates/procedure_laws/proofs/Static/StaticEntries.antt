@@ -41,7 +41,8 @@ module _ (at : BodyContext) (sound : IsSound at.context)
       → level ≡ top + 2 * (length slots - 1)
       → ReturnLies level back stacked
       → Know at.context held r memory
-      → Does at.context.activation.around.program.script t.budget 0 (at_place from r memory t.events) (Gave tt t) Good
+      → Does at.context.activation.around.program.script t.budget 0
+      (at_place from r memory t.events) (Gave tt t) Good
   finish held here list from level stacked r memory written there on same returns known =
       does_without_step (record {
         r = r;
@@ -50,19 +51,22 @@ module _ (at : BodyContext) (sound : IsSound at.context)
         ready =
             subst (λ (level : ℕ). IsReady at.context.activation level memory t.memory t.frame r memory)
             (same ∙ sym level_is)
-            (subst (λ (frame : List (List ℕ)). IsReady at.context.activation level memory t.memory frame r memory)
+            (subst (λ (frame : List (List ℕ)). IsReady at.context.activation level memory
+            t.memory frame r memory)
             (sym frame_is)
             (subst (λ (source : List ℕ). IsReady at.context.activation level memory source frame r memory)
             (sym (memory_is ∙ set_down slots values source apart many))
             (ready_of at sound no_frame (top + 2 + 2 * (length slots - 1)) entered frame none on)));
         known =
             subst (λ (facts : Facts). Know at.context facts r memory) (sym ends.facts)
-            (with_facts_hold here.facts held (known_within at.context here.facts r memory sound.lies on.known) known);
+            (with_facts_hold here.facts held
+            (known_within at.context here.facts r memory sound.lies on.known) known);
         return_lies =
             subst (λ (address : ℕ). ReturnLies address back memory) (omega (arith, same, level_is, back_is))
             (record {
               low = on.stack level (omega (arith, same, start)) (omega (arith, same, high)) ∙ returns.low;
-              high = on.stack (level + 1) (omega (arith, same, start)) (omega (arith, same, high)) ∙ returns.high;
+              high = on.stack (level + 1) (omega (arith, same, start)) (omega (arith, same, high))
+                  ∙ returns.high;
             });
         kept = on.kept;
       })
@@ -81,10 +85,12 @@ module _ (at : BodyContext) (sound : IsSound at.context)
       (others : ℕ) (list : List Item) (from : ℕ) (r : Registers)
       → length slots ≡ suc others
       → ArgumentsLie (map (λ (slot : Slot). slot.scalar) slots) values (top + 2) r entered
-      → AreCarriedOut at.body at.context.called at_start None (static_entry_steps (map parameter_of slots)) list begun
+      → AreCarriedOut at.body at.context.called at_start None
+      (static_entry_steps (map parameter_of slots)) list begun
       → IsThere at.context.activation list from to
       → Underway at (top + 2 + 2 * (length slots - 1)) entered entered no_facts top source r entered
-      → Does at.context.activation.around.program.script t.budget 0 (at_place from r entered t.events) (Gave tt t) Good
+      → Does at.context.activation.around.program.script t.budget 0
+      (at_place from r entered t.events) (Gave tt t) Good
   unfolding static_entry_steps stores_steps
   some_does others list from r count arguments written there on =
       store_goes at sound no_frame (top + 2 + 2 * (length slots - 1)) entered frame none slot.one value.one r
@@ -92,19 +98,23 @@ module _ (at : BodyContext) (sound : IsSound at.context)
       (variables_at at.context.activation.around.program slots others slot.one variables slot.is)
       (lie others slot.one slot.is).1 lies first_parts.one on
       (λ stored.
-      below_does at sound no_frame entered frame none (take others (map parameter_of slots)) slots values top back start
+      below_does at sound no_frame entered frame none (take others (map parameter_of slots)) slots
+      values top back start
       (omega (arith, high, count, rest_length)) taken return_lies
-      (holds (known_from (with_argument no_facts (parameter_of slot.one)) (take others (map parameter_of slots))
+      (holds (known_from (with_argument no_facts (parameter_of slot.one))
+      (take others (map parameter_of slots))
       (length (take others (map parameter_of slots)))) ∷ [])
       (with_argument no_facts (parameter_of slot.one)) first.here begun first.more (from + 3) to
       (put slot.one.scalar slot.one.at value.one source) (put slot.one.scalar slot.one.at value.one entered) r
       first.written first_parts.rest
       (subst (λ (above : ℕ).
-      Underway at above entered entered first.here.facts top (put slot.one.scalar slot.one.at value.one source) r
+      Underway at above entered entered first.here.facts top
+      (put slot.one.scalar slot.one.at value.one source) r
       (put slot.one.scalar slot.one.at value.one entered)) (omega (arith, count, rest_length))
       (subst (λ (known : Facts).
       Underway at (top + 2 + 2 * (length slots - 1)) entered entered known top
-      (put slot.one.scalar slot.one.at value.one source) r (put slot.one.scalar slot.one.at value.one entered))
+      (put slot.one.scalar slot.one.at value.one source) r
+      (put slot.one.scalar slot.one.at value.one entered))
       (sym first.facts) stored))
       held
       (λ below. ending below))
@@ -129,7 +139,8 @@ module _ (at : BodyContext) (sound : IsSound at.context)
       steps_are : static_entry_steps (map parameter_of slots)
           ≡ word (store_form slot.one.scalar) slot.one.place
           ∷ (below_return_steps (take others (map parameter_of slots))
-          ++ (holds (known_from (with_argument no_facts (parameter_of slot.one)) (take others (map parameter_of slots))
+          ++ (holds (known_from (with_argument no_facts (parameter_of slot.one))
+          (take others (map parameter_of slots))
           (length (take others (map parameter_of slots)))) ∷ []))
       steps_are =
           ap (λ (index : ℕ). elim (slice_get (map parameter_of slots) index) [
@@ -143,30 +154,36 @@ module _ (at : BodyContext) (sound : IsSound at.context)
           ∙ ap (λ (step : Planned).
           step
           ∷ (below_return_steps (take others (map parameter_of slots))
-          ++ (holds (known_from (with_argument no_facts (parameter_of slot.one)) (take others (map parameter_of slots))
+          ++ (holds (known_from (with_argument no_facts (parameter_of slot.one))
+          (take others (map parameter_of slots))
           (length (take others (map parameter_of slots)))) ∷ []))) (store_is slot.one.scalar slot.one.place)
 
       first : IsBehind at (word_item (store_form slot.one.scalar) slot.one.place ∷ [])
           (after_word at_start.facts (store_form slot.one.scalar) slot.one.place)
           (below_return_steps (take others (map parameter_of slots))
-          ++ (holds (known_from (with_argument no_facts (parameter_of slot.one)) (take others (map parameter_of slots))
+          ++ (holds (known_from (with_argument no_facts (parameter_of slot.one))
+          (take others (map parameter_of slots))
           (length (take others (map parameter_of slots)))) ∷ [])) list begun
       first =
           word_behind at (store_form slot.one.scalar) slot.one.place
           (below_return_steps (take others (map parameter_of slots))
-          ++ (holds (known_from (with_argument no_facts (parameter_of slot.one)) (take others (map parameter_of slots))
+          ++ (holds (known_from (with_argument no_facts (parameter_of slot.one))
+          (take others (map parameter_of slots))
           (length (take others (map parameter_of slots)))) ∷ []))
-          (subst (λ (steps : List Planned). AreCarriedOut at.body at.context.called at_start None steps list begun)
+          (subst (λ (steps : List Planned). AreCarriedOut at.body at.context.called at_start
+          None steps list begun)
           steps_are written)
 
-      first_parts : PartedThere at.context.activation (word_item (store_form slot.one.scalar) slot.one.place ∷ [])
+      first_parts : PartedThere at.context.activation
+          (word_item (store_form slot.one.scalar) slot.one.place ∷ [])
           first.more from (from + 3) to
       first_parts =
           word_parted (store_form slot.one.scalar) slot.one.place first.more
           (subst (λ (list : List Item). IsThere at.context.activation list from to) first.is there)
 
       lies : InRegister slot.one.scalar value.one r
-      lies = last_lies slots values (top + 2) others value.one slot.one r entered arguments (sym count) slot.is value.is
+      lies = last_lies slots values (top + 2) others value.one slot.one r entered arguments
+          (sym count) slot.is value.is
 
       held : Held slots values (with_argument no_facts (parameter_of slot.one)) r
       held =
@@ -198,7 +215,8 @@ module _ (at : BodyContext) (sound : IsSound at.context)
                 ∙ mapped slots index its.one its.is;
             lies = (lie index its.one its.is).0;
             small = (lie index its.one its.is).1;
-            variables = variables_at at.context.activation.around.program slots index its.one variables its.is;
+            variables =
+                variables_at at.context.activation.around.program slots index its.one variables its.is;
             word =
                 subst (λ (address : ℕ). InWord its.one.scalar its_value.one entered address)
                 (omega (arith, rest_length, count))
@@ -211,17 +229,20 @@ module _ (at : BodyContext) (sound : IsSound at.context)
           (put slot.one.scalar slot.one.at value.one source)
           ≡ put_down (length slots) slots values source
       source_is =
-          ap (λ (number : ℕ). put_down number slots values (put slot.one.scalar slot.one.at value.one source)) rest_length
+          ap (λ (number : ℕ). put_down number slots values (put slot.one.scalar slot.one.at value.one source))
+          rest_length
           ∙ ap (λ (source : List ℕ). put_down others slots values source)
           (sym (nth_is others slots values source slot.one value.one slot.is value.is))
           ∙ ap (λ (number : ℕ). put_down number slots values source) (sym count)
 
       ending :
-          (below : IsBelow at sound no_frame entered frame none (take others (map parameter_of slots)) slots values top
+          (below : IsBelow at sound no_frame entered frame none (take others
+          (map parameter_of slots)) slots values top
           back start (omega (arith, high, count, rest_length)) taken return_lies
           (with_argument no_facts (parameter_of slot.one)) (put slot.one.scalar slot.one.at value.one source)
           (put slot.one.scalar slot.one.at value.one entered) r begun
-          (holds (known_from (with_argument no_facts (parameter_of slot.one)) (take others (map parameter_of slots))
+          (holds (known_from (with_argument no_facts (parameter_of slot.one))
+          (take others (map parameter_of slots))
           (length (take others (map parameter_of slots)))) ∷ [])
           to (with_argument no_facts (parameter_of slot.one)))
           → Does at.context.activation.around.program.script t.budget 0
@@ -230,30 +251,38 @@ module _ (at : BodyContext) (sound : IsSound at.context)
           finish
           (known_from (with_argument no_facts (parameter_of slot.one)) (take others (map parameter_of slots))
           (length (take others (map parameter_of slots))))
-          below.here below.list below.from (top + 2 * length (take others (map parameter_of slots))) below.stacked
+          below.here below.list below.from (top + 2 * length (take others (map parameter_of slots)))
+          below.stacked
           below.now below.ended below.written below.there (on_now below)
           (omega (arith, rest_length, count)) below.returns
           (held_known at sound no_frame entered frame none slots values source lie apart many size variables
           (known_from (with_argument no_facts (parameter_of slot.one)) (take others (map parameter_of slots))
-          (length (take others (map parameter_of slots)))) below.now below.ended (on_now below).shares below.held)
+          (length (take others (map parameter_of slots)))) below.now below.ended
+          (on_now below).shares below.held)
         where
           on_now :
-              (below : IsBelow at sound no_frame entered frame none (take others (map parameter_of slots)) slots values
+              (below : IsBelow at sound no_frame entered frame none (take others
+              (map parameter_of slots)) slots values
               top back start (omega (arith, high, count, rest_length)) taken return_lies
-              (with_argument no_facts (parameter_of slot.one)) (put slot.one.scalar slot.one.at value.one source)
+              (with_argument no_facts (parameter_of slot.one))
+              (put slot.one.scalar slot.one.at value.one source)
               (put slot.one.scalar slot.one.at value.one entered) r begun
-              (holds (known_from (with_argument no_facts (parameter_of slot.one)) (take others (map parameter_of slots))
+              (holds (known_from (with_argument no_facts (parameter_of slot.one))
+              (take others (map parameter_of slots))
               (length (take others (map parameter_of slots)))) ∷ [])
               to (with_argument no_facts (parameter_of slot.one)))
               → Underway at (top + 2 + 2 * (length slots - 1)) entered below.stacked below.here.facts
-              (top + 2 * length (take others (map parameter_of slots))) (put_down (length slots) slots values source)
+              (top + 2 * length (take others (map parameter_of slots)))
+              (put_down (length slots) slots values source)
               below.now below.ended
           on_now below =
               subst (λ (above : ℕ).
               Underway at above entered below.stacked below.here.facts
-              (top + 2 * length (take others (map parameter_of slots))) (put_down (length slots) slots values source)
+              (top + 2 * length (take others (map parameter_of slots)))
+              (put_down (length slots) slots values source)
               below.now below.ended) (omega (arith, rest_length, count))
               (subst (λ (source : List ℕ).
               Underway at (top + 2 + 2 * length (take others (map parameter_of slots))) entered below.stacked
-              below.here.facts (top + 2 * length (take others (map parameter_of slots))) source below.now below.ended)
+              below.here.facts (top + 2 * length (take others (map parameter_of slots))) source
+              below.now below.ended)
               source_is below.on)

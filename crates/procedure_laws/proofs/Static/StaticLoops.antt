@@ -8,7 +8,8 @@ use Rattle.procedure_laws.proofs.Static.StaticStages.{Underway, pop_goes, store_
 use Rattle.procedure_laws.proofs.CallInstructions.{word_kept}
 
 -- items after the first one
-pub record PartedThere (activation : Activation) (first others : List Item) (from middle to : ℕ) : Type 0 where
+pub record PartedThere (activation : Activation) (first others : List Item)
+    (from middle to : ℕ) : Type 0 where
   pub one : IsThere activation first from middle
   pub rest : IsThere activation others middle to
 
@@ -34,7 +35,8 @@ word_parted {activation = activation} {from = from} {to = to} form place others 
     (record { one = parts.first; rest = parts.second })
 
 -- what a register is known to hold: a value that goes to a parameter
-pub record HeldAs (slots : List Slot) (values : List ℕ) (scalar : ScalarType) (location : Location) (value : ℕ) :
+pub record HeldAs (slots : List Slot) (values : List ℕ) (scalar : ScalarType)
+    (location : Location) (value : ℕ) :
     Type 0 where
   pub index : ℕ
   pub slot : Slot
@@ -87,7 +89,8 @@ in_register : (scalar : ScalarType) (value low high sp : ℕ) (r : Registers) (m
     → high ≡ byte_at memory (address + 1)
     → InWord scalar value memory address
     → InRegister scalar value (record (with_popped (pair_of scalar) (low + 256 * high) r) { sp = sp })
-in_register Byte value low high sp r memory address small one other lies = high_of_sum low high small ∙ other ∙ lies
+in_register Byte value low high sp r memory address small one other lies =
+    high_of_sum low high small ∙ other ∙ lies
 in_register Address value low high sp r memory address small one other lies =
     (high_of_sum low high small ∙ other ∙ lies.1, low_of_sum low high small ∙ one ∙ lies.0)
 
@@ -102,7 +105,8 @@ same_e Byte word sp r = refl
 same_e Address word sp r = refl
 
 -- a value that is in its register is known to be there
-pub held_then : (scalar : ScalarType) (slots : List Slot) (values : List ℕ) (facts : Facts) (r now : Registers)
+pub held_then : (scalar : ScalarType) (slots : List Slot) (values : List ℕ)
+    (facts : Facts) (r now : Registers)
     (value : ℕ) (location : Location)
     → HeldAs slots values scalar location value
     → InRegister scalar value now
@@ -195,8 +199,10 @@ module _ (at : BodyContext) (sound : IsSound at.context)
       ]) parameters count) is
 
   pub loop_does :
-      {A : Type 0} {outcome : Outcome A} {Good : A → SourceState → State → Type 0} {budget : ℕ} {events : List Event}
-      (count : ℕ) (rest : List Planned) (facts : Facts) (here last : Here) (list : List Item) (from to top : ℕ)
+      {A : Type 0} {outcome : Outcome A} {Good : A → SourceState → State → Type 0} {budget : ℕ}
+      {events : List Event}
+      (count : ℕ) (rest : List Planned) (facts : Facts) (here last : Here)
+      (list : List Item) (from to top : ℕ)
       (source memory : List ℕ) (r : Registers)
       → count ≤ total
       → top ≡ base + 2 * (total - count)
@@ -207,7 +213,8 @@ module _ (at : BodyContext) (sound : IsSound at.context)
       → ((here_then : Here) (list_then : List Item) (from_then : ℕ) (now : Registers)
       → AreCarriedOut at.body at.context.called here_then None rest list_then last
       → IsThere at.context.activation list_then from_then to
-      → Underway at above entered stacked here_then.facts (base + 2 * total) (put_down count slots values source) now
+      → Underway at above entered stacked here_then.facts (base + 2 * total)
+      (put_down count slots values source) now
       (put_down count slots values memory)
       → Held slots values (known_from facts parameters count) now
       → now.d ≡ r.d
@@ -218,27 +225,32 @@ module _ (at : BodyContext) (sound : IsSound at.context)
   unfolding popped_from known_from
   loop_does zero rest facts here last list from to top source memory r few top_is written there on held go =
       go here list from r written there
-      (subst (λ (top : ℕ). Underway at above entered stacked here.facts top source r memory) (top_is ∙ all total) on)
+      (subst (λ (top : ℕ). Underway at above entered stacked here.facts top source r memory)
+      (top_is ∙ all total) on)
       held refl refl
     where
       all : (total : ℕ) → base + 2 * (total - 0) ≡ base + 2 * total
       all total = omega arith
-  loop_does {A = A} {outcome = outcome} {Good = Good} {budget = budget} {events = events} (suc count) rest facts here last list from to top source memory r few top_is written there on held go =
+  loop_does {A = A} {outcome = outcome} {Good = Good} {budget = budget} {events = events} (suc count) rest
+      facts here last list from to top source memory r few top_is written there on held go =
       pop_goes at sound no_frame above entered frame none (pair_of one.slot.scalar)
       (byte_at memory top + 256 * byte_at memory (top + 1)) r
       (word_small (byte_at memory top) (byte_at memory (top + 1)) low_small high_small)
       (sym (low_of_sum (byte_at memory top) (byte_at memory (top + 1)) low_small))
       (sym (high_of_sum (byte_at memory top) (byte_at memory (top + 1)) low_small)) limit first_parts.one on
       (λ popped.
-      store_goes at sound no_frame above entered frame none one.slot one.value now one.lies one.variables one.small
+      store_goes at sound no_frame above entered frame none one.slot one.value now one.lies
+      one.variables one.small
       lies_now second_parts.one
       popped
       (λ stored.
       subst (λ (memory : List ℕ).
       Does at.context.activation.around.program.script budget 0
-      (at_place (from + size_of_instruction (Pop (pair_of one.slot.scalar)) + 3) now memory events) outcome Good)
+      (at_place (from + size_of_instruction (Pop (pair_of one.slot.scalar)) + 3) now memory events) outcome
+      Good)
       (nth_is count slots values memory one.slot one.value one.there one.value_is)
-      (loop_does count rest (argument_facts one.slot.scalar (Static one.slot.place) facts) second.here last second.more
+      (loop_does count rest (argument_facts one.slot.scalar (Static one.slot.place) facts)
+      second.here last second.more
       (from + size_of_instruction (Pop (pair_of one.slot.scalar)) + 3) to (top + 2)
       (put_nth count slots values source) (put_nth count slots values memory) now (omega (arith, few))
       (omega (arith, top_is, few)) second.written second_parts.rest
@@ -248,13 +260,16 @@ module _ (at : BodyContext) (sound : IsSound at.context)
       (subst (λ (facts : Facts). Held slots values facts last_registers)
       (sym (known_is count facts one.slot one.parameter)) held_last)
       (d ∙ same_d one.slot.scalar (byte_at memory top + 256 * byte_at memory (top + 1)) (wrap (top + 2)) r)
-      (e ∙ same_e one.slot.scalar (byte_at memory top + 256 * byte_at memory (top + 1)) (wrap (top + 2)) r)))))
+      (e ∙ same_e one.slot.scalar (byte_at memory top + 256 * byte_at memory (top + 1))
+      (wrap (top + 2)) r)))))
     where
       one : IsTaken at parameters slots values stacked (base + 2 * (total - 1 - count)) count
       one = taken count (omega (arith, few))
 
-      first : IsBehind at (items.Plain (Pop (pair_of one.slot.scalar)) ∷ []) (after here.facts (Pop (pair_of one.slot.scalar)))
-          (word (store_form one.slot.scalar) one.slot.place ∷ (popped_from parameters count ++ rest)) list last
+      first : IsBehind at (items.Plain (Pop (pair_of one.slot.scalar)) ∷ [])
+          (after here.facts (Pop (pair_of one.slot.scalar)))
+          (word (store_form one.slot.scalar) one.slot.place ∷ (popped_from parameters count ++ rest)) list
+          last
       first =
           plain_behind at (Pop (pair_of one.slot.scalar))
           (word (store_form one.slot.scalar) one.slot.place ∷ (popped_from parameters count ++ rest))
@@ -262,24 +277,29 @@ module _ (at : BodyContext) (sound : IsSound at.context)
           (steps_are count rest one.slot one.parameter) written)
 
       second : IsBehind at (word_item (store_form one.slot.scalar) one.slot.place ∷ [])
-          (after_word first.here.facts (store_form one.slot.scalar) one.slot.place) (popped_from parameters count ++ rest)
+          (after_word first.here.facts (store_form one.slot.scalar) one.slot.place)
+          (popped_from parameters count ++ rest)
           first.more last
       second =
-          word_behind at (store_form one.slot.scalar) one.slot.place (popped_from parameters count ++ rest) first.written
+          word_behind at (store_form one.slot.scalar) one.slot.place
+          (popped_from parameters count ++ rest) first.written
 
-      first_parts : PartedThere at.context.activation (items.Plain (Pop (pair_of one.slot.scalar)) ∷ []) first.more from
+      first_parts : PartedThere at.context.activation
+          (items.Plain (Pop (pair_of one.slot.scalar)) ∷ []) first.more from
           (from + size_of_instruction (Pop (pair_of one.slot.scalar))) to
       first_parts =
           plain_parted (Pop (pair_of one.slot.scalar)) first.more
           (subst (λ (list : List Item). IsThere at.context.activation list from to) first.is there)
 
-      second_parts : PartedThere at.context.activation (word_item (store_form one.slot.scalar) one.slot.place ∷ [])
+      second_parts : PartedThere at.context.activation
+          (word_item (store_form one.slot.scalar) one.slot.place ∷ [])
           second.more (from + size_of_instruction (Pop (pair_of one.slot.scalar)))
           (from + size_of_instruction (Pop (pair_of one.slot.scalar)) + 3) to
       second_parts =
           word_parted (store_form one.slot.scalar) one.slot.place second.more
           (subst (λ (list : List Item).
-          IsThere at.context.activation list (from + size_of_instruction (Pop (pair_of one.slot.scalar))) to) second.is
+          IsThere at.context.activation list
+          (from + size_of_instruction (Pop (pair_of one.slot.scalar))) to) second.is
           first_parts.rest)
 
       low_small : byte_at memory top < 256
@@ -295,7 +315,8 @@ module _ (at : BodyContext) (sound : IsSound at.context)
 
       now : Registers
       now =
-          record (with_popped (pair_of one.slot.scalar) (byte_at memory top + 256 * byte_at memory (top + 1)) r) {
+          record (with_popped (pair_of one.slot.scalar)
+          (byte_at memory top + 256 * byte_at memory (top + 1)) r) {
             sp = wrap (top + 2);
           }
 
@@ -311,12 +332,14 @@ module _ (at : BodyContext) (sound : IsSound at.context)
 
       lies_now : InRegister one.slot.scalar one.value now
       lies_now =
-          in_register one.slot.scalar one.value (byte_at memory top) (byte_at memory (top + 1)) (wrap (top + 2)) r memory
+          in_register one.slot.scalar one.value (byte_at memory top) (byte_at memory (top + 1))
+          (wrap (top + 2)) r memory
           top low_small refl refl word_there
 
       bytes_now : HoldBytes now
       bytes_now =
-          popped_bytes (pair_of one.slot.scalar) (byte_at memory top + 256 * byte_at memory (top + 1)) r (wrap (top + 2))
+          popped_bytes (pair_of one.slot.scalar)
+          (byte_at memory top + 256 * byte_at memory (top + 1)) r (wrap (top + 2))
           (word_small (byte_at memory top) (byte_at memory (top + 1)) low_small high_small) on.registers
 
       held_now : Held slots values (argument_facts one.slot.scalar (Static one.slot.place) facts) now
@@ -332,25 +355,31 @@ module _ (at : BodyContext) (sound : IsSound at.context)
           })
           lies_now bytes_now
           (same_pair one.slot.scalar (byte_at memory top + 256 * byte_at memory (top + 1)) (wrap (top + 2)) r)
-          (same_a one.slot.scalar (byte_at memory top + 256 * byte_at memory (top + 1)) (wrap (top + 2)) r) held
+          (same_a one.slot.scalar (byte_at memory top + 256 * byte_at memory (top + 1)) (wrap (top + 2)) r)
+          held
 
       underway_now :
           Underway at above entered stacked
-          (after_word (after here.facts (Pop (pair_of one.slot.scalar))) (store_form one.slot.scalar) one.slot.place)
+          (after_word (after here.facts (Pop (pair_of one.slot.scalar)))
+          (store_form one.slot.scalar) one.slot.place)
           (top + 2) (put one.slot.scalar one.slot.at one.value source) now
           (put one.slot.scalar one.slot.at one.value memory)
-          → Underway at above entered stacked second.here.facts (top + 2) (put_nth count slots values source) now
+          → Underway at above entered stacked second.here.facts (top + 2)
+          (put_nth count slots values source) now
           (put_nth count slots values memory)
       underway_now stored =
           subst (λ (memory : List ℕ).
-          Underway at above entered stacked second.here.facts (top + 2) (put_nth count slots values source) now memory)
+          Underway at above entered stacked second.here.facts (top + 2)
+          (put_nth count slots values source) now memory)
           (sym (nth_is count slots values memory one.slot one.value one.there one.value_is))
           (subst (λ (source : List ℕ).
           Underway at above entered stacked second.here.facts (top + 2) source now
           (put one.slot.scalar one.slot.at one.value memory))
           (sym (nth_is count slots values source one.slot one.value one.there one.value_is))
           (subst (λ (known : Facts).
-          Underway at above entered stacked known (top + 2) (put one.slot.scalar one.slot.at one.value source) now
+          Underway at above entered stacked known (top + 2)
+          (put one.slot.scalar one.slot.at one.value source) now
           (put one.slot.scalar one.slot.at one.value memory))
-          (ap (λ (known : Facts). after_word known (store_form one.slot.scalar) one.slot.place) (sym first.facts)
+          (ap (λ (known : Facts). after_word known (store_form one.slot.scalar) one.slot.place)
+          (sym first.facts)
           ∙ sym second.facts) stored))

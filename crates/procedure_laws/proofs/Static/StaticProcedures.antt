@@ -20,11 +20,13 @@ is_static typed index found same = by found.visibility found.is_reentrant refl r
   where
     kind_by : (visibility : Visibility) (is_reentrant : Bool)
         → found.visibility ≡ visibility → found.is_reentrant ≡ is_reentrant
-        → kind_of typed index (record found { visibility = visibility; is_reentrant = is_reentrant }) ≡ kinds.Static
+        → kind_of typed index (record found { visibility = visibility; is_reentrant = is_reentrant })
+        ≡ kinds.Static
     kind_by visibility is_reentrant one other =
         sym
         (ap (λ (visibility : Visibility). kind_of typed index (record found { visibility = visibility })) one
-        ∙ ap (λ (test : Bool). kind_of typed index (record found { visibility = visibility; is_reentrant = test })) other)
+        ∙ ap (λ (test : Bool). kind_of typed index
+        (record found { visibility = visibility; is_reentrant = test })) other)
         ∙ same
 
     by : (visibility : Visibility) (is_reentrant : Bool)
@@ -32,7 +34,8 @@ is_static typed index found same = by found.visibility found.is_reentrant refl r
     by visibilities.External is_reentrant one other =
         let bad = kind_by visibilities.External is_reentrant one other in absurd cc
     by visibilities.Public true one other = let bad = kind_by visibilities.Public true one other in absurd cc
-    by visibilities.Private true one other = let bad = kind_by visibilities.Private true one other in absurd cc
+    by visibilities.Private true one other =
+        let bad = kind_by visibilities.Private true one other in absurd cc
     by visibilities.Public false one other = record {
       reentrant = other;
       here = λ visibility is outside.
@@ -63,11 +66,13 @@ in_its_frame index Elsewhere is = let bad : ⊥ = cc in absurd bad
 in_its_frame index Nowhere is = let bad : ⊥ = cc in absurd bad
 
 no_bytes : (index : ℕ) (objects : List TypedObject) (object : ℕ)
-    → ((number : ℕ) (found : TypedObject) → slice_get objects number ≡ Some found → found.home ≢ InFrame index)
+    → ((number : ℕ) (found : TypedObject) → slice_get objects number ≡ Some found
+    → found.home ≢ InFrame index)
     → length {A = ℕ}
     (slice_index_or
     (map
-    (λ (object : TypedObject). if is_frame_of index object.home then replicate (size_of_object object) 0 else [])
+    (λ (object : TypedObject). if is_frame_of index object.home then replicate
+    (size_of_object object) 0 else [])
     objects) object []) ≡ 0
 no_bytes index [] object none = refl
 no_bytes index (first ∷ others) zero none = by (is_frame_of index first.home) refl
@@ -99,8 +104,10 @@ nothing_put : (slots : List Slot) (values memory : List ℕ) → length slots �
 nothing_put [] values memory same = refl
 nothing_put (slot ∷ slots) values memory same = absurd (omega (arith, same))
 
-pub static_begins : (code : ModuleCode) (entries : Entries) (bound : ℕ) → ModuleLies code entries → StaticBegins code bound
-static_begins code entries bound lies index number room from to top first procedure found body list begun is static fits sound written there back values s r memory enters =
+pub static_begins : (code : ModuleCode) (entries : Entries) (bound : ℕ) → ModuleLies code entries
+    → StaticBegins code bound
+static_begins code entries bound lies index number room from to top first procedure found body list begun is
+    static fits sound written there back values s r memory enters =
     subst (λ (scalars : List ScalarType).
     Does code.program.script s.budget 0 (at_place from r memory s.events)
     (parameters_set (surroundings_in code (room - charge_of found)) scalars found.parameters values
@@ -150,7 +157,8 @@ static_begins code entries bound lies index number room from to top first proced
 
     Good : Unit {0} → SourceState → State → Type 0
     Good given t end =
-        HasBegun (static_body code index found body bound number room top) to (top + 2 + bytes_pushed values) back
+        HasBegun (static_body code index found body bound number room top) to
+        (top + 2 + bytes_pushed values) back
         begun.facts memory t end
 
     none : (object : ℕ) → length (frame_bytes (frame_of index code.typed) object) ≡ 0
@@ -171,7 +179,8 @@ static_begins code entries bound lies index number room from to top first proced
         ap (λ (one : TreeProcedure). one.parameters.items) is.is_procedure ∙ lowered.has_body.parameters
         ∙ has.parameters_are
 
-    its_written : AreCarriedOut body code.called at_start None (static_entry_steps (map parameter_of has.slots)) list begun
+    its_written : AreCarriedOut body code.called at_start None
+        (static_entry_steps (map parameter_of has.slots)) list begun
     its_written =
         subst (λ (steps : List Planned). AreCarriedOut body code.called at_start None steps list begun)
         (steps_are body (map parameter_of has.slots) first
@@ -187,7 +196,8 @@ static_begins code entries bound lies index number room from to top first proced
         ≤ code.program.placement.stack.start + code.program.placement.stack.len
     high = let most = enters.high in omega (arith, most, many)
 
-    on : (above : ℕ) → Underway (static_body code index found body bound number room top) above memory memory no_facts top
+    on : (above : ℕ) → Underway (static_body code index found body bound number room top) above
+        memory memory no_facts top
         s.memory r memory
     on above = record {
       pointer = enters.pointer;
@@ -201,13 +211,15 @@ static_begins code entries bound lies index number room from to top first proced
     entry : AreVariables code.program has.slots
         → (count : ℕ) → length has.slots ≡ count
         → Does code.program.script s.budget 0 (at_place from r memory s.events)
-        (Gave tt (record s { frame = frame_of index code.typed; memory = set_all has.slots values s.memory })) Good
+        (Gave tt (record s { frame = frame_of index code.typed; memory = set_all has.slots values s.memory }))
+        Good
     entry variables zero none_there =
         subst (λ (above : ℕ).
         Does code.program.script s.budget 0 (at_place from r memory s.events)
         (Gave tt (record s { frame = frame_of index code.typed; memory = set_all has.slots values s.memory }))
         (λ given t end.
-        HasBegun (static_body code index found body bound number room top) to above back begun.facts memory t end))
+        HasBegun (static_body code index found body bound number room top) to above back
+        begun.facts memory t end))
         (omega (arith, many))
         (finish (static_body code index found body bound number room top) sound.sound (λ object. refl) memory
         (frame_of index code.typed) none has.slots values s.memory
@@ -217,22 +229,27 @@ static_begins code entries bound lies index number room from to top first proced
         ))
         apart many enters.shares.size variables top back to begun
         (record s { frame = frame_of index code.typed; memory = set_all has.slots values s.memory }) low high
-        (omega (arith, types_long)) refl refl refl enters.return_lies no_facts at_start list from top memory r memory
+        (omega (arith, types_long)) refl refl refl enters.return_lies no_facts at_start list
+        from top memory r memory
         (subst (λ (steps : List Planned). AreCarriedOut body code.called at_start None steps list begun)
         (none_steps has.slots none_there) its_written)
         there
         (subst (λ (source : List ℕ).
-        Underway (static_body code index found body bound number room top) (top + 2 + 2 * (length has.slots - 1)) memory
-        memory no_facts top source r memory) (nothing_put has.slots values s.memory none_there) (on (top + 2 + 2 * (length has.slots - 1))))
+        Underway (static_body code index found body bound number room top)
+        (top + 2 + 2 * (length has.slots - 1)) memory
+        memory no_facts top source r memory) (nothing_put has.slots values s.memory none_there)
+        (on (top + 2 + 2 * (length has.slots - 1))))
         (omega (arith, none_there)) enters.return_lies no_facts_hold)
     entry variables (suc others) count =
         subst (λ (above : ℕ).
         Does code.program.script s.budget 0 (at_place from r memory s.events)
         (Gave tt (record s { frame = frame_of index code.typed; memory = set_all has.slots values s.memory }))
         (λ given t end.
-        HasBegun (static_body code index found body bound number room top) to above back begun.facts memory t end))
+        HasBegun (static_body code index found body bound number room top) to above back
+        begun.facts memory t end))
         (omega (arith, many))
-        (some_does (static_body code index found body bound number room top) sound.sound (λ object. refl) memory
+        (some_does (static_body code index found body bound number room top) sound.sound
+        (λ object. refl) memory
         (frame_of index code.typed) none has.slots values s.memory
         (λ its slot its_there. (
           (slot_fits code has.slots its slot has.fit its_there).at_is,
@@ -241,6 +258,7 @@ static_begins code entries bound lies index number room from to top first proced
         apart many enters.shares.size variables top back to begun
         (record s { frame = frame_of index code.typed; memory = set_all has.slots values s.memory }) low high
         (omega (arith, types_long)) refl refl refl enters.return_lies others list from r count
-        (subst (λ (scalars : List ScalarType). ArgumentsLie scalars values (top + 2) r memory) (sym has.scalars_are)
+        (subst (λ (scalars : List ScalarType). ArgumentsLie scalars values (top + 2) r memory)
+        (sym has.scalars_are)
         enters.arguments)
         its_written there (on (top + 2 + 2 * (length has.slots - 1))))

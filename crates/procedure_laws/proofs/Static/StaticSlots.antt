@@ -24,7 +24,8 @@ pub record HasSlots (code : ModuleCode) (scalars : List ScalarType) (parameters 
   pub fit : SlotsFit code slots
   pub scalars_are : map (λ (slot : Slot). slot.scalar) slots ≡ scalars
   pub objects_are : map (λ (slot : Slot). slot.object) slots ≡ parameters
-  pub parameters_are : map (parameter_at code.tree.now.homes.items) (zip scalars parameters) ≡ map parameter_of slots
+  pub parameters_are : map (parameter_at code.tree.now.homes.items) (zip scalars parameters)
+      ≡ map parameter_of slots
 
 pub slots_of :
     (code : ModuleCode) (entries : Entries) (scalars : List ScalarType) (parameters : List ℕ)
@@ -64,7 +65,8 @@ slots_of code entries (scalar ∷ scalars) (parameter ∷ parameters) lies are =
           home = is.1;
           starts = starts;
           at_is = refl;
-          small = lies.words parameter (place_of_slot (slice_index_or code.storage.objects parameter None)) starts;
+          small = lies.words parameter (place_of_slot (slice_index_or code.storage.objects parameter None))
+              starts;
         },
         rest.fit,
       );
@@ -106,7 +108,8 @@ slot_meant code entries room slot lies fits =
     ap (λ (home : Home). place_in home (surroundings_in code room) slot.object 0 true) home_is
     ∙ same_gave (place_in (InData []) (surroundings_in code room) slot.object 0 true)
     (InMemory ((place_at code.layout slot.place + 0) % MEMORY_SIZE)) nowhere
-    (ap (λ (home : Home). based_place home (surroundings_in code room) slot.object 0 true nowhere) (sym home_is)
+    (ap (λ (home : Home). based_place home (surroundings_in code room) slot.object 0 true nowhere)
+    (sym home_is)
     ∙ (lies.resolves room).object slot.object slot.place 0 true nowhere fits.starts)
     ∙ ap (λ (at : ℕ). InMemory ((at + 0) % MEMORY_SIZE)) fits.at_is
     ∙ ap (λ (at : ℕ). InMemory at) (at_zero slot.at fits.small)
@@ -154,13 +157,16 @@ part_is code slot Address address same small (inr part) =
     }
 
 two_apart : (code : ModuleCode) (entries : Entries) (one other : Slot)
-    → ModuleLies code entries → SlotFits code one → SlotFits code other → one.object ≢ other.object → Apart one other
+    → ModuleLies code entries → SlotFits code one → SlotFits code other
+    → one.object ≢ other.object → Apart one other
 two_apart code entries one other lies first second differ address left right =
     let its = part_is code one one.scalar address refl first.small left in
     let others = part_is code other other.scalar address refl second.small right in
-    lies.apart one.object other.object first.object second.object one.place other.place its.offset others.offset differ
+    lies.apart one.object other.object first.object second.object one.place other.place its.offset
+    others.offset differ
     first.there second.there first.home second.home first.starts second.starts
-    (subst (λ (size : ℕ). its.offset < size) (sym (scalar_size first.object one.scalar first.scalar)) its.within)
+    (subst (λ (size : ℕ). its.offset < size)
+    (sym (scalar_size first.object one.scalar first.scalar)) its.within)
     (subst (λ (size : ℕ). others.offset < size) (sym (scalar_size second.object other.scalar second.scalar))
     others.within)
     (ap (λ (at : ℕ). wrap (at + its.offset)) first.at_is ∙ sym its.is ∙ others.is

@@ -1,5 +1,5 @@
--- A machine within the code by which a procedure that is not REENTRANT takes its arguments, and what it does that comes
--- to an instruction of it.
+-- A machine within the code by which a procedure that is not REENTRANT takes its arguments, and what it does
+-- that comes to an instruction of it.
 use Rattle.procedure_laws.proofs.Prelude.{◌≡◌, ◌≢◌, ℕ, ◌+◌, ◌-◌, ◌*◌, ◌/◌, ◌%◌, ◌<◌, ◌≤◌, inl, inr, List, [], ◌∷◌, Option, Some, None, length, slice_set, refl, sym, ap, subst, ◌∙◌, arith, length-set, set_comm, MEMORY_SIZE, byte_at, word_at, Event, ScalarType, Byte, Address, frame_bytes, Outcome, SourceState, Instr, Pop, Push, Xthl, StackPair, Psw, StackBc, StackDe, StackHl, act, HoldBytes, Registers, State, high_byte, low_byte, with_popped, wrap, WordForm, StoreA, StoreHl, instruction_with, Keeps, size_of_instruction, pushed, pushed_is_memory, pushed_keeps, pop_does, push_does, Location, Frame, Static, Place, Activation, FrameLies, IsReady, IsThere, IsVariable, LiesWell, Owns, Shares, Does, at_place, plain_first, keeps_all, keeps_put, ready_with_variable, Asks, WordAsks, AddressHolds, ByteHolds, Distances, FactsHold, IsByteAt, IsSteady, IsWordAt, WordHolds, location_at, place_at, facts_after, facts_after_word, declared_is_steady, push_asks, Facts, after, after_word, word_item, Context, InRegister, IsSound, distances_in, Know, bytes_at_place, popped_bytes, word_acts, BodyContext, IsOfCall, byte_as_low, word_of_two}
 use Rattle.asm8080.specs.declared.item.Item.TheVariants as items
 use Rattle.procedure_laws.proofs.Puts.{IsPart, Slot, put, put_kept}
@@ -10,8 +10,8 @@ abbrev pub store_form : ScalarType → WordForm
 store_form Byte = StoreA
 store_form Address = StoreHl
 
--- Along the entry the return address is pushed where the stack pointer of the body is to be, so no byte of the stack is
--- steady. What is known is said as in an activation without a frame at the end of the stack,
+-- Along the entry the return address is pushed where the stack pointer of the body is to be, so no byte of
+-- the stack is steady. What is known is said as in an activation without a frame at the end of the stack,
 abbrev pub at_end : Activation → Activation
 at_end activation = record activation {
   level = activation.around.program.placement.stack.start + activation.around.program.placement.stack.len;
@@ -42,32 +42,39 @@ same_location : (context : Context) (location : Location) → LiesWell context.a
 same_location context (Static place) lies = refl
 same_location context (Frame variable offset) lies =
     let stack = lies.placed.stack_in_memory in
-    moved (at_end context.activation).level (distances_in context variable) context.activation.level offset stack
+    moved (at_end context.activation).level (distances_in context variable)
+    context.activation.level offset stack
   where
     moved : (end distance level offset : ℕ) → end ≤ MEMORY_SIZE
         → wrap (end + (distance + level + (MEMORY_SIZE - end)) + offset) ≡ wrap (level + distance + offset)
     moved end distance level offset small = omega (arith, small)
 
 byte_within : (context : Context) (memory : List ℕ) (address byte : ℕ) → LiesWell context.activation
-    → IsByteAt (at_end context.activation) memory address byte → IsByteAt context.activation memory address byte
+    → IsByteAt (at_end context.activation) memory address byte
+    → IsByteAt context.activation memory address byte
 byte_within context memory address byte lies is = (is.0, steady_within context.activation address lies is.1)
 
-byte_known : (context : Context) (held : Option Location) (a : ℕ) (memory : List ℕ) → LiesWell context.activation
+byte_known : (context : Context) (held : Option Location) (a : ℕ) (memory : List ℕ)
+    → LiesWell context.activation
     → ByteHolds (at_end context.activation) (distances_at_end context) held a memory
     → ByteHolds context.activation (distances_in context) held a memory
 byte_known context None a memory lies holds = tt
 byte_known context (Some location) a memory lies holds =
-    subst (λ (address : ℕ). IsByteAt context.activation memory address a) (same_location context location lies)
-    (byte_within context memory (location_at (at_end context.activation) (distances_at_end context) location) a lies
+    subst (λ (address : ℕ). IsByteAt context.activation memory address a)
+    (same_location context location lies)
+    (byte_within context memory (location_at (at_end context.activation) (distances_at_end context) location)
+    a lies
     holds)
 
-word_known : (context : Context) (held : Option Location) (h l : ℕ) (memory : List ℕ) → LiesWell context.activation
+word_known : (context : Context) (held : Option Location) (h l : ℕ) (memory : List ℕ)
+    → LiesWell context.activation
     → WordHolds (at_end context.activation) (distances_at_end context) held h l memory
     → WordHolds context.activation (distances_in context) held h l memory
 word_known context None h l memory lies holds = tt
 word_known context (Some location) h l memory lies holds =
     let address = location_at (at_end context.activation) (distances_at_end context) location in
-    subst (λ (address : ℕ). IsWordAt context.activation memory address h l) (same_location context location lies)
+    subst (λ (address : ℕ). IsWordAt context.activation memory address h l)
+    (same_location context location lies)
     (record {
       low_is = byte_within context memory address l lies holds.low_is;
       high_is = byte_within context memory (wrap (address + 1)) h lies holds.high_is;
@@ -79,7 +86,8 @@ address_known : (context : Context) (held : Option Location) (h l : ℕ) → Lie
 address_known context None h l lies holds = tt
 address_known context (Some location) h l lies holds = holds ∙ same_location context location lies
 
-pub known_within : (context : Context) (facts : Facts) (r : Registers) (memory : List ℕ) → LiesWell context.activation
+pub known_within : (context : Context) (facts : Facts) (r : Registers) (memory : List ℕ)
+    → LiesWell context.activation
     → KnownOutside context facts r memory → Know context facts r memory
 known_within context facts r memory lies known = record {
   byte_holds = byte_known context facts.byte_in_a r.a memory lies known.byte_holds;
@@ -96,7 +104,8 @@ pub record Underway
   pub registers : HoldBytes r
   pub shares : Shares at.context.activation.around.program at.context.activation.image source memory
   pub known : KnownOutside at.context facts r memory
-  pub kept : Keeps (IsOfCall at.context.activation.around.program at.context.activation.floor above) entered memory
+  pub kept : Keeps (IsOfCall at.context.activation.around.program at.context.activation.floor above) entered
+      memory
   pub stack : (address : ℕ) → at.context.activation.floor ≤ address
       → address < at.context.activation.around.program.placement.stack.start
       + at.context.activation.around.program.placement.stack.len
@@ -121,7 +130,8 @@ module _ (at : BodyContext) (sound : IsSound at.context)
     bytes = λ object offset within. let empty = no_frame object in absurd (omega (arith, within, empty));
   }
 
-  pub ready_of : {stacked : List ℕ} {facts : Facts} {top : ℕ} {source : List ℕ} {r : Registers} {memory : List ℕ}
+  pub ready_of : {stacked : List ℕ} {facts : Facts} {top : ℕ} {source : List ℕ}
+      {r : Registers} {memory : List ℕ}
       → Underway at above entered stacked facts top source r memory
       → IsReady at.context.activation top memory source frame r memory
   ready_of {top = top} {memory = memory} on = record {
@@ -153,19 +163,22 @@ module _ (at : BodyContext) (sound : IsSound at.context)
       → Underway at above entered stacked facts top source r memory
       → Asks (at_end at.context.activation) (distances_at_end at.context) facts i
       (record r { pc = wrap (from + size_of_instruction i) })
-      → act at.context.activation.around.program.script i (at_place (from + size_of_instruction i) r memory events)
+      → act at.context.activation.around.program.script i
+      (at_place (from + size_of_instruction i) r memory events)
       ≡ at_place (from + size_of_instruction i) now ended events
       → (KnownOutside at.context (after facts i) now ended
       → Does at.context.activation.around.program.script budget 0
       (at_place (from + size_of_instruction i) now ended events) outcome Good)
       → Does at.context.activation.around.program.script budget 0 (at_place from r memory events) outcome Good
-  plain_on {outcome = outcome} {Good = Good} {budget = budget} {facts = facts} {memory = memory} {events = events} {i = i} {from = from} r now ended there on asks does rest =
+  plain_on {outcome = outcome} {Good = Good} {budget = budget} {facts = facts} {memory = memory}
+      {events = events} {i = i} {from = from} r now ended there on asks does rest =
       let script = at.context.activation.around.program.script in
       let place = from + size_of_instruction i in
       let known : KnownOutside at.context (after facts i) now ended
       = subst (λ (s : State). KnownOutside at.context (after facts i) s.registers s.memory) does
       (facts_after script (at_end at.context.activation) (distances_at_end at.context) facts i
-      (at_place place r memory events) on.shares.is_memory (bytes_at_place (wrap place) r on.registers) asks on.known) in
+      (at_place place r memory events) on.shares.is_memory
+      (bytes_at_place (wrap place) r on.registers) asks on.known) in
       plain_first r sound.lies on.shares.code there
       (subst (λ (s : State). Does script budget 0 s outcome Good) (sym does) (rest known))
 
@@ -177,24 +190,29 @@ module _ (at : BodyContext) (sound : IsSound at.context)
       → Underway at above entered stacked facts top source r memory
       → WordAsks (at_end at.context.activation) form (place_at at.context.activation.layout place)
       → act at.context.activation.around.program.script
-      (instruction_with form (place_at at.context.activation.layout place)) (at_place (from + 3) r memory events)
+      (instruction_with form (place_at at.context.activation.layout place))
+      (at_place (from + 3) r memory events)
       ≡ at_place (from + 3) now ended events
       → (KnownOutside at.context (after_word facts form place) now ended
-      → Does at.context.activation.around.program.script budget 0 (at_place (from + 3) now ended events) outcome Good)
+      → Does at.context.activation.around.program.script budget 0
+      (at_place (from + 3) now ended events) outcome Good)
       → Does at.context.activation.around.program.script budget 0 (at_place from r memory events) outcome Good
-  word_on {outcome = outcome} {Good = Good} {budget = budget} {facts = facts} {memory = memory} {events = events} {from = from} form place r now ended there on asks does rest =
+  word_on {outcome = outcome} {Good = Good} {budget = budget} {facts = facts} {memory = memory}
+      {events = events} {from = from} form place r now ended there on asks does rest =
       let script = at.context.activation.around.program.script in
       let known : KnownOutside at.context (after_word facts form place) now ended
       = subst (λ (s : State). KnownOutside at.context (after_word facts form place) s.registers s.memory) does
       (facts_after_word script (at_end at.context.activation) (distances_at_end at.context) facts form place
-      (at_place (from + 3) r memory events) on.shares.is_memory (bytes_at_place (wrap (from + 3)) r on.registers) asks
+      (at_place (from + 3) r memory events) on.shares.is_memory
+      (bytes_at_place (wrap (from + 3)) r on.registers) asks
       on.known) in
       word_acts form place r sound on.shares.code there
       (subst (λ (s : State). Does script budget 0 s outcome Good) (sym does) (rest known))
 
   -- the bytes of a variable are no bytes of the stack
   stack_kept : (scalar : ScalarType) (start value : ℕ) (memory : List ℕ)
-      → ((address : ℕ) → IsPart scalar start address → IsVariable at.context.activation.around.program address)
+      → ((address : ℕ) → IsPart scalar start address
+      → IsVariable at.context.activation.around.program address)
       → (address : ℕ) → at.context.activation.floor ≤ address
       → address < at.context.activation.around.program.placement.stack.start
       + at.context.activation.around.program.placement.stack.len
@@ -205,39 +223,52 @@ module _ (at : BodyContext) (sound : IsSound at.context)
       let bottom = sound.lies.bottom in
       sound.lies.placed.stack_free address (variables address part).0 (omega (arith, bottom, low)) high)
 
-  shares_put : (scalar : ScalarType) (start value : ℕ) {stacked : List ℕ} {facts : Facts} {top : ℕ} {source : List ℕ} {r : Registers}
+  shares_put : (scalar : ScalarType) (start value : ℕ) {stacked : List ℕ} {facts : Facts} {top : ℕ}
+      {source : List ℕ} {r : Registers}
       {memory : List ℕ}
-      → ((address : ℕ) → IsPart scalar start address → IsVariable at.context.activation.around.program address)
+      → ((address : ℕ) → IsPart scalar start address
+      → IsVariable at.context.activation.around.program address)
       → start < MEMORY_SIZE
       → value / 256 < 256
       → Underway at above entered stacked facts top source r memory
-      → Shares at.context.activation.around.program at.context.activation.image (put scalar start value source)
+      → Shares at.context.activation.around.program at.context.activation.image
+      (put scalar start value source)
       (put scalar start value memory)
-  shares_put Byte start value {top = top} {source = source} {r = r} {memory = memory} variables small high on =
-      (ready_with_variable at.context.activation top memory source frame r memory start (value % 256) sound.lies
+  shares_put Byte start value {top = top} {source = source} {r = r} {memory = memory}
+      variables small high on =
+      (ready_with_variable at.context.activation top memory source frame r memory start
+      (value % 256) sound.lies
       (variables start refl) small (omega arith) (ready_of on)).shares
-  shares_put Address start value {top = top} {source = source} {r = r} {memory = memory} variables small high on =
+  shares_put Address start value {top = top} {source = source} {r = r} {memory = memory}
+      variables small high on =
       (ready_with_variable at.context.activation top memory (slice_set source start (value % 256)) frame r
       (slice_set memory start (value % 256)) (wrap (start + 1)) (value / 256) sound.lies
       (variables (wrap (start + 1)) (inr refl)) (omega arith) high
-      (ready_with_variable at.context.activation top memory source frame r memory start (value % 256) sound.lies
+      (ready_with_variable at.context.activation top memory source frame r memory start
+      (value % 256) sound.lies
       (variables start (inl refl)) small (omega arith) (ready_of on))).shares
 
   kept_put : (scalar : ScalarType) (start value : ℕ) (memory : List ℕ)
-      → ((address : ℕ) → IsPart scalar start address → IsVariable at.context.activation.around.program address)
+      → ((address : ℕ) → IsPart scalar start address
+      → IsVariable at.context.activation.around.program address)
       → Keeps (IsOfCall at.context.activation.around.program at.context.activation.floor above) entered memory
-      → Keeps (IsOfCall at.context.activation.around.program at.context.activation.floor above) entered (put scalar start value memory)
+      → Keeps (IsOfCall at.context.activation.around.program at.context.activation.floor above) entered
+      (put scalar start value memory)
   kept_put Byte start value memory variables kept =
-      keeps_put (IsOfCall at.context.activation.around.program at.context.activation.floor above) entered memory start (value % 256)
+      keeps_put (IsOfCall at.context.activation.around.program at.context.activation.floor above) entered
+      memory start (value % 256)
       (inl (variables start refl)) kept
   kept_put Address start value memory variables kept =
-      keeps_put (IsOfCall at.context.activation.around.program at.context.activation.floor above) entered (slice_set memory start (value % 256))
+      keeps_put (IsOfCall at.context.activation.around.program at.context.activation.floor above) entered
+      (slice_set memory start (value % 256))
       (wrap (start + 1)) (value / 256) (inl (variables (wrap (start + 1)) (inr refl)))
-      (keeps_put (IsOfCall at.context.activation.around.program at.context.activation.floor above) entered memory start (value % 256)
+      (keeps_put (IsOfCall at.context.activation.around.program at.context.activation.floor above) entered
+      memory start (value % 256)
       (inl (variables start (inl refl))) kept)
 
   store_asks : (scalar : ScalarType) (start : ℕ)
-      → ((address : ℕ) → IsPart scalar start address → IsVariable at.context.activation.around.program address)
+      → ((address : ℕ) → IsPart scalar start address
+      → IsVariable at.context.activation.around.program address)
       → start < MEMORY_SIZE
       → WordAsks (at_end at.context.activation) (store_form scalar) start
   store_asks Byte start variables small =
@@ -251,7 +282,8 @@ module _ (at : BodyContext) (sound : IsSound at.context)
     ),
   )
 
-  store_acts : (scalar : ScalarType) (start value place : ℕ) (r : Registers) (memory : List ℕ) (events : List Event)
+  store_acts : (scalar : ScalarType) (start value place : ℕ) (r : Registers) (memory : List ℕ)
+      (events : List Event)
       → InRegister scalar value r
       → HoldBytes r
       → act at.context.activation.around.program.script (instruction_with (store_form scalar) start)
@@ -277,10 +309,12 @@ module _ (at : BodyContext) (sound : IsSound at.context)
   -- a value goes from its register to a parameter
   pub store_goes :
       {A : Type 0} {outcome : Outcome A} {Good : A → SourceState → State → Type 0} {budget : ℕ}
-      {stacked : List ℕ} {facts : Facts} {top : ℕ} {source : List ℕ} {memory : List ℕ} {events : List Event} {from : ℕ}
+      {stacked : List ℕ} {facts : Facts} {top : ℕ} {source : List ℕ} {memory : List ℕ}
+      {events : List Event} {from : ℕ}
       (slot : Slot) (value : ℕ) (r : Registers)
       → place_at at.context.activation.layout slot.place ≡ slot.at
-      → ((address : ℕ) → IsPart slot.scalar slot.at address → IsVariable at.context.activation.around.program address)
+      → ((address : ℕ) → IsPart slot.scalar slot.at address
+      → IsVariable at.context.activation.around.program address)
       → slot.at < MEMORY_SIZE
       → InRegister slot.scalar value r
       → IsThere at.context.activation (word_item (store_form slot.scalar) slot.place ∷ []) from (from + 3)
@@ -290,9 +324,11 @@ module _ (at : BodyContext) (sound : IsSound at.context)
       → Does at.context.activation.around.program.script budget 0
       (at_place (from + 3) r (put slot.scalar slot.at value memory) events) outcome Good)
       → Does at.context.activation.around.program.script budget 0 (at_place from r memory events) outcome Good
-  store_goes {memory = memory} {events = events} {from = from} slot value r is variables small lies there on rest =
+  store_goes {memory = memory} {events = events} {from = from} slot value r is variables small
+      lies there on rest =
       word_on (store_form slot.scalar) slot.place r r (put slot.scalar slot.at value memory) there on
-      (subst (λ (address : ℕ). WordAsks (at_end at.context.activation) (store_form slot.scalar) address) (sym is)
+      (subst (λ (address : ℕ). WordAsks (at_end at.context.activation) (store_form slot.scalar) address)
+      (sym is)
       (store_asks slot.scalar slot.at variables small))
       (ap (λ (address : ℕ).
       act at.context.activation.around.program.script (instruction_with (store_form slot.scalar) address)
@@ -302,11 +338,13 @@ module _ (at : BodyContext) (sound : IsSound at.context)
         pointer = on.pointer;
         registers = on.registers;
         shares =
-            shares_put slot.scalar slot.at value variables small (value_small slot.scalar value r lies on.registers) on;
+            shares_put slot.scalar slot.at value variables small
+            (value_small slot.scalar value r lies on.registers) on;
         known = known;
         kept = kept_put slot.scalar slot.at value memory variables on.kept;
         stack = λ address low high.
-            stack_kept slot.scalar slot.at value memory variables address low high ∙ on.stack address low high;
+            stack_kept slot.scalar slot.at value memory variables address low high
+            ∙ on.stack address low high;
       }))
 
   pop_asks : (facts : Facts) (pair : StackPair) (r : Registers)
@@ -319,7 +357,8 @@ module _ (at : BodyContext) (sound : IsSound at.context)
   -- a word is taken from the stack
   pub pop_goes :
       {A : Type 0} {outcome : Outcome A} {Good : A → SourceState → State → Type 0} {budget : ℕ}
-      {stacked : List ℕ} {facts : Facts} {top : ℕ} {source : List ℕ} {memory : List ℕ} {events : List Event} {from : ℕ}
+      {stacked : List ℕ} {facts : Facts} {top : ℕ} {source : List ℕ} {memory : List ℕ}
+      {events : List Event} {from : ℕ}
       (pair : StackPair) (word : ℕ) (r : Registers)
       → word < MEMORY_SIZE
       → byte_at memory top ≡ low_byte word
@@ -334,7 +373,8 @@ module _ (at : BodyContext) (sound : IsSound at.context)
       (at_place (from + size_of_instruction (Pop pair))
       (record (with_popped pair word r) { sp = wrap (top + 2) }) memory events) outcome Good)
       → Does at.context.activation.around.program.script budget 0 (at_place from r memory events) outcome Good
-  pop_goes {facts = facts} {top = top} {memory = memory} {events = events} {from = from} pair word r small low high limit there on rest =
+  pop_goes {facts = facts} {top = top} {memory = memory} {events = events} {from = from} pair word r small low
+      high limit there on rest =
       plain_on r (record (with_popped pair word r) { sp = wrap (top + 2) }) memory there on
       (pop_asks facts pair (record r { pc = wrap (from + size_of_instruction (Pop pair)) }))
       (pop_does at.context.activation.around.program.script pair
@@ -355,7 +395,8 @@ module _ (at : BodyContext) (sound : IsSound at.context)
 
   -- two bytes of the stack below a level are written
   stack_written :
-      {stacked : List ℕ} {facts now_known : Facts} {top : ℕ} {source : List ℕ} {r : Registers} {memory : List ℕ}
+      {stacked : List ℕ} {facts now_known : Facts} {top : ℕ} {source : List ℕ}
+      {r : Registers} {memory : List ℕ}
       (level word : ℕ) (now : Registers)
       → at.context.activation.floor + 2 ≤ level
       → level ≤ above
@@ -366,7 +407,8 @@ module _ (at : BodyContext) (sound : IsSound at.context)
       → now.sp ≡ wrap (level - 2)
       → HoldBytes now
       → KnownOutside at.context now_known now (pushed level word memory)
-      → Underway at above entered (pushed level word memory) now_known (level - 2) source now (pushed level word memory)
+      → Underway at above entered (pushed level word memory) now_known (level - 2) source now
+      (pushed level word memory)
   stack_written {memory = memory} level word now low high end small on pointer bytes known =
       let free = sound.lies.placed.stack_free in
       let apart = sound.lies.placed.apart in
@@ -379,15 +421,19 @@ module _ (at : BodyContext) (sound : IsSound at.context)
           size = on.shares.size;
           declared = λ address there.
               pushed_keeps level word memory address
-              (λ same. free address there (omega (arith, same, low, bottom)) (omega (arith, same, low, high, end)))
-              (λ same. free address there (omega (arith, same, low, bottom)) (omega (arith, same, low, high, end)))
+              (λ same. free address there (omega (arith, same, low, bottom))
+              (omega (arith, same, low, high, end)))
+              (λ same. free address there (omega (arith, same, low, bottom))
+              (omega (arith, same, low, high, end)))
               ∙ on.shares.declared address there;
           code = λ address there.
               pushed_keeps level word memory address
               (λ same.
-              apart address there.0 there.1 (omega (arith, same, low, bottom)) (omega (arith, same, low, high, end)))
+              apart address there.0 there.1 (omega (arith, same, low, bottom))
+              (omega (arith, same, low, high, end)))
               (λ same.
-              apart address there.0 there.1 (omega (arith, same, low, bottom)) (omega (arith, same, low, high, end)))
+              apart address there.0 there.1 (omega (arith, same, low, bottom))
+              (omega (arith, same, low, high, end)))
               ∙ on.shares.code address there;
         };
         known = known;
@@ -407,7 +453,8 @@ module _ (at : BodyContext) (sound : IsSound at.context)
   -- the return address, which is in DE, goes onto the stack
   pub push_goes :
       {A : Type 0} {outcome : Outcome A} {Good : A → SourceState → State → Type 0} {budget : ℕ}
-      {stacked : List ℕ} {facts : Facts} {top : ℕ} {source : List ℕ} {memory : List ℕ} {events : List Event} {from : ℕ}
+      {stacked : List ℕ} {facts : Facts} {top : ℕ} {source : List ℕ} {memory : List ℕ}
+      {events : List Event} {from : ℕ}
       (r : Registers)
       → at.context.activation.floor + 2 ≤ top
       → top ≤ above
@@ -415,10 +462,12 @@ module _ (at : BodyContext) (sound : IsSound at.context)
       + at.context.activation.around.program.placement.stack.len
       → IsThere at.context.activation (items.Plain (Push StackDe) ∷ []) from (from + 1)
       → Underway at above entered stacked facts top source r memory
-      → (Underway at above entered (pushed top (256 * r.d + r.e) memory) (after facts (Push StackDe)) (top - 2) source
+      → (Underway at above entered (pushed top (256 * r.d + r.e) memory)
+      (after facts (Push StackDe)) (top - 2) source
       (record r { sp = wrap (top - 2) }) (pushed top (256 * r.d + r.e) memory)
       → Does at.context.activation.around.program.script budget 0
-      (at_place (from + 1) (record r { sp = wrap (top - 2) }) (pushed top (256 * r.d + r.e) memory) events) outcome Good)
+      (at_place (from + 1) (record r { sp = wrap (top - 2) }) (pushed top (256 * r.d + r.e) memory) events)
+      outcome Good)
       → Does at.context.activation.around.program.script budget 0 (at_place from r memory events) outcome Good
   push_goes {top = top} {memory = memory} {events = events} {from = from} r low high end there on rest =
       let stack = sound.lies.placed.stack_in_memory in
@@ -428,16 +477,20 @@ module _ (at : BodyContext) (sound : IsSound at.context)
       let e = bytes.e in
       plain_on r (record r { sp = wrap (top - 2) }) (pushed top (256 * r.d + r.e) memory) there on
       (push_asks (at_end at.context.activation) r.sp top end_lies on.pointer low (omega (arith, high, end)))
-      (push_does at.context.activation.around.program.script StackDe (from + 1) top r memory events on.pointer limit
+      (push_does at.context.activation.around.program.script StackDe (from + 1) top r memory
+      events on.pointer limit
       (omega (arith, low)))
       (λ known.
-      rest (stack_written top (256 * r.d + r.e) (record r { sp = wrap (top - 2) }) low high end (omega (arith, d, e)) on refl
-      (record { a = bytes.a; b = bytes.b; c = bytes.c; d = bytes.d; e = bytes.e; h = bytes.h; l = bytes.l }) known))
+      rest (stack_written top (256 * r.d + r.e) (record r { sp = wrap (top - 2) }) low high end
+      (omega (arith, d, e)) on refl
+      (record { a = bytes.a; b = bytes.b; c = bytes.c; d = bytes.d; e = bytes.e; h = bytes.h; l = bytes.l })
+      known))
 
   -- the return address, which is in HL, takes the place of the word on the stack
   pub exchange_goes :
       {A : Type 0} {outcome : Outcome A} {Good : A → SourceState → State → Type 0} {budget : ℕ}
-      {stacked : List ℕ} {facts : Facts} {top : ℕ} {source : List ℕ} {memory : List ℕ} {events : List Event} {from : ℕ}
+      {stacked : List ℕ} {facts : Facts} {top : ℕ} {source : List ℕ} {memory : List ℕ}
+      {events : List Event} {from : ℕ}
       (word : ℕ) (r : Registers)
       → word < MEMORY_SIZE
       → byte_at memory top ≡ low_byte word
@@ -448,17 +501,20 @@ module _ (at : BodyContext) (sound : IsSound at.context)
       + at.context.activation.around.program.placement.stack.len
       → IsThere at.context.activation (items.Plain Xthl ∷ []) from (from + 1)
       → Underway at above entered stacked facts top source r memory
-      → (Underway at above entered (pushed (top + 2) (256 * r.h + r.l) memory) (after facts Xthl) (top + 2 - 2) source
+      → (Underway at above entered (pushed (top + 2) (256 * r.h + r.l) memory) (after facts Xthl)
+      (top + 2 - 2) source
       (record r { h = high_byte word; l = low_byte word }) (pushed (top + 2) (256 * r.h + r.l) memory)
       → Does at.context.activation.around.program.script budget 0
       (at_place (from + 1) (record r { h = high_byte word; l = low_byte word })
       (pushed (top + 2) (256 * r.h + r.l) memory) events) outcome Good)
       → Does at.context.activation.around.program.script budget 0 (at_place from r memory events) outcome Good
-  exchange_goes {top = top} {memory = memory} {events = events} {from = from} word r small low_byte_is high_byte_is low high end there on rest =
+  exchange_goes {top = top} {memory = memory} {events = events} {from = from} word r small low_byte_is
+      high_byte_is low high end there on rest =
       let bytes = on.registers in
       let h = bytes.h in
       let l = bytes.l in
-      plain_on r (record r { h = high_byte word; l = low_byte word }) (pushed (top + 2) (256 * r.h + r.l) memory) there on
+      plain_on r (record r { h = high_byte word; l = low_byte word })
+      (pushed (top + 2) (256 * r.h + r.l) memory) there on
       tt acts
       (λ known.
       rest (stack_written (top + 2) (256 * r.h + r.l) (record r { h = high_byte word; l = low_byte word })
@@ -491,13 +547,16 @@ module _ (at : BodyContext) (sound : IsSound at.context)
           (pushed (top + 2) (256 * r.h + r.l) memory) events
       acts =
           ap (λ (sp : ℕ).
-          at_place (from + 1) (record r { h = high_byte (word_at memory sp); l = low_byte (word_at memory sp) })
-          (slice_set (slice_set memory sp (low_byte (256 * r.h + r.l))) (wrap (sp + 1)) (high_byte (256 * r.h + r.l)))
+          at_place (from + 1)
+          (record r { h = high_byte (word_at memory sp); l = low_byte (word_at memory sp) })
+          (slice_set (slice_set memory sp (low_byte (256 * r.h + r.l))) (wrap (sp + 1))
+          (high_byte (256 * r.h + r.l)))
           events) (on.pointer ∙ at_top top limit)
           ∙ ap (λ (next : ℕ).
           at_place (from + 1)
           (record r { h = high_byte (word_at memory (top + 2 - 2)); l = low_byte (word_at memory (top + 2 - 2)) })
-          (slice_set (slice_set memory (top + 2 - 2) (low_byte (256 * r.h + r.l))) next (high_byte (256 * r.h + r.l)))
+          (slice_set (slice_set memory (top + 2 - 2) (low_byte (256 * r.h + r.l))) next
+          (high_byte (256 * r.h + r.l)))
           events) (at_next top limit)
           ∙ ap (λ (word : ℕ).
           at_place (from + 1) (record r { h = high_byte word; l = low_byte word })
@@ -505,7 +564,8 @@ module _ (at : BodyContext) (sound : IsSound at.context)
           (high_byte (256 * r.h + r.l))) events) word_is
           ∙ ap (λ (memory : List ℕ).
           at_place (from + 1) (record r { h = high_byte word; l = low_byte word }) memory events)
-          (set_comm memory (top + 2 - 2) (top + 2 - 1) (low_byte (256 * r.h + r.l)) (high_byte (256 * r.h + r.l))
+          (set_comm memory (top + 2 - 2) (top + 2 - 1) (low_byte (256 * r.h + r.l))
+          (high_byte (256 * r.h + r.l))
           (differ top))
         where
           differ : (top : ℕ) → top + 2 - 2 ≢ top + 2 - 1

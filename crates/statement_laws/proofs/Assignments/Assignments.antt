@@ -22,8 +22,10 @@ module _
     abbrev site : Site
     site = knowing (site_of at.body) facts
 
-    abbrev Aim : (to_tree : TypedTarget) (from : ℕ) (s : SourceState) (r : Registers) (memory : List ℕ) → Type 0
-    Aim to_tree from s r memory = Goal at sound facts need base of tree is types fits go Good others last to to_tree from s r memory
+    abbrev Aim : (to_tree : TypedTarget) (from : ℕ) (s : SourceState) (r : Registers) (memory : List ℕ)
+        → Type 0
+    Aim to_tree from s r memory =
+        Goal at sound facts need base of tree is types fits go Good others last to to_tree from s r memory
 
     abbrev After : Type 0
     After = Rest at sound facts need base of tree is types fits go Good others last to
@@ -31,7 +33,8 @@ module _
     -- a BYTE that is counted
     abbrev pub Counted : Type 0
     Counted =
-        (i : Instr) (from_scalar : ScalarType) (bound : ℕ) (reference : Reference) (part_tree : TypedReference)
+        (i : Instr) (from_scalar : ScalarType) (bound : ℕ) (reference : Reference)
+        (part_tree : TypedReference)
         (from : ℕ) (here : Here) (s : SourceState) (r : Registers) (memory : List ℕ)
         → number site of ≡ None
         → count_of site reference of ≡ Some i
@@ -48,12 +51,14 @@ module _
     value_is : (n : ℕ) → number site of ≡ Some n
         → (s : SourceState) → value at.context.later at.context.activation.around tree s ≡ Gave n s
     value_is n known s =
-        number_means facts n sound.sound is types (ap (λ (one : Site). number (knowing one facts) of) sound.site ∙ known) s
+        number_means facts n sound.sound is types
+        (ap (λ (one : Site). number (knowing one facts) of) sound.site ∙ known) s
 
     number_fits : (n : ℕ) → number site of ≡ Some n → n < 65536
     number_fits n known =
         value_is_word (type_of tree) n
-        (number_small facts n sound.sound is types (ap (λ (one : Site). number (knowing one facts) of) sound.site ∙ known))
+        (number_small facts n sound.sound is types
+        (ap (λ (one : Site). number (knowing one facts) of) sound.site ∙ known))
 
     -- a BYTE
     byte_single :
@@ -70,7 +75,8 @@ module _
         → After
         → Aim (StoredIn from_scalar Byte part_tree) from s r memory
     unfolding value_task
-    byte_single from_scalar bound reference part_tree from here s r memory counted goes stand reference_is refers part_types tall stage rest =
+    byte_single from_scalar bound reference part_tree from here s r memory counted goes stand reference_is
+        refers part_types tall stage rest =
         by_number (number site of) refl stand
       where
         by_order : (first : Bool) → is_address_first site reference of ≡ first
@@ -80,12 +86,17 @@ module _
             else from_byte_steps (Stored Byte Byte reference) of) ++ others) last to
             → Aim (StoredIn from_scalar Byte part_tree) from s r memory
         by_order true order stand =
-            address_first_does at sound facts need base of tree is types fits go Good others last to from_scalar bound reference part_tree
-            from here s r memory (ap (λ (one : Site). is_address_first (knowing one facts) reference of) sound.site ∙ order) goes stand
+            address_first_does at sound facts need base of tree is types fits go Good others last to
+            from_scalar bound reference part_tree
+            from here s r memory
+            (ap (λ (one : Site). is_address_first (knowing one facts) reference of) sound.site ∙ order)
+            goes stand
             reference_is refers part_types tall stage rest
         by_order false order stand =
-            through at sound facts need base of tree is types fits go Good others last to Byte Byte bound (Stored Byte Byte reference)
-            (StoredIn Byte Byte part_tree) from here s r memory goes stand (IsStored reference_is) (refl, refers, part_types) tall
+            through at sound facts need base of tree is types fits go Good others last to Byte Byte bound
+            (Stored Byte Byte reference)
+            (StoredIn Byte Byte part_tree) from here s r memory goes stand (IsStored reference_is)
+            (refl, refers, part_types) tall
             (λ n small. low_of_low n) stage rest
 
         by_count : (counts : Option Instr) → number site of ≡ None → count_of site reference of ≡ counts
@@ -96,7 +107,8 @@ module _
             ]) ++ others) last to
             → Aim (StoredIn from_scalar Byte part_tree) from s r memory
         by_count (Some i) none counts stand =
-            counted i from_scalar bound reference part_tree from here s r memory none counts goes stand reference_is refers part_types tall
+            counted i from_scalar bound reference part_tree from here s r memory none counts goes stand
+            reference_is refers part_types tall
             stage rest
         by_count None none counts stand = by_order (is_address_first site reference of) refl stand
 
@@ -104,7 +116,9 @@ module _
             → Stand at here None from
             ((elim known as (λ (one : Option ℕ). List Planned) [
               | Some n ↦ part (tasks.Address reference) 0
-                  ∷ plain (Rattle.isa8080.specs.declared.instr.Instr.TheVariants.Mvi Rattle.isa8080.specs.declared.instr.Operand.TheVariants.M (Rattle.steps8080.specs.Instructions.low n)) ∷ []
+                  ∷ plain (Rattle.isa8080.specs.declared.instr.Instr.TheVariants.Mvi
+                  Rattle.isa8080.specs.declared.instr.Operand.TheVariants.M
+                  (Rattle.steps8080.specs.Instructions.low n)) ∷ []
               | None ↦ elim (count_of site reference of) as (λ (one : Option Instr). List Planned) [
                 | Some instruction ↦ part (tasks.Address reference) 0 ∷ plain instruction ∷ []
                 | None ↦ other_byte_steps site reference of
@@ -112,7 +126,8 @@ module _
             ]) ++ others) last to
             → Aim (StoredIn from_scalar Byte part_tree) from s r memory
         by_number (Some n) known stand =
-            byte_number at sound facts need base of tree is types fits go Good others last to n (value_is n known) from_scalar bound reference
+            byte_number at sound facts need base of tree is types fits go Good others last to n
+            (value_is n known) from_scalar bound reference
             part_tree from here s r memory goes stand reference_is refers part_types tall stage rest
         by_number None known stand = by_count (count_of site reference of) known refl stand
 
@@ -122,7 +137,8 @@ module _
         (from : ℕ) (here : Here) (s : SourceState) (r : Registers) (memory : List ℕ)
         → from_scalar ≡ type_of tree
         → here.goes_on ≡ true
-        → Stand at here None from (word_steps at.body site (Stored from_scalar Address reference) reference of ++ others) last to
+        → Stand at here None from
+        (word_steps at.body site (Stored from_scalar Address reference) reference of ++ others) last to
         → IsReference (nodes_in at.context) at.context.storage bound reference part_tree
         → RefersToScalar at.context.typed at.context.within Address part_tree
         → TypesHoldInReference at.context.typed at.context.within part_tree
@@ -131,22 +147,29 @@ module _
         → After
         → Aim (StoredIn from_scalar Address part_tree) from s r memory
     unfolding value_task
-    word_single from_scalar bound reference part_tree from here s r memory same goes stand reference_is refers part_types tall stage rest =
+    word_single from_scalar bound reference part_tree from here s r memory same goes stand reference_is refers
+        part_types tall stage rest =
         by_near (is_near at.body (location_of site reference)) stand
       where
-        as_word : Stand at here None from (from_word_steps (Stored from_scalar Address reference) of ++ others) last to
+        as_word : Stand at here None from
+            (from_word_steps (Stored from_scalar Address reference) of ++ others) last to
             → Aim (StoredIn from_scalar Address part_tree) from s r memory
         as_word stand =
-            through at sound facts need base of tree is types fits go Good others last to from_scalar Address bound
-            (Stored from_scalar Address reference) (StoredIn from_scalar Address part_tree) from here s r memory goes stand
+            through at sound facts need base of tree is types fits go Good others last to
+            from_scalar Address bound
+            (Stored from_scalar Address reference) (StoredIn from_scalar Address part_tree) from here
+            s r memory goes stand
             (IsStored reference_is) (refl, refers, part_types) tall (λ n small. refl) stage rest
 
         by_type : (one : ScalarType) → from_scalar ≡ one
-            → Stand at here None from (other_word_steps one (Stored from_scalar Address reference) of ++ others) last to
+            → Stand at here None from
+            (other_word_steps one (Stored from_scalar Address reference) of ++ others) last to
             → Aim (StoredIn from_scalar Address part_tree) from s r memory
         by_type Byte one stand =
-            through at sound facts need base of tree is types fits go Good others last to from_scalar Byte bound
-            (Stored from_scalar Address reference) (StoredIn from_scalar Address part_tree) from here s r memory goes stand
+            through at sound facts need base of tree is types fits go Good others last to
+            from_scalar Byte bound
+            (Stored from_scalar Address reference) (StoredIn from_scalar Address part_tree) from here
+            s r memory goes stand
             (IsStored reference_is) (refl, refers, part_types) tall
             (λ n small. small_suits (StoredIn from_scalar Address part_tree) n
             (byte_is_small (type_of tree) n (sym same ∙ one) small)) stage rest
@@ -160,8 +183,10 @@ module _
             ]) ++ others) last to
             → Aim (StoredIn from_scalar Address part_tree) from s r memory
         by_number (Some n) known stand =
-            word_number at sound facts need base of tree is types fits go Good others last to n (value_is n known) from_scalar bound reference
-            part_tree from here s r memory goes (number_fits n known) stand reference_is refers part_types tall stage rest
+            word_number at sound facts need base of tree is types fits go Good others last to n
+            (value_is n known) from_scalar bound reference
+            part_tree from here s r memory goes (number_fits n known) stand reference_is refers
+            part_types tall stage rest
         by_number None known stand = by_type from_scalar refl stand
 
         by_near : (near : Bool)
@@ -188,12 +213,21 @@ module _
         → After
         → Aim to_tree from s r memory
     unfolding value_task
-    single_does bound _ _ from here s r memory counted goes stand (IsStored {from = from_scalar} {to = Byte} {reference = reference} {part = part_tree} reference_is) target_types tall stage rest =
-        byte_single from_scalar bound reference part_tree from here s r memory counted goes stand reference_is target_types.1 target_types.2 tall
+    single_does bound _ _ from here s r memory counted goes stand
+        (IsStored {from = from_scalar} {to = Byte} {reference = reference} {part = part_tree} reference_is)
+        target_types tall stage rest =
+        byte_single from_scalar bound reference part_tree from here s r memory counted goes stand reference_is
+        target_types.1 target_types.2 tall
         stage rest
-    single_does bound _ _ from here s r memory counted goes stand (IsStored {from = from_scalar} {to = Address} {reference = reference} {part = part_tree} reference_is) target_types tall stage rest =
-        word_single from_scalar bound reference part_tree from here s r memory target_types.0 goes stand reference_is target_types.1
+    single_does bound _ _ from here s r memory counted goes stand
+        (IsStored {from = from_scalar} {to = Address} {reference = reference} {part = part_tree} reference_is)
+        target_types tall stage rest =
+        word_single from_scalar bound reference part_tree from here s r memory target_types.0 goes stand
+        reference_is target_types.1
         target_types.2 tall stage rest
-    single_does bound _ _ from here s r memory counted goes stand (IsSent {port = port} {from = from_scalar}) target_types tall stage rest =
-        through at sound facts need base of tree is types fits go Good others last to from_scalar Byte bound (Sent from_scalar port)
-        (SentTo from_scalar port) from here s r memory goes stand IsSent (refl, target_types.1) tall (λ n small. low_of_low n) stage rest
+    single_does bound _ _ from here s r memory counted goes stand (IsSent {port = port} {from = from_scalar})
+        target_types tall stage rest =
+        through at sound facts need base of tree is types fits go Good others last to from_scalar Byte bound
+        (Sent from_scalar port)
+        (SentTo from_scalar port) from here s r memory goes stand IsSent (refl, target_types.1) tall
+        (λ n small. low_of_low n) stage rest

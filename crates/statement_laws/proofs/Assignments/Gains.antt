@@ -25,7 +25,8 @@ lands_sparing {script = script} {from = from} one two =
 
 told_sparing :
     {A : Type 0} {script : List (List ℕ)} {budget : ℕ} {from : State} {middle : ℕ} {First : State → Type 0}
-    (one : Lands script budget 1 from middle First) (outcome : Outcome A) (Good : A → SourceState → State → Type 0)
+    (one : Lands script budget 1 from middle First) (outcome : Outcome A)
+    (Good : A → SourceState → State → Type 0)
     → Told script middle 0 one.end outcome Good
     → Told script budget 1 from outcome Good
 told_sparing one (Gave found t) Good two = lands_sparing one two
@@ -44,7 +45,8 @@ pub then_spares :
     → ((found : A) (t : SourceState) (end : State) → Middle found t end → t.budget ≤ budget
     → Does script t.budget 0 end (go found t) Good)
     → Does script budget 1 from (then_do outcome go) Good
-then_spares {script = script} {budget = budget} {from = from} (Gave found t) {go = go} {Middle = Middle} {Good = Good} one rest =
+then_spares {script = script} {budget = budget} {from = from} (Gave found t) {go = go} {Middle = Middle}
+    {Good = Good} one rest =
     let first : Lands script budget 1 from t.budget (Middle found t) = one.told in
     record { told = told_sparing first (go found t) Good (rest found t first.end first.is_good first.spent).told }
 then_spares (Stopped Ended t) one rest = record { told = one.told }
@@ -55,7 +57,8 @@ then_spares (Stopped (Outside reason) t) one rest = record { told = tt }
 pub target_spares :
     {B : Type 0} {need bound : ℕ} {base : List ℕ} {t : SourceState} {facts found : Facts} {r : Registers}
     {memory : List ℕ} {Good : B → SourceState → State → Type 0}
-    (at : BodyContext) (scalar there : ScalarType) (from middle number other : ℕ) (target : Target) (tree : TypedTarget)
+    (at : BodyContext) (scalar there : ScalarType) (from middle number other : ℕ) (target : Target)
+    (tree : TypedTarget)
     (go : Unit {0} → SourceState → Outcome B)
     → StoreDoes at.context facts (from_type target there) false 0 from found middle
     → IsTarget (nodes_in at.context) at.context.storage bound target tree
@@ -70,15 +73,20 @@ pub target_spares :
     → Does (script_of at.context) u.budget 0 (at_place middle now memory_now u.events) (go tt u) Good)
     → Does (script_of at.context) t.budget 1 (at_place from r memory t.events)
     (then_do (stored at.context.later at.context.activation.around tree number t) go) Good
-target_spares {need = need} {bound = bound} {base = base} {t = t} {facts = facts} {found = found} {r = r} {memory = memory} {Good = Good} at scalar there from middle number other target tree go does is types suits small fits has stage rest =
+target_spares {need = need} {bound = bound} {base = base} {t = t} {facts = facts} {found = found} {r = r}
+    {memory = memory} {Good = Good} at scalar there from middle number other target tree go does is types
+    suits small fits has stage rest =
     let high = retyped_height tree there in
     let context = at.context in
     does_same _
-    (ap (λ (outcome : Outcome (Unit {0})). then_do outcome go) (sym (stored_alike at tree there number other t suits)))
+    (ap (λ (outcome : Outcome (Unit {0})). then_do outcome go)
+    (sym (stored_alike at tree there number other t suits)))
     (then_spares (stored context.later context.activation.around (retyped tree there) other t)
-    (does bound other there (retyped tree there) (retyped_is at bound target tree there is) (retyped_types at scalar there tree types) small
+    (does bound other there (retyped tree there) (retyped_is at bound target tree there is)
+    (retyped_types at scalar there tree types) small
     context.activation.level base t r memory stage.below
-    (room_for {need = need} (2 + 2 * height_of_target (retyped tree there)) (omega (arith, high, fits)) stage.room)
+    (room_for {need = need} (2 + 2 * height_of_target (retyped tree there))
+    (omega (arith, high, fits)) stage.room)
     stage.ready stage.known has)
     (λ given u end arrives spent.
     let below = stage.below in

@@ -4,7 +4,8 @@ use Rattle.meaning.specs.Access.{Place}
 
 -- what a part gave that others follow
 pub record GaveBefore
-    {A B : Type 0} (outcome : Outcome A) (go : A → SourceState → Outcome B) (found : B) (u : SourceState) : Type 0 where
+    {A B : Type 0} (outcome : Outcome A) (go : A → SourceState → Outcome B) (found : B)
+    (u : SourceState) : Type 0 where
   pub first : A
   pub t : SourceState
   pub is : outcome ≡ Gave first t
@@ -23,7 +24,8 @@ scalar_in Byte memory address = byte_at memory address
 scalar_in Address memory address = byte_at memory address + 256 * byte_at memory (wrap (address + 1))
 
 module _
-    (context : Context) (sound : IsSound context) (top : ℕ) (base : List ℕ) (s : SourceState) (r : Registers) (memory : List ℕ)
+    (context : Context) (sound : IsSound context) (top : ℕ) (base : List ℕ) (s : SourceState)
+    (r : Registers) (memory : List ℕ)
     (ready : IsReady context.activation top base s.memory s.frame r memory)
   where
     -- a byte that was read
@@ -37,10 +39,12 @@ module _
         → FitsIn context.activation 1 place
         → read_byte context.activation.around.program place s ≡ Gave found t
         → ByteIs place found t
-    byte_is (InMemory address) found t fits same = by (is_declared context.activation.around.program address) refl same
+    byte_is (InMemory address) found t fits same =
+        by (is_declared context.activation.around.program address) refl same
       where
         by : (declared : Bool) → is_declared context.activation.around.program address ≡ declared
-            → (if declared then Gave (byte_at s.memory address) s else Stopped (Outside UndeclaredByte) s) ≡ Gave found t
+            → (if declared then Gave (byte_at s.memory address) s else Stopped (Outside UndeclaredByte) s)
+            ≡ Gave found t
             → ByteIs (InMemory address) found t
         by true is same =
             let parts = same_both (byte_at s.memory address) found s t same in
@@ -68,9 +72,12 @@ module _
     scalar_is Address place found t fits same =
         let program = context.activation.around.program in
         let low = gave_before (read_byte program place s)
-        (λ low u. then_do (read_byte program (next_place place) u) (λ high v. Gave (low + 256 * high) v)) found t same in
+        (λ low u. then_do (read_byte program (next_place place) u) (λ high v. Gave (low + 256 * high) v))
+        found t same in
         let one = byte_is place low.first low.t (first_fits context.activation place fits) low.is in
-        let high = gave_before (read_byte program (next_place place) low.t) (λ high v. Gave (low.first + 256 * high) v) found t low.next in
+        let high =
+        gave_before (read_byte program (next_place place) low.t)
+        (λ high v. Gave (low.first + 256 * high) v) found t low.next in
         let two = byte_is (next_place place) high.first high.t (second_fits context.activation place fits)
         (ap (λ (u : SourceState). read_byte program (next_place place) u) (sym one.same) ∙ high.is) in
         sym (same_both (low.first + 256 * high.first) found high.t t high.next).0
@@ -79,7 +86,8 @@ module _
         (two.is ∙ ap (λ (n : ℕ). byte_at memory n) (next_address context.activation place))
 
     pub small_scalar : (scalar : ScalarType) (address : ℕ) → scalar_in scalar memory address < 65536
-    small_scalar Byte address = let small = byte_small memory address ready.shares.is_memory in omega (arith, small)
+    small_scalar Byte address =
+        let small = byte_small memory address ready.shares.is_memory in omega (arith, small)
     small_scalar Address address =
         let low = byte_small memory address ready.shares.is_memory in
         let high = byte_small memory (wrap (address + 1)) ready.shares.is_memory in
@@ -87,36 +95,45 @@ module _
 
     -- the value of a reference whose place is known
     value_there :
-        {bound : ℕ} (facts : Facts) (kind : ScalarType) (reference : Reference) (part : TypedReference) (location : Location)
+        {bound : ℕ} (facts : Facts) (kind : ScalarType) (reference : Reference) (part : TypedReference)
+        (location : Location)
         (scalar given : ScalarType) (found : ℕ) (t : SourceState)
         → IsReference (nodes_in context) context.storage bound reference part
         → RefersToScalar context.typed context.within kind part
         → TypesHoldInReference context.typed context.within part
         → (known : Option Location)
         → location_of (knowing context.site facts) reference ≡ known
-        → option_map {U = Location × ScalarType} (λ (l : Location). (l, given)) known ≡ Some (location, scalar)
+        → option_map {U = Location × ScalarType} (λ (l : Location). (l, given)) known
+        ≡ Some (location, scalar)
         → given ≡ kind
         → value context.later context.activation.around (ValueNode kind part) s ≡ Gave found t
         → found ≡ scalar_in scalar memory (location_at context.activation (distances_in context) location)
-    value_there facts kind reference part location scalar given found t is refers types None known there type same =
+    value_there facts kind reference part location scalar given found t is refers types None
+        known there type same =
         let never : ⊥ = cc in absurd never
-    value_there facts kind reference part location scalar given found t is refers types (Some place) known there type same =
+    value_there facts kind reference part location scalar given found t is refers types (Some place)
+        known there type same =
         let both : (place, given) ≡ (location, scalar) =
         same_Some {A = Location × ScalarType} (place, given) (location, scalar) there in
-        let lies = lies_there facts place sound is (refers_is_referred context kind part refers) types known in
+        let lies =
+        lies_there facts place sound is (refers_is_referred context kind part refers) types known in
         let read : read_scalar context.activation.around.program kind lies.place s ≡ Gave found t =
         sym (ap (λ (outcome : Outcome Place). then_do outcome
         (λ one u. read_scalar context.activation.around.program kind one u)) (lies.means s)) ∙ same in
-        scalar_is kind lies.place found t (located_fits context kind part lies.place s s sound refers (lies.means s)) read
+        scalar_is kind lies.place found t
+        (located_fits context kind part lies.place s s sound refers (lies.means s)) read
         ∙ ap (λ (n : ℕ). scalar_in kind memory n) lies.is_at
-        ∙ ap (λ (one : ScalarType). scalar_in one memory (location_at context.activation (distances_in context) place))
+        ∙ ap (λ (one : ScalarType). scalar_in one memory
+        (location_at context.activation (distances_in context) place))
         (sym type ∙ ap (λ (pair : Location × ScalarType). pair.1) both)
-        ∙ ap (λ (one : Location). scalar_in scalar memory (location_at context.activation (distances_in context) one))
+        ∙ ap (λ (one : Location). scalar_in scalar memory
+        (location_at context.activation (distances_in context) one))
         (ap (λ (pair : Location × ScalarType). pair.0) both)
 
     -- a scalar whose place is known
     pub scalar_there :
-        {bound : ℕ} (facts : Facts) (of : ExpressionNumber) (tree : TypedExpression) (location : Location) (scalar : ScalarType)
+        {bound : ℕ} (facts : Facts) (of : ExpressionNumber) (tree : TypedExpression) (location : Location)
+        (scalar : ScalarType)
         (found : ℕ) (t : SourceState)
         → IsExpression (nodes_in context) context.storage bound of.index tree
         → TypesHold context.typed context.within tree
@@ -126,7 +143,8 @@ module _
     scalar_there facts of tree location scalar found t is types there same =
         let node = node_of {number = of} sound is in
         by node.form
-        (sym (ap (λ (one : Option Expression). elim one as (λ (given : Option Expression). Option (Location × ScalarType)) [
+        (sym (ap (λ (one : Option Expression). elim one as (λ (given : Option Expression). Option
+        (Location × ScalarType)) [
           | Some given ↦ scalar_of_form (knowing context.site facts) given.form given.traits.scalar
           | None ↦ None
         ]) (node.at_site facts)) ∙ there) node.scalar types same
@@ -138,7 +156,8 @@ module _
             → TypesHold context.typed context.within one
             → value context.later context.activation.around one s ≡ Gave found t
             → found ≡ scalar_in scalar memory (location_at context.activation (distances_in context) location)
-        by {given = given} (IsValue {scalar = kind} {reference = reference} {part = part} part_is) there type types same =
+        by {given = given} (IsValue {scalar = kind} {reference = reference} {part = part} part_is)
+            there type types same =
             value_there facts kind reference part location scalar given found t part_is types.0 types.1
             (location_of (knowing context.site facts) reference) refl there type same
         by IsNumber there type types same = let never : ⊥ = cc in absurd never
@@ -168,7 +187,8 @@ module _
         → are_same_scalar (knowing context.site facts) left right ≡ true
         → OneScalar facts left right
     one_scalar facts left right same =
-        by (scalar_at (knowing context.site facts) left) (scalar_at (knowing context.site facts) right) refl refl same
+        by (scalar_at (knowing context.site facts) left)
+        (scalar_at (knowing context.site facts) right) refl refl same
       where
         by : (one other : Option (Location × ScalarType))
             → scalar_at (knowing context.site facts) left ≡ one
@@ -191,7 +211,8 @@ module _
 
     -- two scalars that are the same
     pub same_scalars :
-        {one_bound other_bound : ℕ} (facts : Facts) (left right : ExpressionNumber) (one other : TypedExpression) (a b : ℕ)
+        {one_bound other_bound : ℕ} (facts : Facts) (left right : ExpressionNumber)
+        (one other : TypedExpression) (a b : ℕ)
         (t u : SourceState)
         → IsExpression (nodes_in context) context.storage one_bound left.index one
         → IsExpression (nodes_in context) context.storage other_bound right.index other
@@ -203,16 +224,21 @@ module _
         → (a ≡ b) × (a < 65536)
     same_scalars facts left right one other a b t u one_is other_is one_types other_types same first second =
         let found = one_scalar facts left right same in
-        let left_is = scalar_there facts left one found.first found.scalar a t one_is one_types found.left_at first in
-        let right_is = scalar_there facts right other found.second found.scalar b u other_is other_types found.right_at second in
-        let small = small_scalar found.scalar (location_at context.activation (distances_in context) found.first) in (
+        let left_is =
+        scalar_there facts left one found.first found.scalar a t one_is one_types found.left_at first in
+        let right_is =
+        scalar_there facts right other found.second found.scalar b u other_is other_types
+        found.right_at second in
+        let small =
+        small_scalar found.scalar (location_at context.activation (distances_in context) found.first) in (
           left_is ∙ ap (λ (n : ℕ). scalar_in found.scalar memory n) found.same ∙ sym right_is,
           omega (arith, left_is, small),
         )
 
     -- two numbers or scalars that are the same
     pub same_leaves :
-        {one_bound other_bound : ℕ} (facts : Facts) (left right : ExpressionNumber) (one other : TypedExpression) (a b : ℕ)
+        {one_bound other_bound : ℕ} (facts : Facts) (left right : ExpressionNumber)
+        (one other : TypedExpression) (a b : ℕ)
         (t u : SourceState)
         → IsExpression (nodes_in context) context.storage one_bound left.index one
         → IsExpression (nodes_in context) context.storage other_bound right.index other
@@ -223,11 +249,13 @@ module _
         → value context.later context.activation.around other s ≡ Gave b u
         → a ≡ b
     same_leaves facts left right one other a b t u one_is other_is one_types other_types same first second =
-        by (number (knowing context.site facts) left) (number (knowing context.site facts) right) refl refl same
+        by (number (knowing context.site facts) left)
+        (number (knowing context.site facts) right) refl refl same
       where
         scalars : are_same_scalar (knowing context.site facts) left right ≡ true → a ≡ b
         scalars same =
-            (same_scalars facts left right one other a b t u one_is other_is one_types other_types same first second).0
+            (same_scalars facts left right one other a b t u one_is other_is one_types other_types
+            same first second).0
 
         by : (n m : Option ℕ)
             → number (knowing context.site facts) left ≡ n
@@ -243,6 +271,7 @@ module _
         by (Some x) (Some y) one_known other_known same =
             (same_both a x t s (sym first ∙ number_means facts x sound one_is one_types one_known s)).0
             ∙ eqb-true x y same
-            ∙ sym (same_both b y u s (sym second ∙ number_means facts y sound other_is other_types other_known s)).0
+            ∙ sym (same_both b y u s (sym second
+            ∙ number_means facts y sound other_is other_types other_known s)).0
         by (Some x) None one_known other_known same = scalars same
         by None m one_known other_known same = scalars same

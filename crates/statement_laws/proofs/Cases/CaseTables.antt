@@ -10,7 +10,8 @@ pub record TableStands
     (at : BodyContext) (entry : ℕ → LabelNumber) (here : Here) (waiting : Option Facts) (from index left : ℕ)
     (others : List Planned) (last : Here) (to : ℕ) : Type 0 where
   pub jumps : (k : ℕ) → k < left
-      → IsThere at.context.activation (jump_item Jump (entry (index + k)) ∷ []) (from + 3 * k) (from + 3 * k + 3)
+      → IsThere at.context.activation (jump_item Jump (entry (index + k)) ∷ [])
+      (from + 3 * k) (from + 3 * k + 3)
   pub known : Facts
   pub rest : Stand at (going here.goes_on known) waiting (from + 3 * left) others last to
 
@@ -23,40 +24,53 @@ one_more from left = omega arith
 pub table_parted :
     {at : BodyContext} {last : Here} {waiting : Option Facts} {to : ℕ} {others : List Planned}
     (entry : ℕ → LabelNumber) (here : Here) (from index left : ℕ)
-    → Stand at here waiting from (steps_from (λ (n : ℕ). jump Jump (entry n) ∷ []) index left ++ others) last to
+    → Stand at here waiting from (steps_from (λ (n : ℕ). jump Jump (entry n) ∷ []) index left ++ others) last
+    to
     → TableStands at entry here waiting from index left others last to
-table_parted {at = at} {last = last} {waiting = waiting} {to = to} {others = others} entry here from index zero stand = record {
-  jumps = λ k less. absurd (omega (arith, less));
-  known = here.facts;
-  rest = subst (λ (place : ℕ). Stand at here waiting place others last to) (no_more from) stand;
-}
-table_parted {at = at} {last = last} {waiting = waiting} {to = to} {others = others} entry here from index (suc left) stand =
+table_parted {at = at} {last = last} {waiting = waiting} {to = to} {others = others} entry here from index
+    zero stand = record {
+      jumps = λ k less. absurd (omega (arith, less));
+      known = here.facts;
+      rest = subst (λ (place : ℕ). Stand at here waiting place others last to) (no_more from) stand;
+    }
+table_parted {at = at} {last = last} {waiting = waiting} {to = to} {others = others} entry here from
+    index (suc left) stand =
     let parts = jump_first stand in
-    let more = table_parted entry (going here.goes_on (after_form here.facts Jump)) (from + 3) (suc index) left parts.rest in
+    let more =
+    table_parted entry (going here.goes_on (after_form here.facts Jump)) (from + 3)
+    (suc index) left parts.rest in
     record {
       jumps = λ k less. nth k less parts.there more.jumps;
       known = more.known;
-      rest = subst (λ (place : ℕ). Stand at (going here.goes_on more.known) waiting place others last to) (one_more from left) more.rest;
+      rest = subst (λ (place : ℕ). Stand at (going here.goes_on more.known) waiting place others last to)
+          (one_more from left) more.rest;
     }
   where
     nth : (k : ℕ) → k < suc left
         → IsThere at.context.activation (jump_item Jump (entry index) ∷ []) from (from + 3)
         → ((k : ℕ) → k < left
-        → IsThere at.context.activation (jump_item Jump (entry (suc index + k)) ∷ []) (from + 3 + 3 * k) (from + 3 + 3 * k + 3))
-        → IsThere at.context.activation (jump_item Jump (entry (index + k)) ∷ []) (from + 3 * k) (from + 3 * k + 3)
+        → IsThere at.context.activation (jump_item Jump (entry (suc index + k)) ∷ []) (from + 3 + 3 * k)
+        (from + 3 + 3 * k + 3))
+        → IsThere at.context.activation (jump_item Jump (entry (index + k)) ∷ [])
+        (from + 3 * k) (from + 3 * k + 3)
     nth zero less first others =
-        subst (λ (n : ℕ). IsThere at.context.activation (jump_item Jump (entry n) ∷ []) (from + 3 * 0) (from + 3 * 0 + 3)) (same_index index)
-        (subst (λ (place : ℕ). IsThere at.context.activation (jump_item Jump (entry index) ∷ []) place (place + 3)) (no_more from) first)
+        subst (λ (n : ℕ). IsThere at.context.activation (jump_item Jump (entry n) ∷ []) (from + 3 * 0)
+        (from + 3 * 0 + 3)) (same_index index)
+        (subst (λ (place : ℕ). IsThere at.context.activation (jump_item Jump (entry index) ∷ []) place
+        (place + 3)) (no_more from) first)
       where
         same_index : (n : ℕ) → n ≡ n + 0
         same_index n = omega arith
     nth (suc k) less first others =
-        subst (λ (n : ℕ). IsThere at.context.activation (jump_item Jump (entry n) ∷ []) (from + 3 * suc k) (from + 3 * suc k + 3)) (suc_moved index k)
-        (subst (λ (place : ℕ). IsThere at.context.activation (jump_item Jump (entry (suc index + k)) ∷ []) place (place + 3)) (one_more from k)
+        subst (λ (n : ℕ). IsThere at.context.activation (jump_item Jump (entry n) ∷ []) (from + 3 * suc k)
+        (from + 3 * suc k + 3)) (suc_moved index k)
+        (subst (λ (place : ℕ). IsThere at.context.activation (jump_item Jump (entry (suc index + k)) ∷ [])
+        place (place + 3)) (one_more from k)
         (others k (omega (arith, less))))
 
 -- a statement of the list after the table: where it is entered, and that it goes on to the end
-pub record EntryStands (at : BodyContext) (own : LabelNumber) (found : StatementNumber) (after : Here) (to : ℕ) : Type 0 where
+pub record EntryStands (at : BodyContext) (own : LabelNumber) (found : StatementNumber) (after : Here)
+    (to : ℕ) : Type 0 where
   pub place : ℕ
   pub here : Here
   pub middle : ℕ
@@ -65,17 +79,20 @@ pub record EntryStands (at : BodyContext) (own : LabelNumber) (found : Statement
   pub ends : (base : List ℕ) (need budget : ℕ) (u : SourceState) (now : Registers) (memory_now : List ℕ)
       → here.goes_on ≡ true
       → Stage at.context at.context.activation.level 0 need base u here.facts now memory_now
-      → Does (script_of at.context) u.budget 0 (at_place middle now memory_now u.events) (Gave Onward u) (Leaves at base to after budget)
+      → Does (script_of at.context) u.budget 0 (at_place middle now memory_now u.events) (Gave Onward u)
+      (Leaves at base to after budget)
 
 -- statements after the table
 pub record EntriesStand
-    (at : BodyContext) (list : Range) (own end : LabelNumber) (from index left : ℕ) (after : Here) (to : ℕ) : Type 0 where
+    (at : BodyContext) (list : Range) (own end : LabelNumber) (from index left : ℕ) (after : Here)
+    (to : ℕ) : Type 0 where
   pub end_is : at.context.activation.layout.place_of end.index ≡ to
   pub after_is : record { facts = no_facts; goes_on = true } ≡ after
   pub over : left ≡ 0 → from ≡ to
   pub entries : (k : ℕ) (found : StatementNumber) → k < left
       → item at.body.tree.now list (index + k) ≡ Some found
-      → nat_eq (entry_of at.body list (index + k) (label_at own (index + k)) end).index (label_at own (index + k)).index ≡ true
+      → nat_eq (entry_of at.body list (index + k) (label_at own (index + k)) end).index
+      (label_at own (index + k)).index ≡ true
       → EntryStands at (label_at own (index + k)) found after to
 
 -- the end of the statement is reached
@@ -84,8 +101,10 @@ pub reaches_end :
     (u : SourceState) (now : Registers) (memory_now : List ℕ)
     → record { facts = no_facts; goes_on = true } ≡ after
     → Stage at.context at.context.activation.level 0 need base u facts now memory_now
-    → Does (script_of at.context) u.budget 0 (at_place to now memory_now u.events) (Gave Onward u) (Leaves at base to after budget)
-reaches_end {at = at} {base = base} {to = to} {need = need} {after = after} {budget = budget} u now memory_now is stage =
+    → Does (script_of at.context) u.budget 0 (at_place to now memory_now u.events) (Gave Onward u)
+    (Leaves at base to after budget)
+reaches_end {at = at} {base = base} {to = to} {need = need} {after = after} {budget = budget} u now
+    memory_now is stage =
     does_without_step (record {
       goes_on = ap (λ (here : Here). here.goes_on) (sym is);
       comes = record {
@@ -93,7 +112,8 @@ reaches_end {at = at} {base = base} {to = to} {need = need} {after = after} {bud
         memory = memory_now;
         is_at = refl;
         ready = stage.ready;
-        holds = subst (λ (here : Here). Know at.context here.facts now memory_now) is Rattle.code_meaning.proofs.Facts.Changes.no_facts_hold;
+        holds = subst (λ (here : Here). Know at.context here.facts now memory_now) is
+            Rattle.code_meaning.proofs.Facts.Changes.no_facts_hold;
       };
     })
 
@@ -104,7 +124,8 @@ behind_table at list own end index left =
 
 -- a statement before others
 joined :
-    {at : BodyContext} {after : Here} {to : ℕ} (list : Range) (own end : LabelNumber) (from middle index left : ℕ)
+    {at : BodyContext} {after : Here} {to : ℕ} (list : Range) (own end : LabelNumber)
+    (from middle index left : ℕ)
     → EntriesStand at list own end middle (suc index) left after to
     → ((found : StatementNumber)
     → item at.body.tree.now list index ≡ Some found
@@ -120,7 +141,8 @@ joined {at = at} {after = after} {to = to} list own end from middle index left m
   where
     nth : (k : ℕ) (found : StatementNumber) → k < suc left
         → item at.body.tree.now list (index + k) ≡ Some found
-        → nat_eq (entry_of at.body list (index + k) (label_at own (index + k)) end).index (label_at own (index + k)).index ≡ true
+        → nat_eq (entry_of at.body list (index + k) (label_at own (index + k)) end).index
+        (label_at own (index + k)).index ≡ true
         → EntryStands at (label_at own (index + k)) found after to
     nth zero found less is own_is =
         subst (λ (n : ℕ). item at.body.tree.now list n ≡ Some found
@@ -132,7 +154,8 @@ joined {at = at} {after = after} {to = to} list own end from middle index left m
         → EntryStands at (label_at own n) found after to) (suc_moved index k)
         (more.entries k found (omega (arith, less))) is own_is
 
-no_statement : {A : Type 0} {one : Option StatementNumber} {found : StatementNumber} → one ≡ None → one ≡ Some found → A
+no_statement : {A : Type 0} {one : Option StatementNumber} {found : StatementNumber} → one ≡ None
+    → one ≡ Some found → A
 no_statement none some = absurd cc
 
 not_both : {A : Type 0} {one : Bool} → one ≡ false → one ≡ true → A
@@ -140,7 +163,8 @@ not_both untrue holds = absurd cc
 
 -- the statements after the table stand
 pub behind_parted :
-    {at : BodyContext} {waiting : Option Facts} {after : Here} {to : ℕ} (list : Range) (own end : LabelNumber) (left index : ℕ)
+    {at : BodyContext} {waiting : Option Facts} {after : Here} {to : ℕ} (list : Range)
+    (own end : LabelNumber) (left index : ℕ)
     (here : Here) (from : ℕ)
     → IsSoundBody at
     → index + left ≡ list.count
@@ -156,12 +180,15 @@ behind_parted {at = at} {after = after} {to = to} list own end zero index here f
       over = λ none. (sym ends.place);
       entries = λ k found less. absurd (omega (arith, less));
     }
-behind_parted {at = at} {waiting = waiting} {after = after} {to = to} list own end (suc left) index here from sound count stand =
-    by_item (λ here place stand. behind_parted list own end left (suc index) here place sound (omega (arith, count)) stand)
+behind_parted {at = at} {waiting = waiting} {after = after} {to = to} list own end (suc left) index here
+    from sound count stand =
+    by_item (λ here place stand. behind_parted list own end left (suc index) here place sound
+    (omega (arith, count)) stand)
     (item at.body.tree.now list index) refl stand
   where
     More : Type 0
-    More = (here : Here) (place : ℕ) → Stand at here waiting place (behind_table at list own end (suc index) left) after to
+    More = (here : Here) (place : ℕ) → Stand at here waiting place
+        (behind_table at list own end (suc index) left) after to
         → EntriesStand at list own end place (suc index) left after to
 
     others : List Planned
@@ -196,10 +223,13 @@ behind_parted {at = at} {waiting = waiting} {after = after} {to = to} list own e
             → next.goes_on ≡ true
             → Steps at.context next.facts middle (jump_on_steps next.goes_on end) known over_there
             → Stage at.context at.context.activation.level 0 need base u next.facts now memory_now
-            → Does (script_of at.context) u.budget 0 (at_place middle now memory_now u.events) (Gave Onward u) (Leaves at base to after budget)
-        jumps_to_end {over_there = over_there} {known = known} end_is after_is u now memory_now goes_on stand stage =
+            → Does (script_of at.context) u.budget 0 (at_place middle now memory_now u.events) (Gave Onward u)
+            (Leaves at base to after budget)
+        jumps_to_end {over_there = over_there} {known = known} end_is after_is u now memory_now
+            goes_on stand stage =
             jump_goes end_is after_is u now memory_now
-            (subst (λ (goes_on : Bool). Steps at.context next.facts middle (jump_on_steps goes_on end) known over_there) goes_on stand) stage
+            (subst (λ (goes_on : Bool). Steps at.context next.facts middle (jump_on_steps goes_on end) known
+            over_there) goes_on stand) stage
           where
             jump_goes : {base : List ℕ} {need budget over_there : ℕ} {known : Facts}
                 → at.context.activation.layout.place_of end.index ≡ to
@@ -207,10 +237,12 @@ behind_parted {at = at} {waiting = waiting} {after = after} {to = to} list own e
                 → (u : SourceState) (now : Registers) (memory_now : List ℕ)
                 → Steps at.context next.facts middle (steps.Jump Jump end ∷ []) known over_there
                 → Stage at.context at.context.activation.level 0 need base u next.facts now memory_now
-                → Does (script_of at.context) u.budget 0 (at_place middle now memory_now u.events) (Gave Onward u) (Leaves at base to after budget)
+                → Does (script_of at.context) u.budget 0 (at_place middle now memory_now u.events)
+                (Gave Onward u) (Leaves at base to after budget)
             jump_goes end_is after_is u now memory_now (JumpThere there rest) stage =
                 after_step
-                (word_step (script_of at.context) at.context.activation Jump (AtLabel end.index) [] middle (middle + 3) now memory_now u.events
+                (word_step (script_of at.context) at.context.activation Jump (AtLabel end.index) [] middle
+                (middle + 3) now memory_now u.events
                 sound.sound.lies stage.ready.shares.code there
                 ∙ ap (λ (place : ℕ). at_place place now memory_now u.events) end_is)
                 (reaches_end u now memory_now after_is stage)
@@ -227,20 +259,25 @@ behind_parted {at = at} {waiting = waiting} {after = after} {to = to} list own e
           does = subst (λ (one : StatementNumber). StatementDoes at no_facts one place next middle)
               (same_Some found other (sym is ∙ other_is)) does;
           ends = λ base need budget u now memory_now goes_on stage.
-              subst (λ (n : ℕ). Does (script_of at.context) u.budget 0 (at_place n now memory_now u.events) (Gave Onward u) (Leaves at base to after budget))
+              subst (λ (n : ℕ). Does (script_of at.context) u.budget 0 (at_place n now memory_now u.events)
+              (Gave Onward u) (Leaves at base to after budget))
               (sym (rest.over none)) (reaches_end u now memory_now rest.after_is stage);
         })
 
     by_entry : More → (found : StatementNumber) → item at.body.tree.now list index ≡ Some found
         → (own_is : Bool)
-        → nat_eq (entry_of at.body list index (label_at own index) end).index (label_at own index).index ≡ own_is
+        → nat_eq (entry_of at.body list index (label_at own index) end).index (label_at own index).index
+        ≡ own_is
         → (jumps : Bool) → nat_lt index (list.count - 1) ≡ jumps
         → Stand at here waiting from
-        (((if own_is then mark (label_at own index) ∷ planned.Statement found ∷ (if jumps then planned.JumpOn end ∷ [] else []) else [])
-        ++ steps_from (λ (n : ℕ). statement_at at.body list own end n) (suc index) left) ++ cases_end_steps end) after to
+        (((if own_is then mark (label_at own index) ∷ planned.Statement found
+        ∷ (if jumps then planned.JumpOn end ∷ [] else []) else [])
+        ++ steps_from (λ (n : ℕ). statement_at at.body list own end n) (suc index) left)
+        ++ cases_end_steps end) after to
         → EntriesStand at list own end from index (suc left) after to
     by_entry more found is false own_is jumps less stand =
-        joined list own end from from index left (more here from stand) (λ other other_is holds. not_both own_is holds)
+        joined list own end from from index left (more here from stand)
+        (λ other other_is holds. not_both own_is holds)
     by_entry more found is true own_is true less stand =
         let marked = mark_first stand in
         let parts = statement_first marked.rest in
@@ -254,18 +291,21 @@ behind_parted {at = at} {waiting = waiting} {after = after} {to = to} list own e
         → Stand at here waiting from
         ((elim found as (λ (one : Option StatementNumber). List Planned) [
           | Some found ↦
-              if nat_eq (entry_of at.body list index (label_at own index) end).index (label_at own index).index
+              if nat_eq (entry_of at.body list index (label_at own index) end).index
+              (label_at own index).index
               then mark (label_at own index)
               ∷ planned.Statement found
               ∷ (if nat_lt index (list.count - 1) then planned.JumpOn end ∷ [] else [])
               else []
           | None ↦ []
         ]
-        ++ steps_from (λ (n : ℕ). statement_at at.body list own end n) (suc index) left) ++ cases_end_steps end) after to
+        ++ steps_from (λ (n : ℕ). statement_at at.body list own end n) (suc index) left)
+        ++ cases_end_steps end) after to
         → EntriesStand at list own end from index (suc left) after to
     by_item more (Some found) is stand =
         by_entry more found is
         (nat_eq (entry_of at.body list index (label_at own index) end).index (label_at own index).index) refl
         (nat_lt index (list.count - 1)) refl stand
     by_item more None is stand =
-        joined list own end from from index left (more here from stand) (λ other other_is holds. no_statement is other_is)
+        joined list own end from from index left (more here from stand)
+        (λ other other_is holds. no_statement is other_is)

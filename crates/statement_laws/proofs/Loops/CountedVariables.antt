@@ -21,11 +21,13 @@ variable_address context variable = address_on_machine context.activation (varia
 pub record IsCounted (context : Context) (variable : ℕ) (scalar : ScalarType) : Type 0 where
   pub refers : RefersToScalar context.typed context.within scalar (whole_tree variable)
   pub referred : IsReferred context (whole_tree variable)
-  pub means : (s : SourceState) → located_in context (whole_tree variable) s ≡ Gave (variable_place context variable) s
+  pub means : (s : SourceState) → located_in context (whole_tree variable) s
+      ≡ Gave (variable_place context variable) s
   pub fits : FitsIn context.activation (size_of_scalar scalar) (variable_place context variable)
   pub location : Location
   pub located : (facts : Facts) → location_of (knowing context.site facts) (whole variable) ≡ Some location
-  pub is_there : variable_address context variable ≡ location_at context.activation (distances_in context) location
+  pub is_there : variable_address context variable
+      ≡ location_at context.activation (distances_in context) location
   pub keeps_a : (keeps_of_address context.site (whole variable)).a ≡ true
   pub keeps_de : (keeps_of_address context.site (whole variable)).de ≡ true
 
@@ -34,11 +36,13 @@ pub whole_is : (context : Context) (bound object : ℕ)
     → IsReference (nodes_in context) context.storage bound (whole object) (whole_tree object)
 whole_is context bound object = IsPart IsAbsent IsAbsent
 
-pub whole_types : (context : Context) (object : ℕ) → TypesHoldInReference context.typed context.within (whole_tree object)
+pub whole_types : (context : Context) (object : ℕ)
+    → TypesHoldInReference context.typed context.within (whole_tree object)
 whole_types context object = (tt, tt)
 
 -- an object that lies for a body is seen in it
-seen : (context : Context) (kind : TypedHome) → LiesFor context.within kind → IsSeen context.typed context.within kind
+seen : (context : Context) (kind : TypedHome) → LiesFor context.within kind
+    → IsSeen context.typed context.within kind
 seen context (BasedOn base) lies = absurd lies
 seen context (InData values) lies = lies
 seen context (InConstants values) lies = lies
@@ -48,18 +52,22 @@ seen context Nowhere lies = lies
 seen context (InFrame procedure) lies = lies
 
 nothing_yet : SourceState
-nothing_yet = record { memory = Rattle.std.proofs.Common.[]; frame = Rattle.std.proofs.Common.[]; events = Rattle.std.proofs.Common.[]; budget = 0 }
+nothing_yet =
+    record { memory = Rattle.std.proofs.Common.[]; frame = Rattle.std.proofs.Common.[]; events = Rattle.std.proofs.Common.[]; budget = 0 }
 
 -- where tree code knows the location of an object, it has the address of its place
 address_is :
     (context : Context) (variable : ℕ) (facts : Facts) (location : Location)
     → IsSound context
     → IsReferred context (whole_tree variable)
-    → ((s : SourceState) → located_in context (whole_tree variable) s ≡ Gave (variable_place context variable) s)
+    → ((s : SourceState) → located_in context (whole_tree variable) s
+    ≡ Gave (variable_place context variable) s)
     → location_of (knowing context.site facts) (whole variable) ≡ Some location
     → variable_address context variable ≡ location_at context.activation (distances_in context) location
 address_is context variable facts location sound referred means same =
-    let lies = lies_there facts location sound (whole_is context 0 variable) referred (whole_types context variable) same in
+    let lies =
+    lies_there facts location sound (whole_is context 0 variable) referred
+    (whole_types context variable) same in
     ap (address_on_machine context.activation)
     (same_given (sym (means nothing_yet) ∙ lies.means nothing_yet))
     ∙ lies.is_at
@@ -76,11 +84,14 @@ has_location :
     → Begins typed storage number kind start
     → HasLocation start
 has_location within _ _ lies BeginsAtBase = absurd lies
-has_location within _ (homes.Frame variable) lies BeginsInFrame = record { location = _; is = refl; keeps = refl }
-has_location within _ (homes.Static place) lies BeginsInMemory = record { location = _; is = refl; keeps = refl }
+has_location within _ (homes.Frame variable) lies BeginsInFrame =
+    record { location = _; is = refl; keeps = refl }
+has_location within _ (homes.Static place) lies BeginsInMemory =
+    record { location = _; is = refl; keeps = refl }
 
 location_by :
-    (context : Context) (variable : ℕ) (facts : Facts) (its : HasLocation (home_at context.site.tree.now.homes.items variable))
+    (context : Context) (variable : ℕ) (facts : Facts)
+    (its : HasLocation (home_at context.site.tree.now.homes.items variable))
     → location_of (knowing context.site facts) (whole variable) ≡ Some its.location
 unfolding location_of located split
 location_by context variable facts its = its.is
@@ -113,7 +124,9 @@ is_counted context head sound counts =
     ap (λ (kind : TypedHome). based_place kind around head.variable 0 true s) home_is
     ∙ not_based context.within (its.found).home around head.variable 0 true s lies
     ∙ ap (λ (kind : TypedHome). Gave (place_in kind around head.variable 0 true) s) (sym home_is) in
-    let there = has_location context.within (its.found).home (home_at context.site.tree.now.homes.items head.variable) lies
+    let there =
+    has_location context.within (its.found).home
+    (home_at context.site.tree.now.homes.items head.variable) lies
     (begins_there context head.variable its.found sound its.is) in
     let referred = refers_is_referred context head.scalar (whole_tree head.variable) refers in
     record {
@@ -121,11 +134,14 @@ is_counted context head sound counts =
       referred = referred;
       means = means;
       fits =
-          located_fits context head.scalar (whole_tree head.variable) (variable_place context head.variable) nothing_yet
+          located_fits context head.scalar (whole_tree head.variable)
+          (variable_place context head.variable) nothing_yet
           nothing_yet sound refers (means nothing_yet);
       location = there.location;
       located = λ facts. location_by context head.variable facts there;
-      is_there = address_is context head.variable no_facts there.location sound referred means (location_by context head.variable no_facts there);
+      is_there =
+          address_is context head.variable no_facts there.location sound referred means
+          (location_by context head.variable no_facts there);
       keeps_a = ap (λ (keeps : Keeps). keeps.a) (keeps_by context head.variable there);
       keeps_de = ap (λ (keeps : Keeps). keeps.de) (keeps_by context head.variable there);
     }
@@ -139,7 +155,8 @@ is_counted context head sound counts =
         given other = head.scalar
     own_scalar other same = absurd cc
 
-    is_scalar : (object : TypedObject) → IsScalar head.scalar object → IsScalarOf object head.scalar (whole_tree head.variable)
+    is_scalar : (object : TypedObject) → IsScalar head.scalar object
+        → IsScalarOf object head.scalar (whole_tree head.variable)
     is_scalar object is = ((tt, (refl, refl)), is.0, own_scalar object.object_type is.1)
 
 -- where tree code knows the location of the variable, it has the address of its place
@@ -149,4 +166,5 @@ pub location_is :
     → IsCounted context variable scalar
     → location_of (knowing context.site facts) (whole variable) ≡ Some location
     → variable_address context variable ≡ location_at context.activation (distances_in context) location
-location_is {context = context} {variable = variable} facts location sound counted same = address_is context variable facts location sound counted.referred counted.means same
+location_is {context = context} {variable = variable} facts location sound counted same =
+    address_is context variable facts location sound counted.referred counted.means same

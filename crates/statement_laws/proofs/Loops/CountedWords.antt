@@ -10,12 +10,14 @@ use Rattle.statement_laws.proofs.Loops.LoopTurns.{Loop, Out, Runs, StageAt, from
 use Rattle.statement_laws.proofs.Loops.WordCode.{shld_then, word_is_less, word_put, with_word}
 
 -- what is true of a loop whose variable is an ADDRESS in memory, to a last value, by 1
-pub record CountsWords {at : BodyContext} (loop : Loop at) (last limit : ℕ) (turn : LabelNumber) (facts : Facts) : Type 0 where
+pub record CountsWords {at : BodyContext} (loop : Loop at) (last limit : ℕ) (turn : LabelNumber)
+    (facts : Facts) : Type 0 where
   pub sound : IsSoundBody at
   pub scalar : (loop.head).scalar ≡ Address
   pub counted : IsCounted at.context (loop.head).variable Address
   pub enough : 2 ≤ loop.need
-  pub last_is : (s : SourceState) → value at.context.later at.context.activation.around (loop.head).last s ≡ Gave last s
+  pub last_is : (s : SourceState) → value at.context.later at.context.activation.around (loop.head).last s
+      ≡ Gave last s
   pub last_small : last < 65536
   pub step_is : (s : SourceState)
       → step_value at.context.later at.context.activation.around (loop.head).step s ≡ Gave 1 s
@@ -56,11 +58,13 @@ high_again low high n one is = omega (arith, one, is)
 
 -- the variable is in HL, and counted and stored
 pub counts_word :
-    {at : BodyContext} (loop : Loop at) (last limit : ℕ) (turn : LabelNumber) (turn_facts : Facts) (place : Place)
+    {at : BodyContext} (loop : Loop at) (last limit : ℕ) (turn : LabelNumber)
+    (turn_facts : Facts) (place : Place)
     {facts found : Facts} {from to : ℕ} (t : SourceState) (r : Registers) (memory : List ℕ)
     → (counts : CountsWords loop last limit turn turn_facts)
     → (counts.counted).location ≡ locations.Static place
-    → Steps at.context facts from (Rattle.steps8080.specs.Step.plain (compared_and_counted last) ++ stored_and_on place turn) found to
+    → Steps at.context facts from
+    (Rattle.steps8080.specs.Step.plain (compared_and_counted last) ++ stored_and_on place turn) found to
     → t.budget ≤ limit
     → StageAt at loop.need loop.base t facts r memory
     → r.l ≡ byte_at memory (variable_address at.context (loop.head).variable)
@@ -68,8 +72,10 @@ pub counts_word :
     → IsSteady at.context.activation (variable_address at.context (loop.head).variable)
     → IsSteady at.context.activation (wrap (variable_address at.context (loop.head).variable + 1))
     → Goes loop limit found to
-    → Does (script_of at.context) t.budget 0 (at_place from r memory t.events) (stepped_with loop Address 1 t) (Out loop)
-counts_word {at = at} loop last limit turn turn_facts place t r memory counts lies stand fewer stage low_is high_is steady steady_too goes =
+    → Does (script_of at.context) t.budget 0 (at_place from r memory t.events)
+    (stepped_with loop Address 1 t) (Out loop)
+counts_word {at = at} loop last limit turn turn_facts place t r memory counts lies stand fewer stage low_is
+    high_is steady steady_too goes =
     let sound = counts.sound.sound in
     let counted = counts.counted in
     let variable : ℕ = (loop.head).variable in
@@ -84,12 +90,15 @@ counts_word {at = at} loop last limit turn turn_facts place t r memory counts li
     let new : ℕ = (number + 1) % 65536 in
     let after : Registers = effect (compared_and_counted last) r in
     let is_less : after.flags.cy ≡ nat_lt number last =
-    word_is_less r.h r.l last low_small counts.last_small ∙ ap (λ (n : ℕ). nat_lt n last) (other_way r.h r.l ∙ number_is) in
-    let h_is : after.h ≡ new / 256 = one_on_high r.h r.l ∙ ap (λ (n : ℕ). ((n + 1) % 65536) / 256) number_is in
+    word_is_less r.h r.l last low_small counts.last_small
+    ∙ ap (λ (n : ℕ). nat_lt n last) (other_way r.h r.l ∙ number_is) in
+    let h_is : after.h ≡ new / 256 =
+    one_on_high r.h r.l ∙ ap (λ (n : ℕ). ((n + 1) % 65536) / 256) number_is in
     let l_is : after.l ≡ new % 256 = one_on_low r.h r.l ∙ ap (λ (n : ℕ). ((n + 1) % 65536) % 256) number_is in
     stepped_by loop Address 1 t counts.sound counted stage.ready
     (λ steady_both.
-    at_instructions (compared_and_counted last) (stored_and_on place turn) sound (tt, (tt, (tt, (tt, (tt, tt))))) stand stage
+    at_instructions (compared_and_counted last) (stored_and_on place turn) sound
+    (tt, (tt, (tt, (tt, (tt, tt))))) stand stage
     (λ middle known steps_left compared.
     shld_then place (variable_place at.context variable) new
     (λ _ v. next_turn at.context.later at.context.activation.around loop.head loop.list (number + 1) v)
@@ -98,7 +107,8 @@ counts_word {at = at} loop last limit turn turn_facts place t r memory counts li
     counted.fits steps_left compared
     (λ u budget_is there there_too last_steps ready_now.
     let left : List ℕ = with_word memory address new in
-    let is_put : scalar_at Address left address ≡ new = word_put memory address new size there.1 there_too.1 in
+    let is_put : scalar_at Address left address ≡ new =
+    word_put memory address new size there.1 there_too.1 in
     let left_low : byte_at left address < 256 = byte_small left address ready_now.ready.shares.is_memory in
     let now_low : after.l ≡ byte_at left address =
     l_is ∙ low_again (byte_at left address) (byte_at left (wrap (address + 1))) new left_low is_put in
@@ -108,10 +118,12 @@ counts_word {at = at} loop last limit turn turn_facts place t r memory counts li
     (λ taken step.
     let is = ltb-true number last (sym is_less ∙ taken) in
     let last_small = counts.last_small in
-    turns_again loop Address last (number + 1) u counts.sound counts.scalar (counts.last_is u) counted ready_now.ready
+    turns_again loop Address last (number + 1) u counts.sound counts.scalar (counts.last_is u)
+    counted ready_now.ready
     (strict u.budget t.budget limit loop.budget budget_is fewer counts.less) is_put
     (omega (arith, is, last_small)) (omega (arith, is))
-    (to_turn loop limit (at.context.activation.layout.place_of turn.index) turn_facts u (middle + 3) after left counts.turns
+    (to_turn loop limit (at.context.activation.layout.place_of turn.index) turn_facts u (middle + 3)
+    after left counts.turns
     (within_limit u.budget t.budget limit budget_is fewer)
     (record {
       below = ready_now.below;
@@ -123,9 +135,11 @@ counts_word {at = at} loop last limit turn turn_facts place t r memory counts li
     (λ passed rest.
     let is = ltb-false number last (sym is_less ∙ passed) in
     let over = steps_over rest in
-    turns_end loop Address last (number + 1) u counts.sound counts.scalar (counts.last_is u) counted ready_now.ready
+    turns_end loop Address last (number + 1) u counts.sound counts.scalar (counts.last_is u)
+    counted ready_now.ready
     (strict u.budget t.budget limit loop.budget budget_is fewer counts.less) is_put
     (λ of_type. omega (arith, is))
-    (subst (λ (place : ℕ). Does (script_of at.context) u.budget 0 (at_place place after left u.events) (Gave Onward u) (Out loop)) (sym over.1)
+    (subst (λ (place : ℕ). Does (script_of at.context) u.budget 0 (at_place place after left u.events)
+    (Gave Onward u) (Out loop)) (sym over.1)
     (goes u after left (within_limit u.budget t.budget limit budget_is fewer)
     (subst (λ (facts : Facts). StageAt at loop.need loop.base u facts after left) over.0 ready_now)))))))

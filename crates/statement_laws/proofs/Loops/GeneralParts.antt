@@ -1,5 +1,5 @@
--- Parts of the general form of an iterative DO: code that stands before other steps, the label of the test, and what is asked
--- of the step and of the test.
+-- Parts of the general form of an iterative DO: code that stands before other steps, the label of the test,
+-- and what is asked of the step and of the test.
 use Rattle.statement_laws.proofs.Prelude.{◌≡◌, ℕ, ◌<◌, ◌≤◌, Bool, true, false, if◌then◌else◌, List, [], ◌∷◌, ◌++◌, map, Option, Some, None, sym, subst, SourceState, Onward, Registers, no_facts_hold, Does, at_place, Facts, LabelNumber, Step, no_facts, Planned, Here, arriving, carried_steps, here_after, known_here, met, waiting_after, Know, script_of, BodyContext, NonePlanned, StepPlanned}
 use Rattle.steps8080.specs.declared.step.Step.TheVariants as steps
 use Rattle.statements8080.specs.declared.plan.Planned.TheVariants as planned
@@ -29,7 +29,8 @@ both_code (step ∷ one) other first second = (first.0, both_code one other firs
 
 -- code, and then others
 pub record RunParted
-    (at : BodyContext) (here : Here) (waiting : Option Facts) (from : ℕ) (run others : List Planned) (last : Here) (to : ℕ) :
+    (at : BodyContext) (here : Here) (waiting : Option Facts) (from : ℕ) (run others : List Planned)
+    (last : Here) (to : ℕ) :
     Type 0 where
   pub known : Facts
   pub middle : ℕ
@@ -37,19 +38,24 @@ pub record RunParted
   pub rest : Stand at (going here.goes_on known) waiting middle others last to
 
 pub run_parted :
-    {at : BodyContext} {waiting : Option Facts} {last : Here} {to : ℕ} (run others : List Planned) (here : Here) (from : ℕ)
+    {at : BodyContext} {waiting : Option Facts} {last : Here} {to : ℕ} (run others : List Planned)
+    (here : Here) (from : ℕ)
     → AreCode run
     → Stand at here waiting from (run ++ others) last to
     → RunParted at here waiting from run others last to
 unfolding carried_steps here_after waiting_after
-run_parted [] others here from are stand = record { known = here.facts; middle = from; first = NonePlanned; rest = stand }
-run_parted (planned.Code step ∷ run) others here from are (StepPlanned {known = known} {middle = middle} holds code rest) =
+run_parted [] others here from are stand =
+    record { known = here.facts; middle = from; first = NonePlanned; rest = stand }
+run_parted (planned.Code step ∷ run) others here from are
+    (StepPlanned {known = known} {middle = middle} holds code rest) =
     let parts = run_parted run others (going here.goes_on known) middle are.1 rest in
     record { known = parts.known; middle = parts.middle; first = StepPlanned holds code parts.first; rest = parts.rest }
-run_parted (planned.LoadByte reference ∷ run) others here from are (StepPlanned {known = known} {middle = middle} holds code rest) =
+run_parted (planned.LoadByte reference ∷ run) others here from are
+    (StepPlanned {known = known} {middle = middle} holds code rest) =
     let parts = run_parted run others (going here.goes_on known) middle are.1 rest in
     record { known = parts.known; middle = parts.middle; first = StepPlanned holds code parts.first; rest = parts.rest }
-run_parted (planned.LoadWord reference ∷ run) others here from are (StepPlanned {known = known} {middle = middle} holds code rest) =
+run_parted (planned.LoadWord reference ∷ run) others here from are
+    (StepPlanned {known = known} {middle = middle} holds code rest) =
     let parts = run_parted run others (going here.goes_on known) middle are.1 rest in
     record { known = parts.known; middle = parts.middle; first = StepPlanned holds code parts.first; rest = parts.rest }
 run_parted (other ∷ run) others here from are stand = absurd are.0
@@ -67,7 +73,8 @@ all_code {at = at} {here = here} {from = from} {to = to} code stand =
 
 -- the place of the test of a loop, where there is a label
 pub record LabelParted
-    (at : BodyContext) (here : Here) (waiting : Option Facts) (from : ℕ) (is_counted is_tested : Bool) (test : LabelNumber)
+    (at : BodyContext) (here : Here) (waiting : Option Facts) (from : ℕ) (is_counted is_tested : Bool)
+    (test : LabelNumber)
     (others : List Planned) (last : Here) (to : ℕ) : Type 0 where
   pub found : Here
   pub rest : Stand at found waiting from others last to
@@ -85,7 +92,8 @@ known_nothing at facts known same r memory there =
 falls_met : (at : BodyContext) (here : Here) (waiting : Option Facts) → here.goes_on ≡ true
     → Enters at here.facts (arriving (met (known_here here) waiting)).facts
 falls_met at here waiting goes r memory there =
-    subst (λ (goes_on : Bool). Know at.context (arriving (met (if goes_on then Some here.facts else None) waiting)).facts r memory)
+    subst (λ (goes_on : Bool). Know at.context
+    (arriving (met (if goes_on then Some here.facts else None) waiting)).facts r memory)
     (sym goes) (by waiting)
   where
     by : (waiting : Option Facts) → Know at.context (arriving (met (Some here.facts) waiting)).facts r memory
@@ -95,10 +103,12 @@ falls_met at here waiting goes r memory there =
 waits_met : (at : BodyContext) (here : Here) (waiting : Option Facts) (facts : Facts) → waiting ≡ Some facts
     → Enters at facts (arriving (met (known_here here) waiting)).facts
 waits_met at here waiting facts same r memory there =
-    subst (λ (one : Option Facts). Know at.context (arriving (met (known_here here) one)).facts r memory) (sym same)
+    subst (λ (one : Option Facts). Know at.context (arriving (met (known_here here) one)).facts r memory)
+    (sym same)
     (by here.goes_on)
   where
-    by : (goes_on : Bool) → Know at.context (arriving (met (if goes_on then Some here.facts else None) (Some facts))).facts r memory
+    by : (goes_on : Bool) → Know at.context
+        (arriving (met (if goes_on then Some here.facts else None) (Some facts))).facts r memory
     by true = second_meets at.context r memory here.facts facts there
     by false = there
 
@@ -106,16 +116,19 @@ pub label_parted :
     {at : BodyContext} {here last : Here} {waiting : Option Facts} {from to : ℕ} (is_counted is_tested : Bool)
     (test : LabelNumber) (others : List Planned)
     → Stand at here waiting from
-    ((if is_counted then planned.Code (steps.Mark test) ∷ [] else if is_tested then planned.Meet test ∷ [] else []) ++ others)
+    ((if is_counted then planned.Code (steps.Mark test) ∷ [] else if is_tested then planned.Meet test
+    ∷ [] else []) ++ others)
     last to
     → LabelParted at here waiting from is_counted is_tested test others last to
-label_parted {at = at} {here = here} {last = last} {waiting = waiting} {from = from} {to = to} true is_tested test others stand =
+label_parted {at = at} {here = here} {last = last} {waiting = waiting} {from = from} {to = to} true
+    is_tested test others stand =
     let parts = code_parted (steps.Mark test ∷ []) others here from stand in
     let marked = mark_then parts.first in
     let after = steps_over marked.1 in
     record {
       found = going here.goes_on parts.known;
-      rest = subst (λ (n : ℕ). Stand at (going here.goes_on parts.known) waiting n others last to) (sym after.1) parts.rest;
+      rest = subst (λ (n : ℕ). Stand at (going here.goes_on parts.known) waiting n others last to)
+          (sym after.1) parts.rest;
       falls = λ goes. known_nothing at here.facts parts.known after.0;
       entered = λ tested. (marked.0, λ facts waits. known_nothing at facts parts.known after.0);
       counted = λ counts. (marked.0, known_nothing at no_facts parts.known after.0);
@@ -137,9 +150,11 @@ label_parted {here = here} false false test others stand = record {
   counted = λ counts. absurd cc;
 }
 
--- What is asked of the code of the test: with the turns, where what is known there follows, and the end, it does what it means.
+-- What is asked of the code of the test: with the turns, where what is known there follows, and the end, it
+-- does what it means.
 abbrev pub TestDoes :
-    {at : BodyContext} → Loop at → (known : Facts) → (turn : LabelNumber) → (before : Facts) → (from : ℕ) → (after : Facts) → (to : ℕ)
+    {at : BodyContext} → Loop at → (known : Facts) → (turn : LabelNumber) → (before : Facts) → (from : ℕ)
+    → (after : Facts) → (to : ℕ)
     → Type 0
 TestDoes {at = at} loop known turn before from after to =
     (limit : ℕ) (turn_facts : Facts)
@@ -148,9 +163,11 @@ TestDoes {at = at} loop known turn before from after to =
     → Goes loop limit after to
     → Checks loop limit before from
 
--- What is asked of the code of the step: with the test that follows, the label of the test where it jumps there, and the end.
+-- What is asked of the code of the step: with the test that follows, the label of the test where it jumps
+-- there, and the end.
 abbrev pub StepDoes :
-    {at : BodyContext} → Loop at → (test end : LabelNumber) → (jumps_to_test : Bool) → (before : Facts) → (from : ℕ) → (after : Facts) → (to : ℕ)
+    {at : BodyContext} → Loop at → (test end : LabelNumber) → (jumps_to_test : Bool) → (before : Facts)
+    → (from : ℕ) → (after : Facts) → (to : ℕ)
     → Type 0
 StepDoes {at = at} loop test end jumps_to_test before from after to =
     (limit : ℕ)
@@ -161,7 +178,8 @@ StepDoes {at = at} loop test end jumps_to_test before from after to =
     → (t : SourceState) (r : Registers) (memory : List ℕ)
     → t.budget ≤ limit
     → StageAt at loop.need loop.base t before r memory
-    → Does (script_of at.context) t.budget 0 (at_place from r memory t.events) (after_list loop Onward t) (Out loop)
+    → Does (script_of at.context) t.budget 0 (at_place from r memory t.events)
+    (after_list loop Onward t) (Out loop)
 
 -- with less known
 pub weaker_checks :

@@ -17,17 +17,22 @@ use Rattle.statement_laws.proofs.Loops.TestedLoops.{word_test as word_compare}
 
 -- the code of a comparison with a number
 below_code :
-    {at : BodyContext} {here after : Here} {waiting : Option Facts} {from to : ℕ} (last : ℕ) (turn : LabelNumber) (none : Bool)
+    {at : BodyContext} {here after : Here} {waiting : Option Facts} {from to : ℕ} (last : ℕ)
+    (turn : LabelNumber) (none : Bool)
     → Stand at here waiting from
     ((if none then all (word_compare last true)
     else all (word_compare last false))
     ++ (jump (JumpWhere Carry) turn ∷ [])) after to
-    → Steps at.context here.facts from (plain (word_compare last none) ++ (steps.Jump (JumpWhere Carry) turn ∷ [])) after.facts to
-below_code last turn true stand = all_code (plain (word_compare last true) ++ (steps.Jump (JumpWhere Carry) turn ∷ [])) stand
-below_code last turn false stand = all_code (plain (word_compare last false) ++ (steps.Jump (JumpWhere Carry) turn ∷ [])) stand
+    → Steps at.context here.facts from
+    (plain (word_compare last none) ++ (steps.Jump (JumpWhere Carry) turn ∷ [])) after.facts to
+below_code last turn true stand =
+    all_code (plain (word_compare last true) ++ (steps.Jump (JumpWhere Carry) turn ∷ [])) stand
+below_code last turn false stand =
+    all_code (plain (word_compare last false) ++ (steps.Jump (JumpWhere Carry) turn ∷ [])) stand
 
 -- the code of a test is code alone
-pub test_is_code : (counter : Counter) (test : Test) (turn : LabelNumber) → AreCode (test_steps counter test turn)
+pub test_is_code : (counter : Counter) (test : Test) (turn : LabelNumber)
+    → AreCode (test_steps counter test turn)
 unfolding test_steps
 test_is_code counter tests.Always turn = (tt, tt)
 test_is_code counter (tests.ByteBelow bound) turn = (tt, (tt, (tt, tt)))
@@ -48,7 +53,8 @@ test_is_code counter (tests.Word last) turn = (tt, (tt, (tt, (tt, (tt, (tt, (tt,
 test_is_code counter (tests.FrameWord last) turn = (tt, (tt, (tt, (tt, (tt, (tt, (tt, (tt, (tt, tt)))))))))
 
 -- what is asked of a test against an ADDRESS at a place
-abbrev pub PlaceTests : {at : BodyContext} → Loop at → (head_last : ExpressionNumber) → Facts → (turn : LabelNumber) → Type 0
+abbrev pub PlaceTests : {at : BodyContext} → Loop at → (head_last : ExpressionNumber) → Facts
+    → (turn : LabelNumber) → Type 0
 PlaceTests {at = at} loop last facts turn =
     (counted : IsCounted at.context (loop.head).variable Address) (own other : Place)
     (here after : Here) (waiting : Option Facts) (from to : ℕ)
@@ -56,14 +62,17 @@ PlaceTests {at = at} loop last facts turn =
     → counted.location ≡ locations.Static own
     → word_at (knowing (site_of at.body) facts) last ≡ Some other
     → Stand at here waiting from
-    (test_steps (counter_for at (loop.head).variable Address (Some counted.location)) (tests.WordWithPlace other) turn) after to
+    (test_steps (counter_for at (loop.head).variable Address (Some counted.location))
+    (tests.WordWithPlace other) turn) after to
     → TestDoes loop
-    (facts_of_test (counter_for at (loop.head).variable Address (Some counted.location)) (tests.WordWithPlace other)) turn
+    (facts_of_test (counter_for at (loop.head).variable Address (Some counted.location))
+    (tests.WordWithPlace other)) turn
     here.facts from after.facts to
 
 -- the test does what it means
 pub test_does :
-    {at : BodyContext} (loop : Loop at) (scalar : ScalarType) (last : ExpressionNumber) (facts : Facts) (turn : LabelNumber)
+    {at : BodyContext} (loop : Loop at) (scalar : ScalarType) (last : ExpressionNumber) (facts : Facts)
+    (turn : LabelNumber)
     {here after : Here} {waiting : Option Facts} {from to : ℕ}
     → IsSoundBody at
     → (loop.head).scalar ≡ scalar
@@ -73,13 +82,16 @@ pub test_does :
     → PlaceTests loop last facts turn
     → Stand at here waiting from
     (test_steps (counter_for at (loop.head).variable scalar (Some counted.location))
-    (test_of (knowing (site_of at.body) facts) (counter_for at (loop.head).variable scalar (Some counted.location)) last) turn) after to
+    (test_of (knowing (site_of at.body) facts)
+    (counter_for at (loop.head).variable scalar (Some counted.location)) last) turn) after to
     → TestDoes loop
     (facts_of_test (counter_for at (loop.head).variable scalar (Some counted.location))
-    (test_of (knowing (site_of at.body) facts) (counter_for at (loop.head).variable scalar (Some counted.location)) last)) turn
+    (test_of (knowing (site_of at.body) facts)
+    (counter_for at (loop.head).variable scalar (Some counted.location)) last)) turn
     here.facts from after.facts to
 unfolding test_of test_steps
-test_does {at = at} loop scalar last facts turn {here = here} {after = after} {waiting = waiting} {from = from} {to = to} sound same counted enough has places stand =
+test_does {at = at} loop scalar last facts turn {here = here} {after = after} {waiting = waiting}
+    {from = from} {to = to} sound same counted enough has places stand =
     by_number (number (knowing (site_of at.body) facts) last) refl stand
   where
     site : Site
@@ -92,18 +104,22 @@ test_does {at = at} loop scalar last facts turn {here = here} {after = after} {w
     MeansIt : (scalar : ScalarType) → IsCounted at.context (loop.head).variable scalar → Test → Type 0
     MeansIt scalar counted test =
         Stand at here waiting from (test_steps (counter_of_type scalar counted) test turn) after to
-        → TestDoes loop (facts_of_test (counter_of_type scalar counted) test) turn here.facts from after.facts to
+        → TestDoes loop (facts_of_test (counter_of_type scalar counted) test) turn
+        here.facts from after.facts to
 
-    turns_there : (scalar : ScalarType) (same : (loop.head).scalar ≡ scalar) (counted : IsCounted at.context (loop.head).variable scalar)
+    turns_there : (scalar : ScalarType) (same : (loop.head).scalar ≡ scalar)
+        (counted : IsCounted at.context (loop.head).variable scalar)
         (limit : ℕ) (turn_facts : Facts)
         → Runs loop limit (at.context.activation.layout.place_of turn.index) turn_facts (from_list loop)
         → HasTurns loop scalar limit turn turn_facts
     turns_there scalar same counted limit turn_facts runs =
         record { sound = sound; scalar_is = same; counted = counted; enough = enough; turns = runs }
 
-    by_known : (scalar : ScalarType) (same : (loop.head).scalar ≡ scalar) (counted : IsCounted at.context (loop.head).variable scalar)
+    by_known : (scalar : ScalarType) (same : (loop.head).scalar ≡ scalar)
+        (counted : IsCounted at.context (loop.head).variable scalar)
         (known : ℕ)
-        → ((s : SourceState) → value at.context.later at.context.activation.around (loop.head).last s ≡ Gave known s)
+        → ((s : SourceState) → value at.context.later at.context.activation.around (loop.head).last s
+        ≡ Gave known s)
         → MeansIt scalar counted (known_test scalar known)
     by_known Byte same counted known is = by (nat_le 255 known) refl
       where
@@ -111,14 +127,17 @@ test_does {at = at} loop scalar last facts turn {here = here} {after = after} {w
             → MeansIt Byte counted (if great then tests.Always else tests.ByteBelow (known + 1))
         by true great stand limit turn_facts runs enters goes t r memory fewer stage =
             let most = leb-true 255 known great in
-            always_tests loop limit known turn turn_facts Byte t r memory (turns_there Byte same counted limit turn_facts runs) (is t)
+            always_tests loop limit known turn turn_facts Byte t r memory
+            (turns_there Byte same counted limit turn_facts runs) (is t)
             (omega (arith, most)) (all_code (steps.Jump Jump turn ∷ []) stand) enters fewer stage
         by false great stand limit turn_facts runs enters goes t r memory fewer stage =
             let loaded = byte_parted stand in
-            byte_below_tests loop limit known turn turn_facts t r memory (turns_there Byte same counted limit turn_facts runs) (is t)
+            byte_below_tests loop limit known turn turn_facts t r memory
+            (turns_there Byte same counted limit turn_facts runs) (is t)
             (leb-false 255 known great)
             (at_site (λ one. load_byte_steps one (whole (loop.head).variable)) sound loaded.first)
-            (all_code (steps.Plain (AccumulateImmediate Compare (low (known + 1))) ∷ steps.Jump (JumpWhere Carry) turn ∷ []) loaded.rest)
+            (all_code (steps.Plain (AccumulateImmediate Compare (low (known + 1)))
+            ∷ steps.Jump (JumpWhere Carry) turn ∷ []) loaded.rest)
             enters fewer stage goes
     by_known Address same counted known is = by (nat_le 65535 known) refl
       where
@@ -126,7 +145,8 @@ test_does {at = at} loop scalar last facts turn {here = here} {after = after} {w
             → MeansIt Address counted (if great then tests.Always else tests.WordBelow (known + 1))
         by true great stand limit turn_facts runs enters goes t r memory fewer stage =
             let most = leb-true 65535 known great in
-            always_tests loop limit known turn turn_facts Address t r memory (turns_there Address same counted limit turn_facts runs) (is t)
+            always_tests loop limit known turn turn_facts Address t r memory
+            (turns_there Address same counted limit turn_facts runs) (is t)
             (omega (arith, most)) (all_code (steps.Jump Jump turn ∷ []) stand) enters fewer stage
         by false great stand limit turn_facts runs enters goes t r memory fewer stage =
             let loaded = word_parted stand in
@@ -138,41 +158,55 @@ test_does {at = at} loop scalar last facts turn {here = here} {after = after} {w
             (below_code known turn (nat_eq ((known + 1) % 256) 0) loaded.rest)
             enters fewer stage goes
 
-    by_type : (scalar : ScalarType) (same : (loop.head).scalar ≡ scalar) (counted : IsCounted at.context (loop.head).variable scalar)
+    by_type : (scalar : ScalarType) (same : (loop.head).scalar ≡ scalar)
+        (counted : IsCounted at.context (loop.head).variable scalar)
         (bound : ScalarType) → type_of (loop.head).last ≡ bound
         → MeansIt scalar counted (computed_test scalar bound site (counter_of_type scalar counted) last)
     by_type Byte same counted Byte is stand limit turn_facts runs enters goes t r memory fewer stage =
-        byte_tests loop limit last turn turn_facts t r memory (turns_there Byte same counted limit turn_facts runs) has is
+        byte_tests loop limit last turn turn_facts t r memory
+        (turns_there Byte same counted limit turn_facts runs) has is
         (all_code (byte_step last ∷ address_step (loop.head).variable ∷ steps.Plain (Accumulate Compare M)
         ∷ steps.Jump (JumpWhere NoCarry) turn ∷ []) stand) enters fewer stage goes
     by_type Byte same counted Address is stand limit turn_facts runs enters goes t r memory fewer stage =
-        byte_with_word_tests loop limit last turn turn_facts t r memory (turns_there Byte same counted limit turn_facts runs) has
-        (all_code (word_step last ∷ steps.Plain Xchg ∷ address_step (loop.head).variable ∷ steps.Plain (copy A E)
-        ∷ steps.Plain (Accumulate Subtract M) ∷ steps.Plain (copy A D) ∷ steps.Plain (AccumulateImmediate SubtractWithBorrow 0)
+        byte_with_word_tests loop limit last turn turn_facts t r memory
+        (turns_there Byte same counted limit turn_facts runs) has
+        (all_code (word_step last ∷ steps.Plain Xchg ∷ address_step (loop.head).variable
+        ∷ steps.Plain (copy A E)
+        ∷ steps.Plain (Accumulate Subtract M) ∷ steps.Plain (copy A D)
+        ∷ steps.Plain (AccumulateImmediate SubtractWithBorrow 0)
         ∷ steps.Jump (JumpWhere NoCarry) turn ∷ []) stand) enters fewer stage goes
     by_type Address same counted bound is stand limit turn_facts runs enters goes t r memory fewer stage =
-        by_location counted.location refl (word_at site last) refl stand limit turn_facts runs enters goes t r memory fewer stage
+        by_location counted.location refl (word_at site last) refl stand limit turn_facts runs enters goes t
+        r memory fewer stage
       where
         by_location : (location : Location) → counted.location ≡ location
             → (other : Option Place) → word_at site last ≡ other
             → MeansIt Address counted (word_test_by (place_in_memory (Some location)) other last)
-        by_location (locations.Static own) lies (Some other) there stand limit turn_facts runs enters goes t r memory fewer stage =
-            places counted own other here after waiting from to same lies there stand limit turn_facts runs enters goes t r memory fewer stage
-        by_location (locations.Static own) lies None there stand limit turn_facts runs enters goes t r memory fewer stage =
+        by_location (locations.Static own) lies (Some other) there stand limit turn_facts runs enters goes t r
+            memory fewer stage =
+            places counted own other here after waiting from to same lies there stand limit turn_facts runs
+            enters goes t r memory fewer stage
+        by_location (locations.Static own) lies None there stand limit turn_facts runs enters goes t r
+            memory fewer stage =
             let first = code_parted (word_step last ∷ steps.Plain Xchg ∷ [])
             (LoadWord (whole (loop.head).variable)
             ∷ (all (copy A E ∷ with_register Subtract L ∷ copy A D ∷ with_register SubtractWithBorrow H ∷ [])
             ++ (jump (JumpWhere NoCarry) turn ∷ []))) here from stand in
             let loaded = word_parted first.rest in
-            word_tests loop limit last turn turn_facts t r memory (turns_there Address same counted limit turn_facts runs) has
+            word_tests loop limit last turn turn_facts t r memory
+            (turns_there Address same counted limit turn_facts runs) has
             first.first
             (at_site (λ one. load_word_steps one (whole (loop.head).variable)) sound loaded.first)
-            (all_code (plain (copy A E ∷ with_register Subtract L ∷ copy A D ∷ with_register SubtractWithBorrow H ∷ [])
+            (all_code (plain (copy A E ∷ with_register Subtract L ∷ copy A D
+            ∷ with_register SubtractWithBorrow H ∷ [])
             ++ (steps.Jump (JumpWhere NoCarry) turn ∷ [])) loaded.rest)
             enters fewer stage goes
-        by_location (locations.Frame variable offset) lies other there stand limit turn_facts runs enters goes t r memory fewer stage =
-            frame_word_tests loop limit last turn turn_facts t r memory (turns_there Address same counted limit turn_facts runs) has
-            (all_code (word_step last ∷ steps.Plain Xchg ∷ address_step (loop.head).variable ∷ steps.Plain (copy A E)
+        by_location (locations.Frame variable offset) lies other there stand limit turn_facts runs enters goes
+            t r memory fewer stage =
+            frame_word_tests loop limit last turn turn_facts t r memory
+            (turns_there Address same counted limit turn_facts runs) has
+            (all_code (word_step last ∷ steps.Plain Xchg ∷ address_step (loop.head).variable
+            ∷ steps.Plain (copy A E)
             ∷ steps.Plain (Accumulate Subtract M) ∷ steps.Plain (Inx Hl) ∷ steps.Plain (copy A D)
             ∷ steps.Plain (Accumulate SubtractWithBorrow M)
             ∷ steps.Jump (JumpWhere NoCarry) turn ∷ []) stand) enters fewer stage goes
@@ -184,6 +218,8 @@ test_does {at = at} loop scalar last facts turn {here = here} {after = after} {w
         ])
     by_number (Some known) is =
         by_known scalar same counted known
-        (number_means facts known sound.sound has.is has.types (ap (λ (one : Site). number (knowing one facts) last) sound.site ∙ is))
+        (number_means facts known sound.sound has.is has.types
+        (ap (λ (one : Site). number (knowing one facts) last) sound.site ∙ is))
     by_number None is =
-        by_type scalar same counted (scalar_of site last) (sym (scalar_there at sound facts last (loop.head).last has.is))
+        by_type scalar same counted (scalar_of site last)
+        (sym (scalar_there at sound facts last (loop.head).last has.is))

@@ -10,7 +10,8 @@ use Rattle.statement_laws.proofs.Loops.LoopTurns.{Loop}
 
 -- the loop that a statement is, where the machine is at its start
 abbrev pub loop_of :
-    (at : BodyContext) (base : List ℕ) (to : ℕ) (after : Here) (s : SourceState) (head : TypedIteration) (list : TypedList)
+    (at : BodyContext) (base : List ℕ) (to : ℕ) (after : Here) (s : SourceState)
+    (head : TypedIteration) (list : TypedList)
     → s.budget < at.context.number
     → Loop at
 loop_of at base to after s head list below = record {
@@ -26,7 +27,8 @@ loop_of at base to after s head list below = record {
 
 -- its parts are what is asked of them
 pub iterates_so :
-    (at : BodyContext) (base : List ℕ) (to : ℕ) (after : Here) (s : SourceState) (head : TypedIteration) (list : TypedList)
+    (at : BodyContext) (base : List ℕ) (to : ℕ) (after : Here) (s : SourceState)
+    (head : TypedIteration) (list : TypedList)
     (below : s.budget < at.context.number) (planned : Iteration) (range : Range) (bound : ℕ)
     → IsSoundBody at
     → IsIteration (nodes_in at.context) at.context.storage planned head
@@ -35,23 +37,24 @@ pub iterates_so :
     → TypesHoldInList at.context.typed at.context.within list
     → ListStands list
     → Iterates at (loop_of at base to after s head list below) planned range
-iterates_so at base to after s head list below planned range bound sound is is_list types list_types lists = record {
-  sound = sound;
-  is = is;
-  first_types = types.1;
-  last_types = types.2;
-  step_types = types.3;
-  first_fits = omega arith;
-  last_fits = omega arith;
-  step_fits = omega arith;
-  counted = is_counted at.context head sound.sound types.0;
-  enough = omega arith;
-  bound = bound;
-  list_is = is_list;
-  list_types = list_types;
-  list_stands = lists;
-  list_fits = omega arith;
-}
+iterates_so at base to after s head list below planned range bound sound is is_list types list_types lists =
+    record {
+      sound = sound;
+      is = is;
+      first_types = types.1;
+      last_types = types.2;
+      step_types = types.3;
+      first_fits = omega arith;
+      last_fits = omega arith;
+      step_fits = omega arith;
+      counted = is_counted at.context head sound.sound types.0;
+      enough = omega arith;
+      bound = bound;
+      list_is = is_list;
+      list_types = list_types;
+      list_stands = lists;
+      list_fits = omega arith;
+    }
 
 -- the variable of the head, as code counts it
 pub counter_is :
@@ -60,12 +63,14 @@ pub counter_is :
     → counter_of (knowing (site_of at.body) facts) head
     ≡ counter_for at (loop.head).variable (loop.head).scalar (Some (iterates.counted).location)
 counter_is {at = at} loop head list facts iterates =
-    ap (λ (variable : ℕ). counter_for at variable head.scalar (location_of (knowing (site_of at.body) facts) (whole variable)))
+    ap (λ (variable : ℕ). counter_for at variable head.scalar
+    (location_of (knowing (site_of at.body) facts) (whole variable)))
     (iterates.is).variable
     ∙ ap (λ (scalar : ScalarType). counter_for at (loop.head).variable scalar
     (location_of (knowing (site_of at.body) facts) (whole (loop.head).variable))) (iterates.is).scalar
     ∙ ap (λ (location : Option Location). counter_for at (loop.head).variable (loop.head).scalar location)
-    (sym (ap (λ (one : Site). location_of (knowing one facts) (whole (loop.head).variable)) (iterates.sound).site)
+    (sym (ap (λ (one : Site). location_of (knowing one facts) (whole (loop.head).variable))
+    (iterates.sound).site)
     ∙ (iterates.counted).located facts)
 
 -- a step of 1
@@ -85,7 +90,8 @@ one_step at facts sound (IsSomeValue {number = of} {tree = tree} is) types one s
         → (elim known as (λ (given : Option ℕ). Bool) [ Some n ↦ nat_eq n 1 | None ↦ false ]) ≡ true
         → value at.context.later at.context.activation.around tree s ≡ Gave 1 s
     by (Some n) known same =
-        number_means facts n sound.sound is types (ap (λ (one : Site). number (knowing one facts) of) sound.site ∙ known) s
+        number_means facts n sound.sound is types
+        (ap (λ (one : Site). number (knowing one facts) of) sound.site ∙ known) s
         ∙ ap (λ (n : ℕ). Gave n s) (eqb-true n 1 same)
     by None known same = let never : ⊥ = cc in absurd never
 
@@ -96,7 +102,8 @@ pub number_of_head :
     → IsExpressionIn (nodes_in at.context) at.context.storage of tree
     → TypesHold at.context.typed at.context.within tree
     → number (knowing (site_of at.body) facts) of ≡ Some n
-    → ((s : SourceState) → value at.context.later at.context.activation.around tree s ≡ Gave n s) × (n < 65536)
+    → ((s : SourceState) → value at.context.later at.context.activation.around tree s ≡ Gave n s)
+    × (n < 65536)
 number_of_head {of = of} {tree = tree} facts n sound is types known =
     let there = ap (λ (one : Site). number (knowing one facts) of) sound.site ∙ known in (
       number_means facts n sound.sound is types there,
@@ -105,7 +112,8 @@ number_of_head {of = of} {tree = tree} facts n sound is types known =
 
 -- counting by 1 to a number
 pub to_known_is :
-    {at : BodyContext} (loop : Loop at) (head : Iteration) (list : Range) (facts : Facts) (scalar : ScalarType) (last : ℕ)
+    {at : BodyContext} (loop : Loop at) (head : Iteration) (list : Range) (facts : Facts)
+    (scalar : ScalarType) (last : ℕ)
     → Iterates at loop head list
     → (loop.head).scalar ≡ scalar
     → number (knowing (site_of at.body) facts) head.last ≡ Some last
@@ -136,9 +144,11 @@ unfolding has_a_turn
 known_entry site head enters is = by (number site head.first) (number site head.last) refl refl is
   where
     by : (one two : Option ℕ) → number site head.first ≡ one → number site head.last ≡ two
-        → (elim (elim one as (λ (given : Option ℕ). Option ℕ) [ Some known ↦ Some (converted head.scalar known) | None ↦ None ])
+        → (elim (elim one as (λ (given : Option ℕ). Option
+        ℕ) [ Some known ↦ Some (converted head.scalar known) | None ↦ None ])
         as (λ (given : Option ℕ). Option Bool) [
-          | Some first ↦ elim two as (λ (given : Option ℕ). Option Bool) [ Some last ↦ Some (nat_le first last) | None ↦ None ]
+          | Some first ↦ elim two as (λ (given : Option ℕ). Option
+              Bool) [ Some last ↦ Some (nat_le first last) | None ↦ None ]
           | None ↦ None
         ]) ≡ Some enters
         → KnownEntry site head enters
@@ -165,12 +175,18 @@ pub entry_value :
     → first_stored loop s ≡ Gave tt u
     → IsReady at.context.activation top base s.memory s.frame r memory
     → IsReady at.context.activation other_top other_base u.memory u.frame now memory_now
-    → IsSteadyScalar at.context.activation (loop.head).scalar (variable_address at.context (loop.head).variable)
-    → nat_le (scalar_at (loop.head).scalar memory_now (variable_address at.context (loop.head).variable)) entry.last ≡ enters
-entry_value {at = at} {memory_now = memory_now} loop head list facts enters s u iterates entry is ready ready_now steady =
-    let first_is = number_of_head facts entry.first iterates.sound (iterates.is).first iterates.first_types entry.first_is in
+    → IsSteadyScalar at.context.activation (loop.head).scalar
+    (variable_address at.context (loop.head).variable)
+    → nat_le (scalar_at (loop.head).scalar memory_now (variable_address at.context (loop.head).variable))
+    entry.last ≡ enters
+entry_value {at = at} {memory_now = memory_now} loop head list facts enters s u iterates entry is
+    ready ready_now steady =
+    let first_is =
+    number_of_head facts entry.first iterates.sound (iterates.is).first
+    iterates.first_types entry.first_is in
     ap (λ (n : ℕ). nat_le n entry.last)
-    (first_value_is loop (loop.head).scalar entry.first s u iterates.sound refl iterates.counted first_is.0 is ready ready_now steady
+    (first_value_is loop (loop.head).scalar entry.first s u iterates.sound refl iterates.counted first_is.0 is
+    ready ready_now steady
     ∙ as_converted (loop.head).scalar entry.first first_is.1
     ∙ ap (λ (scalar : ScalarType). converted scalar entry.first) (sym (iterates.is).scalar))
     ∙ entry.test_is

@@ -10,29 +10,32 @@ use Rattle.statement_laws.proofs.FirstSteps.{Stand, steps_ended, going}
 use Rattle.statement_laws.proofs.Simple.{FormDoes}
 use Rattle.statement_laws.proofs.Loops.ToKnownLoops.{to_known_enters}
 
--- The code of a loop is that of counting in general: its last value is no number, or the variable is not counted by 1
--- where it lies.
+-- The code of a loop is that of counting in general: its last value is no number, or the variable is not
+-- counted by 1 where it lies.
 pub data IsGeneral (site : Site) (head : Iteration) : Type 0 where
   NoNumber : number site head.last ≡ None → IsGeneral site head
   NotInPlace : counts_in_place site (counter_of site head) head ≡ false → IsGeneral site head
 
 -- a loop does what it means, where what follows its first value is the code of counting in general
 abbrev pub GeneralEnters :
-    {at : BodyContext} (loop : Loop at) → Iteration → Range → Facts → (label from : ℕ) → SourceState → Registers
+    {at : BodyContext} (loop : Loop at) → Iteration → Range → Facts → (label from : ℕ)
+    → SourceState → Registers
     → (memory : List ℕ) → Type 0
 GeneralEnters {at = at} loop head list facts label from s r memory =
     (is_tested : Bool)
     → IsGeneral (knowing (site_of at.body) facts) head
     → Does (script_of at.context) s.budget 1 (at_place from r memory s.events) (first_stored loop s)
     (FirstThere loop
-    (general_steps (knowing (site_of at.body) facts) (counter_of (knowing (site_of at.body) facts) head) head is_tested list label))
+    (general_steps (knowing (site_of at.body) facts) (counter_of (knowing (site_of at.body) facts) head) head
+    is_tested list label))
     → (is_tested ≡ false → KnownEntry (knowing (site_of at.body) facts) head true)
     → Does (script_of at.context) s.budget 0 (at_place from r memory s.events) (whole_loop loop s) (Out loop)
 
 -- and so does each loop of a body
 abbrev pub GeneralDoes : BodyContext → Type 0
 GeneralDoes at =
-    (loop : Loop at) (head : Iteration) (list : Range) (facts : Facts) (label from : ℕ) (s : SourceState) (r : Registers)
+    (loop : Loop at) (head : Iteration) (list : Range) (facts : Facts) (label from : ℕ)
+    (s : SourceState) (r : Registers)
     (memory : List ℕ)
     → Iterates at loop head list
     → s.budget ≡ loop.budget
@@ -55,14 +58,19 @@ module _
     counter = counter_of site head
 
     abbrev Enters : Type 0
-    Enters = Does (script_of at.context) s.budget 0 (at_place from r memory s.events) (whole_loop loop s) (Out loop)
+    Enters =
+        Does (script_of at.context) s.budget 0 (at_place from r memory s.events)
+        (whole_loop loop s) (Out loop)
 
     abbrev Planned_so : List Planned → Type 0
-    Planned_so others = Stand at (going true facts) None from (first_steps at.body site counter head.first ++ others) loop.after loop.to
+    Planned_so others =
+        Stand at (going true facts) None from
+        (first_steps at.body site counter head.first ++ others) loop.after loop.to
 
     stores :
         (others : List Planned) → Planned_so others
-        → Does (script_of at.context) s.budget 1 (at_place from r memory s.events) (first_stored loop s) (FirstThere loop others)
+        → Does (script_of at.context) s.budget 1 (at_place from r memory s.events) (first_stored loop s)
+        (FirstThere loop others)
     stores others stand = first_stores loop head list facts from others s r memory iterates stand stage
 
     by_turns :
@@ -72,7 +80,8 @@ module _
         → Enters
     by_turns is_tested entry stand = by_last (number site head.last) refl stand
       where
-        in_general : IsGeneral site head → Planned_so (general_steps site counter head is_tested list label) → Enters
+        in_general : IsGeneral site head → Planned_so (general_steps site counter head is_tested list label)
+            → Enters
         in_general is stand = general is_tested is (stores _ stand) entry
 
         by_place :
@@ -83,7 +92,8 @@ module _
             else general_steps site counter head is_tested list label)
             → Enters
         by_place last last_is true is stand =
-            to_known_enters loop head list facts label last is_tested from s r memory iterates last_is is budget_is stage
+            to_known_enters loop head list facts label last is_tested from s r memory iterates
+            last_is is budget_is stage
             (stores _ stand) entry
         by_place last last_is false is stand = in_general (NotInPlace is) stand
 
@@ -97,22 +107,29 @@ module _
               | None ↦ general_steps site counter head is_tested list label
             ])
             → Enters
-        by_last (Some last) last_is stand = by_place last last_is (counts_in_place site counter head) refl stand
+        by_last (Some last) last_is stand =
+            by_place last last_is (counts_in_place site counter head) refl stand
         by_last None last_is stand = in_general (NoNumber last_is) stand
 
     -- where the first value is known to be above the last one
     never_entered : KnownEntry site head false → Planned_so [] → Enters
     never_entered entry stand =
-        let last_is = number_of_head facts entry.last iterates.sound (iterates.is).last iterates.last_types entry.last_is in
-        enters_never loop (loop.head).scalar entry.last from facts [] s r memory iterates.sound refl last_is.0 iterates.counted
+        let last_is =
+        number_of_head facts entry.last iterates.sound (iterates.is).last
+        iterates.last_types entry.last_is in
+        enters_never loop (loop.head).scalar entry.last from facts [] s r memory iterates.sound refl
+        last_is.0 iterates.counted
         (stores [] stand) budget_is stage
         (λ known place u now memory_now ends there.
         let is_over = steps_ended ends in
-        goes_at_end loop u.budget known place (sym is_over.same) (sym is_over.place) u now memory_now (omega arith) there)
+        goes_at_end loop u.budget known place (sym is_over.same) (sym is_over.place) u now memory_now
+        (omega arith) there)
         (λ u now memory_now is ready_now steady.
-        leb-false _ _ (entry_value loop head list facts false s u iterates entry is stage.ready ready_now steady))
+        leb-false _ _
+        (entry_value loop head list facts false s u iterates entry is stage.ready ready_now steady))
 
-    pub iterate_enters : Planned_so (turns_if_any (has_a_turn site counter head) site counter head list label) → Enters
+    pub iterate_enters : Planned_so (turns_if_any (has_a_turn site counter head) site counter head list label)
+        → Enters
     iterate_enters stand = by (has_a_turn site counter head) refl stand
       where
         by : (turn : Option Bool) → has_a_turn site counter head ≡ turn
@@ -124,38 +141,51 @@ module _
 
 -- an iterative DO does what it says, where counting in general does
 pub iterate_does :
-    (at : BodyContext) (before : Facts) (head : Iteration) (list : Range) (label from : ℕ) (after : Here) (to : ℕ)
+    (at : BodyContext) (before : Facts) (head : Iteration) (list : Range) (label from : ℕ)
+    (after : Here) (to : ℕ)
     → IsSoundBody at
     → GeneralDoes at
     → StatementStands at before (statements.Iterate head list) label from after to
     → FormDoes at before (statements.Iterate head list) from after to
 unfolding statement_steps
-iterate_does at before head list label from after to sound general stands bound _ (IsIterate {tree = tree} {list = body} is is_list) types lists base s r memory below room ready known =
+iterate_does at before head list label from after to sound general stands bound _
+    (IsIterate {tree = tree} {list = body} is is_list) types lists base s r memory below room ready known =
     let loop = loop_of at base to after s tree body below in
-    let iterates = iterates_so at base to after s tree body below head list bound sound is is_list types.0 types.1 lists in
-    let stage : StageAt at loop.need base s before r memory = record { below = below; room = room; ready = ready; known = known } in
+    let iterates =
+    iterates_so at base to after s tree body below head list bound sound is is_list
+    types.0 types.1 lists in
+    let stage : StageAt at loop.need base s before r memory =
+    record { below = below; room = room; ready = ready; known = known } in
     does_same _
     (sym (then_again (value at.context.later at.context.activation.around tree.first s)
-    (λ number t. write_variable at.context.activation.around tree (as_type tree.scalar number) t) (λ _ u. from_test loop u)))
+    (λ number t. write_variable at.context.activation.around tree (as_type tree.scalar number) t)
+    (λ _ u. from_test loop u)))
     (iterate_enters loop head list before label from s r memory iterates refl stage
     (general loop head list before label from s r memory iterates refl stage) stands)
 
 -- one whose code counts by 1 to a known last value, where the variable lies, does what it says
 pub to_known_does :
-    (at : BodyContext) (before : Facts) (head : Iteration) (list : Range) (label from : ℕ) (after : Here) (to last : ℕ)
+    (at : BodyContext) (before : Facts) (head : Iteration) (list : Range) (label from : ℕ)
+    (after : Here) (to last : ℕ)
     → IsSoundBody at
     → number (knowing (site_of at.body) before) head.last ≡ Some last
-    → counts_in_place (knowing (site_of at.body) before) (counter_of (knowing (site_of at.body) before) head) head ≡ true
+    → counts_in_place (knowing (site_of at.body) before)
+    (counter_of (knowing (site_of at.body) before) head) head ≡ true
     → StatementStands at before (statements.Iterate head list) label from after to
     → FormDoes at before (statements.Iterate head list) from after to
 unfolding statement_steps
-to_known_does at before head list label from after to last sound last_is in_place stands bound _ (IsIterate {tree = tree} {list = body} is is_list) types lists base s r memory below room ready known =
+to_known_does at before head list label from after to last sound last_is in_place stands bound _
+    (IsIterate {tree = tree} {list = body} is is_list) types lists base s r memory below room ready known =
     let loop = loop_of at base to after s tree body below in
-    let iterates = iterates_so at base to after s tree body below head list bound sound is is_list types.0 types.1 lists in
-    let stage : StageAt at loop.need base s before r memory = record { below = below; room = room; ready = ready; known = known } in
+    let iterates =
+    iterates_so at base to after s tree body below head list bound sound is is_list
+    types.0 types.1 lists in
+    let stage : StageAt at loop.need base s before r memory =
+    record { below = below; room = room; ready = ready; known = known } in
     does_same _
     (sym (then_again (value at.context.later at.context.activation.around tree.first s)
-    (λ number t. write_variable at.context.activation.around tree (as_type tree.scalar number) t) (λ _ u. from_test loop u)))
+    (λ number t. write_variable at.context.activation.around tree (as_type tree.scalar number) t)
+    (λ _ u. from_test loop u)))
     (iterate_enters loop head list before label from s r memory iterates refl stage
     (λ is_tested is stores entry. not_so is) stands)
   where

@@ -17,11 +17,13 @@ use Rattle.statement_laws.proofs.Loops.PlannedParts.{code_parted, word_parted}
 
 -- a variable as code of loops has it
 abbrev pub counter_for : BodyContext → (variable : ℕ) → ScalarType → Option Location → Counter
-counter_for at variable scalar location = record { reference = whole variable; scalar = scalar; location = location }
+counter_for at variable scalar location =
+    record { reference = whole variable; scalar = scalar; location = location }
 
 -- the turns of a loop stand: their place, what is known there, and the end
 pub record TurnsStand
-    {at : BodyContext} (loop : Loop at) (is_tested : Bool) (end turn : LabelNumber) (facts : Facts) (from : ℕ) : Type 0 where
+    {at : BodyContext} (loop : Loop at) (is_tested : Bool) (end turn : LabelNumber) (facts : Facts)
+    (from : ℕ) : Type 0 where
   pub is_at : at.context.activation.layout.place_of turn.index ≡ from
   pub turns : (limit : ℕ) → limit ≤ loop.budget → Runs loop limit from facts (from_list loop)
   pub label : is_tested ≡ true → at.context.activation.layout.place_of end.index ≡ loop.to
@@ -30,20 +32,23 @@ pub record TurnsStand
 -- what is true of values of a loop that counts to a known value
 pub record ToKnown {at : BodyContext} (loop : Loop at) (scalar : ScalarType) (last : ℕ) : Type 0 where
   pub scalar_is : (loop.head).scalar ≡ scalar
-  pub last_is : (s : SourceState) → value at.context.later at.context.activation.around (loop.head).last s ≡ Gave last s
+  pub last_is : (s : SourceState) → value at.context.later at.context.activation.around (loop.head).last s
+      ≡ Gave last s
   pub last_small : last < 65536
   pub step_is : (s : SourceState)
       → step_value at.context.later at.context.activation.around (loop.head).step s ≡ Gave 1 s
 
 -- the variable has the type
 pub counted_as : {at : BodyContext} (loop : Loop at) (head : Iteration) (list : Range) (scalar : ScalarType)
-    → Iterates at loop head list → (loop.head).scalar ≡ scalar → IsCounted at.context (loop.head).variable scalar
+    → Iterates at loop head list → (loop.head).scalar ≡ scalar
+    → IsCounted at.context (loop.head).variable scalar
 counted_as {at = at} loop head list scalar iterates same =
     subst (λ (scalar : ScalarType). IsCounted at.context (loop.head).variable scalar) same iterates.counted
 
 -- a BYTE
 pub byte_turns :
-    {at : BodyContext} (loop : Loop at) (head : Iteration) (list : Range) (last : ℕ) (is_tested : Bool) (end turn : LabelNumber)
+    {at : BodyContext} (loop : Loop at) (head : Iteration) (list : Range) (last : ℕ) (is_tested : Bool)
+    (end turn : LabelNumber)
     (facts : Facts) (from : ℕ)
     → Iterates at loop head list
     → ToKnown loop Byte last
@@ -54,7 +59,8 @@ pub byte_turns :
     ∷ planned.List list
     ∷ (next_byte_steps (counter_for at (loop.head).variable Byte location) last turn
     ++ (asked_mark is_tested end ++ (planned.Reaches true ∷ [])))) loop.after loop.to
-    → TurnsStand loop is_tested end turn (common facts (address_fact (counter_for at (loop.head).variable Byte location))) from
+    → TurnsStand loop is_tested end turn
+    (common facts (address_fact (counter_for at (loop.head).variable Byte location))) from
 byte_turns {at = at} loop head list last is_tested end turn facts from iterates to_known location is stand =
     by_last (nat_le 255 last) refl listed.rest
   where
@@ -65,13 +71,16 @@ byte_turns {at = at} loop head list last is_tested end turn facts from iterates 
     turn_facts = common facts (address_fact counter)
 
     again : MarkFirst at
-        (arriving (met (known_here (record { facts = facts; goes_on = true })) (Some (address_fact counter)))) None from turn
-        (planned.List list ∷ (next_byte_steps counter last turn ++ (asked_mark is_tested end ++ (planned.Reaches true ∷ []))))
+        (arriving (met (known_here (record { facts = facts; goes_on = true })) (Some (address_fact counter))))
+        None from turn
+        (planned.List list ∷ (next_byte_steps counter last turn
+        ++ (asked_mark is_tested end ++ (planned.Reaches true ∷ []))))
         loop.after loop.to
     again = again_first stand
 
     listed : ListFirst at (record { facts = turn_facts; goes_on = true }) None from list
-        (next_byte_steps counter last turn ++ (asked_mark is_tested end ++ (planned.Reaches true ∷ []))) loop.after loop.to
+        (next_byte_steps counter last turn ++ (asked_mark is_tested end ++ (planned.Reaches true ∷ [])))
+        loop.after loop.to
     listed = list_first again.rest
 
     counted : IsCounted at.context (loop.head).variable Byte
@@ -97,35 +106,50 @@ byte_turns {at = at} loop head list last is_tested end turn facts from iterates 
     all : ((limit : ℕ) → CountsBytes loop last limit turn turn_facts
         → (u : SourceState) (now : Registers) (memory_now : List ℕ) → u.budget ≤ limit
         → StageAt at loop.need loop.base u (listed.after).facts now memory_now
-        → Does (script_of at.context) u.budget 0 (at_place listed.middle now memory_now u.events) (after_list loop Onward u) (Out loop))
+        → Does (script_of at.context) u.budget 0 (at_place listed.middle now memory_now u.events)
+        (after_list loop Onward u) (Out loop))
         → (limit : ℕ) → limit ≤ loop.budget → Runs loop limit from turn_facts (from_list loop)
     all next =
         turns_do loop from turn_facts
         (λ limit less claim t r memory below stage.
-        list_then loop iterates.bound list turn_facts listed.after from listed.middle t r memory listed.does iterates.list_is
+        list_then loop iterates.bound list turn_facts listed.after from listed.middle t r memory
+        listed.does iterates.list_is
         iterates.list_types iterates.list_stands iterates.list_fits (omega (arith, below, less)) stage
-        (λ u now memory_now spent there. next limit (counts limit less claim) u now memory_now (omega (arith, spent, below)) there))
+        (λ u now memory_now spent there. next limit (counts limit less claim) u now memory_now
+        (omega (arith, spent, below)) there))
 
     by_last : (great : Bool) → nat_le 255 last ≡ great
         → Stand at listed.after None listed.middle
-        ((Rattle.statements8080.specs.Plans.part (Rattle.steps8080.specs.declared.step.Task.TheVariants.Address (whole (loop.head).variable)) 0
-        ∷ (if great then Rattle.statements8080.specs.Plans.plain (Rattle.isa8080.specs.declared.instr.Instr.TheVariants.Inr Rattle.isa8080.specs.declared.instr.Operand.TheVariants.M)
-        ∷ Rattle.statements8080.specs.Plans.jump (Rattle.asm8080.specs.declared.item.WordForm.TheVariants.JumpWhere Rattle.isa8080.specs.declared.instr.Condition.TheVariants.NotZero) turn ∷ []
+        ((Rattle.statements8080.specs.Plans.part
+        (Rattle.steps8080.specs.declared.step.Task.TheVariants.Address (whole (loop.head).variable)) 0
+        ∷ (if great then Rattle.statements8080.specs.Plans.plain
+        (Rattle.isa8080.specs.declared.instr.Instr.TheVariants.Inr
+        Rattle.isa8080.specs.declared.instr.Operand.TheVariants.M)
+        ∷ Rattle.statements8080.specs.Plans.jump
+        (Rattle.asm8080.specs.declared.item.WordForm.TheVariants.JumpWhere
+        Rattle.isa8080.specs.declared.instr.Condition.TheVariants.NotZero) turn ∷ []
         else Rattle.statements8080.specs.Plans.all
         (Rattle.steps8080.specs.Instructions.load Rattle.isa8080.specs.declared.instr.Register.TheVariants.A
-        ∷ Rattle.isa8080.specs.declared.instr.Instr.TheVariants.AccumulateImmediate Rattle.isa8080.specs.declared.instr.Operation.TheVariants.Compare (Rattle.steps8080.specs.Instructions.low last)
-        ∷ Rattle.isa8080.specs.declared.instr.Instr.TheVariants.Inr Rattle.isa8080.specs.declared.instr.Operand.TheVariants.M ∷ [])
-        ++ (Rattle.statements8080.specs.Plans.jump (Rattle.asm8080.specs.declared.item.WordForm.TheVariants.JumpWhere Rattle.isa8080.specs.declared.instr.Condition.TheVariants.Carry) turn ∷ [])))
+        ∷ Rattle.isa8080.specs.declared.instr.Instr.TheVariants.AccumulateImmediate
+        Rattle.isa8080.specs.declared.instr.Operation.TheVariants.Compare
+        (Rattle.steps8080.specs.Instructions.low last)
+        ∷ Rattle.isa8080.specs.declared.instr.Instr.TheVariants.Inr
+        Rattle.isa8080.specs.declared.instr.Operand.TheVariants.M ∷ [])
+        ++ (Rattle.statements8080.specs.Plans.jump
+        (Rattle.asm8080.specs.declared.item.WordForm.TheVariants.JumpWhere
+        Rattle.isa8080.specs.declared.instr.Condition.TheVariants.Carry) turn ∷ [])))
         ++ (asked_mark is_tested end ++ (planned.Reaches true ∷ []))) loop.after loop.to
         → TurnsStand loop is_tested end turn turn_facts from
     by_last true great stand =
         let parts = code_parted (address_step (loop.head).variable ∷ count_to_top turn)
         (asked_mark is_tested end ++ (planned.Reaches true ∷ [])) listed.after listed.middle stand in
-        let ends = ends_known loop is_tested end (going listed.after.goes_on parts.known) parts.middle parts.rest in
+        let ends =
+        ends_known loop is_tested end (going listed.after.goes_on parts.known) parts.middle parts.rest in
         record {
           is_at = again.lies;
           turns = all (λ limit counts u now memory_now less there.
-              counts_to_top loop last limit turn turn_facts u now memory_now counts (leb-true 255 last great) parts.first less there
+              counts_to_top loop last limit turn turn_facts u now memory_now counts (leb-true 255 last great)
+              parts.first less there
               (ends.goes limit));
           label = ends.label;
           after = ends.after;
@@ -133,11 +157,13 @@ byte_turns {at = at} loop head list last is_tested end turn facts from iterates 
     by_last false great stand =
         let parts = code_parted (address_step (loop.head).variable ∷ count_to last turn)
         (asked_mark is_tested end ++ (planned.Reaches true ∷ [])) listed.after listed.middle stand in
-        let ends = ends_known loop is_tested end (going listed.after.goes_on parts.known) parts.middle parts.rest in
+        let ends =
+        ends_known loop is_tested end (going listed.after.goes_on parts.known) parts.middle parts.rest in
         record {
           is_at = again.lies;
           turns = all (λ limit counts u now memory_now less there.
-              counts_to loop last limit turn turn_facts u now memory_now counts (leb-false 255 last great) parts.first less there
+              counts_to loop last limit turn turn_facts u now memory_now counts (leb-false 255 last great)
+              parts.first less there
               (ends.goes limit));
           label = ends.label;
           after = ends.after;
@@ -151,37 +177,47 @@ pub at_site :
     → Steps at.context facts from (steps_at (knowing (site_of at.body) found)) last to
     → Steps at.context facts from (steps_at (knowing at.context.site found)) last to
 at_site {at = at} {from = from} {to = to} {facts = facts} {found = found} {last = last} steps_at sound stand =
-    subst (λ (site : Site). Steps at.context facts from (steps_at (knowing site found)) last to) (sym sound.site) stand
+    subst (λ (site : Site). Steps at.context facts from (steps_at (knowing site found)) last to)
+    (sym sound.site) stand
 
 -- an ADDRESS in memory
 pub word_turns :
-    {at : BodyContext} (loop : Loop at) (head : Iteration) (list : Range) (last : ℕ) (is_tested : Bool) (end turn : LabelNumber)
+    {at : BodyContext} (loop : Loop at) (head : Iteration) (list : Range) (last : ℕ) (is_tested : Bool)
+    (end turn : LabelNumber)
     (facts : Facts) (from : ℕ) (place : Place)
     → Iterates at loop head list
     → ToKnown loop Address last
     → location_of (knowing at.context.site facts) (whole (loop.head).variable) ≡ Some (locations.Static place)
     → Stand at (record { facts = facts; goes_on = true }) None from
-    (planned.Again turn (word_fact (counter_for at (loop.head).variable Address (Some (locations.Static place)))) true
+    (planned.Again turn (word_fact (counter_for at (loop.head).variable Address
+    (Some (locations.Static place)))) true
     ∷ planned.List list
     ∷ ((planned.LoadWord (whole (loop.head).variable)
     ∷ (Rattle.statements8080.specs.Plans.all (compared_and_counted last)
-    ++ (Rattle.statements8080.specs.Plans.word Rattle.asm8080.specs.declared.item.WordForm.TheVariants.StoreHl place
-    ∷ Rattle.statements8080.specs.Plans.jump (Rattle.asm8080.specs.declared.item.WordForm.TheVariants.JumpWhere Rattle.isa8080.specs.declared.instr.Condition.TheVariants.Carry) turn
+    ++ (Rattle.statements8080.specs.Plans.word
+    Rattle.asm8080.specs.declared.item.WordForm.TheVariants.StoreHl place
+    ∷ Rattle.statements8080.specs.Plans.jump
+    (Rattle.asm8080.specs.declared.item.WordForm.TheVariants.JumpWhere
+    Rattle.isa8080.specs.declared.instr.Condition.TheVariants.Carry) turn
     ∷ [])))
     ++ (asked_mark is_tested end ++ (planned.Reaches true ∷ [])))) loop.after loop.to
     → TurnsStand loop is_tested end turn
-    (common facts (word_fact (counter_for at (loop.head).variable Address (Some (locations.Static place))))) from
+    (common facts (word_fact (counter_for at (loop.head).variable Address (Some (locations.Static place)))))
+    from
 word_turns {at = at} loop head list last is_tested end turn facts from place iterates to_known is stand =
     let loaded = word_parted listed.rest in
     let parts = code_parted (plain (compared_and_counted last) ++ stored_and_on place turn)
-    (asked_mark is_tested end ++ (planned.Reaches true ∷ [])) (going listed.after.goes_on loaded.known) loaded.middle loaded.rest in
-    let ends = ends_known loop is_tested end (going listed.after.goes_on parts.known) parts.middle parts.rest in
+    (asked_mark is_tested end ++ (planned.Reaches true ∷ [])) (going listed.after.goes_on loaded.known)
+    loaded.middle loaded.rest in
+    let ends =
+    ends_known loop is_tested end (going listed.after.goes_on parts.known) parts.middle parts.rest in
     record {
       is_at = again.lies;
       turns =
           turns_do loop from turn_facts
           (λ limit less claim t r memory below stage.
-          list_then loop iterates.bound list turn_facts listed.after from listed.middle t r memory listed.does iterates.list_is
+          list_then loop iterates.bound list turn_facts listed.after from listed.middle t r memory
+          listed.does iterates.list_is
           iterates.list_types iterates.list_stands iterates.list_fits (omega (arith, below, less)) stage
           (λ u now memory_now spent there.
           next limit (counts limit less claim) u now memory_now (omega (arith, spent, below)) there
@@ -203,18 +239,24 @@ word_turns {at = at} loop head list last is_tested end turn facts from place ite
     rest_of_code : List Planned
     rest_of_code =
         Rattle.statements8080.specs.Plans.all (compared_and_counted last)
-        ++ (Rattle.statements8080.specs.Plans.word Rattle.asm8080.specs.declared.item.WordForm.TheVariants.StoreHl place
-        ∷ Rattle.statements8080.specs.Plans.jump (Rattle.asm8080.specs.declared.item.WordForm.TheVariants.JumpWhere Rattle.isa8080.specs.declared.instr.Condition.TheVariants.Carry) turn
+        ++ (Rattle.statements8080.specs.Plans.word
+        Rattle.asm8080.specs.declared.item.WordForm.TheVariants.StoreHl place
+        ∷ Rattle.statements8080.specs.Plans.jump
+        (Rattle.asm8080.specs.declared.item.WordForm.TheVariants.JumpWhere
+        Rattle.isa8080.specs.declared.instr.Condition.TheVariants.Carry) turn
         ∷ [])
 
     again : MarkFirst at
-        (arriving (met (known_here (record { facts = facts; goes_on = true })) (Some (word_fact counter)))) None from turn
-        (planned.List list ∷ ((planned.LoadWord (whole (loop.head).variable) ∷ rest_of_code) ++ (asked_mark is_tested end ++ (planned.Reaches true ∷ []))))
+        (arriving (met (known_here (record { facts = facts; goes_on = true })) (Some (word_fact counter))))
+        None from turn
+        (planned.List list ∷ ((planned.LoadWord (whole (loop.head).variable) ∷ rest_of_code)
+        ++ (asked_mark is_tested end ++ (planned.Reaches true ∷ []))))
         loop.after loop.to
     again = again_first stand
 
     listed : ListFirst at (record { facts = turn_facts; goes_on = true }) None from list
-        ((planned.LoadWord (whole (loop.head).variable) ∷ rest_of_code) ++ (asked_mark is_tested end ++ (planned.Reaches true ∷ []))) loop.after loop.to
+        ((planned.LoadWord (whole (loop.head).variable) ∷ rest_of_code)
+        ++ (asked_mark is_tested end ++ (planned.Reaches true ∷ []))) loop.after loop.to
     listed = list_first again.rest
 
     counted : IsCounted at.context (loop.head).variable Address
@@ -243,33 +285,41 @@ word_turns {at = at} loop head list last is_tested end turn facts from place ite
       enters = λ r memory low high steady steady_too.
           second_meets at.context r memory facts (word_fact counter)
           (word_known at.context r memory (locations.Static place)
-          (subst (λ (n : ℕ). Rattle.code_meaning.specs.Holding.IsSteady at.context.activation n) at_place_is steady)
-          (subst (λ (n : ℕ). Rattle.code_meaning.specs.Holding.IsSteady at.context.activation (wrap (n + 1))) at_place_is steady_too)
+          (subst (λ (n : ℕ). Rattle.code_meaning.specs.Holding.IsSteady at.context.activation n) at_place_is
+          steady)
+          (subst (λ (n : ℕ). Rattle.code_meaning.specs.Holding.IsSteady at.context.activation (wrap (n + 1)))
+          at_place_is steady_too)
           (low ∙ ap (Rattle.mem80.specs.Memory.byte_at memory) at_place_is)
           (high ∙ ap (λ (n : ℕ). Rattle.mem80.specs.Memory.byte_at memory (wrap (n + 1))) at_place_is));
     }
 
-    next : {known ended : Facts} {middle over : ℕ} (limit : ℕ) (counting : CountsWords loop last limit turn turn_facts)
+    next : {known ended : Facts} {middle over : ℕ} (limit : ℕ)
+        (counting : CountsWords loop last limit turn turn_facts)
         (u : SourceState) (now : Registers) (memory_now : List ℕ)
         → u.budget ≤ limit
         → StageAt at loop.need loop.base u (listed.after).facts now memory_now
         → Steps at.context (listed.after).facts listed.middle
-        (load_word_steps (knowing at.context.site (listed.after).facts) (whole (loop.head).variable)) known middle
-        → Steps at.context known middle (plain (compared_and_counted last) ++ stored_and_on place turn) ended over
+        (load_word_steps (knowing at.context.site (listed.after).facts) (whole (loop.head).variable)) known
+        middle
+        → Steps at.context known middle (plain (compared_and_counted last) ++ stored_and_on place turn) ended
+        over
         → Goes loop limit ended over
-        → Does (script_of at.context) u.budget 0 (at_place listed.middle now memory_now u.events) (after_list loop Onward u) (Out loop)
+        → Does (script_of at.context) u.budget 0 (at_place listed.middle now memory_now u.events)
+        (after_list loop Onward u) (Out loop)
     next limit counting u now memory_now less there loads stands goes =
         Rattle.task_laws.proofs.Machine.Stages.does_same _
         (stepped_with_is loop Address u to_known.scalar_is
         ∙ ap (λ (one : Outcome ℕ). then_do one (stepped_with loop Address)) (to_known.step_is u))
         (steady_read (variable_place at.context (loop.head).variable) u
         (λ number v. then_do
-        (write_scalar at.context.activation.around.program Address (variable_place at.context (loop.head).variable)
+        (write_scalar at.context.activation.around.program Address
+        (variable_place at.context (loop.head).variable)
         (as_type Address (number + 1)) v)
         (λ _ w. next_turn at.context.later at.context.activation.around loop.head loop.list (number + 1) w))
         iterates.sound.sound counted.fits
         (λ steady.
-        word_loaded iterates.sound.sound counted (let enough = iterates.enough in omega (arith, enough)) loads there steady.0 steady.1
+        word_loaded iterates.sound.sound counted (let enough = iterates.enough in omega (arith, enough)) loads
+        there steady.0 steady.1
         (λ in_hl memory_then holds on.
         counts_word loop last limit turn turn_facts place u in_hl memory_then counting
         (same_Some _ _ (sym ((counting.counted).located facts) ∙ is))

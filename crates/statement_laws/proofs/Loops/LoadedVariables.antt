@@ -10,7 +10,8 @@ use Rattle.statement_laws.proofs.Loops.LoopCode.{Steps, address_then, load_then}
 
 -- that A is the byte of the variable is known from now on
 held_byte :
-    {A : Type 0} {context : Context} {top need budget more from to : ℕ} {base : List ℕ} {t : SourceState} {facts last : Facts}
+    {A : Type 0} {context : Context} {top need budget more from to : ℕ} {base : List ℕ} {t : SourceState}
+    {facts last : Facts}
     {r : Registers} {memory : List ℕ} {outcome : Outcome A} {Good : A → SourceState → State → Type 0}
     (address : ℕ) (location : Location)
     → r.a ≡ byte_at memory address
@@ -21,14 +22,16 @@ held_byte :
     → (Stage context top 0 need base t last r memory
     → Does (script_of context) budget more (at_place to r memory t.events) outcome Good)
     → Does (script_of context) budget more (at_place from r memory t.events) outcome Good
-held_byte {context = context} {r = r} {memory = memory} address location a steady is (HoldsThere NoneThere) stage next =
+held_byte {context = context} {r = r} {memory = memory} address location a steady is
+    (HoldsThere NoneThere) stage next =
     next (record {
       below = stage.below;
       room = stage.room;
       ready = stage.ready;
       known = Rattle.code_meaning.proofs.Facts.Changes.with_facts_hold _ (byte_in_a location) stage.known
           (record {
-            byte_holds = (a ∙ ap (byte_at memory) is, subst (λ (n : ℕ). IsSteady context.activation n) is steady);
+            byte_holds =
+                (a ∙ ap (byte_at memory) is, subst (λ (n : ℕ). IsSteady context.activation n) is steady);
             word_holds = tt;
             address_holds = tt;
             zero_holds = tt;
@@ -37,8 +40,10 @@ held_byte {context = context} {r = r} {memory = memory} address location a stead
 
 -- the BYTE comes into A
 pub byte_loaded :
-    {A : Type 0} {context : Context} {top need more from to : ℕ} {base : List ℕ} {t : SourceState} {facts last : Facts}
-    {r : Registers} {memory : List ℕ} {variable : ℕ} {outcome : Outcome A} {Good : A → SourceState → State → Type 0}
+    {A : Type 0} {context : Context} {top need more from to : ℕ} {base : List ℕ} {t : SourceState}
+    {facts last : Facts}
+    {r : Registers} {memory : List ℕ} {variable : ℕ} {outcome : Outcome A}
+    {Good : A → SourceState → State → Type 0}
     → IsSound context
     → IsCounted context variable Byte
     → 2 ≤ need
@@ -51,7 +56,9 @@ pub byte_loaded :
     → Does (script_of context) t.budget more (at_place to now memory_now t.events) outcome Good)
     → Does (script_of context) t.budget more (at_place from r memory t.events) outcome Good
 unfolding load_byte_steps
-byte_loaded {context = context} {top = top} {need = need} {more = more} {from = from} {to = to} {base = base} {t = t} {facts = facts} {last = last} {r = r} {memory = memory} {variable = variable} {outcome = outcome} {Good = Good} sound counted enough stand stage steady next =
+byte_loaded {context = context} {top = top} {need = need} {more = more} {from = from} {to = to} {base = base}
+    {t = t} {facts = facts} {last = last} {r = r} {memory = memory} {variable = variable} {outcome = outcome}
+    {Good = Good} sound counted enough stand stage steady next =
     by_test (is_at facts.byte_in_a counted.location) refl
     (subst (λ (found : Option Location). Steps context facts from
     (elim found [
@@ -79,7 +86,8 @@ byte_loaded {context = context} {top = top} {need = need} {more = more} {from = 
         → Steps context facts from
         (byte_at_steps facts (whole variable) location ++ (steps.Holds (byte_in_a location) ∷ [])) last to
         → Does (script_of context) t.budget more (at_place from r memory t.events) outcome Good
-    by_location (locations.Static place) is stand = by_hl (is_at facts.address_in_hl (locations.Static place)) stand
+    by_location (locations.Static place) is stand =
+        by_hl (is_at facts.address_in_hl (locations.Static place)) stand
       where
         at_here : address ≡ place_at context.activation.layout place
         at_here = counted.is_there ∙ ap (location_at context.activation (distances_in context)) is
@@ -91,30 +99,37 @@ byte_loaded {context = context} {top = top} {need = need} {more = more} {from = 
             → Does (script_of context) t.budget more (at_place from r memory t.events) outcome Good
         by_hl true stand =
             through_hl (subst (λ (location : Location). Steps context facts from
-            (byte_at_address_steps (whole variable) ++ (steps.Holds (byte_in_a location) ∷ [])) last to) (sym is) stand)
+            (byte_at_address_steps (whole variable) ++ (steps.Holds (byte_in_a location) ∷ []))
+            last to) (sym is) stand)
         by_hl false (WordThere there rest) =
             at_load_a sound there (subst (λ (n : ℕ). IsSteady context.activation n) at_here steady) stage
             (λ loaded.
-            held_byte address (locations.Static place) (ap (byte_at memory) (sym at_here)) steady at_here rest loaded
+            held_byte address (locations.Static place) (ap (byte_at memory) (sym at_here))
+            steady at_here rest loaded
             (λ done. next _ memory (ap (byte_at memory) (sym at_here)) done))
     by_location (locations.Frame variable_of offset) is stand =
         through_hl (subst (λ (location : Location). Steps context facts from
-        (byte_at_address_steps (whole variable) ++ (steps.Holds (byte_in_a location) ∷ [])) last to) (sym is) stand)
+        (byte_at_address_steps (whole variable) ++ (steps.Holds (byte_in_a location) ∷ []))
+        last to) (sym is) stand)
 
     by_test : (here : Bool) → is_at facts.byte_in_a counted.location ≡ here
         → Steps context facts from
         (if here then []
-        else byte_at_steps facts (whole variable) counted.location ++ (steps.Holds (byte_in_a counted.location) ∷ [])) last to
+        else byte_at_steps facts (whole variable) counted.location
+        ++ (steps.Holds (byte_in_a counted.location) ∷ [])) last to
         → Does (script_of context) t.budget more (at_place from r memory t.events) outcome Good
     by_test true is stand =
-        let held = byte_in_a_is context.activation (distances_in context) facts.byte_in_a counted.location r.a memory is stage.known.byte_holds in
+        let held =
+        byte_in_a_is context.activation (distances_in context) facts.byte_in_a counted.location r.a memory
+        is stage.known.byte_holds in
         at_end stand stage
         (λ final. next r memory (held.0 ∙ ap (byte_at memory) (sym counted.is_there)) final)
     by_test false is stand = by_location counted.location refl stand
 
 -- that HL is the ADDRESS of the variable is known from now on
 held_word :
-    {A : Type 0} {context : Context} {top need budget more from to : ℕ} {base : List ℕ} {t : SourceState} {facts last : Facts}
+    {A : Type 0} {context : Context} {top need budget more from to : ℕ} {base : List ℕ} {t : SourceState}
+    {facts last : Facts}
     {r : Registers} {memory : List ℕ} {outcome : Outcome A} {Good : A → SourceState → State → Type 0}
     (address : ℕ) (location : Location)
     → r.l ≡ byte_at memory address
@@ -127,7 +142,8 @@ held_word :
     → (Stage context top 0 need base t last r memory
     → Does (script_of context) budget more (at_place to r memory t.events) outcome Good)
     → Does (script_of context) budget more (at_place from r memory t.events) outcome Good
-held_word {context = context} {r = r} {memory = memory} address location low high steady steady_too is (HoldsThere NoneThere) stage next =
+held_word {context = context} {r = r} {memory = memory} address location low high steady steady_too is
+    (HoldsThere NoneThere) stage next =
     next (record {
       below = stage.below;
       room = stage.room;
@@ -141,7 +157,8 @@ held_word {context = context} {r = r} {memory = memory} address location low hig
     })
 
 -- HL is the ADDRESS of the variable; DE is what it was
-pub record HoldsWord (context : Context) (variable : ℕ) (r now : Registers) (memory_now : List ℕ) : Type 0 where
+pub record HoldsWord (context : Context) (variable : ℕ) (r now : Registers)
+    (memory_now : List ℕ) : Type 0 where
   pub low : now.l ≡ byte_at memory_now (variable_address context variable)
   pub high : now.h ≡ byte_at memory_now (wrap (variable_address context variable + 1))
   pub d : now.d ≡ r.d
@@ -155,8 +172,10 @@ loaded_high low high one two = omega (arith, one, two)
 
 -- the ADDRESS comes into HL
 pub word_loaded :
-    {A : Type 0} {context : Context} {top need more from to : ℕ} {base : List ℕ} {t : SourceState} {facts last : Facts}
-    {r : Registers} {memory : List ℕ} {variable : ℕ} {outcome : Outcome A} {Good : A → SourceState → State → Type 0}
+    {A : Type 0} {context : Context} {top need more from to : ℕ} {base : List ℕ} {t : SourceState}
+    {facts last : Facts}
+    {r : Registers} {memory : List ℕ} {variable : ℕ} {outcome : Outcome A}
+    {Good : A → SourceState → State → Type 0}
     → IsSound context
     → IsCounted context variable Address
     → 2 ≤ need
@@ -170,7 +189,9 @@ pub word_loaded :
     → Does (script_of context) t.budget more (at_place to now memory_now t.events) outcome Good)
     → Does (script_of context) t.budget more (at_place from r memory t.events) outcome Good
 unfolding load_word_steps
-word_loaded {context = context} {top = top} {need = need} {more = more} {from = from} {to = to} {base = base} {t = t} {facts = facts} {last = last} {r = r} {memory = memory} {variable = variable} {outcome = outcome} {Good = Good} sound counted enough stand stage steady steady_too next =
+word_loaded {context = context} {top = top} {need = need} {more = more} {from = from} {to = to} {base = base}
+    {t = t} {facts = facts} {last = last} {r = r} {memory = memory} {variable = variable} {outcome = outcome}
+    {Good = Good} sound counted enough stand stage steady steady_too next =
     by_test (is_at facts.word_in_hl counted.location) refl
     (subst (λ (found : Option Location). Steps context facts from
     (elim found [
@@ -189,7 +210,8 @@ word_loaded {context = context} {top = top} {need = need} {more = more} {from = 
         → Does (script_of context) t.budget more (at_place from r memory t.events) outcome Good
     by_location (locations.Static place) is (WordThere there rest) =
         let here : ℕ = place_at context.activation.layout place in
-        let at_here : address ≡ here = counted.is_there ∙ ap (location_at context.activation (distances_in context)) is in
+        let at_here : address ≡ here =
+        counted.is_there ∙ ap (location_at context.activation (distances_in context)) is in
         let held = stage.ready.registers in
         let mem = stage.ready.shares.is_memory in
         let low = byte_small memory here mem in
@@ -197,11 +219,13 @@ word_loaded {context = context} {top = top} {need = need} {more = more} {from = 
         let word : ℕ = word_at memory here in
         let now : Registers = record r { h = high_byte word; l = low_byte word } in
         let low_is : now.l ≡ byte_at memory address =
-        loaded_low (byte_at memory here) (byte_at memory (wrap (here + 1))) low high ∙ ap (byte_at memory) (sym at_here) in
+        loaded_low (byte_at memory here) (byte_at memory (wrap (here + 1))) low high
+        ∙ ap (byte_at memory) (sym at_here) in
         let high_is : now.h ≡ byte_at memory (wrap (address + 1)) =
         loaded_high (byte_at memory here) (byte_at memory (wrap (here + 1))) low high
         ∙ ap (λ (n : ℕ). byte_at memory (wrap (n + 1))) (sym at_here) in
-        word_goes LoadHl place r now memory sound there (record { ready = stage.ready; known = stage.known }) (
+        word_goes LoadHl place r now memory sound there
+        (record { ready = stage.ready; known = stage.known }) (
           subst (λ (n : ℕ). IsSteady context.activation n) at_here steady,
           subst (λ (n : ℕ). IsSteady context.activation (wrap (n + 1))) at_here steady_too,
         ) refl
@@ -226,8 +250,11 @@ word_loaded {context = context} {top = top} {need = need} {more = more} {from = 
     by_location (locations.Frame variable_of offset) is stand =
         address_then counted enough stand stage
         (λ found middle there memory_now rest holds here.
-        let parts = steps_split word_at_hl_steps (steps.Holds (word_in_hl (locations.Frame variable_of offset)) ∷ []) rest in
-        word_at_hl_goes address there sound steady holds.hl parts.first (record { ready = here.ready; known = here.known })
+        let parts =
+        steps_split word_at_hl_steps (steps.Holds (word_in_hl (locations.Frame variable_of offset)) ∷ [])
+        rest in
+        word_at_hl_goes address there sound steady holds.hl parts.first
+        (record { ready = here.ready; known = here.known })
         (λ now loaded on.
         held_word address (locations.Frame variable_of offset) loaded.low loaded.high steady steady_too
         (counted.is_there ∙ ap (location_at context.activation (distances_in context)) is) parts.second
@@ -238,10 +265,13 @@ word_loaded {context = context} {top = top} {need = need} {more = more} {from = 
     by_test : (here : Bool) → is_at facts.word_in_hl counted.location ≡ here
         → Steps context facts from
         (if here then []
-        else word_at_steps (whole variable) counted.location ++ (steps.Holds (word_in_hl counted.location) ∷ [])) last to
+        else word_at_steps (whole variable) counted.location
+        ++ (steps.Holds (word_in_hl counted.location) ∷ [])) last to
         → Does (script_of context) t.budget more (at_place from r memory t.events) outcome Good
     by_test true is stand =
-        let held = word_in_hl_is context.activation (distances_in context) facts.word_in_hl counted.location r.h r.l memory is stage.known.word_holds in
+        let held =
+        word_in_hl_is context.activation (distances_in context) facts.word_in_hl counted.location r.h r.l
+        memory is stage.known.word_holds in
         let low = held.low_is in
         let high = held.high_is in
         at_end stand stage

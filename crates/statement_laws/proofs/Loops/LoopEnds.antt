@@ -34,18 +34,21 @@ pub goes_at_end :
     → place ≡ loop.to
     → Goes loop limit facts place
 goes_at_end {at = at} loop limit facts place same there = λ u now memory_now less stage.
-    subst (λ (n : ℕ). Does (script_of at.context) u.budget 0 (at_place n now memory_now u.events) (Gave Onward u) (Out loop)) (sym there)
+    subst (λ (n : ℕ). Does (script_of at.context) u.budget 0 (at_place n now memory_now u.events)
+    (Gave Onward u) (Out loop)) (sym there)
     (loop_ends loop u now memory_now (ap (λ (here : Here). here.goes_on) (sym same))
     (subst (λ (here : Here). StageAt at loop.need loop.base u here.facts now memory_now) same stage))
 
 -- the end of a loop that counts to a known value
-pub record EndsKnown {at : BodyContext} (loop : Loop at) (is_tested : Bool) (end : LabelNumber) (known : Facts) (place : ℕ) : Type 0 where
+pub record EndsKnown {at : BodyContext} (loop : Loop at) (is_tested : Bool) (end : LabelNumber)
+    (known : Facts) (place : ℕ) : Type 0 where
   pub goes : (limit : ℕ) → Goes loop limit known place
   pub label : is_tested ≡ true → at.context.activation.layout.place_of end.index ≡ loop.to
   pub after : is_tested ≡ true → record { facts = no_facts; goes_on = true } ≡ loop.after
 
 pub ends_known :
-    {at : BodyContext} {waiting : Option Facts} (loop : Loop at) (is_tested : Bool) (end : LabelNumber) (here : Here) (place : ℕ)
+    {at : BodyContext} {waiting : Option Facts} (loop : Loop at) (is_tested : Bool) (end : LabelNumber)
+    (here : Here) (place : ℕ)
     → Stand at here waiting place (asked_mark is_tested end ++ (planned.Reaches true ∷ [])) loop.after loop.to
     → EndsKnown loop is_tested end here.facts place
 ends_known {at = at} loop true end here place stand =

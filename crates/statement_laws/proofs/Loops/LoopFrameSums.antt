@@ -13,7 +13,8 @@ use Rattle.statement_laws.proofs.Loops.LoopWordSums.{ComesToDe}
 low_sum : (low high e n : ℕ) → e ≡ n % 256 → (low + e + 0) % 256 ≡ ((low + 256 * high + n) % 65536) % 256
 low_sum low high e n same = omega (arith, same)
 
-high_sum : (carry : Bool) (low high d e n : ℕ) → d ≡ n / 256 → e ≡ n % 256 → low < 256 → high < 256 → n < 65536
+high_sum : (carry : Bool) (low high d e n : ℕ) → d ≡ n / 256 → e ≡ n % 256 → low < 256
+    → high < 256 → n < 65536
     → nat_le 256 (low + e) ≡ carry
     → (high + d + bit carry) % 256 ≡ ((low + 256 * high + n) % 65536) / 256
 high_sum true low high d e n one two small large number is =
@@ -21,23 +22,29 @@ high_sum true low high d e n one two small large number is =
 high_sum false low high d e n one two small large number is =
     let under = leb-false 256 (low + e) is in omega (arith, one, two, small, large, number, under)
 
-high_carry : (carry : Bool) (low high d e n : ℕ) → d ≡ n / 256 → e ≡ n % 256 → low < 256 → nat_le 256 (low + e) ≡ carry
+high_carry : (carry : Bool) (low high d e n : ℕ) → d ≡ n / 256 → e ≡ n % 256 → low < 256
+    → nat_le 256 (low + e) ≡ carry
     → nat_le 256 (high + d + bit carry) ≡ nat_le 65536 (low + 256 * high + n)
 high_carry true low high d e n one two small is =
     let over = leb-true 256 (low + e) is in
     same_test (nat_le 256 (high + d + 1)) (nat_le 65536 (low + 256 * high + n))
-    (λ past. let more = leb-true 256 (high + d + 1) past in le-leb 65536 (low + 256 * high + n) (omega (arith, one, two, small, over, more)))
-    (λ within. let less = leb-false 256 (high + d + 1) within in lt-leb 65536 (low + 256 * high + n) (omega (arith, one, two, small, over, less)))
+    (λ past. let more = leb-true 256 (high + d + 1) past in le-leb 65536 (low + 256 * high + n)
+    (omega (arith, one, two, small, over, more)))
+    (λ within. let less = leb-false 256 (high + d + 1) within in lt-leb 65536 (low + 256 * high + n)
+    (omega (arith, one, two, small, over, less)))
 high_carry false low high d e n one two small is =
     let under = leb-false 256 (low + e) is in
     same_test (nat_le 256 (high + d + 0)) (nat_le 65536 (low + 256 * high + n))
-    (λ past. let more = leb-true 256 (high + d + 0) past in le-leb 65536 (low + 256 * high + n) (omega (arith, one, two, small, under, more)))
-    (λ within. let less = leb-false 256 (high + d + 0) within in lt-leb 65536 (low + 256 * high + n) (omega (arith, one, two, small, under, less)))
+    (λ past. let more = leb-true 256 (high + d + 0) past in le-leb 65536 (low + 256 * high + n)
+    (omega (arith, one, two, small, under, more)))
+    (λ within. let less = leb-false 256 (high + d + 0) within in lt-leb 65536 (low + 256 * high + n)
+    (omega (arith, one, two, small, under, less)))
 
 -- what follows the low byte
 abbrev pub high_sum_code : LabelNumber → List Step
 high_sum_code end =
-    steps.Plain (Inx Hl) ∷ steps.Plain (load A) ∷ steps.Plain (with_register AddWithCarry D) ∷ steps.Plain (MovToMemory A)
+    steps.Plain (Inx Hl) ∷ steps.Plain (load A) ∷ steps.Plain (with_register AddWithCarry D)
+    ∷ steps.Plain (MovToMemory A)
     ∷ steps.Jump (JumpWhere Carry) end ∷ []
 
 -- DE is added to the ADDRESS in the frame
@@ -47,12 +54,14 @@ pub add_de_in_frame :
     → HasStep loop Address limit end
     → ComesToDe n r
     → Steps at.context facts from
-    (address_step (loop.head).variable ∷ steps.Plain (load A) ∷ steps.Plain (with_register Add E) ∷ steps.Plain (MovToMemory A)
+    (address_step (loop.head).variable ∷ steps.Plain (load A) ∷ steps.Plain (with_register Add E)
+    ∷ steps.Plain (MovToMemory A)
     ∷ high_sum_code end) found to
     → t.budget ≤ limit
     → StageAt at loop.need loop.base t facts r memory
     → Checks loop limit found to
-    → Does (script_of at.context) t.budget 0 (at_place from r memory t.events) (stepped_with loop Address n t) (Out loop)
+    → Does (script_of at.context) t.budget 0 (at_place from r memory t.events)
+    (stepped_with loop Address n t) (Out loop)
 add_de_in_frame {at = at} loop limit n end t r memory has de stand fewer stage checks =
     let sound = has.sound.sound in
     let counted = has.counted in
@@ -78,15 +87,20 @@ add_de_in_frame {at = at} loop limit n end t r memory has de stand fewer stage c
     (λ steady.
     load_then address sound holds.hl steady.0 at_load here
     (λ known_loaded place_loaded at_add loaded.
-    at_instructions (with_register Add E ∷ []) (steps.Plain (MovToMemory A) ∷ high_sum_code end) sound (tt, tt) at_add loaded
+    at_instructions (with_register Add E ∷ []) (steps.Plain (MovToMemory A) ∷ high_sum_code end) sound
+    (tt, tt) at_add loaded
     (λ place_added known_added at_store added.
     let after : Registers = effect (with_register Add E ∷ []) (record now { a = low }) in
-    does_same _ (then_again (write_byte program place (new % 256) t) (λ _ u. write_byte program (next_place place) (new / 256) u) go)
+    does_same _
+    (then_again (write_byte program place (new % 256) t)
+    (λ _ u. write_byte program (next_place place) (new / 256) u) go)
     (byte_then place (new % 256) after
     (λ _ u. then_do (write_byte program (next_place place) (new / 256) u) go)
-    sound (omega arith) holds.hl (first_fits at.context.activation place counted.fits) at_store added refl added.ready.registers
+    sound (omega arith) holds.hl (first_fits at.context.activation place counted.fits) at_store added refl
+    added.ready.registers
     (λ steady_there.
-    address_asks at.context.activation (distances_in at.context) known_added.address_in_hl after.h after.l added.known.address_holds steady_there.0)
+    address_asks at.context.activation (distances_in at.context) known_added.address_in_hl after.h after.l
+    added.known.address_holds steady_there.0)
     (λ events. ap (λ (m : ℕ). at_place (place_added + 1) after (slice_set there (word now.h now.l) m) events)
     (low_sum low high now.e n e_is))
     (λ u budget_is steady_there at_next ready_now.
@@ -122,8 +136,10 @@ add_de_in_frame {at = at} loop limit n end t r memory has de stand fewer stage c
     byte_then (next_place place) (new / 256) three go sound (omega arith) (hl_next ∙ sym next_is)
     (second_fits at.context.activation place counted.fits) at_last summed refl summed.ready.registers
     (λ steady_next.
-    address_asks at.context.activation (distances_in at.context) known_sum.address_in_hl three.h three.l summed.known.address_holds steady_next.0)
-    (λ events. ap (λ (m : ℕ). at_place (place_sum + 1) three (slice_set left (word two.h two.l) m) events) a_is)
+    address_asks at.context.activation (distances_in at.context) known_sum.address_in_hl three.h three.l
+    summed.known.address_holds steady_next.0)
+    (λ events. ap (λ (m : ℕ). at_place (place_sum + 1) three (slice_set left (word two.h two.l) m) events)
+    a_is)
     (λ v budget_again steady_next jump ready_then.
     let ended : List ℕ = slice_set left (word two.h two.l) (new / 256) in
     let fewer_then = within_limit v.budget u.budget limit budget_again fewer_now in

@@ -11,14 +11,16 @@ scalar_at Address memory address = byte_at memory address + 256 * byte_at memory
 -- its bytes are steady
 abbrev pub IsSteadyScalar : Activation → ScalarType → (address : ℕ) → Type 0
 IsSteadyScalar activation Byte address = IsSteady activation address
-IsSteadyScalar activation Address address = IsSteady activation address × IsSteady activation (wrap (address + 1))
+IsSteadyScalar activation Address address =
+    IsSteady activation address × IsSteady activation (wrap (address + 1))
 
 -- it is of the type
 pub scalar_small : (scalar : ScalarType) (memory : List ℕ) (address : ℕ)
     → Rattle.mem80.specs.Memory.IsMemory memory → scalar_at scalar memory address < values_of scalar
 scalar_small Byte memory address is = byte_small memory address is
 scalar_small Address memory address is =
-    two_bytes_fit (byte_at memory address) (byte_at memory (wrap (address + 1))) (byte_small memory address is)
+    two_bytes_fit (byte_at memory address) (byte_at memory (wrap (address + 1)))
+    (byte_small memory address is)
     (byte_small memory (wrap (address + 1)) is)
 
 -- the variable is read
@@ -30,9 +32,11 @@ pub counted_read :
     → IsCounted context variable scalar
     → IsReady context.activation top base s.memory s.frame r memory
     → (IsSteadyScalar context.activation scalar (variable_address context variable)
-    → Does (script_of context) budget more from (go (scalar_at scalar memory (variable_address context variable)) s) Good)
     → Does (script_of context) budget more from
-    (then_do (read_scalar context.activation.around.program scalar (variable_place context variable) s) go) Good
+    (go (scalar_at scalar memory (variable_address context variable)) s) Good)
+    → Does (script_of context) budget more from
+    (then_do (read_scalar context.activation.around.program scalar (variable_place context variable) s) go)
+    Good
 counted_read {context = context} {variable = variable} Byte s go sound counted ready does =
     byte_read (variable_place context variable) s go sound ready counted.fits does
 counted_read {context = context} {variable = variable} Address s go sound counted ready does =
@@ -54,15 +58,21 @@ pub tested :
     → IsSteadyScalar at.context.activation scalar (variable_address at.context (loop.head).variable)
     → Does (script_of at.context) budget 0 from (taking_one t (from_list loop)) (Out loop))
     → Does (script_of at.context) budget 0 from (from_test loop t) (Out loop)
-tested {at = at} {budget = budget} {from = from} {memory = memory} loop scalar last t sound same is counted ready ends goes =
+tested {at = at} {budget = budget} {from = from} {memory = memory} loop scalar last t sound same is
+    counted ready ends goes =
     subst (λ (one : Outcome ℕ). Does (script_of at.context) budget 0 from
     (then_do one
-    (λ last u. then_do (read_scalar at.context.activation.around.program (loop.head).scalar (variable_place at.context (loop.head).variable) u)
-    (λ number v. if nat_lt last number then Gave Onward v else taking_one v (from_list loop)))) (Out loop)) (sym is)
+    (λ last u. then_do (read_scalar at.context.activation.around.program (loop.head).scalar
+    (variable_place at.context (loop.head).variable) u)
+    (λ number v. if nat_lt last number then Gave Onward v else taking_one v (from_list loop))))
+    (Out loop)) (sym is)
     (subst (λ (scalar : ScalarType). Does (script_of at.context) budget 0 from
-    (then_do (read_scalar at.context.activation.around.program scalar (variable_place at.context (loop.head).variable) t)
-    (λ number v. if nat_lt last number then Gave Onward v else taking_one v (from_list loop))) (Out loop)) (sym same)
-    (counted_read scalar t (λ number v. if nat_lt last number then Gave Onward v else taking_one v (from_list loop))
+    (then_do (read_scalar at.context.activation.around.program scalar
+    (variable_place at.context (loop.head).variable) t)
+    (λ number v. if nat_lt last number then Gave Onward v else taking_one v (from_list loop)))
+    (Out loop)) (sym same)
+    (counted_read scalar t (λ number v. if nat_lt last number then Gave Onward
+    v else taking_one v (from_list loop))
     sound.sound counted ready
     (λ steady. by (nat_lt last number) refl steady)))
   where
@@ -79,7 +89,8 @@ tested {at = at} {budget = budget} {from = from} {memory = memory} loop scalar l
 -- what follows where the step is there: the variable is read, and changed
 abbrev pub stepped_with : {at : BodyContext} → Loop at → ScalarType → (step : ℕ) → SourceState → Outcome Flow
 stepped_with {at = at} loop scalar step t =
-    then_do (read_scalar at.context.activation.around.program scalar (variable_place at.context (loop.head).variable) t)
+    then_do (read_scalar at.context.activation.around.program scalar
+    (variable_place at.context (loop.head).variable) t)
     (λ number v. then_do
     (write_scalar at.context.activation.around.program scalar (variable_place at.context (loop.head).variable)
     (as_type scalar (number + step)) v)
@@ -89,9 +100,12 @@ pub stepped_with_is :
     {at : BodyContext} (loop : Loop at) (scalar : ScalarType) (t : SourceState)
     → (loop.head).scalar ≡ scalar
     → after_list loop Onward t
-    ≡ then_do (step_value at.context.later at.context.activation.around (loop.head).step t) (stepped_with loop scalar)
+    ≡ then_do (step_value at.context.later at.context.activation.around (loop.head).step t)
+    (stepped_with loop scalar)
 stepped_with_is {at = at} loop scalar t same =
-    ap (λ (scalar : ScalarType). then_do (step_value at.context.later at.context.activation.around (loop.head).step t) (stepped_with loop scalar)) same
+    ap (λ (scalar : ScalarType). then_do
+    (step_value at.context.later at.context.activation.around (loop.head).step t)
+    (stepped_with loop scalar)) same
 
 -- what follows a list whose end is reached, where the step is known
 pub stepped_by :
@@ -118,7 +132,8 @@ stepped_by {at = at} loop scalar step t sound counted ready does =
 
 -- where the sum is of the type, the next turn begins at its test
 pub next_tests :
-    {at : BodyContext} {budget : ℕ} {from : State} (loop : Loop at) (scalar : ScalarType) (sum : ℕ) (t : SourceState)
+    {at : BodyContext} {budget : ℕ} {from : State} (loop : Loop at) (scalar : ScalarType)
+    (sum : ℕ) (t : SourceState)
     → IsSoundBody at
     → (loop.head).scalar ≡ scalar
     → t.budget < loop.budget
@@ -129,7 +144,8 @@ pub next_tests :
 next_tests {at = at} {budget = budget} {from = from} loop scalar sum t sound same less goes ends =
     subst (λ (one : Outcome Flow). Does (script_of at.context) budget 0 from one (Out loop))
     (sym (next_is loop sum t sound less
-    ∙ ap (λ (scalar : ScalarType). if nat_lt sum (values_of scalar) then from_test loop t else Gave Onward t) same))
+    ∙ ap (λ (scalar : ScalarType). if nat_lt sum (values_of scalar) then from_test loop t else Gave Onward t)
+    same))
     (by (nat_lt sum (values_of scalar)) refl)
   where
     by : (is_of_type : Bool) → nat_lt sum (values_of scalar) ≡ is_of_type
@@ -154,16 +170,20 @@ pub turns_again :
     → Does (script_of at.context) budget 0 from (taking_one t (from_list loop)) (Out loop)
     → Does (script_of at.context) budget 0 from
     (next_turn at.context.later at.context.activation.around loop.head loop.list sum t) (Out loop)
-turns_again {at = at} {memory = memory} loop scalar last sum t sound same is counted ready less there small enough does =
+turns_again {at = at} {memory = memory} loop scalar last sum t sound same is counted ready less
+    there small enough does =
     next_tests loop scalar sum t sound same less
     (λ of_type.
     tested loop scalar last t sound same is counted ready
-    (λ above steady. absurd (over scalar (scalar_at scalar memory (variable_address at.context (loop.head).variable))
-    (ltb-true last (scalar_at scalar memory (variable_address at.context (loop.head).variable)) above) there small))
+    (λ above steady. absurd (over scalar
+    (scalar_at scalar memory (variable_address at.context (loop.head).variable))
+    (ltb-true last (scalar_at scalar memory (variable_address at.context (loop.head).variable)) above) there
+    small))
     (λ fine steady. does))
     (λ past. absurd (omega (arith, past, small)))
   where
-    over : (scalar : ScalarType) (number : ℕ) → last < number → number ≡ as_type scalar sum → sum < values_of scalar → ⊥
+    over : (scalar : ScalarType) (number : ℕ) → last < number → number ≡ as_type scalar sum
+        → sum < values_of scalar → ⊥
     over Byte number above is small = omega (arith, above, is, small, enough)
     over Address number above is small = omega (arith, above, is, small, enough)
 
@@ -182,15 +202,19 @@ pub turns_end :
     → Does (script_of at.context) budget 0 from (Gave Onward t) (Out loop)
     → Does (script_of at.context) budget 0 from
     (next_turn at.context.later at.context.activation.around loop.head loop.list sum t) (Out loop)
-turns_end {at = at} {memory = memory} loop scalar last sum t sound same is counted ready less there past does =
+turns_end {at = at} {memory = memory} loop scalar last sum t sound same is counted ready
+    less there past does =
     next_tests loop scalar sum t sound same less
     (λ of_type.
     tested loop scalar last t sound same is counted ready
     (λ above steady. does)
-    (λ fine steady. absurd (over scalar (scalar_at scalar memory (variable_address at.context (loop.head).variable))
-    (ltb-false last (scalar_at scalar memory (variable_address at.context (loop.head).variable)) fine) there of_type (past of_type))))
+    (λ fine steady. absurd (over scalar
+    (scalar_at scalar memory (variable_address at.context (loop.head).variable))
+    (ltb-false last (scalar_at scalar memory (variable_address at.context (loop.head).variable)) fine) there
+    of_type (past of_type))))
     (λ beyond. does)
   where
-    over : (scalar : ScalarType) (number : ℕ) → number ≤ last → number ≡ as_type scalar sum → sum < values_of scalar → last < sum → ⊥
+    over : (scalar : ScalarType) (number : ℕ) → number ≤ last → number ≡ as_type scalar sum
+        → sum < values_of scalar → last < sum → ⊥
     over Byte number below is small more = omega (arith, below, is, small, more)
     over Address number below is small more = omega (arith, below, is, small, more)

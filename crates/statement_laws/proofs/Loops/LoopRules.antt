@@ -1,5 +1,5 @@
--- Rules for code of loops in general: values of parts, operations with a byte of memory, and the jumps after a test and
--- after a sum.
+-- Rules for code of loops in general: values of parts, operations with a byte of memory, and the jumps after
+-- a test and after a sum.
 use Rattle.statement_laws.proofs.Prelude.{◌≡◌, ℕ, ◌+◌, ◌*◌, ◌/◌, ◌%◌, ◌<◌, ◌≤◌, Bool, true, false, not, nat_lt, nat_le, if◌then◌else◌, List, [], ◌∷◌, refl, sym, ap, subst, ◌∙◌, arith, Some, ltb-true, ltb-false, lt-ltb, le-ltb, leb-true, leb-false, byte_at, ScalarType, Byte, height_of, type_of, TypedExpression, TypesHold, read_scalar, next_turn, value, SourceState, Outcome, Gave, then_do, taking_one, Flow, Onward, values_of, Condition, Accumulate, M, Operation, Add, AddWithCarry, Compare, Subtract, SubtractWithBorrow, operate, subtract_of, bit, Registers, State, holds, word, wrap, JumpWhere, ExpressionNumber, IsExpressionIn, IsSteady, Does, at_place, borrow_shows, borrow_shows_more, word_borrow, after_step, Facts, LabelNumber, Step, no_facts, Context, IsSound, nodes_in, PartThere, PlainThere, Know, word_known, Stage, at_registers, script_of, then_does_where, BodyContext, IsSoundBody, step_of, room_for, value_is_word}
 use Rattle.steps8080.specs.declared.step.Step.TheVariants as steps
 use Rattle.steps8080.specs.declared.step.Task.TheVariants as tasks
@@ -21,9 +21,11 @@ pub record ComesToHl (number : ℕ) (now : Registers) : Type 0 where
   pub l : now.l ≡ number % 256
 
 pub byte_comes :
-    {A : Type 0} {context : Context} {top need from to : ℕ} {base : List ℕ} {facts last : Facts} {others : List Step}
+    {A : Type 0} {context : Context} {top need from to : ℕ} {base : List ℕ} {facts last : Facts}
+    {others : List Step}
     {tree : TypedExpression} {Good : A → SourceState → State → Type 0}
-    (number : ExpressionNumber) (go : ℕ → SourceState → Outcome A) (s : SourceState) (r : Registers) (memory : List ℕ)
+    (number : ExpressionNumber) (go : ℕ → SourceState → Outcome A) (s : SourceState)
+    (r : Registers) (memory : List ℕ)
     → IsExpressionIn (nodes_in context) context.storage number tree
     → TypesHold context.typed context.within tree
     → 2 * height_of tree ≤ need
@@ -38,19 +40,24 @@ pub byte_comes :
     → Does (script_of context) u.budget 0 (at_place middle now memory_now u.events) (go n u) Good)
     → Does (script_of context) s.budget 0 (at_place from r memory s.events)
     (then_do (value context.later context.activation.around tree s) go) Good
-byte_comes {context = context} {top = top} {need = need} {base = base} {tree = tree} {Good = Good} number go s r memory is types fits (PartThere {found = found} {middle = middle} does rest) stage next =
+byte_comes {context = context} {top = top} {need = need} {base = base} {tree = tree} {Good = Good} number go s
+    r memory is types fits (PartThere {found = found} {middle = middle} does rest) stage next =
     then_does_where (value context.later context.activation.around tree s)
-    (does _ tree is types top base s r memory stage.below (room_for (2 * height_of tree) fits stage.room) stage.ready stage.known tt)
+    (does _ tree is types top base s r memory stage.below (room_for (2 * height_of tree) fits stage.room)
+    stage.ready stage.known tt)
     (λ n u end gave arrives spent.
     let below = stage.below in
     subst (λ (state : State). Does (script_of context) u.budget 0 state (go n u) Good) (sym arrives.is_at)
-    (next n u arrives.r arrives.memory found middle gave (record { small = (arrives.holds).small; a = (arrives.holds).a }) spent rest
+    (next n u arrives.r arrives.memory found middle gave
+    (record { small = (arrives.holds).small; a = (arrives.holds).a }) spent rest
     (record { below = omega (arith, below, spent); room = stage.room; ready = arrives.ready; known = (arrives.holds).known })))
 
 pub word_comes :
-    {A : Type 0} {context : Context} {top need from to : ℕ} {base : List ℕ} {facts last : Facts} {others : List Step}
+    {A : Type 0} {context : Context} {top need from to : ℕ} {base : List ℕ} {facts last : Facts}
+    {others : List Step}
     {tree : TypedExpression} {Good : A → SourceState → State → Type 0}
-    (number : ExpressionNumber) (go : ℕ → SourceState → Outcome A) (s : SourceState) (r : Registers) (memory : List ℕ)
+    (number : ExpressionNumber) (go : ℕ → SourceState → Outcome A) (s : SourceState)
+    (r : Registers) (memory : List ℕ)
     → IsExpressionIn (nodes_in context) context.storage number tree
     → TypesHold context.typed context.within tree
     → 2 * height_of tree ≤ need
@@ -64,9 +71,11 @@ pub word_comes :
     → Does (script_of context) u.budget 0 (at_place middle now memory_now u.events) (go n u) Good)
     → Does (script_of context) s.budget 0 (at_place from r memory s.events)
     (then_do (value context.later context.activation.around tree s) go) Good
-word_comes {context = context} {top = top} {need = need} {base = base} {tree = tree} {Good = Good} number go s r memory is types fits (PartThere {found = found} {middle = middle} does rest) stage next =
+word_comes {context = context} {top = top} {need = need} {base = base} {tree = tree} {Good = Good} number go s
+    r memory is types fits (PartThere {found = found} {middle = middle} does rest) stage next =
     then_does_where (value context.later context.activation.around tree s)
-    (does _ tree is types top base s r memory stage.below (room_for (2 * height_of tree) fits stage.room) stage.ready stage.known tt)
+    (does _ tree is types top base s r memory stage.below (room_for (2 * height_of tree) fits stage.room)
+    stage.ready stage.known tt)
     (λ n u end gave arrives spent.
     let below = stage.below in
     let comes : ComesToHl n arrives.r = record {
@@ -103,7 +112,8 @@ gives_byte other byte r is small = absurd is
 
 -- an operation with the byte at the address in HL
 pub operate_then :
-    {A : Type 0} {context : Context} {top need budget more from to : ℕ} {base : List ℕ} {t : SourceState} {facts last : Facts}
+    {A : Type 0} {context : Context} {top need budget more from to : ℕ} {base : List ℕ} {t : SourceState}
+    {facts last : Facts}
     {r : Registers} {memory : List ℕ} {others : List Step} {outcome : Outcome A}
     {Good : A → SourceState → State → Type 0} (operation : Operation) (address : ℕ)
     → IsSound context
@@ -117,7 +127,8 @@ pub operate_then :
     → Does (script_of context) budget more
     (at_place middle (operated operation (byte_at memory address) r) memory t.events) outcome Good)
     → Does (script_of context) budget more (at_place from r memory t.events) outcome Good
-operate_then {context = context} {from = from} {t = t} {r = r} {memory = memory} operation address sound is hl (PlainThere there rest) stage next =
+operate_then {context = context} {from = from} {t = t} {r = r} {memory = memory} operation address sound is hl
+    (PlainThere there rest) stage next =
     let held = stage.ready.registers in
     at_registers (operated operation (byte_at memory address) r) sound stage there
     (ap (λ (n : ℕ). at_place (from + 1) (operated operation (byte_at memory n) r) memory t.events) hl) refl
@@ -135,7 +146,8 @@ operate_then {context = context} {from = from} {t = t} {r = r} {memory = memory}
 
 -- the turns of a loop, to which its test jumps
 pub record HasTurns
-    {at : BodyContext} (loop : Loop at) (scalar : ScalarType) (limit : ℕ) (turn : LabelNumber) (facts : Facts) : Type 0 where
+    {at : BodyContext} (loop : Loop at) (scalar : ScalarType) (limit : ℕ) (turn : LabelNumber)
+    (facts : Facts) : Type 0 where
   pub sound : IsSoundBody at
   pub scalar_is : (loop.head).scalar ≡ scalar
   pub counted : IsCounted at.context (loop.head).variable scalar
@@ -149,21 +161,27 @@ if_not_above loop last number t = if nat_lt last number then Gave Onward t else 
 -- what follows the last value
 abbrev pub after_last : {at : BodyContext} → Loop at → ScalarType → (last : ℕ) → SourceState → Outcome Flow
 after_last {at = at} loop scalar last t =
-    then_do (read_scalar at.context.activation.around.program scalar (variable_place at.context (loop.head).variable) t)
+    then_do (read_scalar at.context.activation.around.program scalar
+    (variable_place at.context (loop.head).variable) t)
     (if_not_above loop last)
 
 pub from_test_is :
     {at : BodyContext} (loop : Loop at) (scalar : ScalarType) (t : SourceState)
     → (loop.head).scalar ≡ scalar
     → from_test loop t
-    ≡ then_do (value at.context.later at.context.activation.around (loop.head).last t) (after_last loop scalar)
+    ≡ then_do (value at.context.later at.context.activation.around (loop.head).last t)
+    (after_last loop scalar)
 from_test_is {at = at} loop scalar t same =
-    ap (λ (scalar : ScalarType). then_do (value at.context.later at.context.activation.around (loop.head).last t) (after_last loop scalar)) same
+    ap (λ (scalar : ScalarType). then_do
+    (value at.context.later at.context.activation.around (loop.head).last t)
+    (after_last loop scalar)) same
 
 -- a jump to the turn, where the variable is not above the last value
 pub test_jumps :
-    {at : BodyContext} (loop : Loop at) (limit : ℕ) (turn : LabelNumber) (turn_facts : Facts) {scalar : ScalarType}
-    {facts found : Facts} {from to : ℕ} (c : Condition) (last number : ℕ) (t : SourceState) (r : Registers) (memory : List ℕ)
+    {at : BodyContext} (loop : Loop at) (limit : ℕ) (turn : LabelNumber) (turn_facts : Facts)
+    {scalar : ScalarType}
+    {facts found : Facts} {from to : ℕ} (c : Condition) (last number : ℕ) (t : SourceState)
+    (r : Registers) (memory : List ℕ)
     → HasTurns loop scalar limit turn turn_facts
     → holds c r.flags ≡ not (nat_lt last number)
     → Steps at.context facts from (steps.Jump (JumpWhere c) turn ∷ []) found to
@@ -171,8 +189,10 @@ pub test_jumps :
     → StageAt at loop.need loop.base t facts r memory
     → Know at.context turn_facts r memory
     → Goes loop limit found to
-    → Does (script_of at.context) t.budget 0 (at_place from r memory t.events) (if_not_above loop last number t) (Out loop)
-test_jumps {at = at} loop limit turn turn_facts {facts = facts} {found = found} {from = from} {to = to} c last number t r memory turns shows stand fewer stage enters goes =
+    → Does (script_of at.context) t.budget 0 (at_place from r memory t.events)
+    (if_not_above loop last number t) (Out loop)
+test_jumps {at = at} loop limit turn turn_facts {facts = facts} {found = found} {from = from} {to = to} c last
+    number t r memory turns shows stand fewer stage enters goes =
     jump_then turns.sound.sound stand stage
     (λ taken step. below (nat_lt last number) refl (sym shows ∙ taken) step)
     (λ passed rest. above (nat_lt last number) refl (sym shows ∙ passed) rest)
@@ -187,7 +207,8 @@ test_jumps {at = at} loop limit turn turn_facts {facts = facts} {found = found} 
         differs : false ≡ true → ⊥
         differs same = cc
     below false is never step =
-        to_turn loop limit (at.context.activation.layout.place_of turn.index) turn_facts t from r memory turns.turns fewer
+        to_turn loop limit (at.context.activation.layout.place_of turn.index) turn_facts t from r
+        memory turns.turns fewer
         (record { below = stage.below; room = stage.room; ready = stage.ready; known = enters })
         step
 
@@ -197,7 +218,8 @@ test_jumps {at = at} loop limit turn turn_facts {facts = facts} {found = found} 
         (if is_above then Gave Onward t else taking_one t (from_list loop)) (Out loop)
     above true is passed rest =
         let over = steps_over rest in
-        subst (λ (place : ℕ). Does (script_of at.context) t.budget 0 (at_place place r memory t.events) (Gave Onward t) (Out loop)) (sym over.1)
+        subst (λ (place : ℕ). Does (script_of at.context) t.budget 0 (at_place place r memory t.events)
+        (Gave Onward t) (Out loop)) (sym over.1)
         (goes t r memory fewer
         (subst (λ (facts : Facts). StageAt at loop.need loop.base t facts r memory) over.0 stage))
     above false is passed rest = absurd (differs (sym (ap not is) ∙ passed))
@@ -211,12 +233,14 @@ Checks {at = at} loop limit facts place =
     (u : SourceState) (now : Registers) (memory_now : List ℕ)
     → u.budget ≤ limit
     → StageAt at loop.need loop.base u facts now memory_now
-    → Does (script_of at.context) u.budget 0 (at_place place now memory_now u.events) (from_test loop u) (Out loop)
+    → Does (script_of at.context) u.budget 0 (at_place place now memory_now u.events)
+    (from_test loop u) (Out loop)
 
 -- a jump to the end of the loop, where the sum is not of the type
 pub sum_jumps :
     {at : BodyContext} (loop : Loop at) (scalar : ScalarType) (limit sum : ℕ) (end : LabelNumber)
-    {facts found : Facts} {others : List Step} {from to : ℕ} (c : Condition) (u : SourceState) (r : Registers) (memory : List ℕ)
+    {facts found : Facts} {others : List Step} {from to : ℕ} (c : Condition) (u : SourceState)
+    (r : Registers) (memory : List ℕ)
     → IsSoundBody at
     → (loop.head).scalar ≡ scalar
     → limit < loop.budget
@@ -227,10 +251,12 @@ pub sum_jumps :
     → Goes loop limit no_facts (at.context.activation.layout.place_of end.index)
     → (sum < values_of scalar
     → Steps at.context facts (from + 3) others found to
-    → Does (script_of at.context) u.budget 0 (at_place (from + 3) r memory u.events) (from_test loop u) (Out loop))
+    → Does (script_of at.context) u.budget 0 (at_place (from + 3) r memory u.events)
+    (from_test loop u) (Out loop))
     → Does (script_of at.context) u.budget 0 (at_place from r memory u.events)
     (next_turn at.context.later at.context.activation.around loop.head loop.list sum u) (Out loop)
-sum_jumps {at = at} loop scalar limit sum end {from = from} c u r memory sound same less shows stand fewer stage goes next =
+sum_jumps {at = at} loop scalar limit sum end {from = from} c u r memory sound same less shows stand
+    fewer stage goes next =
     jump_then sound.sound stand stage
     (λ taken step.
     let over = leb-true (values_of scalar) sum (sym shows ∙ taken) in
@@ -245,7 +271,8 @@ sum_jumps {at = at} loop scalar limit sum end {from = from} c u r memory sound s
 
 -- where steps end, the test follows
 pub checks_at :
-    {at : BodyContext} (loop : Loop at) (limit : ℕ) {facts found : Facts} {from to : ℕ} (u : SourceState) (r : Registers)
+    {at : BodyContext} (loop : Loop at) (limit : ℕ) {facts found : Facts} {from to : ℕ}
+    (u : SourceState) (r : Registers)
     (memory : List ℕ)
     → Checks loop limit found to
     → Steps at.context facts from [] found to
@@ -254,12 +281,15 @@ pub checks_at :
     → Does (script_of at.context) u.budget 0 (at_place from r memory u.events) (from_test loop u) (Out loop)
 checks_at {at = at} loop limit u r memory checks rest fewer stage =
     let over = steps_over rest in
-    subst (λ (place : ℕ). Does (script_of at.context) u.budget 0 (at_place place r memory u.events) (from_test loop u) (Out loop)) (sym over.1)
-    (checks u r memory fewer (subst (λ (facts : Facts). StageAt at loop.need loop.base u facts r memory) over.0 stage))
+    subst (λ (place : ℕ). Does (script_of at.context) u.budget 0 (at_place place r memory u.events)
+    (from_test loop u) (Out loop)) (sym over.1)
+    (checks u r memory fewer (subst (λ (facts : Facts). StageAt at loop.need loop.base u facts r memory)
+    over.0 stage))
 
 -- what is known where A is the BYTE of the variable,
 pub byte_known :
-    {context : Context} {variable : ℕ} {scalar : ScalarType} (counted : IsCounted context variable scalar) (r : Registers) (memory : List ℕ)
+    {context : Context} {variable : ℕ} {scalar : ScalarType} (counted : IsCounted context variable scalar)
+    (r : Registers) (memory : List ℕ)
     → r.a ≡ byte_at memory (variable_address context variable)
     → IsSteady context.activation (variable_address context variable)
     → Know context (record no_facts { byte_in_a = Some counted.location }) r memory
@@ -275,7 +305,8 @@ byte_known {context = context} counted r memory a steady = record {
 
 -- where HL is its address,
 pub place_known :
-    {context : Context} {variable : ℕ} {scalar : ScalarType} (counted : IsCounted context variable scalar) (r : Registers) (memory : List ℕ)
+    {context : Context} {variable : ℕ} {scalar : ScalarType} (counted : IsCounted context variable scalar)
+    (r : Registers) (memory : List ℕ)
     → word r.h r.l ≡ variable_address context variable
     → Know context (record no_facts { address_in_hl = Some counted.location }) r memory
 place_known counted r memory hl =
@@ -283,7 +314,8 @@ place_known counted r memory hl =
 
 -- and where HL is its ADDRESS
 pub address_of_variable_known :
-    {context : Context} {variable : ℕ} {scalar : ScalarType} (counted : IsCounted context variable scalar) (r : Registers) (memory : List ℕ)
+    {context : Context} {variable : ℕ} {scalar : ScalarType} (counted : IsCounted context variable scalar)
+    (r : Registers) (memory : List ℕ)
     → r.l ≡ byte_at memory (variable_address context variable)
     → r.h ≡ byte_at memory (wrap (variable_address context variable + 1))
     → IsSteady context.activation (variable_address context variable)

@@ -1,5 +1,5 @@
--- The step of an iterative DO in general, counting by 1: the variable is counted where it lies, and where it becomes 0 the
--- loop ends.
+-- The step of an iterative DO in general, counting by 1: the variable is counted where it lies, and where it
+-- becomes 0 the loop ends.
 use Rattle.statement_laws.proofs.Prelude.{◌≡◌, ◌≢◌, ℕ, ◌+◌, ◌*◌, ◌/◌, ◌%◌, ◌<◌, ◌≤◌, ◌==◌, not, nat_le, List, [], ◌∷◌, slice_set, refl, sym, ap, subst, ◌∙◌, arith, eqb-true, eqb-false, le-leb, lt-leb, MEMORY_SIZE, byte_at, byte_small, Event, ScalarType, Byte, Address, SourcePlace, next_place, write_byte, next_turn, step_value, SourceState, Outcome, Gave, then_do, Flow, Onward, NotZero, Zero, Inr, Inx, M, Hl, Flags, increment_of, Registers, word, wrap, step_of, JumpWhere, byte_kept, Does, at_place, IsReady, no_facts_hold, count_shows, same_test, after_step, Facts, LabelNumber, no_facts, address_on_machine, set_same, effect, at_instructions, does_same, script_of, first_fits, next_address, second_fits, byte_written, BodyContext, IsSoundBody, next_is_other, next_word, not-false, not-true, then_again}
 use Rattle.steps8080.specs.declared.step.Step.TheVariants as steps
 use Rattle.statement_laws.proofs.Loops.CountedBytes.{Goes, within_limit, one_more_now}
@@ -31,19 +31,23 @@ pub count_byte :
     {at : BodyContext} (loop : Loop at) (limit : ℕ) (end : LabelNumber) {facts found : Facts} {from to : ℕ}
     (t : SourceState) (r : Registers) (memory : List ℕ)
     → HasStep loop Byte limit end
-    → ((s : SourceState) → step_value at.context.later at.context.activation.around (loop.head).step s ≡ Gave 1 s)
+    → ((s : SourceState) → step_value at.context.later at.context.activation.around (loop.head).step s
+    ≡ Gave 1 s)
     → Steps at.context facts from
     (address_step (loop.head).variable ∷ steps.Plain (Inr M) ∷ steps.Jump (JumpWhere Zero) end ∷ []) found to
     → t.budget ≤ limit
     → StageAt at loop.need loop.base t facts r memory
     → Checks loop limit found to
-    → Does (script_of at.context) t.budget 0 (at_place from r memory t.events) (after_list loop Onward t) (Out loop)
+    → Does (script_of at.context) t.budget 0 (at_place from r memory t.events)
+    (after_list loop Onward t) (Out loop)
 count_byte {at = at} loop limit end t r memory has step_is stand fewer stage checks =
     let sound = has.sound.sound in
     let counted = has.counted in
     let variable : ℕ = (loop.head).variable in
     let address : ℕ = variable_address at.context variable in
-    does_same _ (stepped_with_is loop Byte t has.scalar_is ∙ ap (λ (one : Outcome ℕ). then_do one (stepped_with loop Byte)) (step_is t))
+    does_same _
+    (stepped_with_is loop Byte t has.scalar_is
+    ∙ ap (λ (one : Outcome ℕ). then_do one (stepped_with loop Byte)) (step_is t))
     (address_then counted has.enough stand stage
     (λ known middle now there rest holds here.
     let number : ℕ = byte_at there address in
@@ -53,7 +57,8 @@ count_byte {at = at} loop limit end t r memory has step_is stand fewer stage che
     let flags : Flags = (increment_of (byte_at there (word now.h now.l)) now.flags).flags in
     let after : Registers = record now { flags = flags } in
     let is_zero : flags.z ≡ (number == 255) =
-    ap (λ (n : ℕ). (increment_of n now.flags).flags.z) (ap (byte_at there) holds.hl) ∙ count_shows number now.flags small in
+    ap (λ (n : ℕ). (increment_of n now.flags).flags.z) (ap (byte_at there) holds.hl)
+    ∙ count_shows number now.flags small in
     stepped_by loop Byte 1 t has.sound counted here.ready
     (λ steady.
     byte_then (variable_place at.context variable) byte after
@@ -74,27 +79,32 @@ count_byte {at = at} loop limit end t r memory has step_is stand fewer stage che
 sum_low : (low high : ℕ) → (low + 1) % 256 ≡ ((low + 256 * high + 1) % 65536) % 256
 sum_low low high = omega arith
 
-sum_high_same : (low high : ℕ) → low < 256 → high < 256 → low ≢ 255 → ((low + 256 * high + 1) % 65536) / 256 ≡ high
+sum_high_same : (low high : ℕ) → low < 256 → high < 256 → low ≢ 255
+    → ((low + 256 * high + 1) % 65536) / 256 ≡ high
 sum_high_same low high one two differ = omega (arith, one, two, differ)
 
-sum_high_more : (low high : ℕ) → high < 256 → low ≡ 255 → (high + 1) % 256 ≡ ((low + 256 * high + 1) % 65536) / 256
+sum_high_more : (low high : ℕ) → high < 256 → low ≡ 255
+    → (high + 1) % 256 ≡ ((low + 256 * high + 1) % 65536) / 256
 sum_high_more low high two is = omega (arith, two, is)
 
 sum_top : (low high : ℕ) → high < 256 → low ≡ 255 → (high == 255) ≡ nat_le 65536 (low + 256 * high + 1)
 sum_top low high small is =
     same_test (high == 255) (nat_le 65536 (low + 256 * high + 1))
     (λ top. let same = eqb-true high 255 top in le-leb 65536 (low + 256 * high + 1) (omega (arith, same, is)))
-    (λ less. let differ = eqb-false high 255 less in lt-leb 65536 (low + 256 * high + 1) (omega (arith, differ, small, is)))
+    (λ less. let differ = eqb-false high 255 less in lt-leb 65536 (low + 256 * high + 1)
+    (omega (arith, differ, small, is)))
 
 not_past : (low high : ℕ) → low < 256 → high < 256 → low ≢ 255 → 65536 ≤ low + 256 * high + 1 → ⊥
 not_past low high one two differ past = omega (arith, one, two, differ, past)
 
 -- an ADDRESS is counted by 1
 pub count_word :
-    {at : BodyContext} (loop : Loop at) (limit : ℕ) (test end : LabelNumber) {facts found : Facts} {from to : ℕ}
+    {at : BodyContext} (loop : Loop at) (limit : ℕ) (test end : LabelNumber)
+    {facts found : Facts} {from to : ℕ}
     (t : SourceState) (r : Registers) (memory : List ℕ)
     → HasStep loop Address limit end
-    → ((s : SourceState) → step_value at.context.later at.context.activation.around (loop.head).step s ≡ Gave 1 s)
+    → ((s : SourceState) → step_value at.context.later at.context.activation.around (loop.head).step s
+    ≡ Gave 1 s)
     → Steps at.context facts from
     (address_step (loop.head).variable ∷ steps.Plain (Inr M) ∷ steps.Jump (JumpWhere NotZero) test
     ∷ steps.Plain (Inx Hl) ∷ steps.Plain (Inr M) ∷ steps.Jump (JumpWhere Zero) end ∷ []) found to
@@ -102,7 +112,8 @@ pub count_word :
     → StageAt at loop.need loop.base t facts r memory
     → Checks loop limit no_facts (at.context.activation.layout.place_of test.index)
     → Checks loop limit found to
-    → Does (script_of at.context) t.budget 0 (at_place from r memory t.events) (after_list loop Onward t) (Out loop)
+    → Does (script_of at.context) t.budget 0 (at_place from r memory t.events)
+    (after_list loop Onward t) (Out loop)
 count_word {at = at} loop limit test end t r memory has step_is stand fewer stage at_test checks =
     let sound = has.sound.sound in
     let counted = has.counted in
@@ -111,7 +122,9 @@ count_word {at = at} loop limit test end t r memory has step_is stand fewer stag
     let place : SourcePlace = variable_place at.context variable in
     let address : ℕ = variable_address at.context variable in
     let next_is = next_address at.context.activation place in
-    does_same _ (stepped_with_is loop Address t has.scalar_is ∙ ap (λ (one : Outcome ℕ). then_do one (stepped_with loop Address)) (step_is t))
+    does_same _
+    (stepped_with_is loop Address t has.scalar_is
+    ∙ ap (λ (one : Outcome ℕ). then_do one (stepped_with loop Address)) (step_is t))
     (address_then counted has.enough stand stage
     (λ known middle now there rest holds here.
     let low : ℕ = byte_at there address in
@@ -126,10 +139,13 @@ count_word {at = at} loop limit test end t r memory has step_is stand fewer stag
     let flags : Flags = (increment_of (byte_at there (word now.h now.l)) now.flags).flags in
     let after : Registers = record now { flags = flags } in
     let is_zero : flags.z ≡ (low == 255) =
-    ap (λ (n : ℕ). (increment_of n now.flags).flags.z) (ap (byte_at there) holds.hl) ∙ count_shows low now.flags low_small in
+    ap (λ (n : ℕ). (increment_of n now.flags).flags.z) (ap (byte_at there) holds.hl)
+    ∙ count_shows low now.flags low_small in
     stepped_by loop Address 1 t has.sound counted here.ready
     (λ steady.
-    does_same _ (then_again (write_byte program place (new % 256) t) (λ _ u. write_byte program (next_place place) (new / 256) u) go)
+    does_same _
+    (then_again (write_byte program place (new % 256) t)
+    (λ _ u. write_byte program (next_place place) (new / 256) u) go)
     (byte_then place (new % 256) after
     (λ _ u. then_do (write_byte program (next_place place) (new / 256) u) go)
     sound (omega arith) holds.hl (first_fits at.context.activation place counted.fits) rest here refl
@@ -148,9 +164,11 @@ count_word {at = at} loop limit test end t r memory has step_is stand fewer stag
     jump_then sound last_steps ready_now
     (λ taken step.
     let differ = eqb-false low 255 (not-true (low == 255) (ap not (sym is_zero) ∙ taken)) in
-    let is_same : slice_set left (address_on_machine at.context.activation (next_place place)) (new / 256) ≡ left =
+    let is_same : slice_set left (address_on_machine at.context.activation (next_place place)) (new / 256)
+    ≡ left =
     ap (λ (n : ℕ). slice_set left n (new / 256)) next_is
-    ∙ ap (slice_set left (wrap (address + 1))) (sum_high_same low high low_small high_small differ ∙ sym high_stays)
+    ∙ ap (slice_set left (wrap (address + 1)))
+    (sum_high_same low high low_small high_small differ ∙ sym high_stays)
     ∙ set_same left (wrap (address + 1)) in
     byte_written {r = after} (next_place place) (new / 256) u go sound (omega arith) ready_now.ready
     (second_fits at.context.activation place counted.fits)
@@ -161,8 +179,10 @@ count_word {at = at} loop limit test end t r memory has step_is stand fewer stag
     ≡ at_place (at.context.activation.layout.place_of test.index) after left v.events =
     subst (λ (events : List Event). step_of (script_of at.context) (at_place (middle + 1) after left events)
     ≡ at_place (at.context.activation.layout.place_of test.index) after left events) (sym events_same) step in
-    subst (λ (events : List Event). Does (script_of at.context) u.budget 0 (at_place (middle + 1) after left events) (go tt v) (Out loop)) events_same
-    (subst (λ (budget : ℕ). Does (script_of at.context) budget 0 (at_place (middle + 1) after left v.events) (go tt v) (Out loop)) budget_same
+    subst (λ (events : List Event). Does (script_of at.context) u.budget 0
+    (at_place (middle + 1) after left events) (go tt v) (Out loop)) events_same
+    (subst (λ (budget : ℕ). Does (script_of at.context) budget 0 (at_place (middle + 1) after left v.events)
+    (go tt v) (Out loop)) budget_same
     (next_tests loop Address (number + 1) v has.sound has.scalar_is (omega (arith, fewer_then, less))
     (λ of_type.
     after_step step_then
@@ -170,13 +190,16 @@ count_word {at = at} loop limit test end t r memory has step_is stand fewer stag
     (record {
       below = (let below = ready_now.below in omega (arith, below, budget_same));
       room = ready_now.room;
-      ready = subst (λ (bytes : List ℕ). IsReady at.context.activation at.context.activation.level loop.base v.memory v.frame after bytes) is_same ready_next;
+      ready = subst
+          (λ (bytes : List ℕ). IsReady at.context.activation at.context.activation.level loop.base v.memory
+          v.frame after bytes) is_same ready_next;
       known = no_facts_hold;
     })))
     (λ past. absurd (not_past low high low_small high_small differ past))))))
     (λ passed rest_high.
     let is = eqb-true low 255 (not-false (low == 255) (ap not (sym is_zero) ∙ passed)) in
-    at_instructions (Inx Hl ∷ []) (steps.Plain (Inr M) ∷ steps.Jump (JumpWhere Zero) end ∷ []) sound (tt, tt) rest_high ready_now
+    at_instructions (Inx Hl ∷ []) (steps.Plain (Inr M) ∷ steps.Jump (JumpWhere Zero) end ∷ []) sound
+    (tt, tt) rest_high ready_now
     (λ place_next known_next at_high next_there.
     let two : Registers = effect (Inx Hl ∷ []) after in
     let own = next_there.ready.registers in
@@ -194,6 +217,7 @@ count_word {at = at} loop limit test end t r memory has step_is stand fewer stag
     let ended : List ℕ = slice_set left (word two.h two.l) (new / 256) in
     let fewer_then = within_limit v.budget u.budget limit budget_again fewer_now in
     sum_jumps loop Address limit (number + 1) end Zero v three ended has.sound has.scalar_is has.less
-    (ap (λ (n : ℕ). (increment_of n two.flags).flags.z) high_is ∙ count_shows high two.flags high_small ∙ sum_top low high high_small is)
+    (ap (λ (n : ℕ). (increment_of n two.flags).flags.z) high_is ∙ count_shows high two.flags high_small
+    ∙ sum_top low high high_small is)
     jump fewer_then ready_then has.ends
     (λ of_type over. checks_at loop limit v three ended checks over fewer_then ready_then)))))))))

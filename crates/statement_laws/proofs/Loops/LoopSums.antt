@@ -1,4 +1,5 @@
--- The step of an iterative DO in general, where it is added to the variable: where the sum passes the type the loop ends.
+-- The step of an iterative DO in general, where it is added to the variable: where the sum passes the type
+-- the loop ends.
 use Rattle.statement_laws.proofs.Prelude.{◌≡◌, ℕ, ◌+◌, ◌*◌, ◌/◌, ◌%◌, ◌<◌, ◌≤◌, ◌==◌, Bool, true, false, not, nat_le, List, [], ◌∷◌, slice_set, Option, Some, refl, sym, ap, subst, ◌∙◌, arith, bit_or, leb-true, leb-false, le-leb, lt-leb, eqb-true, eqb-false, or_self, byte_at, byte_small, Byte, height_of, type_of, TypedExpression, TypesHold, next_turn, step_value, value, SourceState, Gave, then_do, Onward, values_of, Carry, NotZero, Accumulate, MovToMemory, Xchg, M, Add, AddWithCarry, Or, A, D, E, bit, Registers, word, JumpWhere, ExpressionNumber, IsExpressionIn, address_asks, Does, at_place, carry_shows, same_test, after_step, Facts, LabelNumber, copy, set, with_register, distances_in, nodes_in, effect, at_instructions, does_same, script_of, BodyContext}
 use Rattle.steps8080.specs.declared.step.Step.TheVariants as steps
 use Rattle.statement_laws.proofs.Loops.CountedBytes.{within_limit}
@@ -11,7 +12,8 @@ use Rattle.statement_laws.proofs.Loops.LoopTests.{byte_step, word_step, kept_a}
 use Rattle.statement_laws.proofs.Loops.LoopTurns.{Loop, Out, StageAt, after_list}
 
 -- the step of a loop, as its code has it
-pub record HasAdded {at : BodyContext} (loop : Loop at) (step : ExpressionNumber) (tree : TypedExpression) : Type 0 where
+pub record HasAdded {at : BodyContext} (loop : Loop at) (step : ExpressionNumber)
+    (tree : TypedExpression) : Type 0 where
   pub is_step : (loop.head).step ≡ Some tree
   pub is : IsExpressionIn (nodes_in at.context) at.context.storage step tree
   pub types : TypesHold at.context.typed at.context.within tree
@@ -25,27 +27,33 @@ same_sum a number n same = omega (arith, same)
 
 -- a BYTE is added to the BYTE
 pub add_byte :
-    {at : BodyContext} (loop : Loop at) (limit : ℕ) (step : ExpressionNumber) (tree : TypedExpression) (end : LabelNumber)
+    {at : BodyContext} (loop : Loop at) (limit : ℕ) (step : ExpressionNumber)
+    (tree : TypedExpression) (end : LabelNumber)
     {facts found : Facts} {from to : ℕ} (t : SourceState) (r : Registers) (memory : List ℕ)
     → HasStep loop Byte limit end
     → HasAdded loop step tree
     → ((s u : SourceState) (n : ℕ) → value at.context.later at.context.activation.around tree s ≡ Gave n u
     → n < values_of (type_of tree) → n < 256)
     → Steps at.context facts from
-    (byte_step step ∷ address_step (loop.head).variable ∷ steps.Plain (Accumulate Add M) ∷ steps.Plain (MovToMemory A)
+    (byte_step step ∷ address_step (loop.head).variable ∷ steps.Plain (Accumulate Add M)
+    ∷ steps.Plain (MovToMemory A)
     ∷ steps.Jump (JumpWhere Carry) end ∷ []) found to
     → t.budget ≤ limit
     → StageAt at loop.need loop.base t facts r memory
     → Checks loop limit found to
-    → Does (script_of at.context) t.budget 0 (at_place from r memory t.events) (after_list loop Onward t) (Out loop)
+    → Does (script_of at.context) t.budget 0 (at_place from r memory t.events)
+    (after_list loop Onward t) (Out loop)
 add_byte {at = at} loop limit step tree end t r memory has added_value is_byte stand fewer stage checks =
     let sound = has.sound.sound in
     let counted = has.counted in
     let variable : ℕ = (loop.head).variable in
     let address : ℕ = variable_address at.context variable in
     does_same _ (stepped_with_is loop Byte t has.scalar_is
-    ∙ ap (λ (one : Option TypedExpression). then_do (step_value at.context.later at.context.activation.around one t) (stepped_with loop Byte)) added_value.is_step)
-    (byte_comes step (stepped_with loop Byte) t r memory added_value.is added_value.types added_value.fits stand stage
+    ∙ ap (λ (one : Option TypedExpression). then_do
+    (step_value at.context.later at.context.activation.around one t) (stepped_with loop Byte))
+    added_value.is_step)
+    (byte_comes step (stepped_with loop Byte) t r memory added_value.is added_value.types
+    added_value.fits stand stage
     (λ n u now memory_now known middle gave comes spent rest there.
     let small = is_byte t u n gave comes.small in
     address_then counted has.enough rest there
@@ -61,34 +69,41 @@ add_byte {at = at} loop limit step tree end t r memory has added_value is_byte s
     (λ _ v. next_turn at.context.later at.context.activation.around loop.head loop.list (number + n) v)
     sound (omega arith) holds.hl counted.fits at_store added refl added.ready.registers
     (λ steady_there.
-    address_asks at.context.activation (distances_in at.context) known_added.address_in_hl after.h after.l added.known.address_holds steady_there.0)
-    (λ events. ap (λ (n : ℕ). at_place (place_added + 1) after (slice_set memory_then (word at_variable.h at_variable.l) n) events)
+    address_asks at.context.activation (distances_in at.context) known_added.address_in_hl after.h after.l
+    added.known.address_holds steady_there.0)
+    (λ events. ap (λ (n : ℕ). at_place (place_added + 1) after
+    (slice_set memory_then (word at_variable.h at_variable.l) n) events)
     (byte_sum at_variable.a number n a_is))
     (λ v budget_is steady_there jump ready_now.
     let left : List ℕ = slice_set memory_then (word at_variable.h at_variable.l) ((number + n) % 256 % 256) in
     let fewer_now = within_limit v.budget u.budget limit budget_is (omega (arith, spent, fewer)) in
     sum_jumps loop Byte limit (number + n) end Carry v after left has.sound has.scalar_is has.less
-    (carry_shows at_variable.a number ∙ ap (nat_le 256) (same_sum at_variable.a number n a_is)) jump fewer_now ready_now has.ends
+    (carry_shows at_variable.a number ∙ ap (nat_le 256) (same_sum at_variable.a number n a_is)) jump
+    fewer_now ready_now has.ends
     (λ of_type over. checks_at loop limit v after left checks over fewer_now ready_now)))))))
 
 -- DE is added to a byte: what is left of it after its low byte
 low_sum : (e number n : ℕ) → e ≡ n % 256 → (e + number + 0) % 256 ≡ (number + n) % 256 % 256
 low_sum e number n same = omega (arith, same)
 
-carried : (carry : Bool) (d e number n : ℕ) → d ≡ n / 256 → e ≡ n % 256 → e < 256 → number < 256 → nat_le 256 (e + number) ≡ carry
+carried : (carry : Bool) (d e number n : ℕ) → d ≡ n / 256 → e ≡ n % 256 → e < 256 → number < 256
+    → nat_le 256 (e + number) ≡ carry
     → (d + bit carry) * 256 ≤ number + n
-carried true d e number n high low one two is = let over = leb-true 256 (e + number) is in omega (arith, high, low, one, two, over)
+carried true d e number n high low one two is =
+    let over = leb-true 256 (e + number) is in omega (arith, high, low, one, two, over)
 carried false d e number n high low one two is = omega (arith, high, low, one, two)
 
 none_carried : (carry : Bool) (d e number n : ℕ) → d ≡ n / 256 → e ≡ n % 256 → nat_le 256 (e + number) ≡ carry
     → d + bit carry ≡ 0 → number + n < 256
 none_carried true d e number n high low is none = absurd (omega (arith, none))
-none_carried false d e number n high low is none = let under = leb-false 256 (e + number) is in omega (arith, high, low, none, under)
+none_carried false d e number n high low is none =
+    let under = leb-false 256 (e + number) is in omega (arith, high, low, none, under)
 
 past_byte : (d carry sum : ℕ) → (d + carry) * 256 ≤ sum → 256 ≤ 0 + d + carry → 256 ≤ sum
 past_byte d carry sum great over = omega (arith, great, over)
 
-zero_shows_sum : (a sum : ℕ) → a < 256 → a * 256 ≤ sum → (a ≡ 0 → sum < 256) → not (bit_or a a == 0) ≡ nat_le 256 sum
+zero_shows_sum : (a sum : ℕ) → a < 256 → a * 256 ≤ sum → (a ≡ 0 → sum < 256)
+    → not (bit_or a a == 0) ≡ nat_le 256 sum
 zero_shows_sum a sum small great none =
     ap (λ (n : ℕ). not (n == 0)) (or_self a)
     ∙ same_test (not (a == 0)) (nat_le 256 sum)
@@ -114,7 +129,8 @@ no_more d carry small = omega (arith, small)
 
 -- an ADDRESS is added to the BYTE
 pub add_word_to_byte :
-    {at : BodyContext} (loop : Loop at) (limit : ℕ) (step : ExpressionNumber) (tree : TypedExpression) (end : LabelNumber)
+    {at : BodyContext} (loop : Loop at) (limit : ℕ) (step : ExpressionNumber)
+    (tree : TypedExpression) (end : LabelNumber)
     {facts found : Facts} {from to : ℕ} (t : SourceState) (r : Registers) (memory : List ℕ)
     → HasStep loop Byte limit end
     → HasAdded loop step tree
@@ -122,25 +138,31 @@ pub add_word_to_byte :
     (word_step step ∷ steps.Plain Xchg ∷ address_step (loop.head).variable ∷ steps.Plain (copy A E)
     ∷ steps.Plain (Accumulate Add M) ∷ steps.Plain (MovToMemory A) ∷ steps.Plain (set A 0)
     ∷ steps.Plain (with_register AddWithCarry D)
-    ∷ steps.Jump (JumpWhere Carry) end ∷ steps.Plain (with_register Or A) ∷ steps.Jump (JumpWhere NotZero) end ∷ []) found to
+    ∷ steps.Jump (JumpWhere Carry) end ∷ steps.Plain (with_register Or A)
+    ∷ steps.Jump (JumpWhere NotZero) end ∷ []) found to
     → t.budget ≤ limit
     → StageAt at loop.need loop.base t facts r memory
     → Checks loop limit found to
-    → Does (script_of at.context) t.budget 0 (at_place from r memory t.events) (after_list loop Onward t) (Out loop)
+    → Does (script_of at.context) t.budget 0 (at_place from r memory t.events)
+    (after_list loop Onward t) (Out loop)
 add_word_to_byte {at = at} loop limit step tree end t r memory has added_value stand fewer stage checks =
     let sound = has.sound.sound in
     let counted = has.counted in
     let variable : ℕ = (loop.head).variable in
     let address : ℕ = variable_address at.context variable in
     does_same _ (stepped_with_is loop Byte t has.scalar_is
-    ∙ ap (λ (one : Option TypedExpression). then_do (step_value at.context.later at.context.activation.around one t) (stepped_with loop Byte)) added_value.is_step)
-    (word_comes step (stepped_with loop Byte) t r memory added_value.is added_value.types added_value.fits stand stage
+    ∙ ap (λ (one : Option TypedExpression). then_do
+    (step_value at.context.later at.context.activation.around one t) (stepped_with loop Byte))
+    added_value.is_step)
+    (word_comes step (stepped_with loop Byte) t r memory added_value.is added_value.types
+    added_value.fits stand stage
     (λ n u now memory_now known middle comes spent rest there.
     at_instructions (Xchg ∷ [])
     (address_step (loop.head).variable ∷ steps.Plain (copy A E)
     ∷ steps.Plain (Accumulate Add M) ∷ steps.Plain (MovToMemory A) ∷ steps.Plain (set A 0)
     ∷ steps.Plain (with_register AddWithCarry D)
-    ∷ steps.Jump (JumpWhere Carry) end ∷ steps.Plain (with_register Or A) ∷ steps.Jump (JumpWhere NotZero) end ∷ [])
+    ∷ steps.Jump (JumpWhere Carry) end ∷ steps.Plain (with_register Or A)
+    ∷ steps.Jump (JumpWhere NotZero) end ∷ [])
     sound (tt, tt) rest there
     (λ place_exchanged known_exchanged after_exchange exchanged.
     address_then counted has.enough after_exchange exchanged
@@ -151,7 +173,8 @@ add_word_to_byte {at = at} loop limit step tree end t r memory has added_value s
     at_instructions (copy A E ∷ [])
     (steps.Plain (Accumulate Add M) ∷ steps.Plain (MovToMemory A) ∷ steps.Plain (set A 0)
     ∷ steps.Plain (with_register AddWithCarry D)
-    ∷ steps.Jump (JumpWhere Carry) end ∷ steps.Plain (with_register Or A) ∷ steps.Jump (JumpWhere NotZero) end ∷ [])
+    ∷ steps.Jump (JumpWhere Carry) end ∷ steps.Plain (with_register Or A)
+    ∷ steps.Jump (JumpWhere NotZero) end ∷ [])
     sound (tt, tt) at_copy here
     (λ place_copied known_copied at_add copied.
     operate_then Add address sound tt holds.hl at_add copied
@@ -168,21 +191,26 @@ add_word_to_byte {at = at} loop limit step tree end t r memory has added_value s
     (λ _ v. next_turn at.context.later at.context.activation.around loop.head loop.list (number + n) v)
     sound (omega arith) holds.hl counted.fits at_store added refl added.ready.registers
     (λ steady_there.
-    address_asks at.context.activation (distances_in at.context) known_added.address_in_hl after.h after.l added.known.address_holds steady_there.0)
-    (λ events. ap (λ (n : ℕ). at_place (place_added + 1) after (slice_set memory_then (word at_variable.h at_variable.l) n) events)
+    address_asks at.context.activation (distances_in at.context) known_added.address_in_hl after.h after.l
+    added.known.address_holds steady_there.0)
+    (λ events. ap (λ (n : ℕ). at_place (place_added + 1) after
+    (slice_set memory_then (word at_variable.h at_variable.l) n) events)
     (low_sum at_variable.e number n e_is))
     (λ v budget_is steady_there at_high ready_now.
     let left : List ℕ = slice_set memory_then (word at_variable.h at_variable.l) ((number + n) % 256 % 256) in
     let fewer_now = within_limit v.budget u.budget limit budget_is (omega (arith, spent, fewer)) in
     let less = has.less in
     at_instructions (set A 0 ∷ with_register AddWithCarry D ∷ [])
-    (steps.Jump (JumpWhere Carry) end ∷ steps.Plain (with_register Or A) ∷ steps.Jump (JumpWhere NotZero) end ∷ [])
+    (steps.Jump (JumpWhere Carry) end ∷ steps.Plain (with_register Or A)
+    ∷ steps.Jump (JumpWhere NotZero) end ∷ [])
     sound (tt, (tt, tt)) at_high ready_now
     (λ place_high known_high jump high_done.
     let high : Registers = effect (set A 0 ∷ with_register AddWithCarry D ∷ []) after in
     let carry_is : after.flags.cy ≡ carry = carry_shows at_variable.e number in
-    let a_is : high.a ≡ (0 + at_variable.d + bit carry) % 256 = ap (λ (b : Bool). (0 + at_variable.d + bit b) % 256) carry_is in
-    let cy_is : high.flags.cy ≡ nat_le 256 (0 + at_variable.d + bit carry) = ap (λ (b : Bool). nat_le 256 (0 + at_variable.d + bit b)) carry_is in
+    let a_is : high.a ≡ (0 + at_variable.d + bit carry) % 256 =
+    ap (λ (b : Bool). (0 + at_variable.d + bit b) % 256) carry_is in
+    let cy_is : high.flags.cy ≡ nat_le 256 (0 + at_variable.d + bit carry) =
+    ap (λ (b : Bool). nat_le 256 (0 + at_variable.d + bit b)) carry_is in
     jump_then sound jump high_done
     (λ taken step.
     let over = leb-true 256 (0 + at_variable.d + bit carry) (sym cy_is ∙ taken) in
@@ -193,7 +221,8 @@ add_word_to_byte {at = at} loop limit step tree end t r memory has added_value s
     (λ passed rest_of_code.
     let under = leb-false 256 (0 + at_variable.d + bit carry) (sym cy_is ∙ passed) in
     let sum_is : high.a ≡ at_variable.d + bit carry = a_is ∙ no_more at_variable.d (bit carry) under in
-    at_instructions (with_register Or A ∷ []) (steps.Jump (JumpWhere NotZero) end ∷ []) sound (tt, tt) rest_of_code high_done
+    at_instructions (with_register Or A ∷ []) (steps.Jump (JumpWhere NotZero) end ∷ []) sound (tt, tt)
+    rest_of_code high_done
     (λ place_tested known_tested last_jump tested.
     let final : Registers = effect (with_register Or A ∷ []) high in
     sum_jumps loop Byte limit (number + n) end NotZero v final left has.sound has.scalar_is has.less

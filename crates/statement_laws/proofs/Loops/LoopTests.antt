@@ -24,12 +24,14 @@ abbrev pub Enters : BodyContext → (facts turn_facts : Facts) → Type 0
 Enters at facts turn_facts =
     (r : Registers) (memory : List ℕ) → Know at.context facts r memory → Know at.context turn_facts r memory
 
-never_above : (scalar : ScalarType) (n last : ℕ) → n < values_of scalar → values_of scalar ≤ last + 1 → last < n → ⊥
+never_above : (scalar : ScalarType) (n last : ℕ) → n < values_of scalar
+    → values_of scalar ≤ last + 1 → last < n → ⊥
 never_above scalar n last small great above = omega (arith, small, great, above)
 
 -- where no value of the type is above the last one, there is another turn
 pub always_tests :
-    {at : BodyContext} (loop : Loop at) (limit last : ℕ) (turn : LabelNumber) (turn_facts : Facts) (scalar : ScalarType)
+    {at : BodyContext} (loop : Loop at) (limit last : ℕ) (turn : LabelNumber) (turn_facts : Facts)
+    (scalar : ScalarType)
     {facts found : Facts} {from to : ℕ} (t : SourceState) (r : Registers) (memory : List ℕ)
     → HasTurns loop scalar limit turn turn_facts
     → value at.context.later at.context.activation.around (loop.head).last t ≡ Gave last t
@@ -39,8 +41,11 @@ pub always_tests :
     → t.budget ≤ limit
     → StageAt at loop.need loop.base t facts r memory
     → Does (script_of at.context) t.budget 0 (at_place from r memory t.events) (from_test loop t) (Out loop)
-always_tests {at = at} loop limit last turn turn_facts scalar {from = from} t r memory turns last_is great stand enters fewer stage =
-    does_same _ (from_test_is loop scalar t turns.scalar_is ∙ ap (λ (one : Outcome ℕ). then_do one (after_last loop scalar)) last_is)
+always_tests {at = at} loop limit last turn turn_facts scalar {from = from} t r memory turns last_is great
+    stand enters fewer stage =
+    does_same _
+    (from_test_is loop scalar t turns.scalar_is
+    ∙ ap (λ (one : Outcome ℕ). then_do one (after_last loop scalar)) last_is)
     (counted_read scalar t (if_not_above loop last) turns.sound.sound turns.counted stage.ready
     (λ steady. by (nat_lt last number) refl))
   where
@@ -52,11 +57,13 @@ always_tests {at = at} loop limit last turn turn_facts scalar {from = from} t r 
         (if above then Gave Onward t else taking_one t (from_list loop)) (Out loop)
     by true is =
         absurd (never_above scalar number last
-        (scalar_small scalar memory (variable_address at.context (loop.head).variable) stage.ready.shares.is_memory) great
+        (scalar_small scalar memory (variable_address at.context (loop.head).variable)
+        stage.ready.shares.is_memory) great
         (ltb-true last number is))
     by false is =
         let jumps = jump_always turns.sound.sound stand stage in
-        to_turn loop limit (at.context.activation.layout.place_of turn.index) turn_facts t from r memory turns.turns fewer
+        to_turn loop limit (at.context.activation.layout.place_of turn.index) turn_facts t from r
+        memory turns.turns fewer
         (record {
           below = stage.below;
           room = stage.room;
@@ -72,24 +79,31 @@ pub byte_below_tests :
     → (turns : HasTurns loop Byte limit turn turn_facts)
     → value at.context.later at.context.activation.around (loop.head).last t ≡ Gave last t
     → last < 255
-    → Steps at.context facts from (load_byte_steps (knowing at.context.site facts) (whole (loop.head).variable)) loaded middle
+    → Steps at.context facts from
+    (load_byte_steps (knowing at.context.site facts) (whole (loop.head).variable)) loaded middle
     → Steps at.context loaded middle
-    (steps.Plain (AccumulateImmediate Compare (low (last + 1))) ∷ steps.Jump (JumpWhere Carry) turn ∷ []) found to
+    (steps.Plain (AccumulateImmediate Compare (low (last + 1))) ∷ steps.Jump (JumpWhere Carry) turn ∷ [])
+    found to
     → Enters at (record no_facts { byte_in_a = Some (turns.counted).location }) turn_facts
     → t.budget ≤ limit
     → StageAt at loop.need loop.base t facts r memory
     → Goes loop limit found to
     → Does (script_of at.context) t.budget 0 (at_place from r memory t.events) (from_test loop t) (Out loop)
-byte_below_tests {at = at} loop limit last turn turn_facts t r memory turns last_is little loads stand enters fewer stage goes =
+byte_below_tests {at = at} loop limit last turn turn_facts t r memory turns last_is little loads stand
+    enters fewer stage goes =
     let sound = turns.sound.sound in
     let counted = turns.counted in
     let address : ℕ = variable_address at.context (loop.head).variable in
-    does_same _ (from_test_is loop Byte t turns.scalar_is ∙ ap (λ (one : Outcome ℕ). then_do one (after_last loop Byte)) last_is)
-    (steady_byte_read (variable_place at.context (loop.head).variable) t (if_not_above loop last) sound counted.fits
+    does_same _
+    (from_test_is loop Byte t turns.scalar_is
+    ∙ ap (λ (one : Outcome ℕ). then_do one (after_last loop Byte)) last_is)
+    (steady_byte_read (variable_place at.context (loop.head).variable) t
+    (if_not_above loop last) sound counted.fits
     (λ steady.
     byte_loaded sound counted turns.enough loads stage steady
     (λ now memory_now a there.
-    at_instructions (AccumulateImmediate Compare (low (last + 1)) ∷ []) (steps.Jump (JumpWhere Carry) turn ∷ []) sound (tt, tt) stand there
+    at_instructions (AccumulateImmediate Compare (low (last + 1)) ∷ [])
+    (steps.Jump (JumpWhere Carry) turn ∷ []) sound (tt, tt) stand there
     (λ place_compared known rest compared.
     counted_read Byte t (if_not_above loop last) sound counted compared.ready
     (λ steady_again.
@@ -109,42 +123,53 @@ keeps_hl last false r = (refl, refl)
 
 -- an ADDRESS is less than a number
 pub word_below_tests :
-    {at : BodyContext} (loop : Loop at) (limit last : ℕ) (turn : LabelNumber) (turn_facts : Facts) (none : Bool)
+    {at : BodyContext} (loop : Loop at) (limit last : ℕ) (turn : LabelNumber)
+    (turn_facts : Facts) (none : Bool)
     {facts loaded found : Facts} {from middle to : ℕ} (t : SourceState) (r : Registers) (memory : List ℕ)
     → (turns : HasTurns loop Address limit turn turn_facts)
     → value at.context.later at.context.activation.around (loop.head).last t ≡ Gave last t
     → last + 1 < 65536
     → (none ≡ true → (last + 1) % 256 ≡ 0)
-    → Steps at.context facts from (load_word_steps (knowing at.context.site facts) (whole (loop.head).variable)) loaded middle
-    → Steps at.context loaded middle (plain (word_test last none) ++ (steps.Jump (JumpWhere Carry) turn ∷ [])) found to
+    → Steps at.context facts from
+    (load_word_steps (knowing at.context.site facts) (whole (loop.head).variable)) loaded middle
+    → Steps at.context loaded middle (plain (word_test last none) ++ (steps.Jump (JumpWhere Carry) turn ∷ []))
+    found to
     → Enters at (record no_facts { word_in_hl = Some (turns.counted).location }) turn_facts
     → t.budget ≤ limit
     → StageAt at loop.need loop.base t facts r memory
     → Goes loop limit found to
     → Does (script_of at.context) t.budget 0 (at_place from r memory t.events) (from_test loop t) (Out loop)
-word_below_tests {at = at} loop limit last turn turn_facts none t r memory turns last_is little low_none loads stand enters fewer stage goes =
+word_below_tests {at = at} loop limit last turn turn_facts none t r memory turns last_is little low_none loads
+    stand enters fewer stage goes =
     let sound = turns.sound.sound in
     let counted = turns.counted in
     let address : ℕ = variable_address at.context (loop.head).variable in
-    does_same _ (from_test_is loop Address t turns.scalar_is ∙ ap (λ (one : Outcome ℕ). then_do one (after_last loop Address)) last_is)
-    (steady_read (variable_place at.context (loop.head).variable) t (if_not_above loop last) sound counted.fits
+    does_same _
+    (from_test_is loop Address t turns.scalar_is
+    ∙ ap (λ (one : Outcome ℕ). then_do one (after_last loop Address)) last_is)
+    (steady_read (variable_place at.context (loop.head).variable) t
+    (if_not_above loop last) sound counted.fits
     (λ steady.
     word_loaded sound counted turns.enough loads stage steady.0 steady.1
     (λ now memory_now in_hl there.
-    at_instructions (word_test last none) (steps.Jump (JumpWhere Carry) turn ∷ []) sound (on_registers last none) stand there
+    at_instructions (word_test last none) (steps.Jump (JumpWhere Carry) turn ∷ []) sound
+    (on_registers last none) stand there
     (λ place_compared known rest compared.
     let after : Registers = effect (word_test last none) now in
     let kept = keeps_hl last none now in
     counted_read Address t (if_not_above loop last) sound counted compared.ready
     (λ steady_again.
-    test_jumps loop limit turn turn_facts Carry last (scalar_at Address memory_now address) t after memory_now turns
+    test_jumps loop limit turn turn_facts Carry last (scalar_at Address memory_now address) t
+    after memory_now turns
     (word_test_shows last none now there.ready.registers.l little low_none
     ∙ ap (λ (n : ℕ). nat_lt n (last + 1))
-    (other_way now.h now.l (byte_at memory_now address) (byte_at memory_now (wrap (address + 1))) in_hl.low in_hl.high)
+    (other_way now.h now.l (byte_at memory_now address) (byte_at memory_now (wrap (address + 1)))
+    in_hl.low in_hl.high)
     ∙ not_above (scalar_at Address memory_now address) last)
     rest fewer compared
     (enters after memory_now
-    (address_of_variable_known counted after memory_now (kept.1 ∙ in_hl.low) (kept.0 ∙ in_hl.high) steady.0 steady.1))
+    (address_of_variable_known counted after memory_now (kept.1 ∙ in_hl.low)
+    (kept.0 ∙ in_hl.high) steady.0 steady.1))
     goes)))))
 
 -- a part of a task
@@ -159,7 +184,8 @@ kept_a a now n one two small = omega (arith, one, two, small)
 
 -- a BYTE against a last value that is a BYTE
 pub byte_tests :
-    {at : BodyContext} (loop : Loop at) (limit : ℕ) (last : ExpressionNumber) (turn : LabelNumber) (turn_facts : Facts)
+    {at : BodyContext} (loop : Loop at) (limit : ℕ) (last : ExpressionNumber) (turn : LabelNumber)
+    (turn_facts : Facts)
     {facts found : Facts} {from to : ℕ} (t : SourceState) (r : Registers) (memory : List ℕ)
     → (turns : HasTurns loop Byte limit turn turn_facts)
     → HasLast loop last
@@ -172,7 +198,8 @@ pub byte_tests :
     → StageAt at loop.need loop.base t facts r memory
     → Goes loop limit found to
     → Does (script_of at.context) t.budget 0 (at_place from r memory t.events) (from_test loop t) (Out loop)
-byte_tests {at = at} loop limit last turn turn_facts t r memory turns has is_byte stand enters fewer stage goes =
+byte_tests {at = at} loop limit last turn turn_facts t r memory turns has is_byte stand
+    enters fewer stage goes =
     let sound = turns.sound.sound in
     let counted = turns.counted in
     let address : ℕ = variable_address at.context (loop.head).variable in
@@ -200,20 +227,23 @@ no_high m = omega arith
 
 -- against one that is an ADDRESS
 pub byte_with_word_tests :
-    {at : BodyContext} (loop : Loop at) (limit : ℕ) (last : ExpressionNumber) (turn : LabelNumber) (turn_facts : Facts)
+    {at : BodyContext} (loop : Loop at) (limit : ℕ) (last : ExpressionNumber) (turn : LabelNumber)
+    (turn_facts : Facts)
     {facts found : Facts} {from to : ℕ} (t : SourceState) (r : Registers) (memory : List ℕ)
     → (turns : HasTurns loop Byte limit turn turn_facts)
     → HasLast loop last
     → Steps at.context facts from
     (word_step last ∷ steps.Plain Xchg ∷ address_step (loop.head).variable ∷ steps.Plain (copy A E)
-    ∷ steps.Plain (Accumulate Subtract M) ∷ steps.Plain (copy A D) ∷ steps.Plain (AccumulateImmediate SubtractWithBorrow 0)
+    ∷ steps.Plain (Accumulate Subtract M) ∷ steps.Plain (copy A D)
+    ∷ steps.Plain (AccumulateImmediate SubtractWithBorrow 0)
     ∷ steps.Jump (JumpWhere NoCarry) turn ∷ []) found to
     → Enters at (record no_facts { address_in_hl = Some (turns.counted).location }) turn_facts
     → t.budget ≤ limit
     → StageAt at loop.need loop.base t facts r memory
     → Goes loop limit found to
     → Does (script_of at.context) t.budget 0 (at_place from r memory t.events) (from_test loop t) (Out loop)
-byte_with_word_tests {at = at} loop limit last turn turn_facts t r memory turns has stand enters fewer stage goes =
+byte_with_word_tests {at = at} loop limit last turn turn_facts t r memory turns has stand
+    enters fewer stage goes =
     let sound = turns.sound.sound in
     let counted = turns.counted in
     let address : ℕ = variable_address at.context (loop.head).variable in
@@ -222,7 +252,8 @@ byte_with_word_tests {at = at} loop limit last turn turn_facts t r memory turns 
     (λ n u now memory_now known middle comes spent rest there.
     at_instructions (Xchg ∷ [])
     (address_step (loop.head).variable ∷ steps.Plain (copy A E)
-    ∷ steps.Plain (Accumulate Subtract M) ∷ steps.Plain (copy A D) ∷ steps.Plain (AccumulateImmediate SubtractWithBorrow 0)
+    ∷ steps.Plain (Accumulate Subtract M) ∷ steps.Plain (copy A D)
+    ∷ steps.Plain (AccumulateImmediate SubtractWithBorrow 0)
     ∷ steps.Jump (JumpWhere NoCarry) turn ∷ []) sound (tt, tt) rest there
     (λ place_exchanged known_exchanged after_exchange exchanged.
     address_then counted turns.enough after_exchange exchanged
@@ -231,12 +262,14 @@ byte_with_word_tests {at = at} loop limit last turn turn_facts t r memory turns 
     let d_is : at_variable.d ≡ n / 256 = holds.d counted.keeps_de ∙ comes.h in
     let e_is : at_variable.e ≡ n % 256 = holds.e counted.keeps_de ∙ comes.l in
     at_instructions (copy A E ∷ [])
-    (steps.Plain (Accumulate Subtract M) ∷ steps.Plain (copy A D) ∷ steps.Plain (AccumulateImmediate SubtractWithBorrow 0)
+    (steps.Plain (Accumulate Subtract M) ∷ steps.Plain (copy A D)
+    ∷ steps.Plain (AccumulateImmediate SubtractWithBorrow 0)
     ∷ steps.Jump (JumpWhere NoCarry) turn ∷ []) sound (tt, tt) at_copy here
     (λ place_copied known_copied at_low copied.
     operate_then Subtract address sound tt holds.hl at_low copied
     (λ known_low place_low at_high low_done.
-    at_instructions (copy A D ∷ AccumulateImmediate SubtractWithBorrow 0 ∷ []) (steps.Jump (JumpWhere NoCarry) turn ∷ []) sound (tt, (tt, tt)) at_high low_done
+    at_instructions (copy A D ∷ AccumulateImmediate SubtractWithBorrow 0 ∷ [])
+    (steps.Jump (JumpWhere NoCarry) turn ∷ []) sound (tt, (tt, tt)) at_high low_done
     (λ place_high known_high jump compared.
     let after : Registers = effect (copy A D ∷ AccumulateImmediate SubtractWithBorrow 0 ∷ [])
     (operated Subtract number (effect (copy A E ∷ []) at_variable)) in
@@ -252,8 +285,10 @@ byte_with_word_tests {at = at} loop limit last turn turn_facts t r memory turns 
 
 -- an ADDRESS in memory against a last value
 pub word_tests :
-    {at : BodyContext} (loop : Loop at) (limit : ℕ) (last : ExpressionNumber) (turn : LabelNumber) (turn_facts : Facts)
-    {facts exchanged_facts loaded found : Facts} {from exchanged_at middle to : ℕ} (t : SourceState) (r : Registers) (memory : List ℕ)
+    {at : BodyContext} (loop : Loop at) (limit : ℕ) (last : ExpressionNumber) (turn : LabelNumber)
+    (turn_facts : Facts)
+    {facts exchanged_facts loaded found : Facts} {from exchanged_at middle to : ℕ} (t : SourceState)
+    (r : Registers) (memory : List ℕ)
     → (turns : HasTurns loop Address limit turn turn_facts)
     → HasLast loop last
     → Steps at.context facts from (word_step last ∷ steps.Plain Xchg ∷ []) exchanged_facts exchanged_at
@@ -267,7 +302,8 @@ pub word_tests :
     → StageAt at loop.need loop.base t facts r memory
     → Goes loop limit found to
     → Does (script_of at.context) t.budget 0 (at_place from r memory t.events) (from_test loop t) (Out loop)
-word_tests {at = at} loop limit last turn turn_facts {exchanged_facts = exchanged_facts} {exchanged_at = exchanged_at} t r memory turns has first loads stand enters fewer stage goes =
+word_tests {at = at} loop limit last turn turn_facts {exchanged_facts = exchanged_facts}
+    {exchanged_at = exchanged_at} t r memory turns has first loads stand enters fewer stage goes =
     let sound = turns.sound.sound in
     let counted = turns.counted in
     let address : ℕ = variable_address at.context (loop.head).variable in
@@ -293,9 +329,12 @@ word_tests {at = at} loop limit last turn turn_facts {exchanged_facts = exchange
     counted_read Address u (if_not_above loop n) sound counted compared.ready
     (λ steady_again.
     test_jumps loop limit turn turn_facts NoCarry n number u after memory_then turns
-    (ap not (pair_is_less in_hl.d in_hl.e in_hl.h in_hl.l here.ready.registers.e here.ready.registers.l here.ready.registers.h
+    (ap not (pair_is_less in_hl.d in_hl.e in_hl.h in_hl.l here.ready.registers.e here.ready.registers.l
+    here.ready.registers.h
     ∙ ap (λ (m : ℕ). nat_lt m (256 * in_hl.h + in_hl.l)) (whole_of_halves in_hl.d in_hl.e n d_is e_is)
-    ∙ ap (nat_lt n) (other_way in_hl.h in_hl.l (byte_at memory_then address) (byte_at memory_then (wrap (address + 1))) holds.low holds.high)))
+    ∙ ap (nat_lt n)
+    (other_way in_hl.h in_hl.l (byte_at memory_then address) (byte_at memory_then (wrap (address + 1)))
+    holds.low holds.high)))
     jump (omega (arith, spent, fewer)) compared
     (enters after memory_then
     (address_of_variable_known counted after memory_then holds.low holds.high steady.0 steady.1))
@@ -306,7 +345,8 @@ low_first low high = omega arith
 
 -- an ADDRESS in the frame against a last value
 pub frame_word_tests :
-    {at : BodyContext} (loop : Loop at) (limit : ℕ) (last : ExpressionNumber) (turn : LabelNumber) (turn_facts : Facts)
+    {at : BodyContext} (loop : Loop at) (limit : ℕ) (last : ExpressionNumber) (turn : LabelNumber)
+    (turn_facts : Facts)
     {facts found : Facts} {from to : ℕ} (t : SourceState) (r : Registers) (memory : List ℕ)
     → (turns : HasTurns loop Address limit turn turn_facts)
     → HasLast loop last
@@ -320,7 +360,8 @@ pub frame_word_tests :
     → StageAt at loop.need loop.base t facts r memory
     → Goes loop limit found to
     → Does (script_of at.context) t.budget 0 (at_place from r memory t.events) (from_test loop t) (Out loop)
-frame_word_tests {at = at} loop limit last turn turn_facts t r memory turns has stand enters fewer stage goes =
+frame_word_tests {at = at} loop limit last turn turn_facts t r memory turns has stand
+    enters fewer stage goes =
     let sound = turns.sound.sound in
     let counted = turns.counted in
     let address : ℕ = variable_address at.context (loop.head).variable in
@@ -348,19 +389,23 @@ frame_word_tests {at = at} loop limit last turn turn_facts t r memory turns has 
     (λ known_low place_low at_next low_done.
     let one : Registers = operated Subtract low_number (effect (copy A E ∷ []) at_variable) in
     at_instructions (Inx Hl ∷ copy A D ∷ [])
-    (steps.Plain (Accumulate SubtractWithBorrow M) ∷ steps.Jump (JumpWhere NoCarry) turn ∷ []) sound (tt, (tt, tt)) at_next low_done
+    (steps.Plain (Accumulate SubtractWithBorrow M) ∷ steps.Jump (JumpWhere NoCarry) turn ∷ []) sound
+    (tt, (tt, tt)) at_next low_done
     (λ place_next known_next at_high next_done.
     let two : Registers = effect (Inx Hl ∷ copy A D ∷ []) one in
-    operate_then SubtractWithBorrow (wrap (address + 1)) sound tt (next_word at_variable.h at_variable.l address holds.hl) at_high next_done
+    operate_then SubtractWithBorrow (wrap (address + 1)) sound tt
+    (next_word at_variable.h at_variable.l address holds.hl) at_high next_done
     (λ known_high place_high jump compared.
     let after : Registers = operated SubtractWithBorrow high_number two in
     counted_read Address u (if_not_above loop n) sound counted compared.ready
     (λ steady.
-    test_jumps loop limit turn turn_facts NoCarry n (scalar_at Address memory_then address) u after memory_then turns
+    test_jumps loop limit turn turn_facts NoCarry n (scalar_at Address memory_then address) u
+    after memory_then turns
     (ap not (pair_is_less at_variable.d at_variable.e high_number low_number here.ready.registers.e
     (byte_small memory_then address here.ready.shares.is_memory)
     (byte_small memory_then (wrap (address + 1)) here.ready.shares.is_memory)
-    ∙ ap (λ (m : ℕ). nat_lt m (256 * high_number + low_number)) (whole_of_halves at_variable.d at_variable.e n d_is e_is)
+    ∙ ap (λ (m : ℕ). nat_lt m (256 * high_number + low_number))
+    (whole_of_halves at_variable.d at_variable.e n d_is e_is)
     ∙ ap (nat_lt n) (low_first low_number high_number)))
     jump (omega (arith, spent, fewer)) compared
     (enters after memory_then (knowing_nothing compared).known) goes)))))))))

@@ -4,11 +4,13 @@ use Rattle.statement_laws.proofs.Prelude.{◌≡◌, ◌≢◌, ℕ, zero, suc, 
 -- a machine at nothing pushed, of which this is known
 abbrev pub StageAt :
     BodyContext → (need : ℕ) → (base : List ℕ) → SourceState → Facts → Registers → (memory : List ℕ) → Type 0
-StageAt at need base t facts r memory = Stage at.context at.context.activation.level 0 need base t facts r memory
+StageAt at need base t facts r memory =
+    Stage at.context at.context.activation.level 0 need base t facts r memory
 
 -- where nothing of the budget is left, the machine still runs
 wants_more :
-    {A : Type 0} {script : List (List ℕ)} {budget : ℕ} {from : State} {Good : A → SourceState → State → Type 0}
+    {A : Type 0} {script : List (List ℕ)} {budget : ℕ} {from : State}
+    {Good : A → SourceState → State → Type 0}
     (u : SourceState)
     → from.status ≡ Running
     → from.events ≡ u.events
@@ -35,13 +37,15 @@ pub step_pays :
     → from.status ≡ Running
     → from.events ≡ u.events
     → step_of script from ≡ to
-    → ((budget : ℕ) → u.budget ≡ suc budget → Does script budget 0 to (go (record u { budget = budget })) Good)
+    → ((budget : ℕ) → u.budget ≡ suc budget
+    → Does script budget 0 to (go (record u { budget = budget })) Good)
     → Does script u.budget 0 from (taking_one u go) Good
 step_pays {script = script} {from = from} {Good = Good} u go runs same step rest =
     by_test (u.budget == 0) refl
   where
     by_test : (test : Bool) → (u.budget == 0) ≡ test
-        → Does script u.budget 0 from (if test then Stopped More u else go (record u { budget = u.budget - 1 })) Good
+        → Does script u.budget 0 from
+        (if test then Stopped More u else go (record u { budget = u.budget - 1 })) Good
     by_test true is = wants_more u runs same (eqb-true u.budget 0 is)
     by_test false is =
         let more = one_more u.budget (eqb-false u.budget 0 is) in
@@ -54,13 +58,15 @@ pub is_paid :
     (u : SourceState) (go : SourceState → Outcome A)
     → from.status ≡ Running
     → from.events ≡ u.events
-    → ((budget : ℕ) → u.budget ≡ suc budget → Does script budget 0 from (go (record u { budget = budget })) Good)
+    → ((budget : ℕ) → u.budget ≡ suc budget
+    → Does script budget 0 from (go (record u { budget = budget })) Good)
     → Does script (u.budget - 1) 0 from (taking_one u go) Good
 is_paid {script = script} {from = from} {Good = Good} u go runs same rest =
     by_test (u.budget == 0) refl
   where
     by_test : (test : Bool) → (u.budget == 0) ≡ test
-        → Does script (u.budget - 1) 0 from (if test then Stopped More u else go (record u { budget = u.budget - 1 })) Good
+        → Does script (u.budget - 1) 0 from
+        (if test then Stopped More u else go (record u { budget = u.budget - 1 })) Good
     by_test true is = let none = eqb-true u.budget 0 is in wants_more u runs same (omega (arith, none))
     by_test false is = rest (u.budget - 1) (one_more u.budget (eqb-false u.budget 0 is))
 
@@ -76,10 +82,12 @@ pub then_spends :
     {go : A → SourceState → Outcome B} {Middle : A → SourceState → State → Type 0}
     {Good : B → SourceState → State → Type 0}
     → Does script budget 1 from outcome Middle
-    → ((found : A) (t : SourceState) (end : State) → outcome ≡ Gave found t → Middle found t end → t.budget ≤ budget
+    → ((found : A) (t : SourceState) (end : State) → outcome ≡ Gave found t
+    → Middle found t end → t.budget ≤ budget
     → Does script (t.budget - 1) 0 end (go found t) Good)
     → Does script budget 0 from (then_do outcome go) Good
-then_spends {A = A} {script = script} {budget = budget} {from = from} (Gave found t) {go = go} {Middle = Middle} {Good = Good} one rest =
+then_spends {A = A} {script = script} {budget = budget} {from = from} (Gave found t) {go = go}
+    {Middle = Middle} {Good = Good} one rest =
     let first : Lands script budget 1 from t.budget (Middle found t) = one.told in
     let second = rest found t first.end refl first.is_good first.spent in
     record { told = told_on first (t.budget - 1) 0 (go found t) Good (less_one t.budget) (one_back t.budget) second.told }
@@ -87,8 +95,8 @@ then_spends (Stopped Ended t) one rest = record { told = one.told }
 then_spends (Stopped More t) one rest = record { told = one.told }
 then_spends (Stopped (Outside reason) t) one rest = record { told = tt }
 
--- a loop of a body: the head and the list that it is of, where it ends, and what is known there; how much of the budget
--- there was before it, and how many bytes it needs
+-- a loop of a body: the head and the list that it is of, where it ends, and what is known there; how much of
+-- the budget there was before it, and how many bytes it needs
 pub record Loop (at : BodyContext) : Type 0 where
   pub base : List ℕ
   pub to : ℕ
@@ -108,13 +116,15 @@ abbrev pub list_of : {at : BodyContext} → Loop at → SourceState → Outcome 
 list_of {at = at} loop t = done_list at.context.later at.context.activation.around loop.list t
 
 abbrev pub after_list : {at : BodyContext} → Loop at → Flow → SourceState → Outcome Flow
-after_list {at = at} loop flow t = stepped at.context.later at.context.activation.around loop.head loop.list flow t
+after_list {at = at} loop flow t =
+    stepped at.context.later at.context.activation.around loop.head loop.list flow t
 
 abbrev pub from_list : {at : BodyContext} → Loop at → SourceState → Outcome Flow
 from_list {at = at} loop t = then_do (list_of loop t) (after_list loop)
 
 abbrev pub from_test : {at : BodyContext} → Loop at → SourceState → Outcome Flow
-from_test {at = at} loop t = iterated at.context.later at.context.activation.around loop.head loop.list (list_of loop) t
+from_test {at = at} loop t =
+    iterated at.context.later at.context.activation.around loop.head loop.list (list_of loop) t
 
 -- from a place on the machine does what is meant, with less than so much of the budget
 abbrev pub Runs :
@@ -144,7 +154,8 @@ pub to_turn :
     → t.budget ≤ limit
     → StageAt at loop.need loop.base t facts r memory
     → step_of (script_of at.context) (at_place from r memory t.events) ≡ at_place place r memory t.events
-    → Does (script_of at.context) t.budget 0 (at_place from r memory t.events) (taking_one t (from_list loop)) (Out loop)
+    → Does (script_of at.context) t.budget 0 (at_place from r memory t.events)
+    (taking_one t (from_list loop)) (Out loop)
 to_turn loop limit place facts t from r memory turns less stage step =
     step_pays t (from_list loop) refl refl step
     (λ budget is.
@@ -158,7 +169,8 @@ pub at_turn :
     → Runs loop limit place facts (from_list loop)
     → t.budget ≤ limit
     → StageAt at loop.need loop.base t facts r memory
-    → Does (script_of at.context) (t.budget - 1) 0 (at_place place r memory t.events) (taking_one t (from_list loop)) (Out loop)
+    → Does (script_of at.context) (t.budget - 1) 0 (at_place place r memory t.events)
+    (taking_one t (from_list loop)) (Out loop)
 at_turn loop limit place facts t r memory turns less stage =
     is_paid t (from_list loop) refl refl
     (λ budget is.
@@ -167,7 +179,8 @@ at_turn loop limit place facts t r memory turns less stage =
 
 -- the list of a turn, and what comes after it where its end is reached, if the code goes on there
 pub list_goes :
-    {at : BodyContext} (loop : Loop at) (bound : ℕ) (range : Range) (facts : Facts) (after : Here) (from middle : ℕ)
+    {at : BodyContext} (loop : Loop at) (bound : ℕ) (range : Range) (facts : Facts)
+    (after : Here) (from middle : ℕ)
     (t : SourceState) (r : Registers) (memory : List ℕ)
     → ListDoes at facts range from after middle
     → IsList (nodes_in at.context) at.context.storage at.labels bound range loop.list
@@ -179,13 +192,16 @@ pub list_goes :
     → (after.goes_on ≡ true → (u : SourceState) (now : Registers) (memory_now : List ℕ)
     → u.budget ≤ t.budget
     → StageAt at loop.need loop.base u after.facts now memory_now
-    → Does (script_of at.context) u.budget 0 (at_place middle now memory_now u.events) (after_list loop Onward u) (Out loop))
+    → Does (script_of at.context) u.budget 0 (at_place middle now memory_now u.events)
+    (after_list loop Onward u) (Out loop))
     → Does (script_of at.context) t.budget 0 (at_place from r memory t.events) (from_list loop t) (Out loop)
-list_goes {at = at} loop bound range facts after from middle t r memory does is types stand fits less stage rest =
+list_goes {at = at} loop bound range facts after from middle t r memory does is types stand
+    fits less stage rest =
     let enough = stage.room.enough in
     then_does
     (does bound loop.list is types stand loop.base t r memory stage.below
-    (record { depth = stage.room.depth; enough = omega (arith, enough, fits); even = stage.room.even }) stage.ready stage.known)
+    (record { depth = stage.room.depth; enough = omega (arith, enough, fits); even = stage.room.even })
+    stage.ready stage.known)
     (λ flow u end leaves spent. by_flow flow u end leaves spent)
   where
     by_flow : (flow : Flow) (u : SourceState) (end : State)
@@ -195,17 +211,20 @@ list_goes {at = at} loop bound range facts after from middle t r memory does is 
     by_flow Onward u end goes spent =
         let comes = goes.comes in
         let below = stage.below in
-        subst (λ (state : State). Does (script_of at.context) u.budget 0 state (after_list loop Onward u) (Out loop)) (sym comes.is_at)
+        subst (λ (state : State). Does (script_of at.context) u.budget 0 state (after_list loop Onward u)
+        (Out loop)) (sym comes.is_at)
         (rest goes.goes_on u comes.r comes.memory spent
         (record { below = omega (arith, below, spent); room = stage.room; ready = comes.ready; known = comes.holds }))
     by_flow (Returned value) u end comes spent = does_without_step comes
     by_flow (Jumped label) u end comes spent =
         let before = comes.spent in
-        does_without_step (record { place = comes.place; lies = comes.lies; spent = omega (arith, before, less); comes = comes.comes })
+        does_without_step
+        (record { place = comes.place; lies = comes.lies; spent = omega (arith, before, less); comes = comes.comes })
 
 -- whether it goes on there or not
 pub list_then :
-    {at : BodyContext} (loop : Loop at) (bound : ℕ) (range : Range) (facts : Facts) (after : Here) (from middle : ℕ)
+    {at : BodyContext} (loop : Loop at) (bound : ℕ) (range : Range) (facts : Facts)
+    (after : Here) (from middle : ℕ)
     (t : SourceState) (r : Registers) (memory : List ℕ)
     → ListDoes at facts range from after middle
     → IsList (nodes_in at.context) at.context.storage at.labels bound range loop.list
@@ -217,10 +236,12 @@ pub list_then :
     → ((u : SourceState) (now : Registers) (memory_now : List ℕ)
     → u.budget ≤ t.budget
     → StageAt at loop.need loop.base u after.facts now memory_now
-    → Does (script_of at.context) u.budget 0 (at_place middle now memory_now u.events) (after_list loop Onward u) (Out loop))
+    → Does (script_of at.context) u.budget 0 (at_place middle now memory_now u.events)
+    (after_list loop Onward u) (Out loop))
     → Does (script_of at.context) t.budget 0 (at_place from r memory t.events) (from_list loop t) (Out loop)
 list_then loop bound range facts after from middle t r memory does is types stand fits less stage rest =
-    list_goes loop bound range facts after from middle t r memory does is types stand fits less stage (λ goes_on. rest)
+    list_goes loop bound range facts after from middle t r memory does is types stand fits less
+    stage (λ goes_on. rest)
 
 -- a further turn is one from the test on
 pub next_is :
@@ -230,7 +251,8 @@ pub next_is :
     → next_turn at.context.later at.context.activation.around loop.head loop.list sum t
     ≡ (if nat_lt sum (values_of (loop.head).scalar) then from_test loop t else Gave Onward t)
 next_is {at = at} loop sum t sound less =
-    ap (λ (outcome : Outcome Flow). if nat_lt sum (values_of (loop.head).scalar) then outcome else Gave Onward t)
+    ap (λ (outcome : Outcome Flow). if nat_lt sum
+    (values_of (loop.head).scalar) then outcome else Gave Onward t)
     (subst (λ (later : Later). later.again (IterateTurn loop.head loop.list) at.context.activation.around t
     ≡ turn_of later (IterateTurn loop.head loop.list) at.context.activation.around t) (sym sound.later)
     (again_is sound.bound (IterateTurn loop.head loop.list) at.context.activation.around t

@@ -1,5 +1,5 @@
--- The step of an iterative DO whose variable is an ADDRESS, where it is added: it comes into DE, and is added to the variable in
--- memory.
+-- The step of an iterative DO whose variable is an ADDRESS, where it is added: it comes into DE, and is added
+-- to the variable in memory.
 use Rattle.statement_laws.proofs.Prelude.{◌≡◌, ℕ, ◌+◌, ◌*◌, ◌/◌, ◌%◌, ◌<◌, ◌≤◌, List, [], ◌∷◌, Option, Some, None, refl, ap, ◌∙◌, arith, byte_at, Address, type_of, TypedExpression, next_turn, value, write_scalar, SourceState, Outcome, then_do, Flow, as_type, Carry, Dad, Xchg, De, Registers, carries, high_byte, low_byte, word, wrap, JumpWhere, LoadPair, StoreHl, ExpressionNumber, Place, location_at, place_at, Does, at_place, Facts, LabelNumber, Step, known, knowing, load_word_steps, whole, distances_in, NoneThere, WordThere, known_small, effect, ready_with_registers, word_goes, known_means, at_end, at_instructions, does_same, script_of, BodyContext, IsSoundBody, high_is_byte, value_is_word}
 use Rattle.treecode.specs.declared.place.Location.TheVariants as locations
 use Rattle.steps8080.specs.declared.step.Step.TheVariants as steps
@@ -31,8 +31,10 @@ low_small : (n : ℕ) → n % 256 < 256
 low_small n = omega arith
 
 pub comes_to_de :
-    {at : BodyContext} (loop : Loop at) (facts_of_site : Facts) (found : Option Place) (step : ExpressionNumber) (tree : TypedExpression)
-    {facts last : Facts} {from to : ℕ} (go : ℕ → SourceState → Outcome Flow) (s : SourceState) (r : Registers) (memory : List ℕ)
+    {at : BodyContext} (loop : Loop at) (facts_of_site : Facts) (found : Option Place)
+    (step : ExpressionNumber) (tree : TypedExpression)
+    {facts last : Facts} {from to : ℕ} (go : ℕ → SourceState → Outcome Flow) (s : SourceState)
+    (r : Registers) (memory : List ℕ)
     → IsSoundBody at
     → HasAdded loop step tree
     → known (knowing at.context.site facts_of_site) step ≡ found
@@ -45,13 +47,19 @@ pub comes_to_de :
     → Does (script_of at.context) u.budget 0 (at_place to now memory_now u.events) (go n u) (Out loop))
     → Does (script_of at.context) s.budget 0 (at_place from r memory s.events)
     (then_do (value at.context.later at.context.activation.around tree s) go) (Out loop)
-comes_to_de {at = at} loop facts_of_site (Some place) step tree go s r memory sound has is (WordThere there NoneThere) stage next =
+comes_to_de {at = at} loop facts_of_site (Some place) step tree go s r memory sound has is
+    (WordThere there NoneThere) stage next =
     let number : ℕ = place_at at.context.activation.layout place in
-    let small = value_is_word (type_of tree) number (known_small facts_of_site place sound.sound has.is has.types is) in
+    let small =
+    value_is_word (type_of tree) number
+    (known_small facts_of_site place sound.sound has.is has.types is) in
     let held = stage.ready.registers in
     let now : Registers = record r { d = high_byte number; e = low_byte number } in
-    does_same _ (ap (λ (one : Outcome ℕ). then_do one go) (known_means facts_of_site place sound.sound has.is has.types is s))
-    (word_goes (LoadPair De) place r now memory sound.sound there (record { ready = stage.ready; known = stage.known }) tt refl
+    does_same _
+    (ap (λ (one : Outcome ℕ). then_do one go)
+    (known_means facts_of_site place sound.sound has.is has.types is s))
+    (word_goes (LoadPair De) place r now memory sound.sound there
+    (record { ready = stage.ready; known = stage.known }) tt refl
     (λ known.
     next number s now memory (record { small = small; d = refl; e = refl }) (omega arith)
     (record {
@@ -76,12 +84,14 @@ comes_to_de {at = at} loop facts_of_site None step tree go s r memory sound has 
     (λ place found over exchanged.
     at_end over exchanged
     (λ final.
-    next n u (effect (Xchg ∷ []) now) memory_now (record { small = comes.small; d = comes.h; e = comes.l }) spent final)))
+    next n u (effect (Xchg ∷ []) now) memory_now
+    (record { small = comes.small; d = comes.h; e = comes.l }) spent final)))
 
 number_of_halves : (h l low high : ℕ) → l ≡ low → h ≡ high → l + 256 * h ≡ low + 256 * high
 number_of_halves h l low high one two = omega (arith, one, two)
 
-words_sum : (h l d e number n : ℕ) → l + 256 * h ≡ number → d ≡ n / 256 → e ≡ n % 256 → word h l + word d e ≡ number + n
+words_sum : (h l d e number n : ℕ) → l + 256 * h ≡ number → d ≡ n / 256 → e ≡ n % 256
+    → word h l + word d e ≡ number + n
 words_sum h l d e number n own high low = omega (arith, own, high, low)
 
 -- DE is added to the ADDRESS in memory
@@ -91,12 +101,15 @@ pub add_de_in_memory :
     → (has : HasStep loop Address limit end)
     → (has.counted).location ≡ locations.Static place
     → ComesToDe n r
-    → Steps at.context facts from (load_word_steps (knowing at.context.site facts) (whole (loop.head).variable)) loaded middle
-    → Steps at.context loaded middle (steps.Plain (Dad De) ∷ steps.Word StoreHl place ∷ steps.Jump (JumpWhere Carry) end ∷ []) found to
+    → Steps at.context facts from
+    (load_word_steps (knowing at.context.site facts) (whole (loop.head).variable)) loaded middle
+    → Steps at.context loaded middle
+    (steps.Plain (Dad De) ∷ steps.Word StoreHl place ∷ steps.Jump (JumpWhere Carry) end ∷ []) found to
     → t.budget ≤ limit
     → StageAt at loop.need loop.base t facts r memory
     → Checks loop limit found to
-    → Does (script_of at.context) t.budget 0 (at_place from r memory t.events) (stepped_with loop Address n t) (Out loop)
+    → Does (script_of at.context) t.budget 0 (at_place from r memory t.events)
+    (stepped_with loop Address n t) (Out loop)
 add_de_in_memory {at = at} loop limit n end place t r memory has lies de loads stand fewer stage checks =
     let sound = has.sound.sound in
     let counted = has.counted in
@@ -104,7 +117,8 @@ add_de_in_memory {at = at} loop limit n end place t r memory has lies de loads s
     let address : ℕ = variable_address at.context variable in
     steady_read (variable_place at.context variable) t
     (λ number v. then_do
-    (write_scalar at.context.activation.around.program Address (variable_place at.context variable) (as_type Address (number + n)) v)
+    (write_scalar at.context.activation.around.program Address (variable_place at.context variable)
+    (as_type Address (number + n)) v)
     (λ _ w. next_turn at.context.later at.context.activation.around loop.head loop.list (number + n) w))
     sound counted.fits
     (λ steady.
@@ -114,11 +128,13 @@ add_de_in_memory {at = at} loop limit n end place t r memory has lies de loads s
     let new : ℕ = (number + n) % 65536 in
     let sum_is : word in_hl.h in_hl.l + word in_hl.d in_hl.e ≡ number + n =
     words_sum in_hl.h in_hl.l in_hl.d in_hl.e number n
-    (number_of_halves in_hl.h in_hl.l (byte_at memory_then address) (byte_at memory_then (wrap (address + 1))) holds.low holds.high)
+    (number_of_halves in_hl.h in_hl.l (byte_at memory_then address) (byte_at memory_then (wrap (address + 1)))
+    holds.low holds.high)
     (holds.d ∙ de.d) (holds.e ∙ de.e) in
     stepped_by loop Address n t has.sound counted here.ready
     (λ steady_again.
-    at_instructions (Dad De ∷ []) (steps.Word StoreHl place ∷ steps.Jump (JumpWhere Carry) end ∷ []) sound (tt, tt) stand here
+    at_instructions (Dad De ∷ []) (steps.Word StoreHl place ∷ steps.Jump (JumpWhere Carry) end ∷ [])
+    sound (tt, tt) stand here
     (λ place_added known_added at_store added.
     let after : Registers = effect (Dad De ∷ []) in_hl in
     shld_then place (variable_place at.context variable) new

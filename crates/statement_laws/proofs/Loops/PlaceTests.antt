@@ -29,7 +29,8 @@ halves_of high low n one two = omega (arith, one, two)
 
 -- where the variable is in HL, and the last value at the place
 compared_with_place :
-    {at : BodyContext} (loop : Loop at) (limit n : ℕ) (turn : LabelNumber) (turn_facts : Facts) (place : Place)
+    {at : BodyContext} (loop : Loop at) (limit n : ℕ) (turn : LabelNumber)
+    (turn_facts : Facts) (place : Place)
     {facts found : Facts} {from to : ℕ} (t : SourceState) (r : Registers) (memory : List ℕ)
     → (turns : HasTurns loop Address limit turn turn_facts)
     → n % 256 ≡ byte_at memory (place_at at.context.activation.layout place)
@@ -45,9 +46,12 @@ compared_with_place :
     → t.budget ≤ limit
     → StageAt at loop.need loop.base t facts r memory
     → Goes loop limit found to
-    → Does (script_of at.context) t.budget 0 (at_place from r memory t.events) (after_last loop Address n t) (Out loop)
-compared_with_place {at = at} loop limit n turn turn_facts place t r memory turns low high low_steady high_steady l h steady steady_too
-    (WordThere first (PlainThere low_taken (WordThere second (PlainThere high_taken jump)))) enters fewer stage goes =
+    → Does (script_of at.context) t.budget 0 (at_place from r memory t.events)
+    (after_last loop Address n t) (Out loop)
+compared_with_place {at = at} loop limit n turn turn_facts place t r memory turns low high low_steady
+    high_steady l h steady steady_too
+    (WordThere first (PlainThere low_taken (WordThere second (PlainThere high_taken jump))))
+    enters fewer stage goes =
     let sound = turns.sound.sound in
     let counted = turns.counted in
     let address : ℕ = variable_address at.context (loop.head).variable in
@@ -55,9 +59,12 @@ compared_with_place {at = at} loop limit n turn turn_facts place t r memory turn
     let hi : ℕ = byte_at memory (place_at at.context.activation.layout (place_after place 1)) in
     let held = stage.ready.registers in
     at_load_a sound first low_steady stage
-    (λ loaded. stage_with_a (subtract_of lo r.l false).value (subtract_of lo r.l false).flags sound loaded low_taken refl (omega arith) tt
+    (λ loaded. stage_with_a (subtract_of lo r.l false).value (subtract_of lo r.l false).flags sound loaded
+    low_taken refl (omega arith) tt
     (λ lower. at_load_a sound second high_steady lower
-    (λ again. stage_with_a (subtract_of hi r.h (subtract_of lo r.l false).flags.cy).value (subtract_of hi r.h (subtract_of lo r.l false).flags.cy).flags sound again high_taken refl (omega arith) tt
+    (λ again. stage_with_a (subtract_of hi r.h (subtract_of lo r.l false).flags.cy).value
+    (subtract_of hi r.h (subtract_of lo r.l false).flags.cy).flags sound again high_taken
+    refl (omega arith) tt
     (λ compared.
     let after : Registers = record r {
       a = (subtract_of hi r.h (subtract_of lo r.l false).flags.cy).value;
@@ -66,7 +73,9 @@ compared_with_place {at = at} loop limit n turn turn_facts place t r memory turn
     counted_read Address t (if_not_above loop n) sound counted compared.ready
     (λ steady_again.
     test_jumps loop limit turn turn_facts NoCarry n (scalar_at Address memory address) t after memory turns
-    (ap not (pair_is_less hi lo r.h r.l (byte_small memory (place_at at.context.activation.layout place) stage.ready.shares.is_memory) held.l held.h
+    (ap not (pair_is_less hi lo r.h r.l
+    (byte_small memory (place_at at.context.activation.layout place) stage.ready.shares.is_memory) held.l
+    held.h
     ∙ ap (λ (m : ℕ). nat_lt m (256 * r.h + r.l)) (halves_of hi lo n low high)
     ∙ ap (nat_lt n) (other_way r.h r.l (byte_at memory address) (byte_at memory (wrap (address + 1))) l h)))
     jump fewer compared
@@ -76,31 +85,39 @@ not_outside : (outcome : Outcome ℕ) (n : ℕ) (t : SourceState) → outcome �
 not_outside outcome n t is outside = subst GoesOutside is outside
 
 pub place_tests :
-    {at : BodyContext} (loop : Loop at) (limit : ℕ) (last : ExpressionNumber) (turn : LabelNumber) (turn_facts site_facts : Facts)
-    (place : Place) {facts loaded found : Facts} {from middle to : ℕ} (t : SourceState) (r : Registers) (memory : List ℕ)
+    {at : BodyContext} (loop : Loop at) (limit : ℕ) (last : ExpressionNumber) (turn : LabelNumber)
+    (turn_facts site_facts : Facts)
+    (place : Place) {facts loaded found : Facts} {from middle to : ℕ} (t : SourceState)
+    (r : Registers) (memory : List ℕ)
     → (turns : HasTurns loop Address limit turn turn_facts)
     → HasLast loop last
     → direct_word (knowing at.context.site site_facts) last ≡ Some place
-    → Steps at.context facts from (load_word_steps (knowing at.context.site facts) (whole (loop.head).variable)) loaded middle
+    → Steps at.context facts from
+    (load_word_steps (knowing at.context.site facts) (whole (loop.head).variable)) loaded middle
     → Steps at.context loaded middle (place_compare place turn) found to
     → Enters at (record no_facts { word_in_hl = Some (turns.counted).location }) turn_facts
     → t.budget ≤ limit
     → StageAt at loop.need loop.base t facts r memory
     → Goes loop limit found to
     → Does (script_of at.context) t.budget 0 (at_place from r memory t.events) (from_test loop t) (Out loop)
-place_tests {at = at} loop limit last turn turn_facts site_facts place {loaded = loaded} {found = found} {middle = middle} {to = to} t r memory turns has is loads stand enters fewer stage goes =
+place_tests {at = at} loop limit last turn turn_facts site_facts place {loaded = loaded} {found = found}
+    {middle = middle} {to = to} t r memory turns has is loads stand enters fewer stage goes =
     let sound = turns.sound.sound in
     let counted = turns.counted in
     does_same _ (from_test_is loop Address t turns.scalar_is)
-    (read_then (value at.context.later at.context.activation.around (loop.head).last t) (λ n u. after_last loop Address n u)
-    (words_at_places at.context sound site_facts last place _ at.context.activation.level (loop.head).last loop.base t r memory has.is has.types is stage.ready)
+    (read_then (value at.context.later at.context.activation.around (loop.head).last t)
+    (λ n u. after_last loop Address n u)
+    (words_at_places at.context sound site_facts last place _ at.context.activation.level (loop.head).last
+    loop.base t r memory has.is has.types is stage.ready)
     (λ read.
-    steady_read (variable_place at.context (loop.head).variable) t (if_not_above loop read.found) sound counted.fits
+    steady_read (variable_place at.context (loop.head).variable) t
+    (if_not_above loop read.found) sound counted.fits
     (λ steady.
     word_loaded sound counted turns.enough loads stage steady.0 steady.1
     (λ in_hl memory_then holds there.
     by read.found read.is steady.0 steady.1 in_hl memory_then holds.low holds.high there
-    (words_at_places at.context sound site_facts last place _ at.context.activation.level (loop.head).last loop.base t in_hl memory_then has.is has.types is there.ready)))))
+    (words_at_places at.context sound site_facts last place _ at.context.activation.level (loop.head).last
+    loop.base t in_hl memory_then has.is has.types is there.ready)))))
   where
     outcome : Outcome ℕ
     outcome = value at.context.later at.context.activation.around (loop.head).last t
@@ -113,13 +130,15 @@ place_tests {at = at} loop limit last turn turn_facts site_facts place {loaded =
         → in_hl.h ≡ byte_at memory_then (wrap (variable_address at.context (loop.head).variable + 1))
         → StageAt at loop.need loop.base t loaded in_hl memory_then
         → WordAtPlace at.context place memory_then t outcome ⊎ GoesOutside outcome
-        → Does (script_of at.context) t.budget 0 (at_place middle in_hl memory_then t.events) (after_last loop Address n t) (Out loop)
+        → Does (script_of at.context) t.budget 0 (at_place middle in_hl memory_then t.events)
+        (after_last loop Address n t) (Out loop)
     by n gave steady steady_too in_hl memory_then low high there (inl read) =
         let same : read.found ≡ n = same_given (sym read.is ∙ gave) in
         compared_with_place loop limit n turn turn_facts place t in_hl memory_then turns
         (sym (ap (λ (m : ℕ). m % 256) same) ∙ read.low) (sym (ap (λ (m : ℕ). m / 256) same) ∙ read.high)
         read.low_steady read.high_steady low high steady steady_too stand enters fewer there goes
-    by n gave steady steady_too in_hl memory_then low high there (inr outside) = absurd (not_outside outcome n t gave outside)
+    by n gave steady steady_too in_hl memory_then low high there (inr outside) =
+        absurd (not_outside outcome n t gave outside)
 
 -- a word at a place, as other code sees it
 direct_word_is : (site : Site) (number : ExpressionNumber) (place : Place) → word_at site number ≡ Some place
@@ -151,7 +170,8 @@ pub place_tests_do :
     → HasLast loop last
     → PlaceTests loop last facts turn
 unfolding test_steps
-place_tests_do {at = at} loop last facts turn sound enough has counted own other here after waiting from to same lies there stand
+place_tests_do {at = at} loop last facts turn sound enough has counted own other here after waiting from to
+    same lies there stand
     limit turn_facts runs enters goes t r memory fewer stage =
     let loaded = word_parted stand in
     place_tests loop limit last turn turn_facts facts other t r memory

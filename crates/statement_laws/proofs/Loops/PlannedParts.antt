@@ -34,7 +34,8 @@ pub code_parted :
     → Stand at here waiting from (map planned.Code code ++ others) last to
     → CodeParted at here waiting from code others last to
 unfolding carried_steps here_after waiting_after
-code_parted [] others here from stand = record { known = here.facts; middle = from; first = NoneThere; rest = stand }
+code_parted [] others here from stand =
+    record { known = here.facts; middle = from; first = NoneThere; rest = stand }
 code_parted (step ∷ code) others here from (StepPlanned {known = known} {middle = middle} holds first rest) =
     let parts = code_parted code others (going here.goes_on known) middle rest in
     record {
@@ -46,18 +47,22 @@ code_parted (step ∷ code) others here from (StepPlanned {known = known} {middl
 
 -- a BYTE that is loaded, and then others
 pub byte_parted :
-    {at : BodyContext} {here last : Here} {waiting : Option Facts} {from to : ℕ} {reference : Reference} {others : List Planned}
+    {at : BodyContext} {here last : Here} {waiting : Option Facts} {from to : ℕ} {reference : Reference}
+    {others : List Planned}
     → Stand at here waiting from (planned.LoadByte reference ∷ others) last to
-    → CodeParted at here waiting from (load_byte_steps (knowing (site_of at.body) here.facts) reference) others last to
+    → CodeParted at here waiting from (load_byte_steps (knowing (site_of at.body) here.facts) reference)
+    others last to
 unfolding carried_steps here_after waiting_after
 byte_parted (StepPlanned {known = known} {middle = middle} holds first rest) =
     record { known = known; middle = middle; first = first; rest = rest }
 
 -- an ADDRESS that is loaded
 pub word_parted :
-    {at : BodyContext} {here last : Here} {waiting : Option Facts} {from to : ℕ} {reference : Reference} {others : List Planned}
+    {at : BodyContext} {here last : Here} {waiting : Option Facts} {from to : ℕ} {reference : Reference}
+    {others : List Planned}
     → Stand at here waiting from (planned.LoadWord reference ∷ others) last to
-    → CodeParted at here waiting from (load_word_steps (knowing (site_of at.body) here.facts) reference) others last to
+    → CodeParted at here waiting from (load_word_steps (knowing (site_of at.body) here.facts) reference)
+    others last to
 unfolding carried_steps here_after waiting_after
 word_parted (StepPlanned {known = known} {middle = middle} holds first rest) =
     record { known = known; middle = middle; first = first; rest = rest }

@@ -14,7 +14,8 @@ pub steady_read :
     (then_do (read_scalar context.activation.around.program Address place s) go) Good)
     → Does context.activation.around.program.script budget more from
     (then_do (read_scalar context.activation.around.program Address place s) go) Good
-steady_read {A = A} {budget = budget} {more = more} {from = from} {Good = Good} {context = context} (InMemory address) s go sound fits does =
+steady_read {A = A} {budget = budget} {more = more} {from = from} {Good = Good} {context = context}
+    (InMemory address) s go sound fits does =
     by_test (is_declared context.activation.around.program address)
     (is_declared context.activation.around.program (wrap (address + 1))) refl refl
   where
@@ -23,7 +24,8 @@ steady_read {A = A} {budget = budget} {more = more} {from = from} {Good = Good} 
         then_do
         (then_do (if first then Gave (byte_at s.memory address) s else Stopped (Outside UndeclaredByte) s)
         (λ low t. then_do
-        (if second then Gave (byte_at t.memory (wrap (address + 1))) t else Stopped (Outside UndeclaredByte) t)
+        (if second then Gave (byte_at t.memory (wrap (address + 1))) t else Stopped
+        (Outside UndeclaredByte) t)
         (λ high u. Gave (low + 256 * high) u)))
         go
 
@@ -39,7 +41,8 @@ steady_read {A = A} {budget = budget} {more = more} {from = from} {Good = Good} 
     by_test true false one two =
         subst (λ (first : Bool). Does context.activation.around.program.script budget more from
         (outcome first (is_declared context.activation.around.program (wrap (address + 1)))) Good) (sym one)
-        (subst (λ (second : Bool). Does context.activation.around.program.script budget more from (outcome true second) Good) (sym two)
+        (subst (λ (second : Bool). Does context.activation.around.program.script budget more from
+        (outcome true second) Good) (sym two)
         (record { told = tt }))
     by_test false second one two =
         subst (λ (first : Bool). Does context.activation.around.program.script budget more from
@@ -52,7 +55,8 @@ steady_read {context = context} (InTheFrame object offset true) s go sound fits 
     let address : ℕ = wrap (context.activation.level + context.activation.distance object + offset) in
     does (
       of_frame context.activation object offset address less (frame_is context object offset sound less),
-      of_frame context.activation object (offset + 1) (wrap (address + 1)) less_too (frame_next context object offset sound less_too),
+      of_frame context.activation object (offset + 1) (wrap (address + 1)) less_too
+          (frame_next context object offset sound less_too),
     )
 steady_read (InTheFrame object offset false) s go sound fits does = record { told = tt }
 
@@ -67,7 +71,8 @@ pub steady_byte_read :
     (then_do (read_scalar context.activation.around.program Byte place s) go) Good)
     → Does context.activation.around.program.script budget more from
     (then_do (read_scalar context.activation.around.program Byte place s) go) Good
-steady_byte_read {budget = budget} {more = more} {from = from} {Good = Good} {context = context} (InMemory address) s go sound fits does =
+steady_byte_read {budget = budget} {more = more} {from = from} {Good = Good} {context = context}
+    (InMemory address) s go sound fits does =
     by_test (is_declared context.activation.around.program address) refl
   where
     by_test : (first : Bool)
@@ -77,11 +82,13 @@ steady_byte_read {budget = budget} {more = more} {from = from} {Good = Good} {co
     by_test true one = does (declared_is_steady context.activation address sound.lies one)
     by_test false one =
         subst (λ (first : Bool). Does context.activation.around.program.script budget more from
-        (then_do (if first then Gave (byte_at s.memory address) s else Stopped (Outside UndeclaredByte) s) go) Good) (sym one)
+        (then_do (if first then Gave (byte_at s.memory address) s else Stopped (Outside UndeclaredByte) s) go)
+        Good) (sym one)
         (record { told = tt })
 steady_byte_read {context = context} (InTheFrame object offset true) s go sound fits does =
     let within : offset + 1 ≤ context.activation.size object = fits refl in
     let less : offset < context.activation.size object = omega (arith, within) in
-    does (of_frame context.activation object offset (wrap (context.activation.level + context.activation.distance object + offset)) less
+    does (of_frame context.activation object offset
+    (wrap (context.activation.level + context.activation.distance object + offset)) less
     (frame_is context object offset sound less))
 steady_byte_read (InTheFrame object offset false) s go sound fits does = record { told = tt }

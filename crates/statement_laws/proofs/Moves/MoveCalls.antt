@@ -6,7 +6,8 @@ use Rattle.statement_laws.proofs.Moves.MovedBlocks.{Moved, MovesAll, MovesOutsid
 
 -- what is told of what goes outside
 outside_told :
-    {A : Type 0} {script : List (List ℕ)} {budget : ℕ} {from : State} {Good : A → SourceState → State → Type 0}
+    {A : Type 0} {script : List (List ℕ)} {budget : ℕ} {from : State}
+    {Good : A → SourceState → State → Type 0}
     (reason : Rattle.meaning.specs.declared.reason.Reason.Reason) (t : SourceState) (outcome : Outcome A)
     → outcome ≡ Rattle.meaning.specs.Outcomes.Stopped (Rattle.meaning.specs.Outcomes.Outside reason) t
     → Does script budget 0 from outcome Good
@@ -14,7 +15,8 @@ outside_told reason t outcome same = does_same _ same (record { told = tt })
 
 -- BC is the count, DE the source and HL the destination: all is copied
 pub move_then :
-    {A : Type 0} {context : Context} {top pushed need from to : ℕ} {base : List ℕ} {t : SourceState} {facts last : Facts}
+    {A : Type 0} {context : Context} {top pushed need from to : ℕ} {base : List ℕ} {t : SourceState}
+    {facts last : Facts}
     {r : Registers} {memory : List ℕ} {Good : A → SourceState → State → Type 0}
     (count source destination : ℕ) (go : Unit {0} → SourceState → Outcome A)
     → IsSound context
@@ -29,14 +31,17 @@ pub move_then :
     → Does (script_of context) u.budget 0 (at_place to now memory_now u.events) (go tt u) Good)
     → Does (script_of context) t.budget 0 (at_place from r memory t.events)
     (then_do (moved context.activation.around.program count source destination t) go) Good
-move_then {context = context} {top = top} {pushed = pushed} {need = need} {from = from} {base = base} {t = t} {r = r} {memory = memory} {Good = Good} count source destination go sound two bc de hl (RoutineThere has there NoneThere) stage next =
+move_then {context = context} {top = top} {pushed = pushed} {need = need} {from = from} {base = base} {t = t}
+    {r = r} {memory = memory} {Good = Good} count source destination go sound two bc de hl
+    (RoutineThere has there NoneThere) stage next =
     by (moved_is context.activation.around.program count source destination t)
   where
     by : Moved context.activation.around.program count source destination t
         → Does (script_of context) t.budget 0 (at_place from r memory t.events)
         (then_do (moved context.activation.around.program count source destination t) go) Good
     by (MovesOutside reason u same) =
-        outside_told reason u (then_do (moved context.activation.around.program count source destination t) go)
+        outside_told reason u
+        (then_do (moved context.activation.around.program count source destination t) go)
         (ap (λ (one : Outcome (Unit {0})). then_do one go) same)
     by (MovesAll same declared variables) =
         let activation = context.activation in
@@ -62,15 +67,19 @@ move_then {context = context} {top = top} {pushed = pushed} {need = need} {from 
         let some = found.has_bytes in
         let call : InstructionStands memory (wrap from) (Call entry) =
         subst (λ (target : ℕ). InstructionStands memory (wrap from) (Call target))
-        (in_memory entry found.to (activation.around.program.placement.code.start + activation.around.program.placement.code.len) some here fits)
+        (in_memory entry found.to (activation.around.program.placement.code.start
+        + activation.around.program.placement.code.len) some here fits)
         (bytes_alike memory (bytes_of (Call (wrap entry))) from (wrap from) (wrapped_once from)
-        (stands_now activation memory (jump_item CallTo (label_of_routine context.site Move) ∷ []) from (from + 3) lies
+        (stands_now activation memory (jump_item CallTo (label_of_routine context.site Move) ∷ [])
+        from (from + 3) lies
         ready.shares.code there).0) in
-        let stack_missed : (address : ℕ) → is_declared activation.around.program address ≡ true → IsIn address (below top 2) → ⊥ =
+        let stack_missed : (address : ℕ) → is_declared activation.around.program address ≡ true
+        → IsIn address (below top 2) → ⊥ =
         λ address is_there inside.
         let low : top - 2 ≤ address = inside.0 in
         let high : address < top - 2 + 2 = inside.1 in
-        lies.placed.stack_free address is_there (omega (arith, start, low, bottom)) (omega (arith, start, high, under, above)) in
+        lies.placed.stack_free address is_there (omega (arith, start, low, bottom))
+        (omega (arith, start, high, under, above)) in
         let source_misses : BlockMisses (word r.b r.c) (word r.d r.e) (below top 2) =
         λ address block inside.
         stack_missed address
@@ -78,7 +87,8 @@ move_then {context = context} {top = top} {pushed = pushed} {need = need} {from 
         (ap (λ (n : ℕ). wrap (n + block.0)) (sym de) ∙ sym block.2)
         (declared_in_block activation.around.program count source block.0
         (subst (λ (n : ℕ). block.0 < n) bc block.1) declared)) inside in
-        let copy_variable : (address : ℕ) → IsInBlock (word r.b r.c) (word r.h r.l) address → IsVariable activation.around.program address =
+        let copy_variable : (address : ℕ) → IsInBlock (word r.b r.c) (word r.h r.l) address
+        → IsVariable activation.around.program address =
         λ address block.
         subst (λ (n : ℕ). IsVariable activation.around.program n)
         (ap (λ (n : ℕ). wrap (n + block.0)) (sym hl) ∙ sym block.2)
@@ -86,7 +96,8 @@ move_then {context = context} {top = top} {pushed = pushed} {need = need} {from 
         (subst (λ (n : ℕ). block.0 < n) bc block.1) variables) in
         let returns : Returns script Move top s =
         found.is_routine found.layout entry found.to script top s ends
-        (stands_in found.layout activation.around.program.placement.code activation.image memory found.items entry found.to
+        (stands_in found.layout activation.around.program.placement.code activation.image memory
+        found.items entry found.to
         fits least here ready.shares.code found.stands)
         (record {
           running = refl;
@@ -114,16 +125,20 @@ move_then {context = context} {top = top} {pushed = pushed} {need = need} {from 
               let in_code : IsIn address code = inside in
               let one : entry ≤ address = in_code.0 in
               let other : address < entry + (found.to - entry) = in_code.1 in
-              lies.placed.code_free address (copy_variable address block) (omega (arith, one, least)) (omega (arith, other, here, some));
+              lies.placed.code_free address (copy_variable address block) (omega (arith, one, least))
+              (omega (arith, other, here, some));
         }) in
         let after = returns.after in
         let back : HasReturned Move top s after = returns.returned in
         let is_at : after ≡ at_place (from + 3) after.registers after.memory t.events =
         machine_is after (from + 3) t.events back.running (back.place ∙ twice_wrapped from) back.events in
         let u : SourceState = record t { memory = copied count source destination t.memory } in
-        let ready_copied : IsReady activation top base u.memory t.frame r (copied count source destination memory) =
-        copied_ready activation top base t.frame r count source destination t.memory memory lies declared variables ready in
-        let kept : Keeps (λ address. IsIn address (below top 2)) (copied count source destination memory) after.memory =
+        let ready_copied : IsReady activation top base u.memory t.frame r
+        (copied count source destination memory) =
+        copied_ready activation top base t.frame r count source destination t.memory memory lies
+        declared variables ready in
+        let kept : Keeps (λ address. IsIn address (below top 2))
+        (copied count source destination memory) after.memory =
         subst (λ (bytes : List ℕ). Keeps (λ address. IsIn address (below top 2)) bytes after.memory)
         (ap (λ (n : ℕ). copied n (word r.d r.e) (word r.h r.l) memory) bc
         ∙ ap (λ (n : ℕ). copied count n (word r.h r.l) memory) de
@@ -132,7 +147,8 @@ move_then {context = context} {top = top} {pushed = pushed} {need = need} {from 
           below = stage.below;
           room = stage.room;
           ready =
-              ready_after_routine activation top pushed need base u.memory (copied count source destination memory) after.memory t.frame r
+              ready_after_routine activation top pushed need base u.memory
+              (copied count source destination memory) after.memory t.frame r
               after.registers lies stage.room two ready_copied back.stack back.registers back.memory_is kept;
           known = no_facts_hold;
         } in

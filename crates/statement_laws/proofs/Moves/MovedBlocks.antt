@@ -1,4 +1,5 @@
--- The bytes that MOVE copies: the source goes outside, or all of them are declared, and those that it writes variables.
+-- The bytes that MOVE copies: the source goes outside, or all of them are declared, and those that it writes
+-- variables.
 use Rattle.statement_laws.proofs.Prelude.{◌≡◌, ℕ, zero, suc, ◌+◌, ◌<◌, Bool, true, false, if◌then◌else◌, List, slice_set, refl, ap, subst, ◌∙◌, arith, byte_at, byte_small, Reason, UndeclaredByte, Constant, is_constant, is_declared, moved, Program, SourceState, Outside, Outcome, Gave, Stopped, then_do, Registers, wrap, copied, Activation, IsReady, IsVariable, LiesWell, ready_with_variable, one_moved, wrapped_small}
 
 -- all bytes of a block are declared
@@ -34,7 +35,8 @@ one_more :
     ≡ moved program count (source + 1) (destination + 1)
     (record s { memory = slice_set s.memory (wrap destination) (byte_at s.memory (wrap source)) })
 one_more program count source destination s declared variable =
-    ap (λ (test : Bool). outcome test (is_declared program (wrap destination)) (is_constant program (wrap destination))) declared
+    ap (λ (test : Bool). outcome test (is_declared program (wrap destination))
+    (is_constant program (wrap destination))) declared
     ∙ ap (λ (test : Bool). outcome true test (is_constant program (wrap destination))) variable.0
     ∙ ap (λ (test : Bool). outcome true true test) variable.1
   where
@@ -53,7 +55,8 @@ pub moved_is :
     → Moved program count source destination s
 moved_is program zero source destination s = MovesAll refl tt tt
 moved_is program (suc count) source destination s =
-    by (is_declared program (wrap source)) (is_declared program (wrap destination)) (is_constant program (wrap destination))
+    by (is_declared program (wrap source)) (is_declared program (wrap destination))
+    (is_constant program (wrap destination))
     refl refl refl
     (moved_is program count (source + 1) (destination + 1)
     (record s { memory = slice_set s.memory (wrap destination) (byte_at s.memory (wrap source)) }))
@@ -77,14 +80,17 @@ moved_is program (suc count) source destination s =
         → Moved program (suc count) source destination s
     by false two three one_is two_is three_is others =
         MovesOutside UndeclaredByte s
-        (ap (λ (test : Bool). outcome test (is_declared program (wrap destination)) (is_constant program (wrap destination))) one_is)
+        (ap (λ (test : Bool). outcome test (is_declared program (wrap destination))
+        (is_constant program (wrap destination))) one_is)
     by true false three one_is two_is three_is others =
         MovesOutside UndeclaredByte s
-        (ap (λ (test : Bool). outcome test (is_declared program (wrap destination)) (is_constant program (wrap destination))) one_is
+        (ap (λ (test : Bool). outcome test (is_declared program (wrap destination))
+        (is_constant program (wrap destination))) one_is
         ∙ ap (λ (test : Bool). outcome true test (is_constant program (wrap destination))) two_is)
     by true true true one_is two_is three_is others =
         MovesOutside Constant s
-        (ap (λ (test : Bool). outcome test (is_declared program (wrap destination)) (is_constant program (wrap destination))) one_is
+        (ap (λ (test : Bool). outcome test (is_declared program (wrap destination))
+        (is_constant program (wrap destination))) one_is
         ∙ ap (λ (test : Bool). outcome true test (is_constant program (wrap destination))) two_is
         ∙ ap (λ (test : Bool). outcome true true test) three_is)
     by true true false one_is two_is three_is (MovesOutside reason t same) =
@@ -107,9 +113,12 @@ copied_ready activation top base frame r (suc count) from to source memory lies 
     let byte : ℕ = byte_at memory (wrap from) in
     let same : byte ≡ byte_at source (wrap from) = ready.shares.declared (wrap from) declared.0 in
     copied_ready activation top base frame r count (from + 1) (to + 1)
-    (slice_set source (wrap to) (byte_at source (wrap from))) (slice_set memory (wrap to) byte) lies declared.1 variables.1
-    (subst (λ (value : ℕ). IsReady activation top base (slice_set source (wrap to) value) frame r (slice_set memory (wrap to) byte)) same
-    (ready_with_variable activation top base source frame r memory (wrap to) byte lies variables.0 (wrapped_small to)
+    (slice_set source (wrap to) (byte_at source (wrap from))) (slice_set memory (wrap to) byte) lies
+    declared.1 variables.1
+    (subst (λ (value : ℕ). IsReady activation top base (slice_set source (wrap to) value) frame r
+    (slice_set memory (wrap to) byte)) same
+    (ready_with_variable activation top base source frame r memory (wrap to) byte lies
+    variables.0 (wrapped_small to)
     (byte_small memory (wrap from) ready.shares.is_memory) ready))
 
 -- a byte of a block is one of these

@@ -26,7 +26,8 @@ only_part (PartThere is ends) = ended ends is
 
 -- the whole jumps to the same place as the part
 pub same_parts :
-    {context : Context} {after : Facts} {inner tree : TypedExpression} {label : LabelNumber} {sense other : Bool}
+    {context : Context} {after : Facts} {inner tree : TypedExpression} {label : LabelNumber}
+    {sense other : Bool}
     {top : ℕ} {base : List ℕ} {to v found : ℕ} {u : SourceState} {end : State}
     → Parts context after inner label other top base to v u end
     → (is_true v ≡ other → is_true found ≡ sense)
@@ -44,7 +45,8 @@ same_parts (Passes is arrives) goes passes once =
 pub part_jumps :
     {context : Context} {top need : ℕ} {base : List ℕ} {s : SourceState} {facts last : Facts}
     {r : Registers} {memory : List ℕ} {bound pushed : ℕ} {inner : TypedExpression}
-    {label : LabelNumber} (other : Bool) (from to : ℕ) (condition : ExpressionNumber) (tree : TypedExpression) (sense : Bool) (f : ℕ → ℕ)
+    {label : LabelNumber} (other : Bool) (from to : ℕ) (condition : ExpressionNumber) (tree : TypedExpression)
+    (sense : Bool) (f : ℕ → ℕ)
     → BranchDoes context facts condition label other pushed from last to
     → IsExpression (nodes_in context) context.storage bound condition.index inner
     → TypesHold context.typed context.within inner
@@ -56,27 +58,33 @@ pub part_jumps :
     → Does (script_of context) s.budget 0 (at_place from r memory s.events)
     (then_do (value_in context inner s) (λ v u. Gave (f v) u))
     (Parts context last tree label sense top base to)
-part_jumps {context = context} {top = top} {base = base} {s = s} {r = r} {memory = memory} {bound = bound} {inner = inner} other from to condition tree sense f does node types fewer stage bits once =
+part_jumps {context = context} {top = top} {base = base} {s = s} {r = r} {memory = memory} {bound = bound}
+    {inner = inner} other from to condition tree sense f does node types fewer stage bits once =
     then_does_where (value_in context inner s)
-    (does bound inner node types top base s r memory stage.below (room_for (2 * height_of inner) fewer stage.room)
+    (does bound inner node types top base s r memory stage.below
+    (room_for (2 * height_of inner) fewer stage.room)
     stage.ready stage.known)
     (λ v u end is parts spent.
     let both = bits v u is in does_without_step (same_parts parts both.0 both.1 once))
 
 -- a quiet value that is not used
 quiet_given :
-    {C : Type 0} {script : List (List ℕ)} {budget more : ℕ} {from : State} {Good : C → SourceState → State → Type 0}
+    {C : Type 0} {script : List (List ℕ)} {budget more : ℕ} {from : State}
+    {Good : C → SourceState → State → Type 0}
     (go : SourceState → Outcome ℕ) (rest : ℕ → SourceState → Outcome C) (u : SourceState)
     → IsQuiet go
     → ((w : ℕ) → Does script budget more from (rest w u) Good)
     → Does script budget more from (then_do (go u) rest) Good
-quiet_given {C = C} {script = script} {budget = budget} {more = more} {from = from} {Good = Good} go rest u quiet does =
+quiet_given {C = C} {script = script} {budget = budget} {more = more} {from = from} {Good = Good}
+    go rest u quiet does =
     by (quiet.answer u.memory u.frame) (quiet.gives u)
   where
-    by : (answer : Answer ℕ) → go u ≡ outcome_of answer u → Does script budget more from (then_do (go u) rest) Good
+    by : (answer : Answer ℕ) → go u ≡ outcome_of answer u
+        → Does script budget more from (then_do (go u) rest) Good
     by (Found w) is = does_same (rest w u) (ap (λ (given : Outcome ℕ). then_do given rest) is) (does w)
     by (Fails reason) is =
-        does_same (then_do (outcome_of (Fails reason) u) rest) (ap (λ (given : Outcome ℕ). then_do given rest) is)
+        does_same (then_do (outcome_of (Fails reason) u) rest)
+        (ap (λ (given : Outcome ℕ). then_do given rest) is)
         (record { told = tt })
 
 agree_parts : (sense deciding : Bool) → agree sense deciding ≡ false → not sense ≡ deciding
@@ -97,7 +105,8 @@ marked (MarkThere lies NoneThere) = (lies, refl, λ r memory. no_facts_hold)
 pub joined_jumps :
     {context : Context} {top need : ℕ} {base : List ℕ} {t : SourceState} {facts last : Facts}
     {r : Registers} {memory : List ℕ} {from to bound : ℕ} {left right : ExpressionNumber}
-    {first second : TypedExpression} (tree : TypedExpression) (deciding : Bool) (branch : Branch) (label : ℕ) (f : ℕ → ℕ → ℕ)
+    {first second : TypedExpression} (tree : TypedExpression) (deciding : Bool) (branch : Branch)
+    (label : ℕ) (f : ℕ → ℕ → ℕ)
     → IsExpression (nodes_in context) context.storage bound left.index first
     → TypesHold context.typed context.within first
     → IsExpression (nodes_in context) context.storage bound right.index second
@@ -114,7 +123,10 @@ pub joined_jumps :
     → Does (script_of context) t.budget 0 (at_place from r memory t.events)
     (in_order (value_in context first) (value_in context second) (λ v w u. Gave (f v w) u) t)
     (Parts context last tree branch.label branch.sense top base to)
-joined_jumps {context = context} {top = top} {need = need} {base = base} {t = t} {facts = facts} {last = last} {r = r} {memory = memory} {from = from} {to = to} {bound = bound} {left = left} {right = right} {first = first} {second = second} tree deciding branch label f one types two other_types quiet fewer less many decides other_decides stand stage =
+joined_jumps {context = context} {top = top} {need = need} {base = base} {t = t} {facts = facts} {last = last}
+    {r = r} {memory = memory} {from = from} {to = to} {bound = bound} {left = left} {right = right}
+    {first = first} {second = second} tree deciding branch label f one types two other_types quiet fewer less
+    many decides other_decides stand stage =
     by (agree branch.sense deciding) refl stand
   where
     go : ℕ → SourceState → Outcome ℕ
@@ -125,7 +137,8 @@ joined_jumps {context = context} {top = top} {need = need} {base = base} {t = t}
         → BranchDoes context found right branch.label branch.sense branch.pushed middle last to
         → u.budget ≤ t.budget
         → Parts context found first branch.label branch.sense top base middle v u end
-        → Does (script_of context) u.budget 0 end (go v u) (Parts context last tree branch.label branch.sense top base to)
+        → Does (script_of context) u.budget 0 end (go v u)
+        (Parts context last tree branch.label branch.sense top base to)
     after_left alike v u end does spent (Goes there is step arrives) =
         quiet_given (λ s. value_in context second s) (λ w s. Gave (f v w) s) u quiet
         (λ w. does_without_step (Goes there (decides v w (is ∙ alike) ∙ sym alike) step
@@ -134,7 +147,8 @@ joined_jumps {context = context} {top = top} {need = need} {base = base} {t = t}
         let below = stage.below in
         let next : Stage context top branch.pushed need base u _ arrives.r arrives.memory =
         record { below = omega (arith, below, spent); room = stage.room; ready = arrives.ready; known = arrives.holds } in
-        subst (λ state. Does (script_of context) u.budget 0 state (go v u) (Parts context last tree branch.label branch.sense top base to))
+        subst (λ state. Does (script_of context) u.budget 0 state (go v u)
+        (Parts context last tree branch.label branch.sense top base to))
         (sym arrives.is_at)
         (part_jumps branch.sense middle to right tree branch.sense (f v) does two other_types less next
         (λ w s given.
@@ -163,13 +177,16 @@ joined_jumps {context = context} {top = top} {need = need} {base = base} {t = t}
         })
 
     after_other :
-        branch.sense ≡ not deciding → (v : ℕ) (u : SourceState) (end : State) {found other_found : Facts} {middle other_middle : ℕ}
-        → BranchDoes context found right branch.label branch.sense branch.pushed middle other_found other_middle
+        branch.sense ≡ not deciding → (v : ℕ) (u : SourceState) (end : State) {found other_found : Facts}
+        {middle other_middle : ℕ}
+        → BranchDoes context found right branch.label branch.sense branch.pushed middle
+        other_found other_middle
         → (context.activation.layout.place_of label ≡ to) × (other_middle ≡ to)
         × ((now : Registers) (ended : List ℕ) → Know context last now ended)
         → u.budget ≤ t.budget
         → Parts context found first (label_of label) deciding top base middle v u end
-        → Does (script_of context) u.budget 0 end (go v u) (Parts context last tree branch.label branch.sense top base to)
+        → Does (script_of context) u.budget 0 end (go v u)
+        (Parts context last tree branch.label branch.sense top base to)
     after_other unlike v u end does mark spent (Goes there is step arrives) =
         quiet_given (λ s. value_in context second s) (λ w s. Gave (f v w) s) u quiet
         (λ w. after_step step
@@ -181,11 +198,13 @@ joined_jumps {context = context} {top = top} {need = need} {base = base} {t = t}
           ready = arrives.ready;
           holds = mark.2 arrives.r arrives.memory;
         }))))
-    after_other unlike v u end {middle = middle} {other_middle = other_middle} does mark spent (Passes is arrives) =
+    after_other unlike v u end {middle = middle} {other_middle = other_middle} does mark spent
+        (Passes is arrives) =
         let below = stage.below in
         let next : Stage context top branch.pushed need base u _ arrives.r arrives.memory =
         record { below = omega (arith, below, spent); room = stage.room; ready = arrives.ready; known = arrives.holds } in
-        subst (λ state. Does (script_of context) u.budget 0 state (go v u) (Parts context last tree branch.label branch.sense top base to))
+        subst (λ state. Does (script_of context) u.budget 0 state (go v u)
+        (Parts context last tree branch.label branch.sense top base to))
         (sym arrives.is_at)
         (then_does_where (value_in context second u)
         (does bound second two other_types top base u arrives.r arrives.memory next.below
@@ -208,13 +227,15 @@ joined_jumps {context = context} {top = top} {need = need} {base = base} {t = t}
     by true same (PartThere does others) =
         let alike = agreeing branch.sense deciding same in
         then_does_where (value_in context first t)
-        (does bound first one types top base t r memory stage.below (room_for (2 * height_of first) fewer stage.room)
+        (does bound first one types top base t r memory stage.below
+        (room_for (2 * height_of first) fewer stage.room)
         stage.ready stage.known)
         (λ v u end is parts spent. after_left alike v u end (only_part others) spent parts)
     by false same (PartThere does (PartThere other_does mark)) =
         let unlike = agree_parts branch.sense deciding same in
         then_does_where (value_in context first t)
-        (does bound first one types top base t r memory stage.below (room_for (2 * height_of first) fewer stage.room)
+        (does bound first one types top base t r memory stage.below
+        (room_for (2 * height_of first) fewer stage.room)
         stage.ready stage.known)
         (λ v u end is parts spent.
         after_other (sym (not-not branch.sense) ∙ ap not unlike) v u end other_does (marked mark) spent parts)

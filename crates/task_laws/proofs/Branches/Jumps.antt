@@ -9,13 +9,16 @@ use Rattle.task_laws.proofs.Agreement.{agreeing, disagreeing}
 -- a machine at the end of code that jumps
 pub passes :
     {context : Context} {top pushed need : ℕ} {base : List ℕ} {u : SourceState} {last : Facts}
-    {r : Registers} {memory : List ℕ} {tree : TypedExpression} {label : LabelNumber} {sense : Bool} (to found : ℕ)
+    {r : Registers} {memory : List ℕ} {tree : TypedExpression} {label : LabelNumber}
+    {sense : Bool} (to found : ℕ)
     → is_true found ≡ not sense
     → Stage context top pushed need base u last r memory
     → Does (script_of context) u.budget 0 (at_place to r memory u.events) (Gave found u)
     (Parts context last tree label sense top base to)
 passes {r = r} {memory = memory} to found is stage =
-    does_without_step (Passes is (record { r = r; memory = memory; is_at = refl; ready = stage.ready; holds = stage.known }))
+    does_without_step
+    (Passes is
+    (record { r = r; memory = memory; is_at = refl; ready = stage.ready; holds = stage.known }))
 
 opposite_holds : (c : Condition) (f : Flags) → holds (opposite_condition c) f ≡ not (holds c f)
 opposite_holds NotZero f = sym (not-not f.z)
@@ -56,7 +59,8 @@ pub jumps_where :
     → Stage context top pushed need base u facts r memory
     → Does (script_of context) u.budget 0 (at_place from r memory u.events) (Gave found u)
     (Parts context last tree branch.label branch.sense top base to)
-jumps_where {context = context} {top = top} {base = base} {u = u} {facts = facts} {r = r} {memory = memory} {from = from} {tree = tree} branch c found sound is (JumpThere there NoneThere) stage =
+jumps_where {context = context} {top = top} {base = base} {u = u} {facts = facts} {r = r} {memory = memory}
+    {from = from} {tree = tree} branch c found sound is (JumpThere there NoneThere) stage =
     by (holds wanted r.flags) refl
   where
     wanted : Condition
@@ -69,11 +73,14 @@ jumps_where {context = context} {top = top} {base = base} {u = u} {facts = facts
         → Does (script_of context) u.budget 0 (at_place from r memory u.events) (Gave found u)
         (Parts context facts tree branch.label branch.sense top base (from + 3))
     by true here =
-        does_without_step (Goes (at_place (context.activation.layout.place_of branch.label.index) r memory u.events)
+        does_without_step
+        (Goes (at_place (context.activation.layout.place_of branch.label.index) r memory u.events)
         (agreed branch.sense (is_true found) (shown ∙ here))
-        (word_step (script_of context) context.activation (forms.JumpWhere wanted) (AtLabel branch.label.index) [] from (from + 3) r
+        (word_step (script_of context) context.activation (forms.JumpWhere wanted)
+        (AtLabel branch.label.index) [] from (from + 3) r
         memory u.events sound.lies stage.ready.shares.code there
-        ∙ ap (λ b. if b then at_place (context.activation.layout.place_of branch.label.index) r memory u.events
+        ∙ ap (λ b. if b then at_place (context.activation.layout.place_of branch.label.index) r memory
+        u.events
         else at_place (from + 3) r memory u.events) here)
         (record { r = r; memory = memory; is_at = refl; ready = stage.ready; holds = λ once. stage.known }))
     by false here =
@@ -83,7 +90,8 @@ jumps_where {context = context} {top = top} {base = base} {u = u} {facts = facts
 -- a jump
 jumps_always :
     {context : Context} {top pushed need : ℕ} {base : List ℕ} {u : SourceState} {facts last : Facts}
-    {r : Registers} {memory : List ℕ} {from to : ℕ} {tree : TypedExpression} {label : LabelNumber} {sense : Bool}
+    {r : Registers} {memory : List ℕ} {from to : ℕ} {tree : TypedExpression}
+    {label : LabelNumber} {sense : Bool}
     (found : ℕ)
     → IsSound context
     → is_true found ≡ sense
@@ -91,7 +99,8 @@ jumps_always :
     → Stage context top pushed need base u facts r memory
     → Does (script_of context) u.budget 0 (at_place from r memory u.events) (Gave found u)
     (Parts context last tree label sense top base to)
-jumps_always {context = context} {u = u} {r = r} {memory = memory} {from = from} {label = label} found sound is (JumpThere there NoneThere) stage =
+jumps_always {context = context} {u = u} {r = r} {memory = memory} {from = from} {label = label} found sound
+    is (JumpThere there NoneThere) stage =
     does_without_step (Goes (at_place (context.activation.layout.place_of label.index) r memory u.events) is
     (word_step (script_of context) context.activation forms.Jump (AtLabel label.index) [] from (from + 3) r
     memory u.events sound.lies stage.ready.shares.code there)
@@ -108,7 +117,8 @@ pub jumps_known :
     → Stage context top pushed need base u facts r memory
     → Does (script_of context) u.budget 0 (at_place from r memory u.events) (Gave found u)
     (Parts context last tree branch.label branch.sense top base to)
-jumps_known {context = context} {top = top} {base = base} {u = u} {facts = facts} {last = last} {r = r} {memory = memory} {from = from} {to = to} {tree = tree} branch answer found sound is stand stage =
+jumps_known {context = context} {top = top} {base = base} {u = u} {facts = facts} {last = last} {r = r}
+    {memory = memory} {from = from} {to = to} {tree = tree} branch answer found sound is stand stage =
     by (agree answer branch.sense) refl stand
   where
     goes : StepsStand context (PartDoes context) facts from (Jump forms.Jump branch.label ∷ []) last to

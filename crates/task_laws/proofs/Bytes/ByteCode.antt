@@ -96,10 +96,12 @@ pub at_last_instructions :
     → Does (script_of context) budget more (at_place from r memory t.events) outcome Good
 at_last_instructions [] sound on stand stage rest = at_end stand stage rest
 at_last_instructions (Inr (Of A) ∷ others) {r = r} sound on (PlainThere there stand) stage rest =
-    stage_with_a (increment_of r.a r.flags).value (increment_of r.a r.flags).flags sound stage there refl (omega arith) tt
+    stage_with_a (increment_of r.a r.flags).value (increment_of r.a r.flags).flags sound stage there
+    refl (omega arith) tt
     (λ next. at_last_instructions others sound on.1 stand next rest)
 at_last_instructions (Dcr (Of A) ∷ others) {r = r} sound on (PlainThere there stand) stage rest =
-    stage_with_a (decrement_of r.a r.flags).value (decrement_of r.a r.flags).flags sound stage there refl (omega arith) tt
+    stage_with_a (decrement_of r.a r.flags).value (decrement_of r.a r.flags).flags sound stage there
+    refl (omega arith) tt
     (λ next. at_last_instructions others sound on.1 stand next rest)
 at_last_instructions (i ∷ others) sound on stand stage rest =
     at_instructions (i ∷ []) (plain others) sound (on.0, tt) stand stage
@@ -113,7 +115,8 @@ pub with_outcome :
     → ((found : A) (t : SourceState) (end : State) → outcome ≡ Gave found t → Good found t end → Better found
     t end)
     → Does script budget more from outcome Better
-with_outcome {script = script} {budget = budget} {more = more} {from = from} (Gave found t) {Good = Good} does better =
+with_outcome {script = script} {budget = budget} {more = more} {from = from} (Gave found t)
+    {Good = Good} does better =
     let lands : Lands script budget more from t.budget (Good found t) = does.told in
     record {
       told = record {
@@ -148,8 +151,10 @@ FreeEffects context =
     (FreeEffectsAreGiven context last)
 
 pub free_effects : (context : Context) → FreeEffects context
-free_effects context facts last number pushed from to bound tree does free is types top base s r memory below room ready known asked =
-    gives_then (value_in context tree s) (does bound tree is types top base s r memory below room ready known tt)
+free_effects context facts last number pushed from to bound tree does free is types top base s r memory below
+    room ready known asked =
+    gives_then (value_in context tree s)
+    (does bound tree is types top base s r memory below room ready known tt)
     (λ found t end arrives spent. does_without_step (record {
       r = arrives.r;
       memory = arrives.memory;
@@ -160,7 +165,8 @@ free_effects context facts last number pushed from to bound tree does free is ty
 
 -- the low byte of a tree is put into A
 abbrev pub ByteCarried :
-    Context → (facts : Facts) → (number : ExpressionNumber) → TypedExpression → (pushed from : ℕ) → (last : Facts)
+    Context → (facts : Facts) → (number : ExpressionNumber) → TypedExpression
+    → (pushed from : ℕ) → (last : Facts)
     → (to : ℕ) → Type 0
 ByteCarried context facts number tree pushed from last to =
     Carries context facts pushed (2 * height_of tree) 0 from to Nothing (value_in context tree)
@@ -205,14 +211,17 @@ module _
       → StepsStand context (PartDoes context) facts from (part (tasks.Byte inner) pushed ∷ plain instructions)
       last to
       → ByteCarried context facts number tree pushed from last to
-  byte_makes instructions f on makes beside bytes (PartThere does stand) top base s r memory below room ready known nothing =
+  byte_makes instructions f on makes beside bytes (PartThere does stand) top base s r memory below room
+      ready known nothing =
       does_same _ (one.means s)
-      (at_byte _ _ _ does one.node one.types one.fewer (record { below = below; room = room; ready = ready; known = known })
+      (at_byte _ _ _ does one.node one.types one.fewer
+      (record { below = below; room = room; ready = ready; known = known })
       (λ v u now memory_now is given next.
       let fits = one.fits s u v (ready_fits context s ready) is in
       at_last_instructions instructions sound on stand next
       (λ final.
-      byte_given to number (g v) (makes now next.ready.registers.a ∙ ap f given.a ∙ bytes v fits) (one.small v fits)
+      byte_given to number (g v) (makes now next.ready.registers.a ∙ ap f given.a ∙ bytes v fits)
+      (one.small v fits)
       (λ free. changes_on (given.free (one.free free)) (beside free now)) final)))
 
   -- by the word that it is
@@ -225,9 +234,11 @@ module _
       → StepsStand context (PartDoes context) facts from (part (tasks.Word inner) pushed ∷ plain instructions)
       last to
       → ByteCarried context facts number tree pushed from last to
-  byte_of_word instructions f on makes not_free bytes (PartThere does stand) top base s r memory below room ready known nothing =
+  byte_of_word instructions f on makes not_free bytes (PartThere does stand) top base s r memory below room
+      ready known nothing =
       does_same _ (one.means s)
-      (at_word _ _ _ does one.node one.types one.fewer (record { below = below; room = room; ready = ready; known = known })
+      (at_word _ _ _ does one.node one.types one.fewer
+      (record { below = below; room = room; ready = ready; known = known })
       (λ v u now memory_now is given next.
       let fits = one.fits s u v (ready_fits context s ready) is in
       at_last_instructions instructions sound on stand next
@@ -247,7 +258,8 @@ module _
       → StepsStand context (PartDoes context) facts from
       (part (tasks.Effects inner) pushed ∷ plain instructions) last to
       → ByteCarried context facts number tree pushed from last to
-  byte_alone instructions k on makes beside bytes (PartThere {found = found} {middle = middle} does stand) top base s r memory below room ready known nothing =
+  byte_alone instructions k on makes beside bytes (PartThere {found = found} {middle = middle} does stand) top
+      base s r memory below room ready known nothing =
       does_same _ (one.means s) (by (is_free context.site number) refl)
     where
       stage : Stage context top pushed (2 * height_of tree) base s facts r memory
@@ -272,13 +284,16 @@ module _
           (then_do (value_in context inside s) (λ v u. Gave (g v) u))
           (Arrives context.activation top base to (ByteIsGiven context last number (type_of tree) r memory))
       by true is =
-          at_carried _ _ _ (free_effects context facts found inner pushed from middle one.bound inside does (one.free is) one.node one.types)
+          at_carried _ _ _
+          (free_effects context facts found inner pushed from middle one.bound inside does
+          (one.free is) one.node one.types)
           one.fewer tt
           (λ v now memory_now (given : FreeEffectsAreGiven context found r memory v now memory_now). given.known) stage
           (λ v u now memory_now same given next. ends v u now memory_now same (λ free. given.free) next)
       by false is =
           at_effects _ _ _ does one.node one.types one.fewer stage
-          (λ v u now memory_now same next. ends v u now memory_now same (λ free. absurd (false≢true (sym is ∙ free))) next)
+          (λ v u now memory_now same next. ends v u now memory_now same
+          (λ free. absurd (false≢true (sym is ∙ free))) next)
 
   -- the same, from the result of the code
   pub byte_by_code :
@@ -289,4 +304,5 @@ module _
       → ByteCarried context facts number tree pushed from last to
   byte_by_code {f = f} code bytes stand =
       byte_makes code.instructions f code.on code.makes (λ free. code.beside) bytes
-      (subst (λ (steps : List Step). StepsStand context (PartDoes context) facts from (part (tasks.Byte inner) pushed ∷ steps) last to) code.same stand)
+      (subst (λ (steps : List Step). StepsStand context (PartDoes context) facts from
+      (part (tasks.Byte inner) pushed ∷ steps) last to) code.same stand)

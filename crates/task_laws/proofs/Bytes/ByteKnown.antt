@@ -31,12 +31,14 @@ pub free_by_known :
 unfolding traits_of
 free_by_known {context = context} {number = number} {tree = tree} found node same =
     free_is context.site number
-    ∙ (ap (λ (one : Option Expression). (option_map_or (λ (given : Expression). given.traits) one no_traits).is_free) node.is_there
+    ∙ (ap (λ (one : Option Expression). (option_map_or (λ (given : Expression). given.traits) one
+    no_traits).is_free) node.is_there
     ∙ (ap (λ traits. traits.is_free) node.traits
     ∙ ap (λ (known : Option Place). is_free_of (nodes_in context) (type_of tree) known node.found.form) same))
 
 fits_place :
-    {context : Context} {bound : ℕ} {number : ExpressionNumber} {tree : TypedExpression} (facts : Facts) (place : Place)
+    {context : Context} {bound : ℕ} {number : ExpressionNumber} {tree : TypedExpression}
+    (facts : Facts) (place : Place)
     → IsSound context
     → IsExpression (nodes_in context) context.storage bound number.index tree
     → TypesHold context.typed context.within tree
@@ -50,7 +52,8 @@ fits_place {context = context} {number = number} {tree = tree} facts place sound
 
 -- a BYTE that is known is a number, and free
 pub known_byte_free :
-    {context : Context} {bound : ℕ} {number : ExpressionNumber} {tree : TypedExpression} (facts : Facts) (place : Place)
+    {context : Context} {bound : ℕ} {number : ExpressionNumber} {tree : TypedExpression}
+    (facts : Facts) (place : Place)
     → IsSound context
     → IsExpression (nodes_in context) context.storage bound number.index tree
     → TypesHold context.typed context.within tree
@@ -71,7 +74,8 @@ known_byte_free {context = context} {number = number} {tree = tree} facts place 
 
 -- the code of a known value
 pub known_law :
-    {context : Context} {facts last : Facts} {from to bound : ℕ} {tree : TypedExpression} (number : ExpressionNumber)
+    {context : Context} {facts last : Facts} {from to bound : ℕ} {tree : TypedExpression}
+    (number : ExpressionNumber)
     (place : Place) (pushed : ℕ)
     → IsSound context
     → IsExpression (nodes_in context) context.storage bound number.index tree
@@ -80,7 +84,8 @@ pub known_law :
     → StepsStand context (PartDoes context) facts from (known_byte_steps place) last to
     → ByteCarried context facts number tree pushed from last to
 unfolding known_byte_steps
-known_law {context = context} {facts = facts} {last = last} {from = from} {to = to} {tree = tree} number place pushed sound is types here stand =
+known_law {context = context} {facts = facts} {last = last} {from = from} {to = to} {tree = tree} number place
+    pushed sound is types here stand =
     by place refl stand
   where
     node : NodeOf context number tree
@@ -94,12 +99,14 @@ known_law {context = context} {facts = facts} {last = last} {from = from} {to = 
         → StepsStand context (PartDoes context) facts from
         (Word (LoadPair Hl) there ∷ Plain (copy A L) ∷ []) last to
         → ByteCarried context facts number tree pushed from last to
-    by_word there same symbolic (WordThere stands rest) top base s r memory below room ready known_before nothing =
+    by_word there same symbolic (WordThere stands rest) top base s r memory below room ready
+        known_before nothing =
         let word : ℕ = place_at context.activation.layout there in
         let small_here : place_at context.activation.layout place < values_of (type_of tree)
         = known_small facts place sound is types here in
         let small : word < values_of (type_of tree)
-        = subst (λ (one : Place). place_at context.activation.layout one < values_of (type_of tree)) same small_here in
+        = subst (λ (one : Place). place_at context.activation.layout one < values_of (type_of tree)) same
+        small_here in
         let wide : word < 65536 = word_fits word (type_of tree) small in
         let bytes = ready.registers in
         let loaded : Registers = record r { h = word / 256; l = word % 256 } in
@@ -125,7 +132,8 @@ known_law {context = context} {facts = facts} {last = last} {from = from} {to = 
         })
         (λ final.
         byte_given to number word refl small
-        (λ free. absurd (false≢true (sym symbolic ∙ ap (λ (one : Place). is_some (number_of_place one)) (sym same) ∙ sym free_here ∙ free)))
+        (λ free. absurd (false≢true (sym symbolic
+        ∙ ap (λ (one : Place). is_some (number_of_place one)) (sym same) ∙ sym free_here ∙ free)))
         final)))
 
     by : (there : Place) → place ≡ there
@@ -146,7 +154,9 @@ known_law {context = context} {facts = facts} {last = last} {from = from} {to = 
         (record { below = below; room = room; ready = ready; known = known_before })
         (λ final.
         byte_given to number n (code.makes r ready.registers.a) small
-        (λ free. changes_on (record { b = refl; c = refl; d = refl; e = refl; h = refl; l = refl; same_memory = refl }) (code.beside r)) final))
+        (λ free. changes_on
+        (record { b = refl; c = refl; d = refl; e = refl; h = refl; l = refl; same_memory = refl })
+        (code.beside r)) final))
     by (Code offset) same given = by_word (Code offset) same refl given
     by (Data offset) same given = by_word (Data offset) same refl given
     by (External offset name) same given = by_word (External offset name) same refl given

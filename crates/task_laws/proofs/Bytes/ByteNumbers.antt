@@ -191,7 +191,8 @@ module _
           → ByteCarried context facts number tree pushed from last to
       by true here given =
           zero_after
-          (λ v fits. sym (ap (bit_and (v % 256)) (eqb-true n 0 here) ∙ and_zero_r (v % 256)) ∙ bytes v fits) given
+          (λ v fits. sym (ap (bit_and (v % 256)) (eqb-true n 0 here) ∙ and_zero_r (v % 256)) ∙ bytes v fits)
+          given
       by false here given = byte_by_code context sound one (immediate_code And n is small) bytes given
   with_number Or n is small bytes stand = by (n == 255) refl stand
     where
@@ -203,11 +204,15 @@ module _
       by true here given =
           byte_alone context sound one (set A 255 ∷ []) 255 (tt, tt) (λ r. refl) (λ free r. beside_a _ _ r)
           (λ v fits.
-          sym (ap (bit_or (v % 256)) (eqb-true n 255 here) ∙ or_full (v % 256) (low_byte_small v)) ∙ bytes v fits) given
+          sym (ap (bit_or (v % 256)) (eqb-true n 255 here) ∙ or_full (v % 256) (low_byte_small v))
+          ∙ bytes v fits) given
       by false here given = byte_by_code context sound one (immediate_code Or n is small) bytes given
-  with_number Add n is small bytes stand = byte_by_code context sound one (immediate_code Add n is small) bytes stand
-  with_number Subtract n is small bytes stand = byte_by_code context sound one (immediate_code Subtract n is small) bytes stand
-  with_number ExclusiveOr n is small bytes stand = byte_by_code context sound one (immediate_code ExclusiveOr n is small) bytes stand
+  with_number Add n is small bytes stand =
+      byte_by_code context sound one (immediate_code Add n is small) bytes stand
+  with_number Subtract n is small bytes stand =
+      byte_by_code context sound one (immediate_code Subtract n is small) bytes stand
+  with_number ExclusiveOr n is small bytes stand =
+      byte_by_code context sound one (immediate_code ExclusiveOr n is small) bytes stand
   with_number AddWithCarry n is small bytes stand = absurd is
   with_number SubtractWithBorrow n is small bytes stand = absurd is
   with_number Compare n is small bytes stand = absurd is

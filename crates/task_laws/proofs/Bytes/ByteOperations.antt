@@ -33,12 +33,16 @@ operated_so :
     → IsOperated operation v w now
 operated_so operation v w x y now f one two a flags = record {
   before = f;
-  a = a ∙ (ap (λ n. (operate operation n y f).value) one ∙ ap (λ n. (operate operation (v % 256) n f).value) two);
-  flags = flags ∙ (ap (λ n. (operate operation n y f).flags) one ∙ ap (λ n. (operate operation (v % 256) n f).flags) two);
+  a = a ∙ (ap (λ n. (operate operation n y f).value) one
+      ∙ ap (λ n. (operate operation (v % 256) n f).value) two);
+  flags = flags
+      ∙ (ap (λ n. (operate operation n y f).flags) one
+      ∙ ap (λ n. (operate operation (v % 256) n f).flags) two);
 }
 
 -- an operand in memory; the code for its address keeps A
-pub record IsOperandAt (context : Context) (facts : Facts) (number : ExpressionNumber) (reference : Reference) : Type 0 where
+pub record IsOperandAt (context : Context) (facts : Facts) (number : ExpressionNumber)
+    (reference : Reference) : Type 0 where
   pub is_there : memory (knowing context.site facts) number ≡ Some reference
   pub keeps : (keeps_of_address context.site reference).a ≡ true
 
@@ -57,7 +61,8 @@ operand_at {context = context} facts number reference is =
     })
 
 -- a value of its type, and of a byte where its form shows that
-pub record IsValueOf (context : Context) (tree : TypedExpression) (number : ExpressionNumber) (v : ℕ) : Type 0 where
+pub record IsValueOf (context : Context) (tree : TypedExpression) (number : ExpressionNumber)
+    (v : ℕ) : Type 0 where
   pub small : v < values_of (type_of tree)
   pub fits : (known_there : Facts) → fits_byte (knowing context.site known_there) number ≡ true → v < 256
 
@@ -70,15 +75,17 @@ pub value_of :
     → Stage context top pushed need base t facts r memory_then
     → value_in context tree t ≡ Gave v u
     → IsValueOf context tree number v
-value_of {context = context} {top = top} {bound = bound} {base = base} {t = t} {u = u} {r = r} {memory_then = memory_then} {tree = tree} {number = number} v asked node types stage is = record {
-  small = asked.values_fit number bound top v tree base t u r memory_then node types stage.ready is;
-  fits = λ known_there fit.
-      asked.fits known_there number bound top v tree base t u r memory_then node types stage.ready fit is;
-}
+value_of {context = context} {top = top} {bound = bound} {base = base} {t = t} {u = u} {r = r}
+    {memory_then = memory_then} {tree = tree} {number = number} v asked node types stage is = record {
+      small = asked.values_fit number bound top v tree base t u r memory_then node types stage.ready is;
+      fits = λ known_there fit.
+          asked.fits known_there number bound top v tree base t u r memory_then node types stage.ready fit is;
+    }
 
 -- the rest of the code after an operation on the low bytes of two values
 abbrev pub GoesOnOperated :
-    {C : Type 0} → Context → (first second : TypedExpression) → (number other : ExpressionNumber) → Operation → (top pushed need : ℕ) → (base : List ℕ)
+    {C : Type 0} → Context → (first second : TypedExpression) → (number other : ExpressionNumber) → Operation
+    → (top pushed need : ℕ) → (base : List ℕ)
     → Facts → (place more : ℕ) → (go : ℕ → ℕ → SourceState → Outcome C)
     → (Good : C → SourceState → State → Type 0) → Type 0
 GoesOnOperated context first second number other operation top pushed need base last place more go Good =
@@ -91,8 +98,10 @@ GoesOnOperated context first second number other operation top pushed need base 
 
 -- the first in A, the second in memory
 pub operated_with_memory :
-    {C : Type 0} {context : Context} {top pushed need : ℕ} {base : List ℕ} {t : SourceState} {facts last : Facts}
-    {r : Registers} {memory_then : List ℕ} {from to more bound other_bound : ℕ} {number other : ExpressionNumber}
+    {C : Type 0} {context : Context} {top pushed need : ℕ} {base : List ℕ} {t : SourceState}
+    {facts last : Facts}
+    {r : Registers} {memory_then : List ℕ} {from to more bound other_bound : ℕ}
+    {number other : ExpressionNumber}
     {first second : TypedExpression} {reference : Reference} {operation : Operation}
     {Good : C → SourceState → State → Type 0} (known_there : Facts) (go : ℕ → ℕ → SourceState → Outcome C)
     → BytesAsked context
@@ -110,11 +119,14 @@ pub operated_with_memory :
     → GoesOnOperated context first second number other operation top pushed need base last to more go Good
     → Does (script_of context) t.budget more (at_place from r memory_then t.events)
     (in_order (value_in context first) (value_in context second) go t) Good
-operated_with_memory {context = context} {other = other} {second = second} {reference = reference} {operation = operation} known_there go asked sound one types two other_types operand (PartThere does (PartThere addresses (PlainThere there ends))) fewer less stage rest =
+operated_with_memory {context = context} {other = other} {second = second} {reference = reference}
+    {operation = operation} known_there go asked sound one types two other_types operand
+    (PartThere does (PartThere addresses (PlainThere there ends))) fewer less stage rest =
     at_byte _ _ _ does one types fewer stage
     (λ v u now memory_now is given next.
     at_carried _ _ _
-    (asked.locates known_there _ _ other reference _ _ _ _ second operand.is_there addresses two other_types) less tt
+    (asked.locates known_there _ _ other reference _ _ _ _ second operand.is_there addresses two other_types)
+    less tt
     (λ w late memory_late (lies : ByteIsAtHl context _ reference (type_of second) now memory_now w late memory_late). lies.known)
     next
     (λ w s late memory_late other_is lies stage_late.
@@ -129,13 +141,16 @@ operated_with_memory {context = context} {other = other} {second = second} {refe
     (λ final.
     rest v w s _ memory_late (value_of v asked one types stage is)
     (value_of w asked two other_types next other_is)
-    (operated_so operation v w late.a (byte_at memory_late (word late.h late.l)) _ late.flags a lies.is_there refl refl)
+    (operated_so operation v w late.a (byte_at memory_late (word late.h late.l)) _ late.flags a
+    lies.is_there refl refl)
     final))))
 
 -- the second in E, and then the first in A
 pub operated_with_e :
-    {C : Type 0} {context : Context} {top pushed need : ℕ} {base : List ℕ} {t : SourceState} {facts last : Facts}
-    {r : Registers} {memory_then : List ℕ} {from to more bound other_bound : ℕ} {number other : ExpressionNumber}
+    {C : Type 0} {context : Context} {top pushed need : ℕ} {base : List ℕ} {t : SourceState}
+    {facts last : Facts}
+    {r : Registers} {memory_then : List ℕ} {from to more bound other_bound : ℕ}
+    {number other : ExpressionNumber}
     {first second : TypedExpression} {operation : Operation}
     {Good : C → SourceState → State → Type 0} (go : ℕ → ℕ → SourceState → Outcome C)
     → BytesAsked context
@@ -146,7 +161,8 @@ pub operated_with_e :
     → TypesHold context.typed context.within second
     → is_free context.site number ≡ true
     → StepsStand context (PartDoes context) facts from
-    (part (Byte other) pushed ∷ Plain (copy E A) ∷ part (Byte number) pushed ∷ Plain (with_register operation E) ∷ [])
+    (part (Byte other) pushed ∷ Plain (copy E A) ∷ part (Byte number) pushed
+    ∷ Plain (with_register operation E) ∷ [])
     last to
     → 2 * height_of first ≤ need
     → 2 * height_of second ≤ need
@@ -154,7 +170,9 @@ pub operated_with_e :
     → GoesOnOperated context first second number other operation top pushed need base last to more go Good
     → Does (script_of context) t.budget more (at_place from r memory_then t.events)
     (exchanged (value_in context first) (value_in context second) go t) Good
-operated_with_e {context = context} {operation = operation} go asked sound one types two other_types free (PartThere does (PlainThere copied (PartThere other_does (PlainThere there ends)))) fewer less stage rest =
+operated_with_e {context = context} {operation = operation} go asked sound one types two other_types free
+    (PartThere does (PlainThere copied (PartThere other_does (PlainThere there ends))))
+    fewer less stage rest =
     at_byte _ _ _ does two other_types less stage
     (λ w u now memory_now is given next.
     let held = next.ready.registers in
@@ -164,8 +182,11 @@ operated_with_e {context = context} {operation = operation} go asked sound one t
     at_byte _ _ _ other_does one types fewer in_e
     (λ v s late memory_late other_is other_given stage_late.
     let e = (other_given.free free).e ∙ given.a in
-    let small = operate_small operation late.a late.e late.flags stage_late.ready.registers.a stage_late.ready.registers.e in
-    stage_with_a (operate operation late.a late.e late.flags).value (operate operation late.a late.e late.flags).flags
+    let small =
+    operate_small operation late.a late.e late.flags stage_late.ready.registers.a
+    stage_late.ready.registers.e in
+    stage_with_a (operate operation late.a late.e late.flags).value
+    (operate operation late.a late.e late.flags).flags
     sound stage_late there refl small tt
     (λ last_stage. at_end ends last_stage
     (λ final.
@@ -176,8 +197,10 @@ operated_with_e {context = context} {operation = operation} go asked sound one t
 
 -- the first on the stack, the second in A, which the first is taken to
 pub operated_with_first_in_b :
-    {C : Type 0} {context : Context} {top pushed need : ℕ} {base : List ℕ} {t : SourceState} {facts last : Facts}
-    {r : Registers} {memory_then : List ℕ} {from to more bound other_bound : ℕ} {number other : ExpressionNumber}
+    {C : Type 0} {context : Context} {top pushed need : ℕ} {base : List ℕ} {t : SourceState}
+    {facts last : Facts}
+    {r : Registers} {memory_then : List ℕ} {from to more bound other_bound : ℕ}
+    {number other : ExpressionNumber}
     {first second : TypedExpression} {operation : Operation}
     {Good : C → SourceState → State → Type 0} (go : ℕ → ℕ → SourceState → Outcome C)
     → BytesAsked context
@@ -187,15 +210,20 @@ pub operated_with_first_in_b :
     → IsExpression (nodes_in context) context.storage other_bound other.index second
     → TypesHold context.typed context.within second
     → StepsStand context (PartDoes context) facts from
-    (part (Byte number) pushed ∷ Plain (Push Psw) ∷ part (Byte other) ((pushed + 2) % 65536) ∷ Plain (Pop StackBc)
+    (part (Byte number) pushed ∷ Plain (Push Psw) ∷ part (Byte other) ((pushed + 2) % 65536)
+    ∷ Plain (Pop StackBc)
     ∷ Plain (with_register operation B) ∷ []) last to
     → 2 * height_of first ≤ need
     → 2 + 2 * height_of second ≤ need
     → Stage context top pushed need base t facts r memory_then
-    → GoesOnOperated context second first other number operation top pushed need base last to more (λ w v u. go v w u) Good
+    → GoesOnOperated context second first other number operation top pushed need base last to more
+    (λ w v u. go v w u) Good
     → Does (script_of context) t.budget more (at_place from r memory_then t.events)
     (in_order (value_in context first) (value_in context second) go t) Good
-operated_with_first_in_b {context = context} {top = top} {need = need} {second = second} {operation = operation} go asked sound one types two other_types (PartThere does (PlainThere pushes (PartThere other_does (PlainThere pops (PlainThere there ends))))) fewer less stage rest =
+operated_with_first_in_b {context = context} {top = top} {need = need} {second = second}
+    {operation = operation} go asked sound one types two other_types
+    (PartThere does (PlainThere pushes (PartThere other_does (PlainThere pops (PlainThere there ends)))))
+    fewer less stage rest =
     let some = some_height second in
     let enough : 3 ≤ need = omega (arith, some, less) in
     at_byte _ _ _ does one types fewer stage
@@ -208,10 +236,13 @@ operated_with_first_in_b {context = context} {top = top} {need = need} {second =
     (λ w s late memory_late other_is other_given stage_late.
     at_pop sound enough (pushed_is_small Psw now held) next stage_late pops
     (λ popped.
-    let back : Registers = record (with_popped StackBc (word now.a (flag_byte now.flags)) late) { sp = wrap top } in
+    let back : Registers =
+    record (with_popped StackBc (word now.a (flag_byte now.flags)) late) { sp = wrap top } in
     let b : back.b ≡ v % 256 = high_of_pair now.a (flag_byte now.flags) flags_small ∙ given.a in
-    let small = operate_small operation back.a back.b back.flags popped.ready.registers.a popped.ready.registers.b in
-    stage_with_a (operate operation back.a back.b back.flags).value (operate operation back.a back.b back.flags).flags
+    let small =
+    operate_small operation back.a back.b back.flags popped.ready.registers.a popped.ready.registers.b in
+    stage_with_a (operate operation back.a back.b back.flags).value
+    (operate operation back.a back.b back.flags).flags
     sound popped there refl small tt
     (λ last_stage. at_end ends last_stage
     (λ final.
@@ -222,8 +253,10 @@ operated_with_first_in_b {context = context} {top = top} {need = need} {second =
 
 -- the first on the stack and in A again, the second in B
 pub operated_with_second_in_b :
-    {C : Type 0} {context : Context} {top pushed need : ℕ} {base : List ℕ} {t : SourceState} {facts last : Facts}
-    {r : Registers} {memory_then : List ℕ} {from to more bound other_bound : ℕ} {number other : ExpressionNumber}
+    {C : Type 0} {context : Context} {top pushed need : ℕ} {base : List ℕ} {t : SourceState}
+    {facts last : Facts}
+    {r : Registers} {memory_then : List ℕ} {from to more bound other_bound : ℕ}
+    {number other : ExpressionNumber}
     {first second : TypedExpression} {operation : Operation}
     {Good : C → SourceState → State → Type 0} (go : ℕ → ℕ → SourceState → Outcome C)
     → BytesAsked context
@@ -233,7 +266,8 @@ pub operated_with_second_in_b :
     → IsExpression (nodes_in context) context.storage other_bound other.index second
     → TypesHold context.typed context.within second
     → StepsStand context (PartDoes context) facts from
-    (part (Byte number) pushed ∷ Plain (Push Psw) ∷ part (Byte other) ((pushed + 2) % 65536) ∷ Plain (copy B A)
+    (part (Byte number) pushed ∷ Plain (Push Psw)
+    ∷ part (Byte other) ((pushed + 2) % 65536) ∷ Plain (copy B A)
     ∷ Plain (Pop Psw) ∷ Plain (with_register operation B) ∷ []) last to
     → 2 * height_of first ≤ need
     → 2 + 2 * height_of second ≤ need
@@ -241,7 +275,10 @@ pub operated_with_second_in_b :
     → GoesOnOperated context first second number other operation top pushed need base last to more go Good
     → Does (script_of context) t.budget more (at_place from r memory_then t.events)
     (in_order (value_in context first) (value_in context second) go t) Good
-operated_with_second_in_b {context = context} {top = top} {need = need} {second = second} {operation = operation} go asked sound one types two other_types (PartThere does (PlainThere pushes (PartThere other_does (PlainThere copied (PlainThere pops (PlainThere there ends)))))) fewer less stage rest =
+operated_with_second_in_b {context = context} {top = top} {need = need} {second = second}
+    {operation = operation} go asked sound one types two other_types
+    (PartThere does (PlainThere pushes (PartThere other_does
+    (PlainThere copied (PlainThere pops (PlainThere there ends)))))) fewer less stage rest =
     let some = some_height second in
     let enough : 3 ≤ need = omega (arith, some, less) in
     at_byte _ _ _ does one types fewer stage
@@ -258,10 +295,14 @@ operated_with_second_in_b {context = context} {top = top} {need = need} {second 
     (λ in_b.
     at_pop sound enough (pushed_is_small Psw now held) next in_b pops
     (λ popped.
-    let back : Registers = record (with_popped Psw (word now.a (flag_byte now.flags)) (record late { b = late.a })) { sp = wrap top } in
+    let back : Registers =
+    record (with_popped Psw (word now.a (flag_byte now.flags))
+    (record late { b = late.a })) { sp = wrap top } in
     let a : back.a ≡ v % 256 = high_of_pair now.a (flag_byte now.flags) flags_small ∙ given.a in
-    let small = operate_small operation back.a back.b back.flags popped.ready.registers.a popped.ready.registers.b in
-    stage_with_a (operate operation back.a back.b back.flags).value (operate operation back.a back.b back.flags).flags
+    let small =
+    operate_small operation back.a back.b back.flags popped.ready.registers.a popped.ready.registers.b in
+    stage_with_a (operate operation back.a back.b back.flags).value
+    (operate operation back.a back.b back.flags).flags
     sound popped there refl small tt
     (λ last_stage. at_end ends last_stage
     (λ final.

@@ -36,7 +36,8 @@ gone_on false false x half q now same is gone = record {
 }
 gone_on false true x half q now same is gone = record {
   nothing = λ bad. absurd (false≢true (sym bad));
-  a = gone.a ∙ ap (λ (n : ℕ). (x * n) % 256) (sym (bit_set q half same is ∙ one_alone half (gone.nothing refl)));
+  a = gone.a ∙ ap (λ (n : ℕ). (x * n) % 256)
+      (sym (bit_set q half same is ∙ one_alone half (gone.nothing refl)));
   b = gone.b;
 }
 gone_on true false x half q now same is gone = record {
@@ -62,14 +63,16 @@ chain_is zero number x below now few gone = (below, gone)
 chain_is (suc bit) number x below now few gone =
     let set : Bool = has_bit number bit in
     let first : List Instr = byte_instructions below set in
-    let rest : List Instr = chain_instructions bit number (with_register Add A) (with_register Add B) (below || set) in
+    let rest : List Instr =
+    chain_instructions bit number (with_register Add A) (with_register Add B) (below || set) in
     let next = gone_on below set x (number / 2 ^ suc bit) (number / 2 ^ bit) now (next_quotient number bit)
     (sym (bit_is number bit (less_bits bit few))) gone in
     let last = chain_is bit number x (below || set) (effect first now) (fewer_bits bit few) next in
     (last.0, subst (λ (after : Registers). Gone last.0 x (number / 2 ^ 0) after) (sym (effect_on first rest now)) last.1)
 
 -- where a bit was 1 A is the product
-all_gone : (below : Bool) (x number : ℕ) (now : Registers) → (number ≡ 0 → ⊥) → Gone below x number now → now.a ≡ (x * number) % 256
+all_gone : (below : Bool) (x number : ℕ) (now : Registers) → (number ≡ 0 → ⊥) → Gone below x number now
+    → now.a ≡ (x * number) % 256
 all_gone true x number now some gone = gone.a
 all_gone false x number now some gone = absurd (some (gone.nothing refl))
 
@@ -85,7 +88,8 @@ small_power power number same small = by (nat_le 8 power) refl
         let more : 2 ^ 8 ≤ 2 ^ power = pow-le-pow_right (omega arith) (leb-true 8 power is) in
         absurd (omega (arith, more, same, small))
 
-low_product : (scalar : ScalarType) (v k n : ℕ) → n ≡ k % 256 → ((v % 256) * n) % 256 ≡ (v * k) % values_of scalar % 256
+low_product : (scalar : ScalarType) (v k n : ℕ) → n ≡ k % 256
+    → ((v % 256) * n) % 256 ≡ (v * k) % values_of scalar % 256
 low_product scalar v k n same =
     ap (λ m. ((v % 256) * m) % 256) same ∙ sym (mul-mod v k 256) ∙ low_of_type scalar (v * k)
 
@@ -119,7 +123,8 @@ module _
           byte_by_code context sound one (doubled_code power (small_power power n power_there small))
           (λ v fits. ap (λ p. ((v % 256) * p) % 256) (sym power_there) ∙ low_product scalar v k n same) given
       by_power None is some given =
-          let chain : List Instr = chain_instructions 16 n (with_register Add A) (with_register Add B) false in
+          let chain : List Instr =
+          chain_instructions 16 n (with_register Add A) (with_register Add B) false in
           byte_makes context sound one (copy B A ∷ chain) (λ x. (x * n) % 256)
           (tt, all_straight chain (chain_on 16 n (with_register Add A) (with_register Add B) false tt tt))
           (λ r a_small.
@@ -134,7 +139,8 @@ module _
           (subst (λ (m : ℕ). Gone ends.0 r.a m (effect chain begun)) (last_quotient n) ends.1))
           (λ free. absurd (not_free free))
           (λ v fits. low_product scalar v k n same)
-          (subst (λ (steps : List Step). StepsStand context (PartDoes context) facts from (part (tasks.Byte inner) pushed ∷ Plain (copy B A) ∷ steps) last to)
+          (subst (λ (steps : List Step). StepsStand context (PartDoes context) facts from
+          (part (tasks.Byte inner) pushed ∷ Plain (copy B A) ∷ steps) last to)
           (chain_same 16 n (with_register Add A) (with_register Add B) false) given)
 
       by_none : (none : Bool) → (n == 0) ≡ none
@@ -144,7 +150,8 @@ module _
           → ByteCarried context facts number tree pushed from last to
       by_none true is given =
           zero_after context sound one
-          (λ v fits. nothing v ∙ ap (λ m. ((v % 256) * m) % 256) (sym (eqb-true n 0 is)) ∙ low_product scalar v k n same) given
+          (λ v fits. nothing v ∙ ap (λ m. ((v % 256) * m) % 256) (sym (eqb-true n 0 is))
+          ∙ low_product scalar v k n same) given
         where
           nothing : (v : ℕ) → 0 ≡ ((v % 256) * 0) % 256
           nothing v = omega arith

@@ -30,20 +30,22 @@ pub of_left :
     → (is_free context.site number ≡ true → is_free context.site left ≡ true)
     → OfOne context number left (BinaryNode operands operator first second) first g
     (values_of (type_of first))
-of_left {context = context} {first = first} {second = second} facts number operator operands k g sound one two is result small free = record {
-  bound = one.bound;
-  node = one.is;
-  types = one.types;
-  fewer = omega arith;
-  means = λ t.
-      second_known first facts (Number k) (λ x y u. computed (result_of operands operator x y) u) t sound two
-      (number_known context facts _ k is)
-      ∙ same_rest (value_in context first t) (λ x u. computed (result_of operands operator x k) u) (λ x u. Gave (g x) u)
-      (λ x u. ap (λ (found : Option ℕ). computed found u) (result x));
-  fits = λ s u v source same. value_fits s sound one.is one.types source same;
-  small = small;
-  free = free;
-}
+of_left {context = context} {first = first} {second = second} facts number operator operands k g sound one two
+    is result small free = record {
+      bound = one.bound;
+      node = one.is;
+      types = one.types;
+      fewer = omega arith;
+      means = λ t.
+          second_known first facts (Number k) (λ x y u. computed (result_of operands operator x y) u) t sound two
+          (number_known context facts _ k is)
+          ∙ same_rest (value_in context first t) (λ x u. computed (result_of operands operator x k) u)
+          (λ x u. Gave (g x) u)
+          (λ x u. ap (λ (found : Option ℕ). computed found u) (result x));
+      fits = λ s u v source same. value_fits s sound one.is one.types source same;
+      small = small;
+      free = free;
+    }
 
 -- an operator with a number on the left
 pub of_right :
@@ -58,20 +60,22 @@ pub of_right :
     → (is_free context.site number ≡ true → is_free context.site right ≡ true)
     → OfOne context number right (BinaryNode operands operator first second) second g
     (values_of (type_of second))
-of_right {context = context} {first = first} {second = second} facts number operator operands k g sound one two is result small free = record {
-  bound = two.bound;
-  node = two.is;
-  types = two.types;
-  fewer = omega arith;
-  means = λ t.
-      first_known second facts (Number k) (λ x y u. computed (result_of operands operator x y) u) t sound one
-      (number_known context facts _ k is)
-      ∙ same_rest (value_in context second t) (λ y u. computed (result_of operands operator k y) u) (λ y u. Gave (g y) u)
-      (λ y u. ap (λ (found : Option ℕ). computed found u) (result y));
-  fits = λ s u v source same. value_fits s sound two.is two.types source same;
-  small = small;
-  free = free;
-}
+of_right {context = context} {first = first} {second = second} facts number operator operands k g sound one
+    two is result small free = record {
+      bound = two.bound;
+      node = two.is;
+      types = two.types;
+      fewer = omega arith;
+      means = λ t.
+          first_known second facts (Number k) (λ x y u. computed (result_of operands operator x y) u) t sound one
+          (number_known context facts _ k is)
+          ∙ same_rest (value_in context second t) (λ y u. computed (result_of operands operator k y) u)
+          (λ y u. Gave (g y) u)
+          (λ y u. ap (λ (found : Option ℕ). computed found u) (result y));
+      fits = λ s u v source same. value_fits s sound two.is two.types source same;
+      small = small;
+      free = free;
+    }
 
 -- a power of two
 power_there :
@@ -142,16 +146,19 @@ remainder_byte v count n same small =
 
 module _
     (context : Context) {facts last : Facts} {from to pushed bound : ℕ} {left right : ExpressionNumber}
-    {first second : TypedExpression} (number : ExpressionNumber) (operands : ScalarType) (sound : IsSound context)
+    {first second : TypedExpression} (number : ExpressionNumber) (operands : ScalarType)
+    (sound : IsSound context)
     (one : IsOperand context left first) (is_type : type_of first ≡ operands)
     (two : IsOperand context right second)
     (not_free : is_free context.site number ≡ true → ⊥) where
   -- a quotient
   pub quotient_law :
-      IsExpression (nodes_in context) context.storage bound number.index (BinaryNode operands operators.Divide first second)
+      IsExpression (nodes_in context) context.storage bound number.index
+      (BinaryNode operands operators.Divide first second)
       → TypesHold context.typed context.within (BinaryNode operands operators.Divide first second)
       → StepsStand context (PartDoes context) facts from
-      (quotient_byte_steps (knowing context.site facts) (record { left = left; right = right }) pushed) last to
+      (quotient_byte_steps (knowing context.site facts) (record { left = left; right = right }) pushed) last
+      to
       → ByteCarried context facts number
       (BinaryNode operands operators.Divide first second) pushed from last to
   unfolding quotient_byte_steps division_steps
@@ -162,7 +169,8 @@ module _
           (elim found [
             | Some count ↦ low_byte_shifted_right_steps (knowing context.site facts) left count pushed
             | None ↦
-                (pair_steps (knowing context.site facts) left right true pushed ++ (CallRoutine routines.Divide ∷ []))
+                (pair_steps (knowing context.site facts) left right true pushed
+                ++ (CallRoutine routines.Divide ∷ []))
                 ++ (Plain (copy A L) ∷ [])
           ]) last to
           → ByteCarried context facts number
@@ -183,7 +191,8 @@ module _
           (one_high (height_of first) (height_of second) _ (omega arith))
           (two_high (height_of first) (height_of second) _ (omega arith))
           (subst (λ steps. StepsStand context (PartDoes context) facts from steps last to)
-          (append_assoc (pair_steps (knowing context.site facts) left right true pushed) (CallRoutine routines.Divide ∷ [])
+          (append_assoc (pair_steps (knowing context.site facts) left right true pushed)
+          (CallRoutine routines.Divide ∷ [])
           (Plain (copy A L) ∷ [])) given)
           (record { ready = ready; known = known })
           (λ x y t now ended middle found fewer rest going_on has.
@@ -192,14 +201,17 @@ module _
           routine_then routines.Divide (Plain (copy A L) ∷ []) now sound tt room (omega arith) rest going_on
           (λ after last_memory stand_on going_last computes leaves.
           let quotient : word after.h after.l ≡ x / y = computes.0 (x / y)
-          (ap (λ n. result_of scalars.Address operators.Divide n (word now.d now.e)) (word_from_halves x now.h now.l has.h has.l)
-          ∙ ap (λ n. result_of scalars.Address operators.Divide x n) (word_from_halves y now.d now.e has.d has.e)
+          (ap (λ n. result_of scalars.Address operators.Divide n (word now.d now.e))
+          (word_from_halves x now.h now.l has.h has.l)
+          ∙ ap (λ n. result_of scalars.Address operators.Divide x n)
+          (word_from_halves y now.d now.e has.d has.e)
           ∙ some_of y (x / y) some) in
           low_of_hl (x / y) after sound stand_on going_last quotient))))
 
   -- a remainder
   pub remainder_law :
-      IsExpression (nodes_in context) context.storage bound number.index (BinaryNode operands operators.Modulo first second)
+      IsExpression (nodes_in context) context.storage bound number.index
+      (BinaryNode operands operators.Modulo first second)
       → TypesHold context.typed context.within (BinaryNode operands operators.Modulo first second)
       → StepsStand context (PartDoes context) facts from
       (remainder_byte_steps (knowing context.site facts)
@@ -222,9 +234,12 @@ module _
       by (Some n) here given =
           let power_is_there : IsPower context facts right n = two_there context facts right n here in
           let count : ℕ = power_is_there.count in
-          let small : 2 ^ count < 65536 = value_is_word (type_of second) (2 ^ count) (number_small facts (2 ^ count) sound two.is two.types power_is_there.there) in
+          let small : 2 ^ count < 65536 =
+          value_is_word (type_of second) (2 ^ count)
+          (number_small facts (2 ^ count) sound two.is two.types power_is_there.there) in
           with_number context sound
-          (of_left facts number operators.Modulo operands (2 ^ count) (λ v. v % 2 ^ count) sound one two power_is_there.there
+          (of_left facts number operators.Modulo operands (2 ^ count) (λ v. v % 2 ^ count) sound one two
+          power_is_there.there
           (λ v. some_of (2 ^ count) (v % 2 ^ count) (not_none count))
           (λ v fits. subst (λ scalar. v % 2 ^ count < values_of scalar) is_type
           (result_at_most (type_of first) v (v % 2 ^ count) (remainder_less v (2 ^ count)) fits))
@@ -245,8 +260,10 @@ module _
           (λ after last_memory stand_on going_last computes leaves.
           let bytes = going_last.ready.registers in
           let remainder : word after.d after.e ≡ x % y = computes.1 (x % y)
-          (ap (λ n. result_of scalars.Address operators.Modulo n (word now.d now.e)) (word_from_halves x now.h now.l has.h has.l)
-          ∙ ap (λ n. result_of scalars.Address operators.Modulo x n) (word_from_halves y now.d now.e has.d has.e)
+          (ap (λ n. result_of scalars.Address operators.Modulo n (word now.d now.e))
+          (word_from_halves x now.h now.l has.h has.l)
+          ∙ ap (λ n. result_of scalars.Address operators.Modulo x n)
+          (word_from_halves y now.d now.e has.d has.e)
           ∙ some_of y (x % y) some) in
           registers_then (copy A E ∷ []) [] after sound (tt, tt) stand_on going_last
           (λ at_end at_end_found ends going_end.

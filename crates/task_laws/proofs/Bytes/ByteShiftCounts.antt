@@ -37,14 +37,16 @@ routine_done {to = to} function v k number r in_type not_free small a e computes
     at_end rest next
     (λ final.
     byte_given to number (shifted scalars.Byte function v k)
-    (computes ∙ ap (λ n. shifted scalars.Byte function n r.e) a ∙ ap (λ n. shifted scalars.Byte function v n) e
+    (computes ∙ ap (λ n. shifted scalars.Byte function n r.e) a
+    ∙ ap (λ n. shifted scalars.Byte function v n) e
     ∙ sym (low_of_byte (shifted scalars.Byte function v k) fits)) fits
     (λ free. absurd (false≢true (sym not_free ∙ free))) final)
 
 -- the call of the routine, with the byte in A and the count in E
 routine_ends :
     {context : Context} {top pushed need from to : ℕ} {base : List ℕ} {u : SourceState} {facts last : Facts}
-    {r began : Registers} {memory memory_began : List ℕ} (function : ShiftFunction) (v k : ℕ) (number : ExpressionNumber)
+    {r began : Registers} {memory memory_began : List ℕ} (function : ShiftFunction) (v k : ℕ)
+    (number : ExpressionNumber)
     → IsSound context
     → ShiftsIn function scalars.Byte
     → is_free context.site number ≡ false
@@ -59,22 +61,26 @@ routine_ends :
     (Arrives context.activation top base to (ByteIsGiven context last number scalars.Byte began memory_began))
 unfolding byte_routine
 routine_ends {r = r} ShiftLeft v k number sound in_type not_free two small a e stand stage =
-    routine_then routines.ShiftLeftByte [] r sound tt stage.room two stand (record { ready = stage.ready; known = stage.known })
+    routine_then routines.ShiftLeftByte [] r sound tt stage.room two stand
+    (record { ready = stage.ready; known = stage.known })
     (λ now ended rest going computes leaves.
     routine_done ShiftLeft v k number r in_type not_free small a e computes rest
     (record { below = stage.below; room = stage.room; ready = going.ready; known = going.known }))
 routine_ends {r = r} ShiftRight v k number sound in_type not_free two small a e stand stage =
-    routine_then routines.ShiftRightByte [] r sound tt stage.room two stand (record { ready = stage.ready; known = stage.known })
+    routine_then routines.ShiftRightByte [] r sound tt stage.room two stand
+    (record { ready = stage.ready; known = stage.known })
     (λ now ended rest going computes leaves.
     routine_done ShiftRight v k number r in_type not_free small a e computes rest
     (record { below = stage.below; room = stage.room; ready = going.ready; known = going.known }))
 routine_ends {r = r} RotateLeft v k number sound in_type not_free two small a e stand stage =
-    routine_then routines.RotateLeft [] r sound tt stage.room two stand (record { ready = stage.ready; known = stage.known })
+    routine_then routines.RotateLeft [] r sound tt stage.room two stand
+    (record { ready = stage.ready; known = stage.known })
     (λ now ended rest going computes leaves.
     routine_done RotateLeft v k number r in_type not_free small a e computes rest
     (record { below = stage.below; room = stage.room; ready = going.ready; known = going.known }))
 routine_ends {r = r} RotateRight v k number sound in_type not_free two small a e stand stage =
-    routine_then routines.RotateRight [] r sound tt stage.room two stand (record { ready = stage.ready; known = stage.known })
+    routine_then routines.RotateRight [] r sound tt stage.room two stand
+    (record { ready = stage.ready; known = stage.known })
     (λ now ended rest going computes leaves.
     routine_done RotateRight v k number r in_type not_free small a e computes rest
     (record { below = stage.below; room = stage.room; ready = going.ready; known = going.known }))
@@ -97,11 +103,14 @@ module _
       (part (tasks.Byte value) pushed ∷ part (tasks.Address reference) pushed ∷ Plain (load E)
       ∷ CallRoutine (byte_routine function) ∷ []) last to
       → ByteCarried context facts number (ShiftNode scalars.Byte function first second) pushed from last to
-  count_in_memory reference here (PartThere does (PartThere addresses (PlainThere there rest))) top base s r memory below room ready known_before nothing =
+  count_in_memory reference here (PartThere does (PartThere addresses (PlainThere there rest))) top base s r
+      memory below room ready known_before nothing =
       let operand : IsOperandAt context facts count reference = operand_at facts count reference here in
-      at_byte _ _ _ does one.is one.types (omega arith) (record { below = below; room = room; ready = ready; known = known_before })
+      at_byte _ _ _ does one.is one.types (omega arith)
+      (record { below = below; room = room; ready = ready; known = known_before })
       (λ v u now memory_now is given next.
-      at_carried {top = top} {need = 2 * height_of (ShiftNode scalars.Byte function first second)} {base = base} _ _ _
+      at_carried {top = top} {need = 2 * height_of (ShiftNode scalars.Byte function first second)}
+      {base = base} _ _ _
       (asked.locates facts _ _ count reference _ _ _ _ second operand.is_there addresses two.is two.types)
       (omega arith) tt
       (λ k late memory_late (lies : ByteIsAtHl context _ reference (type_of second) now memory_now k late memory_late). lies.known)
@@ -111,7 +120,8 @@ module _
       let count_small : k < 256 = as_byte (type_of second) k count_is_byte lies.small in
       let small : v < 256 = as_byte (type_of first) v is_byte given.small in
       let loaded : byte_at memory_late (word late.h late.l) ≡ k = equals_byte _ k lies.is_there count_small in
-      at_registers (record late { e = byte_at memory_late (word late.h late.l) }) sound stage_late there refl refl
+      at_registers (record late { e = byte_at memory_late (word late.h late.l) }) sound
+      stage_late there refl refl
       (record {
         a = bytes.a;
         b = bytes.b;
@@ -133,8 +143,10 @@ module _
       (part (tasks.Byte count) pushed ∷ Plain (copy E A) ∷ part (tasks.Byte value) pushed
       ∷ CallRoutine (byte_routine function) ∷ []) last to
       → ByteCarried context facts number (ShiftNode scalars.Byte function first second) pushed from last to
-  count_first free may (PartThere does (PlainThere copied (PartThere other_does rest))) top base s r memory below room ready known_before nothing =
-      does_exchanged facts (λ v k u. Gave (shifted scalars.Byte function v k) u) s sound one.is two.is one.types may
+  count_first free may (PartThere does (PlainThere copied (PartThere other_does rest))) top base s r memory
+      below room ready known_before nothing =
+      does_exchanged facts (λ v k u. Gave (shifted scalars.Byte function v k) u) s sound one.is
+      two.is one.types may
       (at_byte _ _ _ does two.is two.types (omega arith)
       (record { below = below; room = room; ready = ready; known = known_before })
       (λ k u now memory_now is given next.
@@ -156,9 +168,12 @@ module _
       (part (tasks.Byte value) pushed ∷ Plain (Push Psw) ∷ part (tasks.Byte count) ((pushed + 2) % 65536)
       ∷ Plain (copy E A) ∷ Plain (Pop Psw) ∷ CallRoutine (byte_routine function) ∷ []) last to
       → ByteCarried context facts number (ShiftNode scalars.Byte function first second) pushed from last to
-  count_pushed (PartThere does (PlainThere pushes (PartThere other_does (PlainThere copied (PlainThere pops rest))))) top base s r memory below room ready known_before nothing =
+  count_pushed
+      (PartThere does (PlainThere pushes (PartThere other_does (PlainThere copied (PlainThere pops rest)))))
+      top base s r memory below room ready known_before nothing =
       let some = some_height second in
-      at_byte _ _ _ does one.is one.types (omega arith) (record { below = below; room = room; ready = ready; known = known_before })
+      at_byte _ _ _ does one.is one.types (omega arith)
+      (record { below = below; room = room; ready = ready; known = known_before })
       (λ v u now memory_now is given next.
       let held = next.ready.registers in
       let flags_small = flag_byte_small now.flags in
@@ -170,11 +185,14 @@ module _
       let bytes = stage_late.ready.registers in
       let count_small : k < 256 = as_byte (type_of second) k count_is_byte other_given.small in
       at_registers (record late { e = late.a }) sound stage_late copied refl refl
-      (record { a = bytes.a; b = bytes.b; c = bytes.c; d = bytes.d; e = bytes.a; h = bytes.h; l = bytes.l }) tt
+      (record { a = bytes.a; b = bytes.b; c = bytes.c; d = bytes.d; e = bytes.a; h = bytes.h; l = bytes.l })
+      tt
       (λ in_e.
       at_pop sound (omega (arith, some)) (pushed_is_small Psw now held) next in_e pops
       (λ popped.
-      let back : Registers = record (with_popped Psw (word now.a (flag_byte now.flags)) (record late { e = late.a })) { sp = wrap top } in
+      let back : Registers =
+      record (with_popped Psw (word now.a (flag_byte now.flags))
+      (record late { e = late.a })) { sp = wrap top } in
       routine_ends function v k number sound in_type not_free (omega arith) small
       (high_of_pair now.a (flag_byte now.flags) flags_small ∙ equals_byte now.a v given.a small)
       (equals_byte late.a k other_given.a count_small) rest popped)))))
@@ -192,7 +210,8 @@ module _
           → (is_some found || is_free (knowing context.site facts) value) ≡ true
           → is_free context.site value ≡ true
       free_value (Some place) here is = known_byte_free facts place sound one.is one.types is_byte here
-      free_value None here is = free_is context.site value ∙ sym (free_is (knowing context.site facts) value) ∙ is
+      free_value None here is =
+          free_is context.site value ∙ sym (free_is (knowing context.site facts) value) ∙ is
 
       by_exchange : (may : Bool)
           → ((is_some (known (knowing context.site facts) value) || is_free
@@ -201,12 +220,16 @@ module _
           → StepsStand context (PartDoes context) facts from
           ((if may then part (tasks.Byte count) pushed ∷ Plain (copy E A) ∷ part
           (tasks.Byte value) pushed ∷ []
-          else part (tasks.Byte value) pushed ∷ Plain (Push Psw) ∷ part (tasks.Byte count) ((pushed + 2) % 65536)
+          else part (tasks.Byte value) pushed ∷ Plain (Push Psw)
+          ∷ part (tasks.Byte count) ((pushed + 2) % 65536)
           ∷ Plain (copy E A) ∷ Plain (Pop Psw) ∷ []) ++ (CallRoutine (byte_routine function) ∷ [])) last to
           → ByteCarried context facts number
           (ShiftNode scalars.Byte function first second) pushed from last to
       by_exchange true is given =
-          let parts = and_parts (is_some (known (knowing context.site facts) value) || is_free (knowing context.site facts) value)
+          let parts =
+          and_parts
+          (is_some (known (knowing context.site facts) value)
+          || is_free (knowing context.site facts) value)
           (may_exchange (knowing context.site facts) value count) is in
           count_first (free_value (known (knowing context.site facts) value) refl parts.0) parts.1 given
       by_exchange false is given = count_pushed given
@@ -214,12 +237,15 @@ module _
       by_memory : (found : Option Reference) → operand_in_memory (knowing context.site facts) count ≡ found
           → StepsStand context (PartDoes context) facts from
           ((elim found [
-            | Some reference ↦ part (tasks.Byte value) pushed ∷ part (tasks.Address reference) pushed ∷ Plain (load E) ∷ []
+            | Some reference ↦ part (tasks.Byte value) pushed ∷ part (tasks.Address reference) pushed
+                ∷ Plain (load E) ∷ []
             | None ↦
-                if (is_some (known (knowing context.site facts) value) || is_free (knowing context.site facts) value)
+                if (is_some (known (knowing context.site facts) value)
+                || is_free (knowing context.site facts) value)
                 && may_exchange (knowing context.site facts) value count
                 then part (tasks.Byte count) pushed ∷ Plain (copy E A) ∷ part (tasks.Byte value) pushed ∷ []
-                else part (tasks.Byte value) pushed ∷ Plain (Push Psw) ∷ part (tasks.Byte count) ((pushed + 2) % 65536)
+                else part (tasks.Byte value) pushed ∷ Plain (Push Psw)
+                ∷ part (tasks.Byte count) ((pushed + 2) % 65536)
                 ∷ Plain (copy E A) ∷ Plain (Pop Psw) ∷ []
           ]) ++ (CallRoutine (byte_routine function) ∷ [])) last to
           → ByteCarried context facts number

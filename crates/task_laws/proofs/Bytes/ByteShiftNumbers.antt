@@ -37,7 +37,8 @@ repeated_code i f count on does = record {
   beside = λ r. (repeats_on_a i f count r does).1;
 }
 
-pub both_straight : (one other : List Instr) → AreStraight one → AreStraight other → AreStraight (one ++ other)
+pub both_straight : (one other : List Instr) → AreStraight one → AreStraight other
+    → AreStraight (one ++ other)
 both_straight [] other first second = second
 both_straight (i ∷ one) other first second = (first.0, both_straight one other first.1 second)
 
@@ -65,9 +66,11 @@ code_on {other = other} {g = g} first second small = record {
 }
 
 -- A doubled `count` times
-pub doubled_code : (count : ℕ) → count < 8 → CodeOfA (repeat_steps (with_register Add A) count) (λ x. (x * 2 ^ count) % 256)
+pub doubled_code : (count : ℕ) → count < 8
+    → CodeOfA (repeat_steps (with_register Add A) count) (λ x. (x * 2 ^ count) % 256)
 doubled_code count few =
-    code_same (repeated_code (with_register Add A) shift_left count tt (λ now. (omega arith, beside_a _ _ now)))
+    code_same
+    (repeated_code (with_register Add A) shift_left count tt (λ now. (omega arith, beside_a _ _ now)))
     (λ x small. shifted_left count x few small)
 
 left_turns : (count : ℕ) → CodeOfA (repeat_steps Rlc count) (times turn_left count)
@@ -91,13 +94,15 @@ unfolding rotation_steps
 rotation_code count few = by (nat_le count 4) refl
   where
     by : (short : Bool) → nat_le count 4 ≡ short
-        → CodeOfA (if short then repeat_steps Rlc count else repeat_steps Rrc (8 - count)) (λ x. turned x count)
+        → CodeOfA (if short then repeat_steps Rlc count else repeat_steps Rrc (8 - count))
+        (λ x. turned x count)
     by true is = code_same (left_turns count) (λ x small. turned_left count x few small)
     by false is =
         let more = leb-false count 4 is in
         code_same (right_turns (8 - count))
         (λ x small.
-        turned_right (8 - count) x (less_turns count more) small ∙ ap (λ n. turned x n) (turned_back count few more))
+        turned_right (8 - count) x (less_turns count more) small
+        ∙ ap (λ n. turned x n) (turned_back count few more))
 
 -- A rotated to the right by a count
 right_code : (count : ℕ) → count < 8 → CodeOfA (turned_right_steps count) (λ x. turned x ((8 - count) % 8))
@@ -105,16 +110,19 @@ unfolding turned_right_steps
 right_code count few = by (nat_le count 4) refl
   where
     by : (short : Bool) → nat_le count 4 ≡ short
-        → CodeOfA (if short then repeat_steps Rrc count else repeat_steps Rlc (8 - count)) (λ x. turned x ((8 - count) % 8))
+        → CodeOfA (if short then repeat_steps Rrc count else repeat_steps Rlc (8 - count))
+        (λ x. turned x ((8 - count) % 8))
     by true is = code_same (right_turns count) (λ x small. turned_right count x few small)
     by false is =
         let more = leb-false count 4 is in
         code_same (left_turns (8 - count))
         (λ x small.
-        turned_left (8 - count) x (less_turns count more) small ∙ ap (λ n. turned x n) (less_right count more few))
+        turned_left (8 - count) x (less_turns count more) small
+        ∙ ap (λ n. turned x n) (less_right count more few))
 
 -- the bits that a rotation to the right brings in are masked
-masked : (count x : ℕ) → count < 8 → x < 256 → bit_and (turned x ((8 - count) % 8)) (255 / 2 ^ count) ≡ x / 2 ^ count
+masked : (count x : ℕ) → count < 8 → x < 256
+    → bit_and (turned x ((8 - count) % 8)) (255 / 2 ^ count) ≡ x / 2 ^ count
 masked zero x few small =
     equal_below (λ k. bit_and (turned k ((8 - 0) % 8)) (255 / 2 ^ 0)) (λ k. k / 2 ^ 0) 256 x refl small
 masked (suc zero) x few small =
@@ -145,7 +153,8 @@ shifted_code count few = by (count == 0) (count == 1) refl refl
         → CodeOfA
         (if none then []
         else if one then plain (with_register Or A ∷ Rar ∷ [])
-        else turned_right_steps count ++ (Plain (AccumulateImmediate And (if nat_lt count 8 then 255 / 2 ^ count else 0)) ∷ []))
+        else turned_right_steps count
+        ++ (Plain (AccumulateImmediate And (if nat_lt count 8 then 255 / 2 ^ count else 0)) ∷ []))
         (λ x. x / 2 ^ count)
     by true one here there =
         code_same
@@ -166,7 +175,8 @@ shifted_code count few = by (count == 0) (count == 1) refl refl
         (λ x small. ap (λ n. x / 2 ^ n) (sym (eqb-true count 1 there)))
     by false false here there =
         code_same
-        (code_on {f = λ x. turned x ((8 - count) % 8)} {g = λ x. bit_and x (if nat_lt count 8 then 255 / 2 ^ count else 0)}
+        (code_on {f = λ x. turned x ((8 - count) % 8)}
+        {g = λ x. bit_and x (if nat_lt count 8 then 255 / 2 ^ count else 0)}
         (right_code count few)
         (record {
           instructions = AccumulateImmediate And (if nat_lt count 8 then 255 / 2 ^ count else 0) ∷ [];
@@ -177,7 +187,8 @@ shifted_code count few = by (count == 0) (count == 1) refl refl
         })
         (λ x small. turned_fits x ((8 - count) % 8) small (omega arith)))
         (λ x small.
-        ap (λ (test : Bool). bit_and (turned x ((8 - count) % 8)) (if test then 255 / 2 ^ count else 0)) (lt-ltb count 8 few)
+        ap (λ (test : Bool). bit_and (turned x ((8 - count) % 8)) (if test then 255 / 2 ^ count else 0))
+        (lt-ltb count 8 few)
         ∙ masked count x few small)
 
 -- the low byte of a multiple is that of the low byte's
@@ -254,4 +265,5 @@ module _
       → ByteCarried context facts number tree pushed from last to
   turned_by_number count few one stand =
       byte_by_code context sound one (rotation_code count few)
-      (λ v fits. sym (low_of_byte (turned (v % 256) count) (turned_fits (v % 256) count (omega arith) few))) stand
+      (λ v fits. sym (low_of_byte (turned (v % 256) count) (turned_fits (v % 256) count (omega arith) few)))
+      stand

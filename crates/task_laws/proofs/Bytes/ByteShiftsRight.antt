@@ -24,7 +24,8 @@ first_half : (v h l : ℕ) → h ≡ v / 256 → l ≡ v % 256 → l / 2 + 128 *
 first_half v h l one two = omega (arith, one, two)
 
 -- the middle byte of a word, from the word shifted left by 8 minus the count
-middle : (count v : ℕ) → 1 ≤ count → count < 8 → v < 65536 → (v * 2 ^ (8 - count)) % 65536 / 256 ≡ v / 2 ^ count % 256
+middle : (count v : ℕ) → 1 ≤ count → count < 8 → v < 65536
+    → (v * 2 ^ (8 - count)) % 65536 / 256 ≡ v / 2 ^ count % 256
 middle zero v some few small = absurd (omega (arith, some))
 middle (suc zero) v some few small = omega (arith, small)
 middle (suc (suc zero)) v some few small = omega (arith, small)
@@ -78,15 +79,18 @@ module _
       by : (single : Bool) → (count == 1) ≡ single
           → StepsStand context (PartDoes context) facts from
           (if single
-          then part (tasks.Word inner) pushed ∷ plain (with_register Or A ∷ copy A H ∷ Rar ∷ copy A L ∷ Rar ∷ [])
-          else part (tasks.Word inner) pushed ∷ repeat_steps (Dad Hl) (8 - count) ++ (Plain (copy A H) ∷ [])) last to
+          then part (tasks.Word inner) pushed
+          ∷ plain (with_register Or A ∷ copy A H ∷ Rar ∷ copy A L ∷ Rar ∷ [])
+          else part (tasks.Word inner) pushed ∷ repeat_steps (Dad Hl) (8 - count)
+          ++ (Plain (copy A H) ∷ [])) last to
           → ByteCarried context facts number tree pushed from last to
       by true is given =
           byte_of_word context sound one (with_register Or A ∷ copy A H ∷ Rar ∷ copy A L ∷ Rar ∷ [])
           (λ h l. l / 2 + 128 * (h % 2)) (tt, (tt, (tt, (tt, (tt, tt)))))
           (λ r h_small l_small. carried r.h r.l)
           not_free
-          (λ v fits. first_half v (v / 256) (v % 256) refl refl ∙ ap (λ n. v / 2 ^ n % 256) (sym (eqb-true count 1 is)))
+          (λ v fits. first_half v (v / 256) (v % 256) refl refl
+          ∙ ap (λ n. v / 2 ^ n % 256) (sym (eqb-true count 1 is)))
           given
       by false is given =
           let turns : List Instr = replicate (8 - count) (Dad Hl) in
@@ -102,8 +106,10 @@ module _
           (λ v fits.
           ap (λ n. (n * 2 ^ (8 - count)) % 65536 / 256) (halves_joined v)
           ∙ middle count v some few (value_is_word (type_of inside) v fits))
-          (subst (λ steps. StepsStand context (PartDoes context) facts from (part (tasks.Word inner) pushed ∷ steps) last to)
-          (ap (λ steps. steps ++ (Plain (copy A H) ∷ [])) (repeated (Dad Hl) (8 - count)) ∙ sym (plain_on turns (copy A H ∷ [])))
+          (subst (λ steps. StepsStand context (PartDoes context) facts from
+          (part (tasks.Word inner) pushed ∷ steps) last to)
+          (ap (λ steps. steps ++ (Plain (copy A H) ∷ [])) (repeated (Dad Hl) (8 - count))
+          ∙ sym (plain_on turns (copy A H ∷ [])))
           given)
 
   -- the low byte of a value of any type
@@ -128,21 +134,25 @@ module _
         where
           whole : (v : ℕ) → v % 256 ≡ v / 2 ^ 0 % 256
           whole v = omega arith
-      by_none false is few wide given = middle_by_number count (some_count count is) few one (not_free wide) given
+      by_none false is few wide given =
+          middle_by_number count (some_count count is) few one (not_free wide) given
 
       by_byte : (many : Bool) → nat_le 8 count ≡ many
           → fits_byte (knowing context.site facts) inner ≡ false
           → StepsStand context (PartDoes context) facts from
           (if many then high_byte_steps (knowing context.site facts) inner pushed ++ right_shift_steps
           (count - 8)
-          else if count == 0 then part (tasks.Byte inner) pushed ∷ [] else middle_byte_steps inner count pushed) last to
+          else if count == 0 then part (tasks.Byte inner) pushed
+          ∷ [] else middle_byte_steps inner count pushed) last to
           → (nat_le 16 count ≡ false)
           → ByteCarried context facts number tree pushed from last to
       by_byte false is wide given less = by_none (count == 0) refl (leb-false 8 count is) wide given
       by_byte true is wide given less = λ top base s r memory below room ready known nothing.
           let most = leb-true 8 count is in
           let few = leb-false 16 count less in
-          let parts = steps_split (high_byte_steps (knowing context.site facts) inner pushed) (right_shift_steps (count - 8)) given in
+          let parts =
+          steps_split (high_byte_steps (knowing context.site facts) inner pushed)
+          (right_shift_steps (count - 8)) given in
           let code = shifted_code (count - 8) (omega (arith, few)) in
           does_same _ (one.means s)
           (at_carried _ _ _ (high_byte_law sound one.node one.types parts.first) one.fewer tt
@@ -152,11 +162,13 @@ module _
           let fits = one.fits s u v (ready_fits context s ready) same in
           let small = value_is_word (type_of inside) v fits in
           at_last_instructions code.instructions sound code.on
-          (subst (λ steps. StepsStand context (PartDoes context) parts.found parts.middle steps last to) code.same parts.second) next
+          (subst (λ steps. StepsStand context (PartDoes context) parts.found parts.middle steps last to)
+          code.same parts.second) next
           (λ final.
           byte_given to number (v / 2 ^ count)
           (code.makes now next.ready.registers.a ∙ ap (λ n. n / 2 ^ (count - 8)) high.a
-          ∙ quotient_byte (v / 256) (2 ^ (count - 8)) (high_is_byte v small) ∙ ap (λ n. n % 256) (by_high v count most))
+          ∙ quotient_byte (v / 256) (2 ^ (count - 8)) (high_is_byte v small)
+          ∙ ap (λ n. n % 256) (by_high v count most))
           (one.small v fits) (λ free. absurd (not_free wide free)) final)))
 
       by_word : (all : Bool) → nat_le 16 count ≡ all
@@ -165,11 +177,13 @@ module _
           (if all then part (tasks.Effects inner) pushed ∷ Plain clear_a ∷ []
           else if nat_le 8 count
           then high_byte_steps (knowing context.site facts) inner pushed ++ right_shift_steps (count - 8)
-          else if count == 0 then part (tasks.Byte inner) pushed ∷ [] else middle_byte_steps inner count pushed) last to
+          else if count == 0 then part (tasks.Byte inner) pushed
+          ∷ [] else middle_byte_steps inner count pushed) last to
           → ByteCarried context facts number tree pushed from last to
       by_word true is wide given =
           zero_after context sound one
-          (λ v fits. sym (ap (λ n. n % 256) (none_left v count (leb-true 16 count is) (value_is_word (type_of inside) v fits)))) given
+          (λ v fits. sym (ap (λ n. n % 256)
+          (none_left v count (leb-true 16 count is) (value_is_word (type_of inside) v fits)))) given
       by_word false is wide given = by_byte (nat_le 8 count) refl wide given is
 
       by_fits : (fits : Bool) → fits_byte (knowing context.site facts) inner ≡ fits
@@ -178,10 +192,12 @@ module _
           else if nat_le 16 count then part (tasks.Effects inner) pushed ∷ Plain clear_a ∷ []
           else if nat_le 8 count
           then high_byte_steps (knowing context.site facts) inner pushed ++ right_shift_steps (count - 8)
-          else if count == 0 then part (tasks.Byte inner) pushed ∷ [] else middle_byte_steps inner count pushed) last to
+          else if count == 0 then part (tasks.Byte inner) pushed
+          ∷ [] else middle_byte_steps inner count pushed) last to
           → ByteCarried context facts number tree pushed from last to
       by_fits true is given =
-          right_by_number context {number = number} {inner = inner} {tree = tree} {inside = inside} sound count
+          right_by_number context {number = number} {inner = inner} {tree = tree}
+          {inside = inside} sound count
           (record {
             bound = one.bound;
             node = one.node;

@@ -76,15 +76,18 @@ module _ (context : Context) (sound : IsSound context) (asked : BytesAsked conte
   unfolding byte_unary_steps
   unary_law {number = number} {inside = inside} {scalar = scalar} Not is types same free stand =
       byte_makes context sound
-      (of_part {number = number} {tree = UnaryNode scalar Not inside} (λ v. result_of_one scalar Not v) is types (omega arith) (λ t. refl)
+      (of_part {number = number} {tree = UnaryNode scalar Not inside} (λ v. result_of_one scalar Not v) is
+      types (omega arith) (λ t. refl)
       (λ v fits. complement_small scalar v) free)
       (Cma ∷ []) (λ x. 255 - x) (tt, tt) (λ r small. refl) (λ is_free_now r. beside_a _ _ r)
       (λ v fits. complement_byte scalar v (subst (λ (of : ScalarType). v < values_of of) same fits)) stand
   unary_law {number = number} {inside = inside} {scalar = scalar} Negate is types same free stand =
       byte_makes context sound
-      (of_part {number = number} {tree = UnaryNode scalar Negate inside} (λ v. result_of_one scalar Negate v) is types (omega arith) (λ t. refl)
+      (of_part {number = number} {tree = UnaryNode scalar Negate inside} (λ v. result_of_one scalar Negate v)
+      is types (omega arith) (λ t. refl)
       (λ v fits. negative_small scalar v) free)
-      (Cma ∷ Inr (Of A) ∷ []) (λ x. (255 - x + 1) % 256) (tt, (tt, tt)) (λ r small. refl) (λ is_free_now r. beside_a _ _ r)
+      (Cma ∷ Inr (Of A) ∷ []) (λ x. (255 - x + 1) % 256) (tt, (tt, tt)) (λ r small. refl)
+      (λ is_free_now r. beside_a _ _ r)
       (λ v fits. negative_byte scalar v (subst (λ (of : ScalarType). v < values_of of) same fits)) stand
 
   -- an expression that is neither known nor in memory
@@ -104,54 +107,76 @@ module _ (context : Context) (sound : IsSound context) (asked : BytesAsked conte
       location_law number sound reference node.is node.types (never_free node refl) stand
   form_law {number = number} (IsConversion {inner = inner} {scalar = scalar} {tree = inside} is) node stand =
       byte_makes context sound
-      (of_part {number = number} {tree = ConversionNode scalar inside} (as_type scalar) is node.types (omega arith) (λ t. refl)
+      (of_part {number = number} {tree = ConversionNode scalar inside} (as_type scalar) is node.types
+      (omega arith) (λ t. refl)
       (λ v fits. as_type_fits scalar v) (λ free. free_is context.site inner ∙ sym node.free ∙ free))
       [] (λ x. x) tt (λ r small. refl) (λ free r. beside_itself r) (λ v fits. type_byte scalar v) stand
   form_law {number = number} (IsFunction {function = Low} {operand = inner} {tree = inside} is) node stand =
       byte_makes context sound
-      (of_part {number = number} {tree = FunctionNode Low inside} (λ v. v % 256) is node.types (omega arith) (λ t. refl)
+      (of_part {number = number} {tree = FunctionNode Low inside} (λ v. v % 256) is node.types
+      (omega arith) (λ t. refl)
       (λ v fits. omega arith) (λ free. free_is context.site inner ∙ sym node.free ∙ free))
       [] (λ x. x) tt (λ r small. refl) (λ free r. beside_itself r) (λ v fits. omega arith) stand
-  form_law {number = number} (IsFunction {function = Double} {operand = inner} {tree = inside} is) node stand =
+  form_law {number = number} (IsFunction {function = Double} {operand = inner} {tree = inside} is) node
+      stand =
       byte_makes context sound
-      (of_part {number = number} {tree = FunctionNode Double inside} (λ v. v) is node.types (omega arith) (λ t. refl)
-      (λ v fits. word_fits v (type_of inside) fits) (λ free. free_is context.site inner ∙ sym node.free ∙ free))
+      (of_part {number = number} {tree = FunctionNode Double inside} (λ v. v) is node.types
+      (omega arith) (λ t. refl)
+      (λ v fits. word_fits v (type_of inside) fits)
+      (λ free. free_is context.site inner ∙ sym node.free ∙ free))
       [] (λ x. x) tt (λ r small. refl) (λ free r. beside_itself r) (λ v fits. refl) stand
-  form_law {facts = facts} {last = last} {number = number} {to = to} (IsFunction {function = High} {operand = inner} {tree = inside} is) node stand = λ top base s r memory below room ready known_before nothing.
+  form_law {facts = facts} {last = last} {number = number} {to = to}
+      (IsFunction {function = High} {operand = inner} {tree = inside} is) node stand =
+      λ top base s r memory below room ready known_before nothing.
       at_carried {top = top} {need = 2 * height_of (FunctionNode High inside)} {base = base} _ _ _
       (high_byte_law sound is node.types stand) (omega arith) tt
       (λ v now memory_now (high : HighIsGiven context last r memory v now memory_now). high.known)
       (record { below = below; room = room; ready = ready; known = known_before })
       (λ v u now memory_now same high final.
-      let fits = value_fits s sound is node.types (Rattle.task_laws.proofs.Ranges.Ranges.ready_fits context s ready) same in
+      let fits =
+      value_fits s sound is node.types (Rattle.task_laws.proofs.Ranges.Ranges.ready_fits context s ready)
+      same in
       let small : v / 256 < 256 = high_fits v (type_of inside) fits in
       byte_given to number (v / 256) (high.a ∙ high_itself v small) small
       (λ free.
       absurd (false≢true
-      (sym (ap (λ (found : Option Reference). option_map_or (λ (one : Reference). Rattle.std.specs.Prelude.is_some (place_of_reference (nodes_in context) one)) found false) node.elsewhere)
+      (sym (ap (λ (found : Option Reference). option_map_or
+      (λ (one : Reference). Rattle.std.specs.Prelude.is_some (place_of_reference (nodes_in context) one))
+      found false) node.elsewhere)
       ∙ sym node.free ∙ free)))
       final)
-  form_law {number = number} (IsUnary {scalar = scalar} {operator = operator} {operand = inner} is) node stand =
-      unary_law operator is (node.types).0 (node.types).1 (λ free. free_is context.site inner ∙ sym node.free ∙ free) stand
-  form_law {number = number} {bound = bound} (IsBinary {operands = operands} {operator = operator} one two) node stand =
+  form_law {number = number} (IsUnary {scalar = scalar} {operator = operator} {operand = inner} is) node
+      stand =
+      unary_law operator is (node.types).0 (node.types).1
+      (λ free. free_is context.site inner ∙ sym node.free ∙ free) stand
+  form_law {number = number} {bound = bound}
+      (IsBinary {operands = operands} {operator = operator} one two) node stand =
       binary_law context number operands sound asked
       (record { bound = bound; is = one; types = ((node.types).1).0 }) ((node.types).1).1
       (record { bound = bound; is = two; types = ((node.types).2).0 }) ((node.types).2).1
       refl operator node stand
-  form_law {number = number} {bound = bound} (IsShift {scalar = scalar} {function = function} one two) node stand =
+  form_law {number = number} {bound = bound}
+      (IsShift {scalar = scalar} {function = function} one two) node stand =
       shift_law context number sound asked scalar function
       (record { bound = bound; is = one; types = ((node.types).1).0 }) ((node.types).1).1
       (record { bound = bound; is = two; types = ((node.types).2).0 }) ((node.types).2).1
       (node.types).0 node stand
-  form_law {facts = facts} {last = last} {number = number} {pushed = pushed} {from = from} {to = to} (IsCallOf {procedure = procedure} {scalar = scalar} {range = range} are) node stand =
-      called_law number procedure range pushed sound are (node.types).0 (node.types).1 node.is (never_free node refl)
+  form_law {facts = facts} {last = last} {number = number} {pushed = pushed} {from = from} {to = to}
+      (IsCallOf {procedure = procedure} {scalar = scalar} {range = range} are) node stand =
+      called_law number procedure range pushed sound are (node.types).0 (node.types).1 node.is
+      (never_free node refl)
       (subst (λ (of : ScalarType). StepsStand context (PartDoes context) facts from
-      (call_steps (knowing context.site facts) procedure range pushed ++ low_of_value_steps of) last to) node.scalar stand)
-  form_law {number = number} {pushed = pushed} (IsInput {port = port}) node stand = input_law number port pushed sound stand
-  form_law {facts = facts} {last = last} {number = number} {bound = bound} {pushed = pushed} {from = from} {to = to} (IsEmbedded {target = target} {value = inner} {to = place} {tree = inside} is_target is) node stand =
+      (call_steps (knowing context.site facts) procedure range pushed ++ low_of_value_steps of) last
+      to) node.scalar stand)
+  form_law {number = number} {pushed = pushed} (IsInput {port = port}) node stand =
+      input_law number port pushed sound stand
+  form_law {facts = facts} {last = last} {number = number} {bound = bound} {pushed = pushed} {from = from}
+      {to = to} (IsEmbedded {target = target} {value = inner} {to = place} {tree = inside} is_target is) node
+      stand =
       by (type_of inside) refl
       (subst (λ (of : ScalarType). StepsStand context (PartDoes context) facts from
-      ((part (value_task of inner) pushed ∷ part (tasks.Store target true) pushed ∷ []) ++ low_of_value_steps of) last to)
+      ((part (value_task of inner) pushed ∷ part (tasks.Store target true) pushed ∷ [])
+      ++ low_of_value_steps of) last to)
       (source_is context is_target (node.types).1) stand)
     where
       by : (of : ScalarType) → type_of inside ≡ of
@@ -160,10 +185,12 @@ module _ (context : Context) (sound : IsSound context) (asked : BytesAsked conte
           ∷ []) ++ low_of_value_steps of) last to
           → ByteCarried context facts number (AssignmentNode place inside) pushed from last to
       by scalars.Byte same given =
-          embedded_byte context facts last from to pushed bound number inner target inside place sound is (node.types).0 is_target
+          embedded_byte context facts last from to pushed bound number inner target inside place sound is
+          (node.types).0 is_target
           (node.types).1 (target_is context is_target (node.types).1) node.free same given
       by scalars.Address same given =
-          embedded_low_byte context facts last from to pushed bound number inner target inside place sound is (node.types).0 is_target
+          embedded_low_byte context facts last from to pushed bound number inner target inside place sound is
+          (node.types).0 is_target
           (node.types).1 (target_is context is_target (node.types).1) node.free same given
 
   -- the code of the low byte of an expression
@@ -192,7 +219,8 @@ module _ (context : Context) (sound : IsSound context) (asked : BytesAsked conte
           → ByteCarried context facts number tree pushed from last to
       by_memory (Some reference) here none given = there_law number pushed sound is types here given
       by_memory None here none given =
-          let unknown : known_of (nodes_in context) (type_of tree) node.found.form ≡ None = sym (known_by_form facts node) ∙ none in
+          let unknown : known_of (nodes_in context) (type_of tree) node.found.form ≡ None =
+          sym (known_by_form facts node) ∙ none in
           form_law node.form
           (record {
             bound = bound;
@@ -206,7 +234,8 @@ module _ (context : Context) (sound : IsSound context) (asked : BytesAsked conte
               | None ↦ scalars.Byte
             ]) (node.at_site facts) ∙ node.scalar;
             relation = ap (λ (found : Option Expression).
-                option_and_then (λ (one : Expression). relation_of_form (knowing context.site facts) one.form) found) (node.at_site facts);
+                option_and_then (λ (one : Expression). relation_of_form (knowing context.site facts) one.form)
+                found) (node.at_site facts);
           })
           (subst (λ (found : Option Expression). StepsStand context (PartDoes context) facts from
           (elim found [

@@ -17,7 +17,8 @@ pub record ByteIsAtHl
 
 abbrev pub LocatesBytes : Context → Type 0
 LocatesBytes context =
-    (known_there before after : Facts) (number : ExpressionNumber) (reference : Reference) (pushed from to bound : ℕ)
+    (known_there before after : Facts) (number : ExpressionNumber) (reference : Reference)
+    (pushed from to bound : ℕ)
     (tree : TypedExpression)
     → memory (knowing context.site known_there) number ≡ Some reference
     → AddressDoes context before reference pushed from after to
@@ -29,7 +30,8 @@ LocatesBytes context =
 -- a value is below 256 if its form shows it
 abbrev pub FitsMeans : Context → Type 0
 FitsMeans context =
-    (known_there : Facts) (number : ExpressionNumber) (bound top found : ℕ) (tree : TypedExpression) (base : List ℕ)
+    (known_there : Facts) (number : ExpressionNumber) (bound top found : ℕ)
+    (tree : TypedExpression) (base : List ℕ)
     (s t : SourceState) (r : Registers) (memory : List ℕ)
     → IsExpression (nodes_in context) context.storage bound number.index tree
     → TypesHold context.typed context.within tree
@@ -86,7 +88,8 @@ PairsGiven context =
 
 -- the word at a place in memory, if the state of the source is that of the machine
 pub record WordAtPlace
-    (context : Context) (place : Place) (memory : List ℕ) (s : SourceState) (outcome : Outcome ℕ) : Type 0 where
+    (context : Context) (place : Place) (memory : List ℕ) (s : SourceState)
+    (outcome : Outcome ℕ) : Type 0 where
   pub found : ℕ
   pub is : outcome ≡ Gave found s
   pub low : found % 256 ≡ byte_at memory (place_at context.activation.layout place)
@@ -134,7 +137,8 @@ pub record ZeroIsShown
 -- an ADDRESS is compared with 0
 abbrev pub ZerosShown : Context → Type 0
 ZerosShown context =
-    (facts last : Facts) (number : ExpressionNumber) (setting : Setting) (from to bound : ℕ) (tree : TypedExpression)
+    (facts last : Facts) (number : ExpressionNumber) (setting : Setting) (from to bound : ℕ)
+    (tree : TypedExpression)
     → IsExpression (nodes_in context) context.storage bound number.index tree
     → TypesHold context.typed context.within tree
     → type_of tree ≡ scalars.Address

@@ -30,10 +30,12 @@ data IsHalf (g : ℕ → ℕ) : ScalarType → (base reference : Reference) → 
 -- the value of a scalar
 abbrev scalar_in : Context → ScalarType → TypedReference → SourceState → Outcome ℕ
 scalar_in context scalar part s =
-    then_do (located_in context part s) (λ place t. read_scalar context.activation.around.program scalar place t)
+    then_do (located_in context part s)
+    (λ place t. read_scalar context.activation.around.program scalar place t)
 
 -- a tree with a low byte that is a part of memory
-record LiesAs (context : Context) (form : ExpressionForm) (tree : TypedExpression) (reference : Reference) : Type 0 where
+record LiesAs (context : Context) (form : ExpressionForm) (tree : TypedExpression)
+    (reference : Reference) : Type 0 where
   bound : ℕ
   scalar : ScalarType
   base : Reference
@@ -42,12 +44,14 @@ record LiesAs (context : Context) (form : ExpressionForm) (tree : TypedExpressio
   is : IsReference (nodes_in context) context.storage bound base part
   refers : RefersToScalar context.typed context.within scalar part
   types : TypesHoldInReference context.typed context.within part
-  means : (s : SourceState) → value_in context tree s ≡ then_do (scalar_in context scalar part s) (λ v u. Gave (g v) u)
+  means : (s : SourceState) → value_in context tree s
+      ≡ then_do (scalar_in context scalar part s) (λ v u. Gave (g v) u)
   small : (v : ℕ) → v < values_of scalar → g v < values_of (type_of tree)
   fewer : height_of_reference part ≤ height_of tree
   half : IsHalf g scalar base reference
   unknown : known_of (nodes_in context) (type_of tree) form ≡ None
-  direct : is_free_form (nodes_in context) (type_of tree) form ≡ true → is_some (place_of_reference (nodes_in context) reference) ≡ true
+  direct : is_free_form (nodes_in context) (type_of tree) form ≡ true
+      → is_some (place_of_reference (nodes_in context) reference) ≡ true
 
 high_byte_of : (v : ℕ) → v < 65536 → v / 256 % 256 ≡ v / 256
 high_byte_of v small = omega (arith, small)
@@ -56,7 +60,8 @@ high_byte_of v small = omega (arith, small)
 only_value :
     (scalar : ScalarType) (form : ExpressionForm) {reference : Reference}
     → byte_after scalar form ≡ Some reference
-    → (base : Reference) × (form ≡ forms.Value base) × (scalar ≡ Address) × (reference_after base 1 ≡ reference)
+    → (base : Reference) × (form ≡ forms.Value base) × (scalar ≡ Address)
+    × (reference_after base 1 ≡ reference)
 only_value Address (forms.Value base) {reference = reference} same =
     (base, refl, refl, same_Some (reference_after base 1) reference same)
 only_value Byte form same = absurd (none-some _ same)
@@ -69,7 +74,8 @@ half_on :
     → IsHalf g scalar base reference
     → IsHalf (λ v. h (g v)) scalar base reference
 half_on {g = g} of h small bytes (LowHalf low) = LowHalf (λ v fits. bytes (g v) (small v fits) ∙ low v fits)
-half_on {g = g} of h small bytes (HighHalf high) = HighHalf (λ v fits. bytes (g v) (small v fits) ∙ high v fits)
+half_on {g = g} of h small bytes (HighHalf high) =
+    HighHalf (λ v fits. bytes (g v) (small v fits) ∙ high v fits)
 
 module _ (context : Context) (sound : IsSound context) where
   -- the traits of a node in the table
@@ -78,14 +84,16 @@ module _ (context : Context) (sound : IsSound context) where
       → known_at (nodes_in context) number ≡ known_of (nodes_in context) (type_of tree) node.found.form
   unfolding traits_of
   known_in_table node =
-      ap (λ (found : Option Expression). (option_map_or (λ (one : Expression). one.traits) found no_traits).known) node.is_there
+      ap (λ (found : Option Expression). (option_map_or (λ (one : Expression). one.traits) found
+      no_traits).known) node.is_there
       ∙ ap (λ traits. traits.known) node.traits
 
   -- a tree around another one, with the same low byte
   around :
       {form inner_form : ExpressionForm} {tree inner : TypedExpression} {reference : Reference} (h : ℕ → ℕ)
       → LiesAs context inner_form inner reference
-      → ((s : SourceState) → value_in context tree s ≡ then_do (value_in context inner s) (λ n t. Gave (h n) t))
+      → ((s : SourceState) → value_in context tree s
+      ≡ then_do (value_in context inner s) (λ n t. Gave (h n) t))
       → ((n : ℕ) → n < values_of (type_of inner) → h n < values_of (type_of tree))
       → ((n : ℕ) → n < values_of (type_of inner) → h n % 256 ≡ n % 256)
       → height_of inner ≤ height_of tree
@@ -107,7 +115,8 @@ module _ (context : Context) (sound : IsSound context) where
         means = λ s.
             means s
             ∙ ap (λ (outcome : Outcome ℕ). then_do outcome (λ n t. Gave (h n) t)) (lies.means s)
-            ∙ then_again (scalar_in context lies.scalar lies.part s) (λ v u. Gave (lies.g v) u) (λ n t. Gave (h n) t);
+            ∙ then_again (scalar_in context lies.scalar lies.part s) (λ v u. Gave (lies.g v) u)
+            (λ n t. Gave (h n) t);
         small = λ v fits. small (lies.g v) (lies.small v fits);
         fewer = omega (arith, fewer, higher);
         half = half_on (type_of inner) h lies.small bytes lies.half;
@@ -117,7 +126,8 @@ module _ (context : Context) (sound : IsSound context) where
 
   -- HIGH of an ADDRESS in memory
   high_inner :
-      {bound : ℕ} {base : Reference} {inner : TypedExpression} {reference : Reference} (operand : ExpressionNumber)
+      {bound : ℕ} {base : Reference} {inner : TypedExpression} {reference : Reference}
+      (operand : ExpressionNumber)
       → IsForm (nodes_in context) context.storage bound (forms.Value base) inner
       → TypesHold context.typed context.within inner
       → type_of inner ≡ Address
@@ -126,7 +136,8 @@ module _ (context : Context) (sound : IsSound context) where
       → (is_free_form (nodes_in context) Byte (forms.Function High operand) ≡ true
       → is_some (place_of_reference (nodes_in context) reference) ≡ true)
       → LiesAs context (forms.Function High operand) (FunctionNode High inner) reference
-  high_inner {bound = bound} {base = base} {reference = reference} operand (IsValue {scalar = Address} {part = part} is) types address same unknown direct =
+  high_inner {bound = bound} {base = base} {reference = reference} operand
+      (IsValue {scalar = Address} {part = part} is) types address same unknown direct =
       record {
         bound = bound;
         scalar = Address;
@@ -139,7 +150,8 @@ module _ (context : Context) (sound : IsSound context) where
         means = λ s. refl;
         small = λ v fits. high_is_byte v fits;
         fewer = omega arith;
-        half = subst (λ (one : Reference). IsHalf (λ v. v / 256) Address base one) same (HighHalf (λ v fits. high_byte_of v fits));
+        half = subst (λ (one : Reference). IsHalf (λ v. v / 256) Address base one) same
+            (HighHalf (λ v fits. high_byte_of v fits));
         unknown = unknown;
         direct = direct;
       }
@@ -152,8 +164,10 @@ module _ (context : Context) (sound : IsSound context) where
       → TypesHold context.typed context.within tree
       → memory_of_inner (nodes_in context) form ≡ Some reference
       → LiesAs context form tree reference
-  lies_inner {bound = bound} {reference = reference} (IsValue {scalar = scalar} {reference = base} {part = part} is) types same =
-      subst (λ (one : Reference). LiesAs context (forms.Value base) (ValueNode scalar part) one) (same_Some base reference same)
+  lies_inner {bound = bound} {reference = reference}
+      (IsValue {scalar = scalar} {reference = base} {part = part} is) types same =
+      subst (λ (one : Reference). LiesAs context (forms.Value base) (ValueNode scalar part) one)
+      (same_Some base reference same)
       (record {
         bound = bound;
         scalar = scalar;
@@ -170,19 +184,24 @@ module _ (context : Context) (sound : IsSound context) where
         unknown = refl;
         direct = λ free. free;
       })
-  lies_inner {reference = reference} (IsFunction {function = High} {operand = operand} {tree = inner} is) types same =
+  lies_inner {reference = reference} (IsFunction {function = High} {operand = operand} {tree = inner} is)
+      types same =
       let node : NodeOf context operand inner = node_of sound is in
       let there : byte_after (type_of inner) node.found.form ≡ Some reference =
-      sym (ap (λ (found : Option Expression). option_and_then (λ (one : Expression). byte_after one.traits.scalar one.form) found) node.is_there
+      sym (ap (λ (found : Option Expression). option_and_then
+      (λ (one : Expression). byte_after one.traits.scalar one.form) found) node.is_there
       ∙ ap (λ (scalar : ScalarType). byte_after scalar node.found.form) node.scalar) ∙ same in
       let only = only_value (type_of inner) node.found.form there in
       high_inner operand
-      (subst (λ (form : ExpressionForm). IsForm (nodes_in context) context.storage operand.index form inner) only.1 node.form)
+      (subst (λ (form : ExpressionForm). IsForm (nodes_in context) context.storage operand.index form inner)
+      only.1 node.form)
       types only.2 only.3
       (ap (λ (found : Option Place). option_and_then (function_of_place High) found)
-      (known_in_table node ∙ ap (λ (form : ExpressionForm). known_of (nodes_in context) (type_of inner) form) only.1))
+      (known_in_table node ∙ ap (λ (form : ExpressionForm). known_of (nodes_in context) (type_of inner) form)
+      only.1))
       (λ free.
-      sym (ap (λ (found : Option Reference). option_map_or (λ (one : Reference). is_some (place_of_reference (nodes_in context) one)) found false) same)
+      sym (ap (λ (found : Option Reference). option_map_or
+      (λ (one : Reference). is_some (place_of_reference (nodes_in context) one)) found false) same)
       ∙ free)
   lies_inner (IsFunction {function = Low} is) types same = absurd (none-some _ same)
   lies_inner (IsFunction {function = Double} is) types same = absurd (none-some _ same)
@@ -217,7 +236,8 @@ module _ (context : Context) (sound : IsSound context) where
 
   -- the byte of a tree around it, where a look inside finds it
   lies_step :
-      {bound : ℕ} {form : ExpressionForm} {tree : TypedExpression} {reference : Reference} (f : ExpressionForm → ExpressionForm)
+      {bound : ℕ} {form : ExpressionForm} {tree : TypedExpression} {reference : Reference}
+      (f : ExpressionForm → ExpressionForm)
       → LiesBy f
       → IsForm (nodes_in context) context.storage bound form tree
       → TypesHold context.typed context.within tree
@@ -227,25 +247,36 @@ module _ (context : Context) (sound : IsSound context) where
       let node : NodeOf context inner tree = node_of sound is in
       let inside = next _ _ _ _ node.form types
       (sym (ap (λ (found : Option Expression).
-      memory_of_inner (nodes_in context) (f (option_map_or (λ (one : Expression). one.form) found (forms.Conversion inner)))) node.is_there) ∙ same) in
-      around (as_type scalar) inside (λ s. refl) (λ n fits. as_type_fits scalar n) (λ n fits. sym (type_byte scalar n)) (omega arith)
-      (ap (λ (found : Option Place). option_and_then (converted_place scalar) found) (known_in_table node ∙ inside.unknown))
+      memory_of_inner (nodes_in context)
+      (f (option_map_or (λ (one : Expression). one.form) found (forms.Conversion inner)))) node.is_there)
+      ∙ same) in
+      around (as_type scalar) inside (λ s. refl) (λ n fits. as_type_fits scalar n)
+      (λ n fits. sym (type_byte scalar n)) (omega arith)
+      (ap (λ (found : Option Place). option_and_then (converted_place scalar) found)
+      (known_in_table node ∙ inside.unknown))
       (inside_free node inside.unknown)
   lies_step f next (IsFunction {function = Low} {operand = inner} {tree = tree} is) types same =
       let node : NodeOf context inner tree = node_of sound is in
       let inside = next _ _ _ _ node.form types
       (sym (ap (λ (found : Option Expression).
-      memory_of_inner (nodes_in context) (f (option_map_or (λ (one : Expression). one.form) found (forms.Function Low inner)))) node.is_there) ∙ same) in
+      memory_of_inner (nodes_in context)
+      (f (option_map_or (λ (one : Expression). one.form) found (forms.Function Low inner))))
+      node.is_there) ∙ same) in
       around (λ n. n % 256) inside (λ s. refl) (λ n fits. omega arith) (λ n fits. omega arith) (omega arith)
-      (ap (λ (found : Option Place). option_and_then (function_of_place Low) found) (known_in_table node ∙ inside.unknown))
+      (ap (λ (found : Option Place). option_and_then (function_of_place Low) found)
+      (known_in_table node ∙ inside.unknown))
       (inside_free node inside.unknown)
   lies_step f next (IsFunction {function = Double} {operand = inner} {tree = tree} is) types same =
       let node : NodeOf context inner tree = node_of sound is in
       let inside = next _ _ _ _ node.form types
       (sym (ap (λ (found : Option Expression).
-      memory_of_inner (nodes_in context) (f (option_map_or (λ (one : Expression). one.form) found (forms.Function Double inner)))) node.is_there) ∙ same) in
-      around (λ n. n) inside (λ s. refl) (λ n fits. word_fits n (type_of tree) fits) (λ n fits. refl) (omega arith)
-      (ap (λ (found : Option Place). option_and_then (function_of_place Double) found) (known_in_table node ∙ inside.unknown))
+      memory_of_inner (nodes_in context)
+      (f (option_map_or (λ (one : Expression). one.form) found (forms.Function Double inner))))
+      node.is_there) ∙ same) in
+      around (λ n. n) inside (λ s. refl) (λ n fits. word_fits n (type_of tree) fits)
+      (λ n fits. refl) (omega arith)
+      (ap (λ (found : Option Place). option_and_then (function_of_place Double) found)
+      (known_in_table node ∙ inside.unknown))
       (inside_free node inside.unknown)
   lies_step f next (IsFunction {function = High} is) types same = next _ _ _ _ (IsFunction is) types same
   lies_step f next (IsValue is) types same = next _ _ _ _ (IsValue is) types same
@@ -269,7 +300,8 @@ module _ (context : Context) (sound : IsSound context) where
   lies_as is types same =
       lies_step (same_low_byte (nodes_in context))
       (λ bound form tree reference is_there types_there same_there.
-      lies_step (λ inside. inside) (λ one two three four five six seven. lies_inner five six seven) is_there types_there same_there)
+      lies_step (λ inside. inside) (λ one two three four five six seven. lies_inner five six seven) is_there
+      types_there same_there)
       is types same
 
 -- an object that a known place is part of begins at a known place
@@ -283,7 +315,8 @@ known_part :
     (home : Home) (offset : ℕ) (first second : Option ℕ)
     → is_some (place_of_part home offset first second) ≡ true
     → IsKnownPart home first second
-known_part (homes.Static place) offset (Some first) (Some second) is = record { place = place; begins = refl; one = refl; two = refl }
+known_part (homes.Static place) offset (Some first) (Some second) is =
+    record { place = place; begins = refl; one = refl; two = refl }
 known_part (homes.Static place) offset (Some first) None is = absurd (false≢true is)
 known_part (homes.Static place) offset None second is = absurd (false≢true is)
 known_part (homes.Based base) offset first second is = absurd (false≢true is)
@@ -297,10 +330,13 @@ static_there :
 unfolding location_of located
 static_there context facts reference is =
     let part = known_part (home_at (nodes_in context).homes reference.object) reference.offset
-    (distance_of (nodes_in context) reference.subscript) (distance_of (nodes_in context) reference.member_subscript) is in
+    (distance_of (nodes_in context) reference.subscript)
+    (distance_of (nodes_in context) reference.member_subscript) is in
     by part.place part.begins
-    (split (knowing context.site facts) reference.subscript).computed (not_computed context facts reference.subscript part.one)
-    (split (knowing context.site facts) reference.member_subscript).computed (not_computed context facts reference.member_subscript part.two)
+    (split (knowing context.site facts) reference.subscript).computed
+    (not_computed context facts reference.subscript part.one)
+    (split (knowing context.site facts) reference.member_subscript).computed
+    (not_computed context facts reference.member_subscript part.two)
   where
     one : ℕ
     one = (split (knowing context.site facts) reference.subscript).offset
@@ -314,16 +350,23 @@ static_there context facts reference is =
     by : (place : Place) → home_at (nodes_in context).homes reference.object ≡ homes.Static place
         → (first : Option IndexNode) → first ≡ None
         → (second : Option IndexNode) → second ≡ None
-        → (at : Place) × (elim (located_at (base (home_at (nodes_in context).homes reference.object)) first second).first [
+        → (at : Place)
+        × (elim (located_at (base (home_at (nodes_in context).homes reference.object))
+        first second).first [
           | Some subscript ↦ None
-          | None ↦ location_at (located_at (base (home_at (nodes_in context).homes reference.object)) first second).base
+          | None ↦ location_at
+              (located_at (base (home_at (nodes_in context).homes reference.object)) first second).base
         ] ≡ Some (locations.Static at))
     by place begins first first_none second second_none = (
-      Rattle.treecode.specs.Homes.place_after (Rattle.treecode.specs.Homes.place_after (Rattle.treecode.specs.Homes.place_after place reference.offset) one) two,
-      ap (λ (found : Option IndexNode). elim (located_at (base (home_at (nodes_in context).homes reference.object)) found second).first [
-        | Some subscript ↦ None
-        | None ↦ location_at (located_at (base (home_at (nodes_in context).homes reference.object)) found second).base
-      ]) first_none
+      Rattle.treecode.specs.Homes.place_after
+          (Rattle.treecode.specs.Homes.place_after
+          (Rattle.treecode.specs.Homes.place_after place reference.offset) one) two,
+      ap (λ (found : Option IndexNode). elim (located_at
+          (base (home_at (nodes_in context).homes reference.object)) found second).first [
+            | Some subscript ↦ None
+            | None ↦ location_at
+                (located_at (base (home_at (nodes_in context).homes reference.object)) found second).base
+          ]) first_none
           ∙ ap (λ (found : Option IndexNode). elim found [
             | Some subscript ↦ None
             | None ↦ location_at (base (home_at (nodes_in context).homes reference.object))
@@ -333,15 +376,19 @@ static_there context facts reference is =
 
 -- the code of the byte
 pub there_law :
-    {context : Context} {facts last : Facts} {from to bound : ℕ} {tree : TypedExpression} {reference : Reference}
+    {context : Context} {facts last : Facts} {from to bound : ℕ} {tree : TypedExpression}
+    {reference : Reference}
     (number : ExpressionNumber) (pushed : ℕ)
     → IsSound context
     → IsExpression (nodes_in context) context.storage bound number.index tree
     → TypesHold context.typed context.within tree
     → memory_of (knowing context.site facts) number ≡ Some reference
-    → StepsStand context (PartDoes context) facts from (byte_in_memory_steps (knowing context.site facts) reference pushed) last to
+    → StepsStand context (PartDoes context) facts from
+    (byte_in_memory_steps (knowing context.site facts) reference pushed) last to
     → ByteCarried context facts number tree pushed from last to
-there_law {context = context} {facts = facts} {last = last} {from = from} {to = to} {tree = tree} {reference = reference} number pushed sound is types here stand top base s r memory below room ready known nothing =
+there_law {context = context} {facts = facts} {last = last} {from = from} {to = to} {tree = tree}
+    {reference = reference} number pushed sound is types here stand top base s r memory below room
+    ready known nothing =
     by (lies.g) lies.scalar lies.base reference lies.half refl lies.refers lies.is lies.means lies.small stand
   where
     node : NodeOf context number tree
@@ -351,7 +398,8 @@ there_law {context = context} {facts = facts} {last = last} {from = from} {to = 
     lies = lies_as context sound node.form types (sym (memory_same context sound facts node) ∙ here)
 
     static : is_free context.site number ≡ true
-        → (place : Place) × (location_of (knowing context.site facts) reference ≡ Some (locations.Static place))
+        → (place : Place)
+        × (location_of (knowing context.site facts) reference ≡ Some (locations.Static place))
     static free =
         static_there context facts reference (lies.direct (sym (free_by_form node lies.unknown) ∙ free))
 
@@ -363,10 +411,13 @@ there_law {context = context} {facts = facts} {last = last} {from = from} {to = 
         → there ≡ reference
         → RefersToScalar context.typed context.within scalar lies.part
         → IsReference (nodes_in context) context.storage lies.bound start lies.part
-        → ((t : SourceState) → value_in context tree t ≡ then_do (scalar_in context scalar lies.part t) (λ v u. Gave (g v) u))
+        → ((t : SourceState) → value_in context tree t
+        ≡ then_do (scalar_in context scalar lies.part t) (λ v u. Gave (g v) u))
         → ((v : ℕ) → v < values_of scalar → g v < values_of (type_of tree))
-        → StepsStand context (PartDoes context) facts from (byte_in_memory_steps (knowing context.site facts) there pushed) last to
-        → Does context.activation.around.program.script s.budget 0 (at_place from r memory s.events) (value_in context tree s)
+        → StepsStand context (PartDoes context) facts from
+        (byte_in_memory_steps (knowing context.site facts) there pushed) last to
+        → Does context.activation.around.program.script s.budget 0 (at_place from r memory s.events)
+        (value_in context tree s)
         (Arrives context.activation top base to (ByteIsGiven context last number (type_of tree) r memory))
     by g scalar start _ (LowHalf bytes) same refers is_part means small given =
         does_same _ (means s)

@@ -10,9 +10,11 @@ pair_lies LeftInHl x y r has = (has.h, has.l, has.d, has.e)
 pair_lies RightInHl x y r has = (has.h, has.l, has.d, has.e)
 
 pub pairs_given : (context : Context) → IsSound context → PairsGiven context
-pairs_given context sound facts last left right wants pushed from to bound first second one types two other_types stand top base s r memory below room ready known asked =
+pairs_given context sound facts last left right wants pushed from to bound first second one types two
+    other_types stand top base s r memory below room ready known asked =
     pair_then context sound {go = λ x y u. Gave (x, y) u} (wish_for_left wants) [] from s r memory
-    (record { bound = bound; is = one; types = types }) (record { bound = bound; is = two; types = other_types }) below room
+    (record { bound = bound; is = one; types = types })
+    (record { bound = bound; is = two; types = other_types }) below room
     (omega arith) (omega arith)
     (subst (λ (steps : List Step). StepsStand context (PartDoes context) facts from steps last to)
     (sym (append-nil (pair_steps (knowing context.site facts) left right wants pushed))) stand)
@@ -20,7 +22,9 @@ pairs_given context sound facts last left right wants pushed from to bound first
     (λ x y t now ended middle found less ends on has.
     nothing_goes now ends on
     (λ final.
-    let small = pair_below (pair_order (knowing context.site facts) left right wants) x y now final.ready.registers has in
+    let small =
+    pair_below (pair_order (knowing context.site facts) left right wants) x y now
+    final.ready.registers has in
     does_without_step (record {
       r = now;
       memory = ended;

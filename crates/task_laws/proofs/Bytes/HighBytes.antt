@@ -12,7 +12,8 @@ use Rattle.task_laws.proofs.Places.Reading.{word_read}
 use Rattle.task_laws.proofs.Machine.Rules.{GoesOn}
 use Rattle.task_laws.proofs.Numbers.{one_between, wrapped_step}
 
-one_further : (address bytes : ℕ) → (address + (bytes + 1)) % MEMORY_SIZE ≡ ((address + bytes) % MEMORY_SIZE + 1) % MEMORY_SIZE
+one_further : (address bytes : ℕ) → (address + (bytes + 1)) % MEMORY_SIZE
+    ≡ ((address + bytes) % MEMORY_SIZE + 1) % MEMORY_SIZE
 one_further address bytes = omega arith
 
 -- the place of a part one byte further on is the place after
@@ -30,10 +31,14 @@ base_next (BasedOn base) around object bytes is_inside s =
     by (Gave start t) = ap (λ (n : ℕ). Gave (InMemory n) t) (one_further start bytes)
     by (Stopped why t) = refl
 base_next (InFrame procedure) around object bytes is_inside s = refl
-base_next (InData values) around object bytes is_inside s = ap (λ (n : ℕ). Gave (InMemory n) s) (one_further _ bytes)
-base_next (InConstants values) around object bytes is_inside s = ap (λ (n : ℕ). Gave (InMemory n) s) (one_further _ bytes)
-base_next (Placed at) around object bytes is_inside s = ap (λ (n : ℕ). Gave (InMemory n) s) (one_further _ bytes)
-base_next Elsewhere around object bytes is_inside s = ap (λ (n : ℕ). Gave (InMemory n) s) (one_further _ bytes)
+base_next (InData values) around object bytes is_inside s =
+    ap (λ (n : ℕ). Gave (InMemory n) s) (one_further _ bytes)
+base_next (InConstants values) around object bytes is_inside s =
+    ap (λ (n : ℕ). Gave (InMemory n) s) (one_further _ bytes)
+base_next (Placed at) around object bytes is_inside s =
+    ap (λ (n : ℕ). Gave (InMemory n) s) (one_further _ bytes)
+base_next Elsewhere around object bytes is_inside s =
+    ap (λ (n : ℕ). Gave (InMemory n) s) (one_further _ bytes)
 base_next Nowhere around object bytes is_inside s = ap (λ (n : ℕ). Gave (InMemory n) s) (one_further _ bytes)
 
 -- so a part one byte further on is at the place after
@@ -57,7 +62,8 @@ next_located context (PartOf object first member offset second) s =
     by_two one (Gave two u) =
         ap (λ (n : ℕ). based_place (home_of around object) around object n (one.is_inside && two.is_inside) u)
         (one_between one.bytes offset two.bytes)
-        ∙ base_next (home_of around object) around object (one.bytes + offset + two.bytes) (one.is_inside && two.is_inside) u
+        ∙ base_next (home_of around object) around object (one.bytes + offset + two.bytes)
+        (one.is_inside && two.is_inside) u
     by_two one (Stopped why u) = refl
 
     by_one : (outcome : Outcome Displacement)
@@ -80,7 +86,8 @@ next_on_machine activation (InMemory address) = refl
 next_on_machine activation (InTheFrame object offset is_inside) =
     wrapped_step (activation.level + activation.distance object) offset
 
-pub next_is_referred : (context : Context) (part : TypedReference) → IsReferred context part → IsReferred context (next_part part)
+pub next_is_referred : (context : Context) (part : TypedReference) → IsReferred context part
+    → IsReferred context (next_part part)
 next_is_referred context (PartOf object first member offset second) is = is
 
 next_types :
@@ -98,10 +105,12 @@ through_next :
     {go : SourcePlace → SourceState → Outcome B} {Middle : SourcePlace → SourceState → State → Type 0}
     {Good : B → SourceState → State → Type 0}
     → Does script budget 0 from (then_do outcome (λ place t. Gave (next_place place) t)) Middle
-    → ((place : SourcePlace) (t : SourceState) (end : State) → outcome ≡ Gave place t → Middle (next_place place) t end
+    → ((place : SourcePlace) (t : SourceState) (end : State) → outcome ≡ Gave place t
+    → Middle (next_place place) t end
     → t.budget ≤ budget → Does script t.budget more end (go place t) Good)
     → Does script budget more from (then_do outcome go) Good
-through_next {script = script} {budget = budget} {more = more} {from = from} (Gave place t) {go = go} {Middle = Middle} {Good = Good} does rest =
+through_next {script = script} {budget = budget} {more = more} {from = from} (Gave place t) {go = go}
+    {Middle = Middle} {Good = Good} does rest =
     let first : Lands script budget 0 from t.budget (Middle (next_place place) t) = does.told in
     let second = rest place t first.end refl first.is_good first.spent in
     record { told = told_on first t.budget more (go place t) Good (omega arith) (omega arith) second.told }
@@ -128,12 +137,14 @@ pub record HighIsLoaded
   pub a : now.a ≡ found / 256
   pub small : found < 65536
   pub known : Know context after now memory_now
-  pub free : (location : Location) → location_of (knowing context.site before) (reference_after reference 1) ≡ Some location
+  pub free : (location : Location) → location_of (knowing context.site before) (reference_after reference 1)
+      ≡ Some location
       → is_static_location location ≡ true → ChangesAOnly r memory now memory_now
 
 -- The code of the high byte of an ADDRESS in memory.
 pub high_in_memory_law :
-    {context : Context} {facts last : Facts} {reference : Reference} {pushed from to bound : ℕ} {part_of : TypedReference}
+    {context : Context} {facts last : Facts} {reference : Reference} {pushed from to bound : ℕ}
+    {part_of : TypedReference}
     → IsSound context
     → StepsStand context (PartDoes context) facts from
     (byte_in_memory_steps (knowing context.site facts) (reference_after reference 1) pushed) last to
@@ -141,12 +152,16 @@ pub high_in_memory_law :
     → RefersToScalar context.typed context.within Address part_of
     → TypesHoldInReference context.typed context.within part_of
     → Carries context facts pushed (2 * height_of_reference part_of) 0 from to Nothing
-    (λ s. then_do (located_in context part_of s) (λ place t. read_scalar context.activation.around.program Address place t))
+    (λ s. then_do (located_in context part_of s)
+    (λ place t. read_scalar context.activation.around.program Address place t))
     (HighIsLoaded context facts last reference)
-high_in_memory_law {context = context} {facts = facts} {last = last} {reference = reference} {pushed = pushed} {from = from} {to = to} {bound = bound} {part_of = part_of} sound stand is refers types top base s r memory less room ready known asked =
+high_in_memory_law {context = context} {facts = facts} {last = last} {reference = reference} {pushed = pushed}
+    {from = from} {to = to} {bound = bound} {part_of = part_of} sound stand is refers types top base s r
+    memory less room ready known asked =
     by_location (location_of (knowing context.site facts) (reference_after reference 1)) refl stand
   where
-    next_is : IsReference (nodes_in context) context.storage bound (reference_after reference 1) (next_part part_of)
+    next_is : IsReference (nodes_in context) context.storage bound
+        (reference_after reference 1) (next_part part_of)
     next_is = reference_next (nodes_in context) context.storage bound reference part_of is
 
     referred : IsReferred context (next_part part_of)
@@ -156,7 +171,8 @@ high_in_memory_law {context = context} {facts = facts} {last = last} {reference 
     ends :
         (place : SourcePlace) (t : SourceState) (now : Registers) (ended : List ℕ) (finish : ℕ)
         → now.a ≡ byte_at ended (wrap (address_on_machine context.activation place + 1))
-        → ((location : Location) → location_of (knowing context.site facts) (reference_after reference 1) ≡ Some location
+        → ((location : Location) → location_of (knowing context.site facts) (reference_after reference 1)
+        ≡ Some location
         → is_static_location location ≡ true → ChangesAOnly r memory now ended)
         → GoesOn context last top base t.memory t.frame now ended
         → Does context.activation.around.program.script t.budget 0 (at_place finish now ended t.events)
@@ -165,7 +181,9 @@ high_in_memory_law {context = context} {facts = facts} {last = last} {reference 
         (Arrives context.activation top base finish (HighIsLoaded context facts last reference r memory))
     ends place t now ended finish a free on =
         let low = byte_small ended (address_on_machine context.activation place) on.ready.shares.is_memory in
-        let high = byte_small ended (wrap (address_on_machine context.activation place + 1)) on.ready.shares.is_memory in
+        let high =
+        byte_small ended (wrap (address_on_machine context.activation place + 1))
+        on.ready.shares.is_memory in
         does_without_step (record {
           r = now;
           memory = ended;
@@ -181,14 +199,16 @@ high_in_memory_law {context = context} {facts = facts} {last = last} {reference 
           };
         })
 
-    by_location : (found : Option Location) → location_of (knowing context.site facts) (reference_after reference 1) ≡ found
+    by_location : (found : Option Location)
+        → location_of (knowing context.site facts) (reference_after reference 1) ≡ found
         → StepsStand context (PartDoes context) facts from
         (elim found [
           | Some location ↦ location_byte_steps (knowing context.site facts) location pushed
           | None ↦ part (tasks.Address (reference_after reference 1)) pushed ∷ Plain (load registers.A) ∷ []
         ]) last to
         → Does context.activation.around.program.script s.budget 0 (at_place from r memory s.events)
-        (then_do (located_in context part_of s) (λ place t. read_scalar context.activation.around.program Address place t))
+        (then_do (located_in context part_of s)
+        (λ place t. read_scalar context.activation.around.program Address place t))
         (Arrives context.activation top base to (HighIsLoaded context facts last reference r memory))
     by_location (Some location) found stand =
         by_outcome (located_in context part_of s) refl (sym (next_located context part_of s) ∙ lies.means s)
@@ -207,14 +227,20 @@ high_in_memory_law {context = context} {facts = facts} {last = last} {reference 
             let state_is : t ≡ s = ap (state_given s) same in
             let is_at : wrap (address_on_machine context.activation place + 1)
             ≡ location_at context.activation (distances_in context) location =
-            sym (next_on_machine context.activation place) ∙ ap (address_on_machine context.activation) place_is ∙ lies.is_at in
-            let found_here : located_in context part_of s ≡ Gave place s = here ∙ ap (λ (u : SourceState). Gave place u) state_is in
+            sym (next_on_machine context.activation place)
+            ∙ ap (address_on_machine context.activation) place_is ∙ lies.is_at in
+            let found_here : located_in context part_of s ≡ Gave place s =
+            here ∙ ap (λ (u : SourceState). Gave place u) state_is in
             let fits = located_fits context Address part_of place s s sound refers found_here in
-            let going : GoesOn context facts top base s.memory s.frame r memory = record { ready = ready; known = known } in
-            subst (λ (u : SourceState). Does context.activation.around.program.script s.budget 0 (at_place from r memory s.events)
+            let going : GoesOn context facts top base s.memory s.frame r memory =
+            record { ready = ready; known = known } in
+            subst (λ (u : SourceState). Does context.activation.around.program.script s.budget 0
+            (at_place from r memory s.events)
             (read_scalar context.activation.around.program Address place u)
-            (Arrives context.activation top base to (HighIsLoaded context facts last reference r memory))) (sym state_is)
-            (subst (λ (given : Outcome ℕ). Does context.activation.around.program.script s.budget 0 (at_place from r memory s.events) given
+            (Arrives context.activation top base to (HighIsLoaded context facts last reference r memory)))
+            (sym state_is)
+            (subst (λ (given : Outcome ℕ). Does context.activation.around.program.script s.budget 0
+            (at_place from r memory s.events) given
             (Arrives context.activation top base to (HighIsLoaded context facts last reference r memory)))
             (given_again (read_scalar context.activation.around.program Address place s))
             (word_read place s (λ n u. Gave n u) sound ready fits
@@ -225,14 +251,19 @@ high_in_memory_law {context = context} {facts = facts} {last = last} {reference 
             (subst (λ (n : ℕ). IsSteady context.activation n) is_at high_steady)
             known stand going
             (λ now loaded on. ends place s now memory to (loaded.a ∙ ap (byte_at memory) (sym is_at))
-            (λ other other_is static. loaded.others (ap is_static_location (same_Some _ _ (sym found ∙ other_is)) ∙ static)) on))))
+            (λ other other_is static. loaded.others
+            (ap is_static_location (same_Some _ _ (sym found ∙ other_is)) ∙ static)) on))))
     by_location None found (PartThere {found = found_there} {middle = middle} does stand) =
         through_next (located_in context part_of s)
-        (subst (λ (outcome : Outcome SourcePlace). Does context.activation.around.program.script s.budget 0 (at_place from r memory s.events) outcome
-        (Arrives context.activation top base middle (AddressIsGiven context found_there (reference_after reference 1) r memory)))
+        (subst (λ (outcome : Outcome SourcePlace). Does context.activation.around.program.script s.budget 0
+        (at_place from r memory s.events) outcome
+        (Arrives context.activation top base middle
+        (AddressIsGiven context found_there (reference_after reference 1) r memory)))
         (next_located context part_of s)
-        (does bound (next_part part_of) next_is referred (next_types context part_of types) top base s r memory less
-        (subst (λ (height : ℕ). HasRoom context.activation top pushed (2 * height)) (sym (next_height part_of)) room) ready known tt))
+        (does bound (next_part part_of) next_is referred (next_types context part_of types) top
+        base s r memory less
+        (subst (λ (height : ℕ). HasRoom context.activation top pushed (2 * height))
+        (sym (next_height part_of)) room) ready known tt))
         (λ place t end same given fewer.
         let there : Registers = given.r in
         let ended : List ℕ = given.memory in
@@ -240,12 +271,15 @@ high_in_memory_law {context = context} {facts = facts} {last = last} {reference 
         let fits = located_fits context Address part_of place s t sound refers same in
         subst (λ (state : State). Does context.activation.around.program.script t.budget 0 state
         (read_scalar context.activation.around.program Address place t)
-        (Arrives context.activation top base to (HighIsLoaded context facts last reference r memory))) (sym given.is_at)
-        (subst (λ (outcome : Outcome ℕ). Does context.activation.around.program.script t.budget 0 (at_place middle there ended t.events) outcome
+        (Arrives context.activation top base to (HighIsLoaded context facts last reference r memory)))
+        (sym given.is_at)
+        (subst (λ (outcome : Outcome ℕ). Does context.activation.around.program.script t.budget 0
+        (at_place middle there ended t.events) outcome
         (Arrives context.activation top base to (HighIsLoaded context facts last reference r memory)))
         (given_again (read_scalar context.activation.around.program Address place t))
         (word_read place t (λ n u. Gave n u) sound given.ready fits
         (λ low_steady high_steady.
         load_a_goes (wrap (address_on_machine context.activation place + 1)) there sound high_steady hl stand
         (record { ready = given.ready; known = (given.holds).known })
-        (λ now loaded on. ends place t now ended to loaded.a (λ other other_is static. static_only found other_is) on)))))
+        (λ now loaded on. ends place t now ended to loaded.a
+        (λ other other_is static. static_only found other_is) on)))))

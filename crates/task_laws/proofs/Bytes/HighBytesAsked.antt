@@ -36,14 +36,17 @@ word_form :
     → IsForm (nodes_in context) context.storage bound form tree
     → word_of form scalar ≡ Some reference
     → WordPart context reference tree
-word_form context reference bound _ scalars.Address _ types same (IsValue {scalar = scalars.Address} {part = part} is) told = record {
-  bound = bound;
-  part = part;
-  same = refl;
-  is = subst (λ (given : Reference). IsReference (nodes_in context) context.storage bound given part) (same_Some _ _ told) is;
-  types = types;
-}
-word_form context reference bound _ scalars.Address _ types same (IsValue {scalar = scalars.Byte} is) told = absurd cc
+word_form context reference bound _ scalars.Address _ types same
+    (IsValue {scalar = scalars.Address} {part = part} is) told = record {
+      bound = bound;
+      part = part;
+      same = refl;
+      is = subst (λ (given : Reference). IsReference (nodes_in context) context.storage bound given part)
+          (same_Some _ _ told) is;
+      types = types;
+    }
+word_form context reference bound _ scalars.Address _ types same (IsValue {scalar = scalars.Byte} is) told =
+    absurd cc
 word_form context reference bound _ scalars.Address tree types same other told = absurd cc
 word_form context reference bound _ scalars.Byte tree types same (IsValue is) told = absurd cc
 word_form context reference bound _ scalars.Byte tree types same other told = absurd cc
@@ -59,8 +62,10 @@ pub word_part :
 unfolding word_in_memory
 word_part {context = context} {number = number} {tree = tree} facts reference sound is types told =
     let node = node_of {context = context} {number = number} sound is in
-    word_form context reference number.index node.found.form node.found.traits.scalar tree types node.scalar node.form
-    (sym (ap (λ (found : Option Expression). option_and_then (λ (one : Expression). word_of one.form one.traits.scalar) found) (node.at_site facts)) ∙ told)
+    word_form context reference number.index node.found.form node.found.traits.scalar tree types
+    node.scalar node.form
+    (sym (ap (λ (found : Option Expression). option_and_then
+    (λ (one : Expression). word_of one.form one.traits.scalar) found) (node.at_site facts)) ∙ told)
 
 -- a reference with a known place in memory has its location there
 static_location : (found : Option Location) (place : Place) → place_in_memory found ≡ Some place → found
@@ -74,7 +79,8 @@ pub direct_is :
     → direct (knowing context.site facts) reference ≡ Some place
     → location_of (knowing context.site facts) reference ≡ Some (locations.Static place)
 unfolding direct
-direct_is context facts reference place told = static_location (location_of (knowing context.site facts) reference) place told
+direct_is context facts reference place told =
+    static_location (location_of (knowing context.site facts) reference) place told
 
 -- the word of an ADDRESS at a place in memory
 pub words_at_places : (context : Context) → IsSound context → WordsAtPlaces context
@@ -89,13 +95,18 @@ words_at_places context sound known_there number place bound top tree base s r m
         let part = of_part.part in
         let refers = (of_part.types).0 in
         let lies = lies_there known_there (locations.Static place) sound of_part.is
-        (refers_is_referred context scalars.Address part refers) (of_part.types).1 (direct_is context known_there reference place told) in
-        subst (λ (of : TypedExpression). WordAtPlace context place memory s (value_in context of s) ⊎ GoesOutside (value_in context of s))
+        (refers_is_referred context scalars.Address part refers) (of_part.types).1
+        (direct_is context known_there reference place told) in
+        subst (λ (of : TypedExpression). WordAtPlace context place memory s (value_in context of s)
+        ⊎ GoesOutside (value_in context of s))
         (sym of_part.same)
         (subst (λ (outcome : Outcome ℕ). WordAtPlace context place memory s outcome ⊎ GoesOutside outcome)
-        (sym (ap (λ (outcome : Outcome SourcePlace). then_do outcome (λ place t. read_scalar context.activation.around.program scalars.Address place t)) (lies.means s)))
+        (sym (ap (λ (outcome : Outcome SourcePlace). then_do outcome
+        (λ place t. read_scalar context.activation.around.program scalars.Address place t))
+        (lies.means s)))
         (read lies.place lies.is_at
-        (word_found lies.place s sound ready (located_fits context scalars.Address part lies.place s s sound refers (lies.means s)))))
+        (word_found lies.place s sound ready
+        (located_fits context scalars.Address part lies.place s s sound refers (lies.means s)))))
       where
         read : (there : SourcePlace) → address_on_machine context.activation there ≡ place_at
             context.activation.layout place
@@ -107,7 +118,8 @@ words_at_places context sound known_there number place bound top tree base s r m
             ⊎ GoesOutside (read_scalar context.activation.around.program scalars.Address there s)
         read there is_at (inr outside) = inr outside
         read there is_at (inl found) =
-            let next : address_on_machine context.activation (next_place there) ≡ place_at context.activation.layout (place_after place 1)
+            let next : address_on_machine context.activation (next_place there)
+            ≡ place_at context.activation.layout (place_after place 1)
             = next_address context.activation there ∙ ap (λ (n : ℕ). wrap (n + 1)) is_at
             ∙ sym (location_after_is context.activation (distances_in context) (locations.Static place) 1) in
             inl (record {
@@ -123,7 +135,8 @@ words_at_places context sound known_there number place bound top tree base s r m
     by_word : (found : Option Reference) → word_in_memory (knowing context.site known_there) number ≡ found
         → option_and_then (direct (knowing context.site known_there)) found ≡ Some place
         → WordAtPlace context place memory s (value_in context tree s) ⊎ GoesOutside (value_in context tree s)
-    by_word (Some reference) is told = at_part reference (word_part known_there reference sound node types is) told
+    by_word (Some reference) is told =
+        at_part reference (word_part known_there reference sound node types is) told
     by_word None is told = absurd cc
 
 -- the high byte is there
@@ -154,11 +167,13 @@ reference_again None reference same = absurd cc
 -- the high byte of an ADDRESS
 pub high_bytes_given : (context : Context) → IsSound context → HighBytesGiven context
 unfolding high_byte_steps high_byte_in_memory
-high_bytes_given context sound facts last number pushed from to bound tree node types type stand top base s r memory below room ready known asked =
+high_bytes_given context sound facts last number pushed from to bound tree node types type stand top base s r
+    memory below room ready known asked =
     by (high_byte_in_memory (knowing context.site facts) number) refl stand
   where
     Comes : Type 0
-    Comes = Does context.activation.around.program.script s.budget 0 (at_place from r memory s.events) (value_in context tree s)
+    Comes = Does context.activation.around.program.script s.budget 0 (at_place from r memory s.events)
+        (value_in context tree s)
         (Arrives context.activation top base to (HighIsGiven context last r memory))
 
     stage : Stage context top pushed (2 * height_of tree) base s facts r memory
@@ -166,7 +181,8 @@ high_bytes_given context sound facts last number pushed from to bound tree node 
 
     by_hl : StepsStand context (PartDoes context) facts from (high_by_hl_steps number pushed) last to → Comes
     by_hl (PartThere {middle = middle} does (PlainThere there ends)) =
-        does_same (then_do (value_in context tree s) (λ n t. Gave n t)) (sym (given_again (value_in context tree s)))
+        does_same (then_do (value_in context tree s) (λ n t. Gave n t))
+        (sym (given_again (value_in context tree s)))
         (at_word from middle number does node types (omega arith) stage
         (λ n t now ended is given next.
         let held = next.ready.registers in
@@ -194,10 +210,13 @@ high_bytes_given context sound facts last number pushed from to bound tree node 
         let refers = (of_part.types).0 in
         let next = next_lies context of_part.bound inner part of_part.is refers (of_part.types).1 in
         let lies = lies_there facts (locations.Static place) sound next.is next.referred next.types
-        (direct_is context facts (reference_after inner 1) place (ap (direct (knowing context.site facts)) after_is ∙ told)) in
-        subst (λ (of : TypedExpression). Does context.activation.around.program.script s.budget 0 (at_place from r memory s.events) (value_in context of s)
+        (direct_is context facts (reference_after inner 1) place
+        (ap (direct (knowing context.site facts)) after_is ∙ told)) in
+        subst (λ (of : TypedExpression). Does context.activation.around.program.script s.budget 0
+        (at_place from r memory s.events) (value_in context of s)
         (Arrives context.activation top base to (HighIsGiven context last r memory))) (sym of_part.same)
-        (loaded part lies.place lies.is_at (high_found part lies.place s s top base memory r sound refers (lies.means s) ready))
+        (loaded part lies.place lies.is_at
+        (high_found part lies.place s s top base memory r sound refers (lies.means s) ready))
       where
         loaded : (part : TypedReference) (there_is : SourcePlace)
             → address_on_machine context.activation there_is ≡ place_at context.activation.layout place
@@ -207,12 +226,14 @@ high_bytes_given context sound facts last number pushed from to bound tree node 
             → Does context.activation.around.program.script s.budget 0 (at_place from r memory s.events)
             (value_in context (ValueNode scalars.Address part) s)
             (Arrives context.activation top base to (HighIsGiven context last r memory))
-        loaded part there_is is_at (inr outside) = does_outside (value_in context (ValueNode scalars.Address part) s) outside
+        loaded part there_is is_at (inr outside) =
+            does_outside (value_in context (ValueNode scalars.Address part) s) outside
         loaded part there_is is_at (inl high) =
             at_load_a sound there (subst (λ (n : ℕ). IsSteady context.activation n) is_at high.steady) stage
             (λ in_a. at_end ends in_a
             (λ final.
-            high_given (value_in context (ValueNode scalars.Address part) s) (address_on_machine context.activation there_is) s
+            high_given (value_in context (ValueNode scalars.Address part) s)
+            (address_on_machine context.activation there_is) s
             (record r { a = byte_at memory (place_at context.activation.layout place) }) memory
             (ap (byte_at memory) (sym is_at)) high (record { ready = final.ready; known = final.known })))
     by_reference inner reference after_is of_part None told (PartThere {middle = middle} does stand) =
@@ -220,19 +241,25 @@ high_bytes_given context sound facts last number pushed from to bound tree node 
         let refers = (of_part.types).0 in
         let next = next_lies context of_part.bound inner part of_part.is refers (of_part.types).1 in
         let height : 2 * height_of_reference (next_part part) ≤ 2 * height_of tree
-        = at_most (height_of_reference (next_part part)) (height_of_reference part) (height_of tree) next.height (ap height_of of_part.same) in
+        = at_most (height_of_reference (next_part part)) (height_of_reference part) (height_of tree)
+        next.height (ap height_of of_part.same) in
         let is : IsReference (nodes_in context) context.storage of_part.bound reference (next_part part)
-        = subst (λ (given : Reference). IsReference (nodes_in context) context.storage of_part.bound given (next_part part)) after_is next.is in
-        subst (λ (of : TypedExpression). Does context.activation.around.program.script s.budget 0 (at_place from r memory s.events) (value_in context of s)
+        = subst (λ (given : Reference). IsReference (nodes_in context) context.storage of_part.bound given
+        (next_part part)) after_is next.is in
+        subst (λ (of : TypedExpression). Does context.activation.around.program.script s.budget 0
+        (at_place from r memory s.events) (value_in context of s)
         (Arrives context.activation top base to (HighIsGiven context last r memory))) (sym of_part.same)
-        (where_located (located_in context (next_part part) s) (value_in context (ValueNode scalars.Address part) s)
+        (where_located (located_in context (next_part part) s)
+        (value_in context (ValueNode scalars.Address part) s)
         (does of_part.bound (next_part part) is next.referred next.types top base s r memory below
         (room_for (2 * height_of_reference (next_part part)) height room) ready known tt)
         (λ place t end same given fewer.
         let there : Registers = given.r in
-        subst (λ (state : State). Does context.activation.around.program.script t.budget 0 state (value_in context (ValueNode scalars.Address part) s)
+        subst (λ (state : State). Does context.activation.around.program.script t.budget 0 state
+        (value_in context (ValueNode scalars.Address part) s)
         (Arrives context.activation top base to (HighIsGiven context last r memory))) (sym given.is_at)
-        (loaded part place t there given.memory middle _ (given.holds).hl stand (record { ready = given.ready; known = (given.holds).known })
+        (loaded part place t there given.memory middle _ (given.holds).hl stand
+        (record { ready = given.ready; known = (given.holds).known })
         (high_found part place s t top base given.memory there sound refers same given.ready)))
         (λ why t same. high_stops context part why s t same))
       where
@@ -255,7 +282,8 @@ high_bytes_given context sound facts last number pushed from to bound tree node 
         loaded part place t there ended middle found hl stand on (inl high) =
             load_a_goes (address_on_machine context.activation place) there sound high.steady hl stand on
             (λ now byte final.
-            high_given (value_in context (ValueNode scalars.Address part) s) (address_on_machine context.activation place) t now ended
+            high_given (value_in context (ValueNode scalars.Address part) s)
+            (address_on_machine context.activation place) t now ended
             byte.a high final)
 
     by_test : (inner reference : Reference) → reference_after inner 1 ≡ reference
@@ -270,7 +298,8 @@ high_bytes_given context sound facts last number pushed from to bound tree node 
         → Comes
     by_test inner reference after_is of_part true stands = by_hl stands
     by_test inner reference after_is of_part false stands =
-        by_reference inner reference after_is of_part (direct (knowing context.site facts) reference) refl stands
+        by_reference inner reference after_is of_part
+        (direct (knowing context.site facts) reference) refl stands
 
     by : (found : Option Reference) → high_byte_in_memory (knowing context.site facts) number ≡ found
         → StepsStand context (PartDoes context) facts from

@@ -17,7 +17,8 @@ pub byte_number_code : (k : ℕ) → CodeOfA (byte_number_steps k) (λ x. k)
 unfolding byte_number_steps
 byte_number_code k = by (k == 0) refl
   where
-    by : (none : Bool) → (k == 0) ≡ none → CodeOfA (if none then Plain clear_a ∷ [] else Plain (set A k) ∷ []) (λ x. k)
+    by : (none : Bool) → (k == 0) ≡ none
+        → CodeOfA (if none then Plain clear_a ∷ [] else Plain (set A k) ∷ []) (λ x. k)
     by true here = record {
       instructions = clear_a ∷ [];
       same = refl;
@@ -80,7 +81,8 @@ word_form context IsInput same = absurd (none-some _ same)
 
 -- the code of the high byte
 pub high_byte_law :
-    {context : Context} {facts last : Facts} {inner : ExpressionNumber} {pushed from to bound : ℕ} {inside : TypedExpression}
+    {context : Context} {facts last : Facts} {inner : ExpressionNumber} {pushed from to bound : ℕ}
+    {inside : TypedExpression}
     → IsSound context
     → IsExpression (nodes_in context) context.storage bound inner.index inside
     → TypesHold context.typed context.within inside
@@ -89,7 +91,9 @@ pub high_byte_law :
     → Carries context facts pushed (2 * height_of inside) 0 from to Nothing (value_in context inside)
     (HighIsGiven context last)
 unfolding high_byte_steps high_byte_in_memory word_in_memory
-high_byte_law {context = context} {facts = facts} {last = last} {inner = inner} {pushed = pushed} {from = from} {to = to} {inside = inside} sound is types stand top base s r memory below room ready known nothing =
+high_byte_law {context = context} {facts = facts} {last = last} {inner = inner} {pushed = pushed}
+    {from = from} {to = to} {inside = inside} sound is types stand top base s r memory below room
+    ready known nothing =
     by_number (number_of (knowing context.site facts) inner) refl stand
   where
     stage : Stage context top pushed (2 * height_of inside) base s facts r memory
@@ -121,7 +125,8 @@ high_byte_law {context = context} {facts = facts} {last = last} {inner = inner} 
             → inside ≡ ValueNode Address part_of
             → DoesIt
         by_word bound_of part_of is_part same =
-            let types_there = subst (λ (tree : TypedExpression). TypesHold context.typed context.within tree) same types in
+            let types_there =
+            subst (λ (tree : TypedExpression). TypesHold context.typed context.within tree) same types in
             subst (λ (tree : TypedExpression).
             HasRoom context.activation top pushed (2 * height_of tree)
             → Does context.activation.around.program.script s.budget 0 (at_place from r memory s.events)
@@ -129,7 +134,8 @@ high_byte_law {context = context} {facts = facts} {last = last} {inner = inner} 
             (Arrives context.activation top base to (HighIsGiven context last r memory))) (sym same)
             (λ room_there.
             with_outcome (value_in context (ValueNode Address part_of) s)
-            (high_in_memory_law sound given is_part types_there.0 types_there.1 top base s r memory below room_there ready known tt)
+            (high_in_memory_law sound given is_part types_there.0 types_there.1 top base s r memory below
+            room_there ready known tt)
             (λ found t end equal arrives. record {
               r = arrives.r;
               memory = arrives.memory;
@@ -167,7 +173,8 @@ high_byte_law {context = context} {facts = facts} {last = last} {inner = inner} 
           | Some reference ↦ byte_in_memory_steps (knowing context.site facts) reference pushed
           | None ↦ part (tasks.Word inner) pushed ∷ Plain (copy A H) ∷ []
         ]) last to)
-        (ap (λ (found : Option Expression). option_and_then (λ (one : Expression). word_of one.form one.traits.scalar) found) (node.at_site facts)
+        (ap (λ (found : Option Expression). option_and_then
+        (λ (one : Expression). word_of one.form one.traits.scalar) found) (node.at_site facts)
         ∙ ap (λ (scalar : ScalarType). word_of node.found.form scalar) node.scalar) given)
 
     by_number : (found : Option ℕ) → number_of (knowing context.site facts) inner ≡ found
@@ -175,7 +182,8 @@ high_byte_law {context = context} {facts = facts} {last = last} {inner = inner} 
         (elim found [
           | Some number ↦ byte_number_steps (high number)
           | None ↦
-              if fits_byte (knowing context.site facts) inner then part (tasks.Effects inner) pushed ∷ Plain clear_a ∷ []
+              if fits_byte (knowing context.site facts) inner then part (tasks.Effects inner) pushed
+              ∷ Plain clear_a ∷ []
               else elim (high_byte_in_memory (knowing context.site facts) inner) [
                 | Some reference ↦ byte_in_memory_steps (knowing context.site facts) reference pushed
                 | None ↦ part (tasks.Word inner) pushed ∷ Plain (copy A H) ∷ []
@@ -186,6 +194,7 @@ high_byte_law {context = context} {facts = facts} {last = last} {inner = inner} 
         let code = byte_number_code (n / 256) in
         does_same _ (number_means facts n sound is types here s)
         (at_last_instructions code.instructions sound code.on
-        (subst (λ steps. StepsStand context (PartDoes context) facts from steps last to) code.same given) stage
+        (subst (λ steps. StepsStand context (PartDoes context) facts from steps last to) code.same given)
+        stage
         (λ final. high_given to n (code.makes r ready.registers.a) final))
     by_number None here given = by_fits (fits_byte (knowing context.site facts) inner) refl given

@@ -53,11 +53,15 @@ high_found {context = context} part place s u top base memory r sound refers sam
     let given = gave_first (located_in context part s) (λ place t. Gave (next_place place) t) place u
     (sym (next_located context part s) ∙ same) in
     let both = same_both _ _ _ _ given.next in
-    let value_is : value_in context (ValueNode Address part) s ≡ read_scalar program Address given.first given.t
-    = ap (λ (outcome : Outcome Place). then_do outcome (λ place t. read_scalar program Address place t)) given.is in
+    let value_is : value_in context (ValueNode Address part) s
+    ≡ read_scalar program Address given.first given.t
+    = ap (λ (outcome : Outcome Place). then_do outcome (λ place t. read_scalar program Address place t))
+    given.is in
     let ready_there : IsReady context.activation top base (given.t).memory (given.t).frame r memory
-    = subst (λ (t : SourceState). IsReady context.activation top base t.memory t.frame r memory) (sym both.1) ready in
-    subst (λ (outcome : Outcome ℕ). HighIsAt context (address_on_machine context.activation place) memory u outcome ⊎ GoesOutside outcome)
+    = subst (λ (t : SourceState). IsReady context.activation top base t.memory t.frame r memory)
+    (sym both.1) ready in
+    subst (λ (outcome : Outcome ℕ). HighIsAt context (address_on_machine context.activation place) memory u
+    outcome ⊎ GoesOutside outcome)
     (sym value_is)
     (by given.first given.t both.0 both.1 (word_found given.first given.t sound ready_there
     (located_fits context Address part given.first s given.t sound refers given.is)))
@@ -72,7 +76,8 @@ high_found {context = context} part place s u top base memory r sound refers sam
     by first t there now (inl found) =
         inl (subst (λ (p : Place). HighIsAt context (address_on_machine context.activation p) memory u
         (read_scalar context.activation.around.program Address first t)) there
-        (subst (λ (v : SourceState). HighIsAt context (address_on_machine context.activation (next_place first)) memory v
+        (subst (λ (v : SourceState). HighIsAt context
+        (address_on_machine context.activation (next_place first)) memory v
         (read_scalar context.activation.around.program Address first t)) now found.high_is))
 
 pub high_stops :
@@ -94,7 +99,8 @@ next_types : (context : Context) (part : TypedReference)
 next_types context (PartOf _ _ _ _ _) is = is
 
 -- the parts of a reference one byte further on
-pub record NextLies (context : Context) (bound : ℕ) (reference : Reference) (part : TypedReference) : Type 0 where
+pub record NextLies (context : Context) (bound : ℕ) (reference : Reference)
+    (part : TypedReference) : Type 0 where
   pub is : IsReference (nodes_in context) context.storage bound (reference_after reference 1) (next_part part)
   pub referred : IsReferred context (next_part part)
   pub types : TypesHoldInReference context.typed context.within (next_part part)
@@ -131,10 +137,15 @@ module _ (context : Context) (sound : IsSound context) where
     types = types.1;
     height = omega arith;
     gives = λ place s u top base memory r same ready.
-        subst (λ (outcome : Outcome ℕ). LowIsAt context scalar (address_on_machine context.activation place) memory u outcome ⊎ GoesOutside outcome)
-        (sym (ap (λ (outcome : Outcome Place). then_do outcome (λ place t. read_scalar context.activation.around.program scalar place t)) same))
-        (scalar_found scalar place u sound ready (located_fits context scalar part place s u sound types.0 same));
-    stops = λ why s u same. ap (λ (outcome : Outcome Place). then_do outcome (λ place t. read_scalar context.activation.around.program scalar place t)) same;
+        subst (λ (outcome : Outcome ℕ). LowIsAt context scalar (address_on_machine context.activation place)
+        memory u outcome ⊎ GoesOutside outcome)
+        (sym (ap (λ (outcome : Outcome Place). then_do outcome
+        (λ place t. read_scalar context.activation.around.program scalar place t)) same))
+        (scalar_found scalar place u sound ready
+        (located_fits context scalar part place s u sound types.0 same));
+    stops = λ why s u same. ap
+        (λ (outcome : Outcome Place). then_do outcome
+        (λ place t. read_scalar context.activation.around.program scalar place t)) same;
   }
 
   -- its high byte
@@ -156,7 +167,8 @@ module _ (context : Context) (sound : IsSound context) where
         gives = λ place s u top base memory r same ready.
             by place u memory (value_in context (ValueNode Address part) s)
             (high_found part place s u top base memory r sound types.0 same ready);
-        stops = λ why s u same. ap (λ (outcome : Outcome ℕ). then_do outcome (λ n t. Gave (n / 256) t)) (high_stops context part why s u same);
+        stops = λ why s u same. ap (λ (outcome : Outcome ℕ). then_do outcome (λ n t. Gave (n / 256) t))
+            (high_stops context part why s u same);
       }
     where
       by : (place : Place) (u : SourceState) (memory : List ℕ) (outcome : Outcome ℕ)
@@ -194,9 +206,13 @@ module _ (context : Context) (sound : IsSound context) where
         types = lies.types;
         height = omega (arith, height, lower);
         gives = λ place s u top base memory r same ready.
-            subst (λ (outcome : Outcome ℕ). LowIsAt context (type_of tree) (address_on_machine context.activation place) memory u outcome ⊎ GoesOutside outcome)
-            (sym (means s)) (by place u memory (value_in context inside s) (lies.gives place s u top base memory r same ready));
-        stops = λ why s u same. means s ∙ ap (λ (outcome : Outcome ℕ). then_do outcome (λ n t. Gave (f n) t)) (lies.stops why s u same);
+            subst (λ (outcome : Outcome ℕ). LowIsAt context (type_of tree)
+            (address_on_machine context.activation place) memory u outcome ⊎ GoesOutside outcome)
+            (sym (means s))
+            (by place u memory (value_in context inside s)
+            (lies.gives place s u top base memory r same ready));
+        stops = λ why s u same. means s ∙ ap (λ (outcome : Outcome ℕ). then_do outcome (λ n t. Gave (f n) t))
+            (lies.stops why s u same);
       }
     where
       by : (place : Place) (u : SourceState) (memory : List ℕ) (outcome : Outcome ℕ)
@@ -239,8 +255,10 @@ module _ (context : Context) (sound : IsSound context) where
           → IsForm (nodes_in context) context.storage bound form tree
           → traits.byte_after scalar form ≡ Some reference
           → ByteLies context reference (FunctionNode High tree)
-      by bound _ Address tree types same (IsValue {scalar = Address} {reference = inner} {part = part} is) told =
-          subst (λ (given : Reference). ByteLies context given (FunctionNode High (ValueNode Address part))) (same_Some _ _ told)
+      by bound _ Address tree types same
+          (IsValue {scalar = Address} {reference = inner} {part = part} is) told =
+          subst (λ (given : Reference). ByteLies context given (FunctionNode High (ValueNode Address part)))
+          (same_Some _ _ told)
           (high_lies part is types)
       by bound _ Address tree types same (IsValue {scalar = Byte} is) told = absurd cc
       by bound _ Address tree types same other told = absurd cc
@@ -249,8 +267,10 @@ module _ (context : Context) (sound : IsSound context) where
   -- a form other than these
   inner_lies : LiesBy (λ form. traits.memory_of_inner (nodes_in context) form)
   inner_lies bound _ _ reference (IsValue {scalar = scalar} {part = part} is) types told =
-      subst (λ (given : Reference). ByteLies context given (ValueNode scalar part)) (same_Some _ _ told) (value_lies scalar part is types)
-  inner_lies bound _ _ reference (IsFunction {function = High} {operand = operand} {tree = tree} is) types told =
+      subst (λ (given : Reference). ByteLies context given (ValueNode scalar part)) (same_Some _ _ told)
+      (value_lies scalar part is types)
+  inner_lies bound _ _ reference (IsFunction {function = High} {operand = operand} {tree = tree} is) types
+      told =
       let node = node_of {context = context} {number = operand} sound is in
       after_lies reference operand tree node types
       (sym (ap (λ (found : Option Expression). option_and_then
@@ -288,32 +308,52 @@ module _ (context : Context) (sound : IsSound context) where
       (tells : ExpressionForm → Option Reference)
       → LiesBy tells
       → LiesBy (λ form. tells (traits.same_low_byte (nodes_in context) form))
-  deeper tells lies bound _ _ reference (IsConversion {inner = inner} {scalar = scalar} {tree = tree} is) types told =
+  deeper tells lies bound _ _ reference
+      (IsConversion {inner = inner} {scalar = scalar} {tree = tree} is) types told =
       let node = node_of {context = context} {number = inner} sound is in
       conversion_inside scalar tree
       (lies inner.index node.found.form tree reference node.form types
-      (sym (ap (λ (found : Option Expression). tells (option_map_or (λ (one : Expression). one.form) found (forms.Conversion inner))) node.is_there) ∙ told))
-  deeper tells lies bound _ _ reference (IsFunction {function = Low} {operand = inner} {tree = tree} is) types told =
+      (sym (ap (λ (found : Option Expression). tells
+      (option_map_or (λ (one : Expression). one.form) found (forms.Conversion inner))) node.is_there)
+      ∙ told))
+  deeper tells lies bound _ _ reference
+      (IsFunction {function = Low} {operand = inner} {tree = tree} is) types told =
       let node = node_of {context = context} {number = inner} sound is in
       low_inside tree
       (lies inner.index node.found.form tree reference node.form types
-      (sym (ap (λ (found : Option Expression). tells (option_map_or (λ (one : Expression). one.form) found (forms.Function Low inner))) node.is_there) ∙ told))
-  deeper tells lies bound _ _ reference (IsFunction {function = Double} {operand = inner} {tree = tree} is) types told =
+      (sym (ap (λ (found : Option Expression). tells
+      (option_map_or (λ (one : Expression). one.form) found (forms.Function Low inner))) node.is_there)
+      ∙ told))
+  deeper tells lies bound _ _ reference
+      (IsFunction {function = Double} {operand = inner} {tree = tree} is) types told =
       let node = node_of {context = context} {number = inner} sound is in
       double_inside tree
       (lies inner.index node.found.form tree reference node.form types
-      (sym (ap (λ (found : Option Expression). tells (option_map_or (λ (one : Expression). one.form) found (forms.Function Double inner))) node.is_there) ∙ told))
-  deeper tells lies bound form tree reference (IsFunction {function = High} is) types told = lies bound form tree reference (IsFunction is) types told
-  deeper tells lies bound form tree reference IsNumber types told = lies bound form tree reference IsNumber types told
-  deeper tells lies bound form tree reference (IsValue is) types told = lies bound form tree reference (IsValue is) types told
-  deeper tells lies bound form tree reference (IsLocation is) types told = lies bound form tree reference (IsLocation is) types told
-  deeper tells lies bound form tree reference IsConstantList types told = lies bound form tree reference IsConstantList types told
-  deeper tells lies bound form tree reference (IsEmbedded to is) types told = lies bound form tree reference (IsEmbedded to is) types told
-  deeper tells lies bound form tree reference (IsUnary is) types told = lies bound form tree reference (IsUnary is) types told
-  deeper tells lies bound form tree reference (IsBinary one two) types told = lies bound form tree reference (IsBinary one two) types told
-  deeper tells lies bound form tree reference (IsCallOf given) types told = lies bound form tree reference (IsCallOf given) types told
-  deeper tells lies bound form tree reference (IsShift one two) types told = lies bound form tree reference (IsShift one two) types told
-  deeper tells lies bound form tree reference IsInput types told = lies bound form tree reference IsInput types told
+      (sym (ap (λ (found : Option Expression). tells
+      (option_map_or (λ (one : Expression). one.form) found (forms.Function Double inner))) node.is_there)
+      ∙ told))
+  deeper tells lies bound form tree reference (IsFunction {function = High} is) types told =
+      lies bound form tree reference (IsFunction is) types told
+  deeper tells lies bound form tree reference IsNumber types told =
+      lies bound form tree reference IsNumber types told
+  deeper tells lies bound form tree reference (IsValue is) types told =
+      lies bound form tree reference (IsValue is) types told
+  deeper tells lies bound form tree reference (IsLocation is) types told =
+      lies bound form tree reference (IsLocation is) types told
+  deeper tells lies bound form tree reference IsConstantList types told =
+      lies bound form tree reference IsConstantList types told
+  deeper tells lies bound form tree reference (IsEmbedded to is) types told =
+      lies bound form tree reference (IsEmbedded to is) types told
+  deeper tells lies bound form tree reference (IsUnary is) types told =
+      lies bound form tree reference (IsUnary is) types told
+  deeper tells lies bound form tree reference (IsBinary one two) types told =
+      lies bound form tree reference (IsBinary one two) types told
+  deeper tells lies bound form tree reference (IsCallOf given) types told =
+      lies bound form tree reference (IsCallOf given) types told
+  deeper tells lies bound form tree reference (IsShift one two) types told =
+      lies bound form tree reference (IsShift one two) types told
+  deeper tells lies bound form tree reference IsInput types told =
+      lies bound form tree reference IsInput types told
 
   -- a byte that is in memory according to a site is there
   pub byte_lies :
@@ -324,7 +364,8 @@ module _ (context : Context) (sound : IsSound context) where
       → ByteLies context reference tree
   byte_lies {number = number} {tree = tree} {reference = reference} facts is types told =
       let node = node_of {context = context} {number = number} sound is in
-      deeper (λ form. traits.memory_of_inner (nodes_in context) (traits.same_low_byte (nodes_in context) form))
+      deeper (λ form. traits.memory_of_inner (nodes_in context)
+      (traits.same_low_byte (nodes_in context) form))
       (deeper (λ form. traits.memory_of_inner (nodes_in context) form) inner_lies)
       number.index node.found.form tree reference node.form types
       (sym (memory_same context sound facts node) ∙ told)
@@ -340,13 +381,16 @@ pub where_located :
     → Does script t.budget more end other Good)
     → ((why : Stop) (t : SourceState) → outcome ≡ Stopped why t → other ≡ Stopped why t)
     → Does script budget more from other Good
-where_located (Gave found t) other one rest stops = then_does_where (Gave found t) {go = λ found t. other} one rest
+where_located (Gave found t) other one rest stops =
+    then_does_where (Gave found t) {go = λ found t. other} one rest
 where_located (Stopped why t) other one rest stops =
-    does_same (Stopped why t) (stops why t refl) (then_does_where (Stopped why t) {go = λ found t. other} one rest)
+    does_same (Stopped why t) (stops why t refl)
+    (then_does_where (Stopped why t) {go = λ found t. other} one rest)
 
 -- the low byte of an expression is at the address that is put into HL
 pub locates_bytes : (context : Context) → IsSound context → LocatesBytes context
-locates_bytes context sound known_there before after number reference pushed from to bound tree told does is types top base s r memory below room ready known asked =
+locates_bytes context sound known_there before after number reference pushed from to bound tree told does is
+    types top base s r memory below room ready known asked =
     let lies = byte_lies context sound known_there is types told in
     let height = lies.height in
     where_located (located_in context lies.part s) (value_in context tree s)
@@ -354,9 +398,12 @@ locates_bytes context sound known_there before after number reference pushed fro
     (room_for (2 * height_of_reference lies.part) (omega (arith, height)) room) ready known tt)
     (λ place t end same given fewer.
     let there : Registers = given.r in
-    subst (λ (state : State). Does context.activation.around.program.script t.budget 0 state (value_in context tree s)
-    (Arrives context.activation top base to (ByteIsAtHl context after reference (type_of tree) r memory))) (sym given.is_at)
-    (by place t there given.memory given.ready given.holds (lies.gives place s t top base given.memory there same given.ready)))
+    subst (λ (state : State). Does context.activation.around.program.script t.budget 0 state
+    (value_in context tree s)
+    (Arrives context.activation top base to (ByteIsAtHl context after reference (type_of tree) r memory)))
+    (sym given.is_at)
+    (by place t there given.memory given.ready given.holds
+    (lies.gives place s t top base given.memory there same given.ready)))
     (λ why t same. lies.stops why s t same)
   where
     by : (place : Place) (t : SourceState) (there : Registers) (ended : List ℕ)

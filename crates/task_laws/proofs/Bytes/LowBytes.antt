@@ -17,7 +17,8 @@ use Rattle.task_laws.proofs.Words.WordValues.{location_is, location_is_referred}
 
 -- through HL
 pub low_word_law :
-    {context : Context} {facts last : Facts} {from to bound : ℕ} {tree : TypedExpression} (number : ExpressionNumber)
+    {context : Context} {facts last : Facts} {from to bound : ℕ} {tree : TypedExpression}
+    (number : ExpressionNumber)
     (pushed : ℕ)
     → IsSound context
     → IsExpression (nodes_in context) context.storage bound number.index tree
@@ -27,7 +28,8 @@ pub low_word_law :
     → ByteCarried context facts number tree pushed from last to
 unfolding low_of_word_steps
 low_word_law {context = context} {bound = bound} {tree = tree} number pushed sound is types not_free stand =
-    byte_of_word context sound itself (copy A L ∷ []) (λ h l. l) (tt, tt) (λ r h_small l_small. refl) not_free (λ v fits. refl) stand
+    byte_of_word context sound itself (copy A L ∷ []) (λ h l. l) (tt, tt) (λ r h_small l_small. refl) not_free
+    (λ v fits. refl) stand
   where
     itself : OfOne context number number tree tree (λ v. v) (values_of (type_of tree))
     itself = record {
@@ -82,7 +84,8 @@ low_of_pair d e n small same = omega (arith, small, same)
 
 -- no step is left
 pub nothing_more :
-    {A : Type 0} {context : Context} {PartIs : (before : Facts) → Part → (from : ℕ) → (after : Facts) → (to : ℕ) → Type 0}
+    {A : Type 0} {context : Context}
+    {PartIs : (before : Facts) → Part → (from : ℕ) → (after : Facts) → (to : ℕ) → Type 0}
     {facts last : Facts} {from to top budget more : ℕ} {base source memory : List ℕ} {frame : List (List ℕ)}
     {r : Registers} {events : List Event} {outcome : Outcome A} {Good : A → SourceState → State → Type 0}
     → StepsStand context PartIs facts from [] last to
@@ -126,7 +129,8 @@ pub location_law :
     → StepsStand context (PartDoes context) facts from
     (part_of (tasks.Address reference) pushed ∷ Plain (copy A L) ∷ []) last to
     → ByteCarried context facts number (LocationNode part) pushed from last to
-location_law {context = context} {last = last} {part = part} {bound = bound} {from = from} {to = to} number sound is node types not_free (PartThere does rest) top base s r memory below room ready known nothing =
+location_law {context = context} {last = last} {part = part} {bound = bound} {from = from} {to = to} number
+    sound is node types not_free (PartThere does rest) top base s r memory below room ready known nothing =
     low_given number from s r memory sound node types not_free ready
     (then_does_where
     (does bound part is (location_is_referred context part types.0) types.1 top base s r memory below
@@ -144,17 +148,20 @@ pub input_law :
     → IsSound context
     → StepsStand context (PartDoes context) facts from (Plain (In port) ∷ []) last to
     → ByteCarried context facts number (InputNode port) pushed from last to
-input_law {to = to} number port pushed sound (PlainThere there rest) top base s r memory below room ready known nothing =
+input_law {to = to} number port pushed sound (PlainThere there rest) top base s r memory below room
+    ready known nothing =
     input_goes port sound there (record { below = below; room = room; ready = ready; known = known })
     (λ small next.
     at_end rest next
     (λ final.
     byte_given to number _ (byte_is_low _ small) small
-    (λ free. record { b = refl; c = refl; d = refl; e = refl; h = refl; l = refl; same_memory = refl }) final))
+    (λ free. record { b = refl; c = refl; d = refl; e = refl; h = refl; l = refl; same_memory = refl })
+    final))
 
 -- the low byte of a value that is in A or HL, by its type
 low_of_value :
-    {A : Type 0} {context : Context} {top pushed need : ℕ} {base : List ℕ} {t : SourceState} {facts last : Facts}
+    {A : Type 0} {context : Context} {top pushed need : ℕ} {base : List ℕ} {t : SourceState}
+    {facts last : Facts}
     {r : Registers} {memory : List ℕ} {from to budget more : ℕ} {outcome : Outcome A}
     {Good : A → SourceState → State → Type 0} (scalar : ScalarType) (found : ℕ)
     → IsSound context
@@ -173,7 +180,8 @@ low_of_value scalars.Address found sound there stand stage rest =
 
 -- a call
 pub called_law :
-    {context : Context} {facts last : Facts} {from to bound bound_of : ℕ} {scalar : ScalarType} {trees : TypedArguments}
+    {context : Context} {facts last : Facts} {from to bound bound_of : ℕ} {scalar : ScalarType}
+    {trees : TypedArguments}
     (number : ExpressionNumber) (procedure : ℕ) (range : Range) (pushed : ℕ)
     → IsSound context
     → AreArguments (nodes_in context) context.storage bound range.first range.count trees
@@ -184,7 +192,9 @@ pub called_law :
     → StepsStand context (PartDoes context) facts from
     (call_steps (knowing context.site facts) procedure range pushed ++ low_of_value_steps scalar) last to
     → ByteCarried context facts number (CallNode procedure scalar trees) pushed from last to
-called_law {context = context} {facts = facts} {last = last} {from = from} {to = to} {bound = bound} {scalar = scalar} {trees = trees} number procedure range pushed sound are takes types is not_free stand top base s r memory below room ready known nothing =
+called_law {context = context} {facts = facts} {last = last} {from = from} {to = to} {bound = bound}
+    {scalar = scalar} {trees = trees} number procedure range pushed sound are takes types is not_free stand
+    top base s r memory below room ready known nothing =
     low_given number from s r memory sound is (takes, types) not_free ready
     (gives_then (value_in context (CallNode procedure scalar trees) s)
     (call_does procedure range sound parts.first bound (Some scalar) trees are takes types top base s r memory
@@ -207,4 +217,5 @@ called_law {context = context} {facts = facts} {last = last} {from = from} {to =
   where
     parts : Parted context (PartDoes context) facts from
         (call_steps (knowing context.site facts) procedure range pushed) (low_of_value_steps scalar) last to
-    parts = steps_split (call_steps (knowing context.site facts) procedure range pushed) (low_of_value_steps scalar) stand
+    parts = steps_split (call_steps (knowing context.site facts) procedure range pushed)
+        (low_of_value_steps scalar) stand

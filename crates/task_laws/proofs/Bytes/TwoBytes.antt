@@ -84,8 +84,10 @@ data IsFormOf (site : Site) (operation : Operation) (left right : ExpressionNumb
   IsLeftInMemory : {reference : Reference} → commutes operation ≡ true → may_exchange site left right ≡ true
       → operand_in_memory site left ≡ Some reference
       → IsFormOf site operation left right (LeftInMemory reference)
-  IsLeftFree : may_exchange site left right ≡ true → is_free site left ≡ true → IsFormOf site operation left right LeftFree
-  IsRightFree : commutes operation ≡ true → is_free site right ≡ true → IsFormOf site operation left right RightFree
+  IsLeftFree : may_exchange site left right ≡ true → is_free site left ≡ true
+      → IsFormOf site operation left right LeftFree
+  IsRightFree : commutes operation ≡ true → is_free site right ≡ true
+      → IsFormOf site operation left right RightFree
   IsPushed : IsFormOf site operation left right Pushed
 
 abbrev Fits : Site → Operation → (left right : ExpressionNumber) → Option ByteForm → Type 0
@@ -124,20 +126,26 @@ from_register_fits site operation left right =
         → Fits site operation left right
         (if both then form_after_right site operation (of_both left right) else None)
     by false is = tt
-    by true is = after_right_fits site operation left right (and_parts (is_byte_in_register site right) (may_exchange site left right) is).1
+    by true is =
+        after_right_fits site operation left right
+        (and_parts (is_byte_in_register site right) (may_exchange site left right) is).1
 
 without_memory_fits :
     (site : Site) (operation : Operation) (left right : ExpressionNumber)
     → IsFormOf site operation left right (form_without_memory site operation (of_both left right))
 unfolding form_without_memory
 without_memory_fits site operation left right =
-    by (may_exchange site left right && is_free site left) refl (commutes operation && is_free site right) refl
+    by (may_exchange site left right && is_free site left) refl
+    (commutes operation && is_free site right) refl
   where
     by : (one : Bool) → (may_exchange site left right && is_free site left) ≡ one
         → (other : Bool) → (commutes operation && is_free site right) ≡ other
         → IsFormOf site operation left right (if one then LeftFree else if other then RightFree else Pushed)
-    by true is other two = let parts = and_parts (may_exchange site left right) (is_free site left) is in IsLeftFree parts.0 parts.1
-    by false is true two = let parts = and_parts (commutes operation) (is_free site right) two in IsRightFree parts.0 parts.1
+    by true is other two =
+        let parts = and_parts (may_exchange site left right) (is_free site left) is in
+        IsLeftFree parts.0 parts.1
+    by false is true two =
+        let parts = and_parts (commutes operation) (is_free site right) two in IsRightFree parts.0 parts.1
     by false is false two = IsPushed
 
 with_left_fits :
@@ -157,7 +165,8 @@ with_left_fits site operation left right =
         ]
         else form_without_memory site operation (of_both left right))
     by true is (Some reference) two =
-        let parts = and_parts (may_exchange site left right) (commutes operation) is in IsLeftInMemory parts.1 parts.0 two
+        let parts = and_parts (may_exchange site left right) (commutes operation) is in
+        IsLeftInMemory parts.1 parts.0 two
     by true is None two = without_memory_fits site operation left right
     by false is found two = without_memory_fits site operation left right
 
@@ -197,16 +206,19 @@ module _
     (whole : height_of tree ≡ 1 + max (height_of first) (height_of second))
     (tree_type : type_of tree ≡ operands)
     (means : (t : SourceState) → value_in context tree t
-    ≡ in_order (value_in context first) (value_in context second) (λ v w u. Gave (result_by operation operands v w) u) t)
+    ≡ in_order (value_in context first) (value_in context second)
+    (λ v w u. Gave (result_by operation operands v w) u) t)
     (not_free : is_free context.site number ≡ false) where
   -- the end, where A has the low byte
   operated_end :
-      {top need : ℕ} {base : List ℕ} {u : SourceState} {r now : Registers} {memory memory_now : List ℕ} (v w : ℕ)
+      {top need : ℕ} {base : List ℕ} {u : SourceState} {r now : Registers}
+      {memory memory_now : List ℕ} (v w : ℕ)
       → IsValueOf context first left v
       → IsValueOf context second right w
       → now.a ≡ result_by operation operands v w % 256
       → Stage context top pushed need base u last now memory_now
-      → Does (script_of context) u.budget 0 (at_place to now memory_now u.events) (Gave (result_by operation operands v w) u)
+      → Does (script_of context) u.budget 0 (at_place to now memory_now u.events)
+      (Gave (result_by operation operands v w) u)
       (Arrives context.activation top base to (ByteIsGiven context last number (type_of tree) r memory))
   operated_end v w value other_value a stage =
       byte_given to number (result_by operation operands v w) a
@@ -218,50 +230,64 @@ module _
   straight : (v w : ℕ) (now : Registers) → IsValueOf context second right w → IsOperated operation v w now
       → now.a ≡ result_by operation operands v w % 256
   straight v w now other_value is =
-      is.a ∙ low_result operation operands v w is.before simple (subst (λ scalar. w < values_of scalar) other_is_type other_value.small)
+      is.a ∙ low_result operation operands v w is.before simple
+      (subst (λ scalar. w < values_of scalar) other_is_type other_value.small)
 
-  turned : (v w : ℕ) (now : Registers) → commutes operation ≡ true → IsValueOf context second right w → IsOperated operation w v now
+  turned : (v w : ℕ) (now : Registers) → commutes operation ≡ true → IsValueOf context second right w
+      → IsOperated operation w v now
       → now.a ≡ result_by operation operands v w % 256
   turned v w now either other_value is =
       is.a ∙ either_way operation (w % 256) (v % 256) is.before either
-      ∙ low_result operation operands v w is.before simple (subst (λ scalar. w < values_of scalar) other_is_type other_value.small)
+      ∙ low_result operation operands v w is.before simple
+      (subst (λ scalar. w < values_of scalar) other_is_type other_value.small)
 
   -- an operation with two operands in a form
   in_form :
       (form : ByteForm)
       → IsFormOf (knowing context.site facts) operation left right form
-      → StepsStand context (PartDoes context) facts from (in_form_steps form operation (of_both left right) pushed) last to
+      → StepsStand context (PartDoes context) facts from
+      (in_form_steps form operation (of_both left right) pushed) last to
       → Carries context facts pushed (2 * height_of tree) 0 from to Nothing (value_in context tree)
       (ByteIsGiven context last number (type_of tree))
   unfolding in_form_steps with_memory_steps with_e_steps with_stack_steps
-  in_form _ (IsRightInMemory {reference = reference} there) stand top base s r memory below room ready known nothing =
+  in_form _ (IsRightInMemory {reference = reference} there) stand top base s r memory below room
+      ready known nothing =
       does_same _ (means s)
-      (operated_with_memory facts (λ v w u. Gave (result_by operation operands v w) u) asked sound one types two other_types
+      (operated_with_memory facts (λ v w u. Gave (result_by operation operands v w) u) asked sound one
+      types two other_types
       (operand_at facts right reference there) stand (omega (arith, whole)) (omega (arith, whole))
       (record { below = below; room = room; ready = ready; known = known })
-      (λ v w u now memory_now value other_value is final. operated_end v w value other_value (straight v w now other_value is) final))
-  in_form _ (IsLeftInMemory {reference = reference} either may there) stand top base s r memory below room ready known nothing =
+      (λ v w u now memory_now value other_value is final. operated_end v w value other_value
+      (straight v w now other_value is) final))
+  in_form _ (IsLeftInMemory {reference = reference} either may there) stand top base s r memory below room
+      ready known nothing =
       does_same _ (means s)
       (does_exchanged facts (λ v w u. Gave (result_by operation operands v w) u) s sound one two types may
-      (operated_with_memory facts (λ w v u. Gave (result_by operation operands v w) u) asked sound two other_types one types
+      (operated_with_memory facts (λ w v u. Gave (result_by operation operands v w) u) asked sound two
+      other_types one types
       (operand_at facts left reference there) stand (omega (arith, whole)) (omega (arith, whole))
       (record { below = below; room = room; ready = ready; known = known })
-      (λ w v u now memory_now other_value value is final. operated_end v w value other_value (turned v w now either other_value is) final)))
+      (λ w v u now memory_now other_value value is final. operated_end v w value other_value
+      (turned v w now either other_value is) final)))
   in_form _ (IsLeftFree may free) stand top base s r memory below room ready known nothing =
       does_same _ (means s)
       (does_exchanged facts (λ v w u. Gave (result_by operation operands v w) u) s sound one two types may
-      (operated_with_e (λ v w u. Gave (result_by operation operands v w) u) asked sound one types two other_types
+      (operated_with_e (λ v w u. Gave (result_by operation operands v w) u) asked sound one
+      types two other_types
       (free_is context.site left ∙ sym (free_is (knowing context.site facts) left) ∙ free) stand
       (omega (arith, whole)) (omega (arith, whole))
       (record { below = below; room = room; ready = ready; known = known })
-      (λ v w u now memory_now value other_value is final. operated_end v w value other_value (straight v w now other_value is) final)))
+      (λ v w u now memory_now value other_value is final. operated_end v w value other_value
+      (straight v w now other_value is) final)))
   in_form _ (IsRightFree either free) stand top base s r memory below room ready known nothing =
       does_same _ (means s)
-      (operated_with_e (λ w v u. Gave (result_by operation operands v w) u) asked sound two other_types one types
+      (operated_with_e (λ w v u. Gave (result_by operation operands v w) u) asked sound two
+      other_types one types
       (free_is context.site right ∙ sym (free_is (knowing context.site facts) right) ∙ free) stand
       (omega (arith, whole)) (omega (arith, whole))
       (record { below = below; room = room; ready = ready; known = known })
-      (λ w v u now memory_now other_value value is final. operated_end v w value other_value (turned v w now either other_value is) final))
+      (λ w v u now memory_now other_value value is final. operated_end v w value other_value
+      (turned v w now either other_value is) final))
   in_form _ IsPushed stand top base s r memory below room ready known nothing =
       does_same _ (means s) (by (commutes operation) refl stand)
     where
@@ -274,21 +300,27 @@ module _
           ∷ (if either then Plain (Pop StackBc) ∷ [] else Plain (copy B A) ∷ Plain (Pop Psw) ∷ [])
           ++ (Plain (with_register operation B) ∷ [])) last to
           → Does (script_of context) s.budget 0 (at_place from r memory s.events)
-          (in_order (value_in context first) (value_in context second) (λ v w u. Gave (result_by operation operands v w) u) s)
+          (in_order (value_in context first) (value_in context second)
+          (λ v w u. Gave (result_by operation operands v w) u) s)
           (Arrives context.activation top base to (ByteIsGiven context last number (type_of tree) r memory))
       by true either stands =
-          operated_with_first_in_b (λ v w u. Gave (result_by operation operands v w) u) asked sound one types two other_types
+          operated_with_first_in_b (λ v w u. Gave (result_by operation operands v w) u) asked sound one
+          types two other_types
           stands (omega (arith, whole)) (omega (arith, whole)) stage
-          (λ w v u now memory_now other_value value is final. operated_end v w value other_value (turned v w now either other_value is) final)
+          (λ w v u now memory_now other_value value is final. operated_end v w value other_value
+          (turned v w now either other_value is) final)
       by false either stands =
-          operated_with_second_in_b (λ v w u. Gave (result_by operation operands v w) u) asked sound one types two other_types
+          operated_with_second_in_b (λ v w u. Gave (result_by operation operands v w) u) asked sound one
+          types two other_types
           stands (omega (arith, whole)) (omega (arith, whole)) stage
-          (λ v w u now memory_now value other_value is final. operated_end v w value other_value (straight v w now other_value is) final)
+          (λ v w u now memory_now value other_value is final. operated_end v w value other_value
+          (straight v w now other_value is) final)
 
   -- an operation with two operands that are not numbers
   pub two_bytes :
       StepsStand context (PartDoes context) facts from
-      (in_form_steps (form_of (knowing context.site facts) operation (of_both left right)) operation (of_both left right) pushed) last to
+      (in_form_steps (form_of (knowing context.site facts) operation (of_both left right)) operation
+      (of_both left right) pushed) last to
       → Carries context facts pushed (2 * height_of tree) 0 from to Nothing (value_in context tree)
       (ByteIsGiven context last number (type_of tree))
   two_bytes stand =

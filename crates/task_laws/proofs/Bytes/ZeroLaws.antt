@@ -23,7 +23,8 @@ data IsMasked (context : Context) (facts : Facts) (bound : ℕ) : TypedExpressio
       → IsMasked context facts bound (BinaryNode scalars.Address operators.And first second) (right, mask)
 
 masked_binary :
-    {context : Context} {bound : ℕ} {left right : ExpressionNumber} {first second : TypedExpression} (facts : Facts)
+    {context : Context} {bound : ℕ} {left right : ExpressionNumber}
+    {first second : TypedExpression} (facts : Facts)
     (found : ExpressionNumber × ℕ)
     → IsExpression (nodes_in context) context.storage bound left.index first
     → IsExpression (nodes_in context) context.storage bound right.index second
@@ -39,11 +40,15 @@ masked_binary :
     ]
     ≡ Some found
     → IsMasked context facts bound (BinaryNode scalars.Address operators.And first second) found
-masked_binary {context = context} {bound = bound} {left = left} {first = first} {second = second} facts found one two (Some mask) left_number is left_is same =
-    subst (λ (pair : ExpressionNumber × ℕ). IsMasked context facts bound (BinaryNode scalars.Address operators.And first second) pair)
+masked_binary {context = context} {bound = bound} {left = left} {first = first} {second = second} facts found
+    one two (Some mask) left_number is left_is same =
+    subst (λ (pair : ExpressionNumber × ℕ). IsMasked context facts bound
+    (BinaryNode scalars.Address operators.And first second) pair)
     (same_Some {A = ExpressionNumber × ℕ} (left, mask) found same) (RightMask one two is)
-masked_binary {context = context} {bound = bound} {right = right} {first = first} {second = second} facts found one two None (Some mask) is left_is same =
-    subst (λ (pair : ExpressionNumber × ℕ). IsMasked context facts bound (BinaryNode scalars.Address operators.And first second) pair)
+masked_binary {context = context} {bound = bound} {right = right} {first = first} {second = second} facts
+    found one two None (Some mask) is left_is same =
+    subst (λ (pair : ExpressionNumber × ℕ). IsMasked context facts bound
+    (BinaryNode scalars.Address operators.And first second) pair)
     (same_Some {A = ExpressionNumber × ℕ} (right, mask) found same) (LeftMask one two left_is)
 masked_binary facts found one two None None is left_is same = absurd (none-some found same)
 
@@ -53,22 +58,38 @@ masked_node :
     → IsForm (nodes_in context) context.storage bound form tree
     → masked_form (knowing context.site facts) form ≡ Some found
     → IsMasked context facts bound tree found
-masked_node {context = context} facts found (IsBinary {operands = scalars.Address} {operator = operators.And} {left = left} {right = right} one two) is =
-    masked_binary facts found one two (number (knowing context.site facts) right) (number (knowing context.site facts) left) refl refl is
+masked_node {context = context} facts found
+    (IsBinary {operands = scalars.Address} {operator = operators.And} {left = left} {right = right} one two)
+    is =
+    masked_binary facts found one two (number (knowing context.site facts) right)
+    (number (knowing context.site facts) left) refl refl is
 masked_node facts found (IsBinary {operands = scalars.Byte} one two) is = absurd (none-some found is)
-masked_node facts found (IsBinary {operands = scalars.Address} {operator = operators.Or} one two) is = absurd (none-some found is)
-masked_node facts found (IsBinary {operands = scalars.Address} {operator = operators.Xor} one two) is = absurd (none-some found is)
-masked_node facts found (IsBinary {operands = scalars.Address} {operator = operators.Equal} one two) is = absurd (none-some found is)
-masked_node facts found (IsBinary {operands = scalars.Address} {operator = operators.Less} one two) is = absurd (none-some found is)
-masked_node facts found (IsBinary {operands = scalars.Address} {operator = operators.Greater} one two) is = absurd (none-some found is)
-masked_node facts found (IsBinary {operands = scalars.Address} {operator = operators.LessOrEqual} one two) is = absurd (none-some found is)
-masked_node facts found (IsBinary {operands = scalars.Address} {operator = operators.GreaterOrEqual} one two) is = absurd (none-some found is)
-masked_node facts found (IsBinary {operands = scalars.Address} {operator = operators.Unequal} one two) is = absurd (none-some found is)
-masked_node facts found (IsBinary {operands = scalars.Address} {operator = operators.Add} one two) is = absurd (none-some found is)
-masked_node facts found (IsBinary {operands = scalars.Address} {operator = operators.Subtract} one two) is = absurd (none-some found is)
-masked_node facts found (IsBinary {operands = scalars.Address} {operator = operators.Multiply} one two) is = absurd (none-some found is)
-masked_node facts found (IsBinary {operands = scalars.Address} {operator = operators.Divide} one two) is = absurd (none-some found is)
-masked_node facts found (IsBinary {operands = scalars.Address} {operator = operators.Modulo} one two) is = absurd (none-some found is)
+masked_node facts found (IsBinary {operands = scalars.Address} {operator = operators.Or} one two) is =
+    absurd (none-some found is)
+masked_node facts found (IsBinary {operands = scalars.Address} {operator = operators.Xor} one two) is =
+    absurd (none-some found is)
+masked_node facts found (IsBinary {operands = scalars.Address} {operator = operators.Equal} one two) is =
+    absurd (none-some found is)
+masked_node facts found (IsBinary {operands = scalars.Address} {operator = operators.Less} one two) is =
+    absurd (none-some found is)
+masked_node facts found (IsBinary {operands = scalars.Address} {operator = operators.Greater} one two) is =
+    absurd (none-some found is)
+masked_node facts found (IsBinary {operands = scalars.Address} {operator = operators.LessOrEqual} one two)
+    is = absurd (none-some found is)
+masked_node facts found (IsBinary {operands = scalars.Address} {operator = operators.GreaterOrEqual} one two)
+    is = absurd (none-some found is)
+masked_node facts found (IsBinary {operands = scalars.Address} {operator = operators.Unequal} one two) is =
+    absurd (none-some found is)
+masked_node facts found (IsBinary {operands = scalars.Address} {operator = operators.Add} one two) is =
+    absurd (none-some found is)
+masked_node facts found (IsBinary {operands = scalars.Address} {operator = operators.Subtract} one two) is =
+    absurd (none-some found is)
+masked_node facts found (IsBinary {operands = scalars.Address} {operator = operators.Multiply} one two) is =
+    absurd (none-some found is)
+masked_node facts found (IsBinary {operands = scalars.Address} {operator = operators.Divide} one two) is =
+    absurd (none-some found is)
+masked_node facts found (IsBinary {operands = scalars.Address} {operator = operators.Modulo} one two) is =
+    absurd (none-some found is)
 masked_node facts found IsNumber is = absurd (none-some found is)
 masked_node facts found (IsValue part) is = absurd (none-some found is)
 masked_node facts found (IsLocation part) is = absurd (none-some found is)
@@ -86,7 +107,8 @@ second_known :
     → ((u : SourceState) → value_in context second u ≡ Gave n u)
     → then_do outcome (λ v u. then_do (value_in context second u) (λ w x. Gave (bit_and v w) x))
     ≡ then_do outcome (λ v u. Gave (bit_and v n) u)
-second_known context second n (Gave v u) so = ap (λ (given : Outcome ℕ). then_do given (λ w x. Gave (bit_and v w) x)) (so u)
+second_known context second n (Gave v u) so =
+    ap (λ (given : Outcome ℕ). then_do given (λ w x. Gave (bit_and v w) x)) (so u)
 second_known context second n (Stopped why u) so = refl
 
 turned : (n : ℕ) (outcome : Outcome ℕ)
@@ -96,21 +118,29 @@ turned n (Stopped why u) = refl
 
 with_mask :
     (context : Context) (facts last : Facts) (setting : Setting) (from to bound : ℕ)
-    (sound : IsSound context) (highs : HighBytesGiven context) (tree : TypedExpression) (found : ExpressionNumber × ℕ)
+    (sound : IsSound context) (highs : HighBytesGiven context) (tree : TypedExpression)
+    (found : ExpressionNumber × ℕ)
     → IsMasked context facts bound tree found
     → TypesHold context.typed context.within tree
     → (nat_lt found.1 256 || (found.1 % 256 == 0)) ≡ true
     → StepsStand context (PartDoes context) facts from
-    (masked_steps (knowing context.site facts) found.0 found.1 setting.pushed ++ number_in_a_steps (Is 0) setting) last to
+    (masked_steps (knowing context.site facts) found.0 found.1 setting.pushed
+    ++ number_in_a_steps (Is 0) setting) last to
     → Carries context facts setting.pushed (2 * height_of tree) 0 from to Nothing (value_in context tree)
     (ZeroIsShown context last setting.purpose)
-with_mask context facts last setting from to bound sound highs tree _ (RightMask {left = left} {first = first} {second = second} {mask = mask} one two is) types same stands =
-    zero_by_mask context facts last setting from to bound sound highs left tree first mask one types.1.0 types.1.1 (omega arith)
-    (λ t. second_known context second mask (value_in context first t) (λ u. number_means facts mask sound two types.2.0 is u))
+with_mask context facts last setting from to bound sound highs tree _
+    (RightMask {left = left} {first = first} {second = second} {mask = mask} one two is) types same stands =
+    zero_by_mask context facts last setting from to bound sound highs left tree first mask one types.1.0
+    types.1.1 (omega arith)
+    (λ t. second_known context second mask (value_in context first t)
+    (λ u. number_means facts mask sound two types.2.0 is u))
     same stands
-with_mask context facts last setting from to bound sound highs tree _ (LeftMask {right = right} {first = first} {second = second} {mask = mask} one two is) types same stands =
-    zero_by_mask context facts last setting from to bound sound highs right tree second mask two types.2.0 types.2.1 (omega arith)
-    (λ t. ap (λ (given : Outcome ℕ). then_do given (λ v u. then_do (value_in context second u) (λ w x. Gave (bit_and v w) x)))
+with_mask context facts last setting from to bound sound highs tree _
+    (LeftMask {right = right} {first = first} {second = second} {mask = mask} one two is) types same stands =
+    zero_by_mask context facts last setting from to bound sound highs right tree second mask two types.2.0
+    types.2.1 (omega arith)
+    (λ t. ap (λ (given : Outcome ℕ). then_do given
+    (λ v u. then_do (value_in context second u) (λ w x. Gave (bit_and v w) x)))
     (number_means facts mask sound one types.1.0 is t) ∙ turned mask (value_in context second t))
     same stands
 
@@ -120,17 +150,21 @@ unfolding word_is_zero_steps masked
 zeros_shown context sound highs facts last operand setting from to bound tree node types is_address stand =
     by (masked (knowing context.site facts) operand) refl stand
   where
-    plainly : StepsStand context (PartDoes context) facts from (zero_by_hl_steps operand setting.pushed) last to
+    plainly : StepsStand context (PartDoes context) facts from
+        (zero_by_hl_steps operand setting.pushed) last to
         → Carries context facts setting.pushed (2 * height_of tree) 0 from to Nothing (value_in context tree)
         (ZeroIsShown context last setting.purpose)
-    plainly stands = zero_by_hl context facts last setting from to bound sound highs operand tree node types is_address stands
+    plainly stands =
+        zero_by_hl context facts last setting from to bound sound highs operand tree node
+        types is_address stands
 
     by_mask : (found : ExpressionNumber × ℕ)
         → IsMasked context facts operand.index tree found
         → (one_byte : Bool) → (nat_lt found.1 256 || (found.1 % 256 == 0)) ≡ one_byte
         → StepsStand context (PartDoes context) facts from
         (if one_byte
-        then masked_steps (knowing context.site facts) found.0 found.1 setting.pushed ++ number_in_a_steps (Is 0) setting
+        then masked_steps (knowing context.site facts) found.0 found.1 setting.pushed
+        ++ number_in_a_steps (Is 0) setting
         else zero_by_hl_steps operand setting.pushed) last to
         → Carries context facts setting.pushed (2 * height_of tree) 0 from to Nothing (value_in context tree)
         (ZeroIsShown context last setting.purpose)
@@ -143,7 +177,8 @@ zeros_shown context sound highs facts last operand setting from to bound tree no
         (elim found [
           | Some pair ↦
               if nat_lt pair.1 256 || (pair.1 % 256 == 0)
-              then masked_steps (knowing context.site facts) pair.0 pair.1 setting.pushed ++ number_in_a_steps (Is 0) setting
+              then masked_steps (knowing context.site facts) pair.0 pair.1 setting.pushed
+              ++ number_in_a_steps (Is 0) setting
               else zero_by_hl_steps operand setting.pushed
           | None ↦ zero_by_hl_steps operand setting.pushed
         ]) last to

@@ -22,7 +22,8 @@ IsValue Branch = ⊥
 IsValue Value = Unit {0}
 
 shown_zero :
-    (context : Context) (last : Facts) (purpose : Purpose) (r now : Registers) (memory memory_now : List ℕ) (found : ℕ)
+    (context : Context) (last : Facts) (purpose : Purpose) (r now : Registers)
+    (memory memory_now : List ℕ) (found : ℕ)
     → ZeroShows purpose (found == 0) now
     → Rattle.task_laws.specs.internal.Tasks.Know context last now memory_now
     → ZeroIsShown context last purpose r memory found now memory_now
@@ -45,10 +46,13 @@ low_mask v n small =
 high_mask : (v n : ℕ) → n % 256 ≡ 0 → (bit_and (v / 256) (n / 256) == 0) ≡ (bit_and v n == 0)
 high_mask v n is =
     let highs : bit_and v n / 256 ≡ bit_and (v / 256) (n / 256) = and_shr v n 8 in
-    let lows : bit_and v n % 256 ≡ 0 = and_mod v n 8 ∙ (ap (λ m. bit_and (v % 256) m) is ∙ and_zero_r (v % 256)) in
+    let lows : bit_and v n % 256 ≡ 0 =
+    and_mod v n 8 ∙ (ap (λ m. bit_and (v % 256) m) is ∙ and_zero_r (v % 256)) in
     same_test (bit_and (v / 256) (n / 256) == 0) (bit_and v n == 0)
-    (λ here. eq-eqb (bit_and v n) 0 (omega (arith, highs, lows, eqb-true (bit_and (v / 256) (n / 256)) 0 here)))
-    (λ here. ne_eqb (bit_and v n) 0 (λ same. eqb-false (bit_and (v / 256) (n / 256)) 0 here (omega (arith, highs, same))))
+    (λ here. eq-eqb (bit_and v n) 0 (omega
+    (arith, highs, lows, eqb-true (bit_and (v / 256) (n / 256)) 0 here)))
+    (λ here. ne_eqb (bit_and v n) 0 (λ same. eqb-false (bit_and (v / 256) (n / 256)) 0 here
+    (omega (arith, highs, same))))
 
 module _
     (context : Context) (facts last : Facts) (setting : Setting) (from to bound : ℕ)
@@ -62,11 +66,14 @@ module _
       → StepsStand context (PartDoes context) facts from (zero_by_hl_steps operand setting.pushed) last to
       → Carries context facts setting.pushed (2 * height_of tree) 0 from to Nothing (value_in context tree)
       (ZeroIsShown context last setting.purpose)
-  zero_by_hl operand tree node types is_address (PartThere does stand) top base s r memory below room ready known nothing =
+  zero_by_hl operand tree node types is_address (PartThere does stand) top base s r memory below room
+      ready known nothing =
       does_same _ (given_itself (value_in context tree s))
-      (at_word _ _ _ does node types (omega arith) (record { below = below; room = room; ready = ready; known = known })
+      (at_word _ _ _ does node types (omega arith)
+      (record { below = below; room = room; ready = ready; known = known })
       (λ v u now memory_now is given next.
-      word_is sound v 0 given.h given.l (subst (λ scalar. v < values_of scalar) is_address given.small) (omega arith) stand next
+      word_is sound v 0 given.h given.l (subst (λ scalar. v < values_of scalar) is_address given.small)
+      (omega arith) stand next
       (λ end flag zero final.
       does_without_step (record {
         r = end;
@@ -83,18 +90,26 @@ module _
       → TypesHold context.typed context.within inside
       → type_of inside ≡ scalars.Address
       → height_of inside ≤ height_of tree
-      → ((t : SourceState) → value_in context tree t ≡ then_do (value_in context inside t) (λ v u. Gave (bit_and v mask) u))
+      → ((t : SourceState) → value_in context tree t
+      ≡ then_do (value_in context inside t) (λ v u. Gave (bit_and v mask) u))
       → (nat_lt mask 256 || (mask % 256 == 0)) ≡ true
       → StepsStand context (PartDoes context) facts from
-      (masked_steps (knowing context.site facts) inner mask setting.pushed ++ number_in_a_steps (Is 0) setting) last to
+      (masked_steps (knowing context.site facts) inner mask setting.pushed
+      ++ number_in_a_steps (Is 0) setting) last to
       → Carries context facts setting.pushed (2 * height_of tree) 0 from to Nothing (value_in context tree)
       (ZeroIsShown context last setting.purpose)
-  zero_by_mask inner tree inside mask node types is_address less means one_byte stand top base s r memory below room ready known nothing =
-      does_same _ (means s) (by (nat_lt mask 256) refl (steps_split (masked_steps (knowing context.site facts) inner mask setting.pushed) (number_in_a_steps (Is 0) setting) stand).first)
+  zero_by_mask inner tree inside mask node types is_address less means one_byte stand top base s r memory
+      below room ready known nothing =
+      does_same _ (means s)
+      (by (nat_lt mask 256) refl (steps_split
+      (masked_steps (knowing context.site facts) inner mask setting.pushed)
+      (number_in_a_steps (Is 0) setting) stand).first)
     where
       parts : Rattle.task_laws.proofs.Machine.Rules.Parted context (PartDoes context) facts from
-          (masked_steps (knowing context.site facts) inner mask setting.pushed) (number_in_a_steps (Is 0) setting) last to
-      parts = steps_split (masked_steps (knowing context.site facts) inner mask setting.pushed) (number_in_a_steps (Is 0) setting) stand
+          (masked_steps (knowing context.site facts) inner mask setting.pushed)
+          (number_in_a_steps (Is 0) setting) last to
+      parts = steps_split (masked_steps (knowing context.site facts) inner mask setting.pushed)
+          (number_in_a_steps (Is 0) setting) stand
 
       stage : Stage context top setting.pushed (2 * height_of tree) base s facts r memory
       stage = record { below = below; room = room; ready = ready; known = known }
@@ -105,7 +120,8 @@ module _
           → byte < 256
           → (byte == 0) ≡ (bit_and v mask == 0)
           → Stage context top setting.pushed (2 * height_of tree) base u parts.found now memory_now
-          → Does (script_of context) u.budget 0 (at_place parts.middle now memory_now u.events) (Gave (bit_and v mask) u)
+          → Does (script_of context) u.budget 0 (at_place parts.middle now memory_now u.events)
+          (Gave (bit_and v mask) u)
           (Arrives context.activation top base to (ZeroIsShown context last setting.purpose r memory))
       arrived v byte u now memory_now a small same next =
           number_in_a sound (Is 0) setting byte a small parts.second next
@@ -121,8 +137,10 @@ module _
 
       by : (is_low : Bool) → nat_lt mask 256 ≡ is_low
           → StepsStand context (PartDoes context) facts from
-          (if is_low then part (tasks.Byte inner) setting.pushed ∷ Plain (AccumulateImmediate And (low mask)) ∷ []
-          else high_byte_steps (knowing context.site facts) inner setting.pushed ++ (Plain (AccumulateImmediate And (high mask)) ∷ []))
+          (if is_low then part (tasks.Byte inner) setting.pushed
+          ∷ Plain (AccumulateImmediate And (low mask)) ∷ []
+          else high_byte_steps (knowing context.site facts) inner setting.pushed
+          ++ (Plain (AccumulateImmediate And (high mask)) ∷ []))
           parts.found parts.middle
           → Does (script_of context) s.budget 0 (at_place from r memory s.events)
           (then_do (value_in context inside s) (λ v u. Gave (bit_and v mask) u))
@@ -132,7 +150,8 @@ module _
           (λ v u now memory_now equal given next.
           let smaller = and_le_l now.a (low mask) in
           let a_small = next.ready.registers.a in
-          stage_with_a (bit_and now.a (low mask)) (operate And now.a (low mask) now.flags).flags sound next there refl (omega (arith, smaller, a_small)) tt
+          stage_with_a (bit_and now.a (low mask)) (operate And now.a (low mask) now.flags).flags sound next
+          there refl (omega (arith, smaller, a_small)) tt
           (λ masked. at_end ends masked
           (λ final.
           let mask_small = ltb-true mask 256 is in
@@ -141,12 +160,16 @@ module _
           arrived v (bit_and v mask) u _ memory_now (ap (λ n. bit_and n (low mask)) given.a ∙ all)
           (omega (arith, bounded, mask_small)) refl final)))
       by false is stands =
-          let inner_parts = steps_split (high_byte_steps (knowing context.site facts) inner setting.pushed) (Plain (AccumulateImmediate And (high mask)) ∷ []) stands in
+          let inner_parts =
+          steps_split (high_byte_steps (knowing context.site facts) inner setting.pushed)
+          (Plain (AccumulateImmediate And (high mask)) ∷ []) stands in
           at_carried {top = top} {need = 2 * height_of tree} {base = base} _ _ _
-          (highs facts inner_parts.found inner setting.pushed from inner_parts.middle bound inside node types is_address inner_parts.first)
+          (highs facts inner_parts.found inner setting.pushed from inner_parts.middle bound inside node types
+          is_address inner_parts.first)
           (omega (arith, less)) tt
           (λ v now memory_now (given : HighIsGiven context inner_parts.found r memory v now memory_now). given.known) stage
-          (λ v u now memory_now equal given next. after_high v u now memory_now given.a inner_parts.second next)
+          (λ v u now memory_now equal given next. after_high v u now memory_now given.a
+          inner_parts.second next)
         where
           even : mask % 256 ≡ 0
           even = eqb-true (mask % 256) 0 (sym (ap (λ b. b || (mask % 256 == 0)) is) ∙ one_byte)
@@ -154,14 +177,17 @@ module _
           after_high :
               (v : ℕ) (u : SourceState) (now : Registers) (memory_now : List ℕ) {found : Facts} {middle : ℕ}
               → now.a ≡ v / 256
-              → StepsStand context (PartDoes context) found middle (Plain (AccumulateImmediate And (high mask)) ∷ []) parts.found parts.middle
+              → StepsStand context (PartDoes context) found middle
+              (Plain (AccumulateImmediate And (high mask)) ∷ []) parts.found parts.middle
               → Stage context top setting.pushed (2 * height_of tree) base u found now memory_now
-              → Does (script_of context) u.budget 0 (at_place middle now memory_now u.events) (Gave (bit_and v mask) u)
+              → Does (script_of context) u.budget 0 (at_place middle now memory_now u.events)
+              (Gave (bit_and v mask) u)
               (Arrives context.activation top base to (ZeroIsShown context last setting.purpose r memory))
           after_high v u now memory_now a (PlainThere there ends) next =
               let smaller = and_le_l now.a (high mask) in
               let a_small = next.ready.registers.a in
-              stage_with_a (bit_and now.a (high mask)) (operate And now.a (high mask) now.flags).flags sound next there refl (omega (arith, smaller, a_small)) tt
+              stage_with_a (bit_and now.a (high mask)) (operate And now.a (high mask) now.flags).flags sound
+              next there refl (omega (arith, smaller, a_small)) tt
               (λ masked. at_end ends masked
               (λ final.
               arrived v (bit_and now.a (high mask)) u _ memory_now refl (omega (arith, smaller, a_small))

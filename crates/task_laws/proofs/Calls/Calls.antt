@@ -19,14 +19,16 @@ pub heading_of :
     (context : Context) (procedure : ℕ) (result : Option ScalarType) (trees : TypedArguments)
     → Takes context.typed procedure result trees
     → HeadingOf context procedure result (types_of trees)
-heading_of context procedure result trees takes = by_entry (slice_get context.typed.procedures procedure) refl takes
+heading_of context procedure result trees takes =
+    by_entry (slice_get context.typed.procedures procedure) refl takes
   where
     by_entry : (entry : Option TypedProcedure)
         → slice_get context.typed.procedures procedure ≡ entry
         → IsSomeAnd entry
         (λ (found : TypedProcedure). (found.result ≡ result) × (found.parameter_types ≡ types_of trees))
         → HeadingOf context procedure result (types_of trees)
-    by_entry (Some found) there is = record { heading = found; is_there = there; result_is = is.0; types_are = is.1 }
+    by_entry (Some found) there is =
+        record { heading = found; is_there = there; result_is = is.0; types_are = is.1 }
     by_entry None there is = absurd is
 
 -- a CALL has three bytes
@@ -72,15 +74,20 @@ at_call :
     → (context.activation.level - top) % 2 ≡ 0
     → ArePassed context (types_of trees) top base given low u now memory_now
     → Does (script_of context) u.budget 0 (at_place from now memory_now u.events)
-    (called_for context.later (callee_in context.activation.around procedure) given context.activation.around u)
+    (called_for context.later (callee_in context.activation.around procedure) given
+    context.activation.around u)
     (Arrives context.activation top base to (ResultIsGiven context no_facts result r memory))
-at_call {context = context} {result = result} {top = top} {low = low} {from = from} {to = to} {procedure = procedure} {base = base} {given = given} {u = u} {r = r} {now = now} {memory = memory} {memory_now = memory_now} trees sound of there below words passed =
+at_call {context = context} {result = result} {top = top} {low = low} {from = from} {to = to}
+    {procedure = procedure} {base = base} {given = given} {u = u} {r = r} {now = now} {memory = memory}
+    {memory_now = memory_now} trees sound of there below words passed =
     let place = call_size sound of there in
     let height = passed.height in
     let room = passed.room in
     gives_then _
-    (sound.calls procedure from low (context.activation.level - low) of.heading given memory_now u now memory_now
-    of.is_there passed.below (subst (λ n. IsThere context.activation (call_items context.site procedure) from n) place there)
+    (sound.calls procedure from low (context.activation.level - low) of.heading given
+    memory_now u now memory_now
+    of.is_there passed.below
+    (subst (λ n. IsThere context.activation (call_items context.site procedure) from n) place there)
     (record { depth = omega (arith, height, below); even = omega (arith, height, below, words); enough = omega (arith, room) })
     (omega (arith, height, below)) passed.ready
     (subst (λ types. ArgumentsLie types given low now memory_now) (sym of.types_are) passed.lie))
@@ -90,7 +97,8 @@ at_call {context = context} {result = result} {top = top} {low = low} {from = fr
       memory = arrives.memory;
       is_at = arrives.is_at ∙ ap (λ n. at_place n arrives.r arrives.memory t.events) (sym place);
       ready =
-          subst (λ level. IsReady context.activation level base t.memory t.frame arrives.r arrives.memory) height
+          subst (λ level. IsReady context.activation level base t.memory t.frame arrives.r arrives.memory)
+          height
           (record {
             pointer = arrives.ready.pointer;
             registers = arrives.ready.registers;
@@ -98,7 +106,8 @@ at_call {context = context} {result = result} {top = top} {low = low} {from = fr
             frame_lies = arrives.ready.frame_lies;
             kept =
                 keeps_both (Owns context.activation (low + bytes_pushed given)) base memory_now arrives.memory
-                (subst (λ level. Keeps (Owns context.activation level) base memory_now) (sym height) passed.kept)
+                (subst (λ level. Keeps (Owns context.activation level) base memory_now)
+                (sym height) passed.kept)
                 arrives.ready.kept;
           });
       holds = record {
@@ -118,20 +127,25 @@ pub call_goes :
     → Takes context.typed procedure result trees
     → TypesHoldInArguments context.typed context.within trees
     → StepsStand context (PartDoes context) facts from
-    (arguments_steps (knowing context.site facts) arguments count pushed ++ (steps.CallProcedure procedure ∷ [])) last to
+    (arguments_steps (knowing context.site facts) arguments count pushed
+    ++ (steps.CallProcedure procedure ∷ [])) last to
     → (top : ℕ) (base : List ℕ) (s : SourceState) (r : Registers) (memory : List ℕ)
-    → Stage context top pushed (2 * (1 + count_of_arguments trees + height_of_arguments trees)) base s facts r memory
+    → Stage context top pushed (2 * (1 + count_of_arguments trees + height_of_arguments trees))
+    base s facts r memory
     → Does (script_of context) s.budget 0 (at_place from r memory s.events)
     (then_do (values context.later context.activation.around trees s)
     (λ given t.
-    called_for context.later (callee_in context.activation.around procedure) given context.activation.around t))
+    called_for context.later (callee_in context.activation.around procedure) given
+    context.activation.around t))
     (Arrives context.activation top base to (ResultIsGiven context last result r memory))
 unfolding arguments_steps
-call_goes {context = context} procedure arguments sound same_first same_count AreNone takes types (CallThere there NoneThere) top base s r memory stage =
+call_goes {context = context} procedure arguments sound same_first same_count AreNone takes types
+    (CallThere there NoneThere) top base s r memory stage =
     let depth = stage.room.depth in
     let even = stage.room.even in
     let enough = stage.room.enough in
-    at_call NoArguments sound (heading_of context procedure _ NoArguments takes) there (omega (arith, depth)) (omega (arith, depth, even))
+    at_call NoArguments sound (heading_of context procedure _ NoArguments takes) there (omega (arith, depth))
+    (omega (arith, depth, even))
     (record {
       below = stage.below;
       room = omega (arith, enough);
@@ -141,10 +155,15 @@ call_goes {context = context} procedure arguments sound same_first same_count Ar
       lie = tt;
       height = omega arith;
     })
-call_goes {context = context} {facts = facts} {last = last} {pushed = pushed} {from = from} {to = to} {result = result} procedure arguments sound same_first same_count (AreMore {first = first} {count = others} {number = number} {tree = tree} {others = more} at node are) takes types stand top base s r memory stage =
+call_goes {context = context} {facts = facts} {last = last} {pushed = pushed} {from = from} {to = to}
+    {result = result} procedure arguments sound same_first same_count
+    (AreMore {first = first} {count = others} {number = number} {tree = tree} {others = more} at node are)
+    takes types stand top base s r memory stage =
     let depth = stage.room.depth in
     let even = stage.room.even in
-    let parts = steps_split (arguments_steps (knowing context.site facts) arguments (suc others) pushed) (steps.CallProcedure procedure ∷ []) stand in
+    let parts =
+    steps_split (arguments_steps (knowing context.site facts) arguments (suc others) pushed)
+    (steps.CallProcedure procedure ∷ []) stand in
     finishes parts.first parts.second (omega (arith, depth)) (omega (arith, depth, even))
   where
     finishes : {found final : Facts} {middle finish : ℕ}
@@ -156,13 +175,15 @@ call_goes {context = context} {facts = facts} {last = last} {pushed = pushed} {f
         → Does (script_of context) s.budget 0 (at_place from r memory s.events)
         (then_do (values context.later context.activation.around (MoreArguments tree more) s)
         (λ given t.
-        called_for context.later (callee_in context.activation.around procedure) given context.activation.around t))
+        called_for context.later (callee_in context.activation.around procedure) given
+        context.activation.around t))
         (Arrives context.activation top base finish (ResultIsGiven context final result r memory))
     finishes {middle = middle} before (CallThere there NoneThere) below words =
         at_arguments facts arguments from middle _ sound (omega (arith, same_first, same_count))
         (omega (arith, same_count)) (AreMore at node are) types before (omega arith) stage
         (λ given low u now memory_now passed.
-        at_call (MoreArguments tree more) sound (heading_of context procedure result (MoreArguments tree more) takes) there below words passed)
+        at_call (MoreArguments tree more) sound
+        (heading_of context procedure result (MoreArguments tree more) takes) there below words passed)
 
 -- the task of a call
 pub call_does :
@@ -172,6 +193,7 @@ pub call_does :
     (call_steps (knowing context.site facts) procedure arguments pushed) last to
     → CallDoes context facts procedure arguments pushed from last to
 unfolding call_steps
-call_does procedure arguments sound stand bound result trees are takes types top base s r memory below room ready known asked =
+call_does procedure arguments sound stand bound result trees are takes types top base s r memory below
+    room ready known asked =
     call_goes procedure arguments sound refl refl are takes types stand top base s r memory
     (record { below = below; room = room; ready = ready; known = known })

@@ -5,7 +5,8 @@ use Rattle.treecode.specs.Traits as traits
 use Rattle.steps8080.specs.Queries.{same_low_byte}
 use Rattle.task_laws.proofs.Machine.Nodes.{NodeOf, node_of}
 
-same_high : (form : ExpressionForm) (scalar : ScalarType) → high_of form scalar ≡ traits.byte_after scalar form
+same_high : (form : ExpressionForm) (scalar : ScalarType)
+    → high_of form scalar ≡ traits.byte_after scalar form
 same_high (forms.Value reference) Address = refl
 same_high (forms.Value reference) Byte = refl
 same_high (forms.Number n) Address = refl
@@ -43,7 +44,8 @@ module _ (context : Context) (sound : IsSound context) (facts : Facts) where
       by (Some node) = same_high node.form node.traits.scalar
       by None = refl
 
-  form_same : (form : ExpressionForm) → form_in_memory (knowing context.site facts) form ≡ traits.memory_of_inner (nodes_in context) form
+  form_same : (form : ExpressionForm) → form_in_memory (knowing context.site facts) form
+      ≡ traits.memory_of_inner (nodes_in context) form
   form_same (forms.Value reference) = refl
   form_same (forms.Function High operand) = high_same operand
   form_same (forms.Function Low operand) = refl
@@ -60,10 +62,12 @@ module _ (context : Context) (sound : IsSound context) (facts : Facts) where
   form_same (forms.Input port) = refl
 
   plain_same : {number : ExpressionNumber} {tree : TypedExpression} (node : NodeOf context number tree)
-      → plain_in_memory (knowing context.site facts) number ≡ traits.memory_of_inner (nodes_in context) node.found.form
+      → plain_in_memory (knowing context.site facts) number
+      ≡ traits.memory_of_inner (nodes_in context) node.found.form
   unfolding plain_in_memory
   plain_same node =
-      ap (λ (found : Option Expression). option_and_then (λ (one : Expression). form_in_memory (knowing context.site facts) one.form) found)
+      ap (λ (found : Option Expression). option_and_then
+      (λ (one : Expression). form_in_memory (knowing context.site facts) one.form) found)
       (node.at_site facts)
       ∙ form_same node.found.form
 
@@ -78,13 +82,15 @@ module _ (context : Context) (sound : IsSound context) (facts : Facts) where
   through :
       {bound : ℕ} {inner : ExpressionNumber} {tree : TypedExpression} (outer : ExpressionForm)
       (is : IsExpression (nodes_in context) context.storage bound inner.index tree)
-      → traits.form_at (nodes_in context) inner outer ≡ (node_of {context = context} {number = inner} sound is).found.form
+      → traits.form_at (nodes_in context) inner outer
+      ≡ (node_of {context = context} {number = inner} sound is).found.form
   through {inner = inner} outer is =
       ap (λ (found : Option Expression). option_map_or (λ (one : Expression). one.form) found outer)
       (node_of {context = context} {number = inner} sound is).is_there
 
   looked_into :
-      {bound : ℕ} {form : ExpressionForm} {number : ExpressionNumber} {tree : TypedExpression} (node : NodeOf context number tree)
+      {bound : ℕ} {form : ExpressionForm} {number : ExpressionNumber} {tree : TypedExpression}
+      (node : NodeOf context number tree)
       → form ≡ node.found.form
       → IsForm (nodes_in context) context.storage bound form tree
       → Inside number form
@@ -92,20 +98,31 @@ module _ (context : Context) (sound : IsSound context) (facts : Facts) where
       record { next = inner; tree = tree; node = node_of sound is; at_site = refl; in_nodes = through (forms.Conversion inner) is }
   looked_into {number = number} node same (IsFunction {function = Low} {operand = inner} {tree = tree} is) =
       record { next = inner; tree = tree; node = node_of sound is; at_site = refl; in_nodes = through (forms.Function Low inner) is }
-  looked_into {number = number} node same (IsFunction {function = Double} {operand = inner} {tree = tree} is) =
+  looked_into {number = number} node same
+      (IsFunction {function = Double} {operand = inner} {tree = tree} is) =
       record { next = inner; tree = tree; node = node_of sound is; at_site = refl; in_nodes = through (forms.Function Double inner) is }
   looked_into {number = number} {tree = tree} node same (IsFunction {function = High} is) =
       record { next = number; tree = tree; node = node; at_site = refl; in_nodes = same }
-  looked_into {number = number} {tree = tree} node same IsNumber = record { next = number; tree = tree; node = node; at_site = refl; in_nodes = same }
-  looked_into {number = number} {tree = tree} node same (IsValue is) = record { next = number; tree = tree; node = node; at_site = refl; in_nodes = same }
-  looked_into {number = number} {tree = tree} node same (IsLocation is) = record { next = number; tree = tree; node = node; at_site = refl; in_nodes = same }
-  looked_into {number = number} {tree = tree} node same IsConstantList = record { next = number; tree = tree; node = node; at_site = refl; in_nodes = same }
-  looked_into {number = number} {tree = tree} node same (IsEmbedded target is) = record { next = number; tree = tree; node = node; at_site = refl; in_nodes = same }
-  looked_into {number = number} {tree = tree} node same (IsUnary is) = record { next = number; tree = tree; node = node; at_site = refl; in_nodes = same }
-  looked_into {number = number} {tree = tree} node same (IsBinary one two) = record { next = number; tree = tree; node = node; at_site = refl; in_nodes = same }
-  looked_into {number = number} {tree = tree} node same (IsCallOf given) = record { next = number; tree = tree; node = node; at_site = refl; in_nodes = same }
-  looked_into {number = number} {tree = tree} node same (IsShift one two) = record { next = number; tree = tree; node = node; at_site = refl; in_nodes = same }
-  looked_into {number = number} {tree = tree} node same IsInput = record { next = number; tree = tree; node = node; at_site = refl; in_nodes = same }
+  looked_into {number = number} {tree = tree} node same IsNumber =
+      record { next = number; tree = tree; node = node; at_site = refl; in_nodes = same }
+  looked_into {number = number} {tree = tree} node same (IsValue is) =
+      record { next = number; tree = tree; node = node; at_site = refl; in_nodes = same }
+  looked_into {number = number} {tree = tree} node same (IsLocation is) =
+      record { next = number; tree = tree; node = node; at_site = refl; in_nodes = same }
+  looked_into {number = number} {tree = tree} node same IsConstantList =
+      record { next = number; tree = tree; node = node; at_site = refl; in_nodes = same }
+  looked_into {number = number} {tree = tree} node same (IsEmbedded target is) =
+      record { next = number; tree = tree; node = node; at_site = refl; in_nodes = same }
+  looked_into {number = number} {tree = tree} node same (IsUnary is) =
+      record { next = number; tree = tree; node = node; at_site = refl; in_nodes = same }
+  looked_into {number = number} {tree = tree} node same (IsBinary one two) =
+      record { next = number; tree = tree; node = node; at_site = refl; in_nodes = same }
+  looked_into {number = number} {tree = tree} node same (IsCallOf given) =
+      record { next = number; tree = tree; node = node; at_site = refl; in_nodes = same }
+  looked_into {number = number} {tree = tree} node same (IsShift one two) =
+      record { next = number; tree = tree; node = node; at_site = refl; in_nodes = same }
+  looked_into {number = number} {tree = tree} node same IsInput =
+      record { next = number; tree = tree; node = node; at_site = refl; in_nodes = same }
 
   low_same : {number : ExpressionNumber} {tree : TypedExpression} (node : NodeOf context number tree)
       → same_low_byte (knowing context.site facts) number ≡ inside number node.found.form
@@ -123,9 +140,12 @@ module _ (context : Context) (sound : IsSound context) (facts : Facts) where
   memory_same {number = number} node =
       let one : Inside number node.found.form = looked_into node refl node.form in
       let two : Inside one.next one.node.found.form = looked_into one.node refl one.node.form in
-      ap (λ (k : ExpressionNumber). plain_in_memory (knowing context.site facts) (same_low_byte (knowing context.site facts) k))
+      ap (λ (k : ExpressionNumber). plain_in_memory (knowing context.site facts)
+      (same_low_byte (knowing context.site facts) k))
       (low_same node ∙ one.at_site)
-      ∙ ap (λ (k : ExpressionNumber). plain_in_memory (knowing context.site facts) k) (low_same one.node ∙ two.at_site)
+      ∙ ap (λ (k : ExpressionNumber). plain_in_memory (knowing context.site facts) k)
+      (low_same one.node ∙ two.at_site)
       ∙ plain_same two.node
       ∙ ap (λ (form : ExpressionForm). traits.memory_of_inner (nodes_in context) form)
-      (sym two.in_nodes ∙ ap (λ (form : ExpressionForm). traits.same_low_byte (nodes_in context) form) (sym one.in_nodes))
+      (sym two.in_nodes ∙ ap (λ (form : ExpressionForm). traits.same_low_byte (nodes_in context) form)
+      (sym one.in_nodes))

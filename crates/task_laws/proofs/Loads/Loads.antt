@@ -15,7 +15,8 @@ use Rattle.task_laws.proofs.Places.Fitting.{located_fits, refers_is_referred}
 pub record LiesThere (context : Context) (tree : TypedReference) (location : Location) : Type 0 where
   pub place : SourcePlace
   pub means : (s : SourceState) → located_in context tree s ≡ Gave place s
-  pub is_at : address_on_machine context.activation place ≡ location_at context.activation (distances_in context) location
+  pub is_at : address_on_machine context.activation place
+      ≡ location_at context.activation (distances_in context) location
 
 -- a base without computed subscripts
 lies_at_base :
@@ -25,8 +26,10 @@ lies_at_base :
     → wrap bytes ≡ wrap known
     → base_location base ≡ Some location
     → (place : SourcePlace)
-    × ((s : SourceState) → based_place (home_of context.activation.around object) context.activation.around object bytes is_inside s ≡ Gave place s)
-    × (address_on_machine context.activation place ≡ location_at context.activation (distances_in context) location)
+    × ((s : SourceState) → based_place (home_of context.activation.around object) context.activation.around
+    object bytes is_inside s ≡ Gave place s)
+    × (address_on_machine context.activation place
+    ≡ location_at context.activation (distances_in context) location)
 lies_at_base context object known bytes is_inside (bases.Static place) location small (InPlace at) is same = (
   InMemory (wrap (place_at context.activation.layout place + 0)),
   (λ s. at bytes 0 is_inside s (omega (arith, is))),
@@ -36,16 +39,18 @@ lies_at_base context object known bytes is_inside (bases.Static place) location 
   where
     small_sum : (n : ℕ) → n < 65536 → wrap (n + 0) ≡ n
     small_sum n small = omega (arith, small)
-lies_at_base context object known bytes is_inside (bases.Frame variable offset) location small (InAFrame at is_at) is same = (
-  InTheFrame object bytes is_inside,
-  (λ s. at bytes is_inside s),
-  is_at bytes 0 (omega (arith, is)) ∙ wrapped_twice _
-      ∙ ap (λ (l : Location). location_at context.activation (distances_in context) l) (same_Some _ _ same),
-)
+lies_at_base context object known bytes is_inside (bases.Frame variable offset) location small
+    (InAFrame at is_at) is same = (
+      InTheFrame object bytes is_inside,
+      (λ s. at bytes is_inside s),
+      is_at bytes 0 (omega (arith, is)) ∙ wrapped_twice _
+          ∙ ap (λ (l : Location). location_at context.activation (distances_in context) l) (same_Some _ _ same),
+    )
   where
     wrapped_twice : (n : ℕ) → wrap (wrap n + 0) ≡ wrap n
     wrapped_twice n = omega arith
-lies_at_base context object known bytes is_inside (bases.Based pointer offset) location small (OnBase base offset_is at pointer_is fits) is same =
+lies_at_base context object known bytes is_inside (bases.Based pointer offset) location small
+    (OnBase base offset_is at pointer_is fits) is same =
     absurd (none-some _ same)
 
 -- a location where no subscript is computed
@@ -56,7 +61,8 @@ location_where first location = elim first [
 ]
 
 lies_by_split :
-    {context : Context} (object offset : ℕ) (first second : Option IndexNode) (subscript member_subscript : Subscript)
+    {context : Context} (object offset : ℕ) (first second : Option IndexNode)
+    (subscript member_subscript : Subscript)
     (member : Option ℕ) (one two : Option IndexNode) (one_known two_known : ℕ) (location : Location)
     → IsSound context
     → IsSomeAnd (slice_get context.typed.objects object)
@@ -64,14 +70,19 @@ lies_by_split :
     → IsSplit context first subscript one one_known
     → IsSplit context second member_subscript two two_known
     → location_where (located_at (base_with context object offset one_known two_known) one two).first
-    (base_location (located_at (base_with context object offset one_known two_known) one two).base) ≡ Some location
+    (base_location (located_at (base_with context object offset one_known two_known) one two).base)
+    ≡ Some location
     → LiesThere context (PartOf object subscript member offset member_subscript) location
-lies_by_split {context = context} object offset first second tree_one member_subscript member _ _ one_known two_known location sound referred
+lies_by_split {context = context} object offset first second tree_one member_subscript member _ _ one_known
+    two_known location sound referred
     (AllKnown shift means bytes kept) (AllKnown shift_too means_too bytes_too kept_too) same =
-    let lies = lies_at_base context object (0 + offset % 65536 + one_known + two_known) (shift.bytes + offset + shift_too.bytes)
+    let lies =
+    lies_at_base context object (0 + offset % 65536 + one_known + two_known)
+    (shift.bytes + offset + shift_too.bytes)
     (shift.is_inside && shift_too.is_inside)
     (base_with context object offset one_known two_known) location
-    (small_after context (base_after (base_after (base_of (home context.site.tree.now object)) (offset % 65536)) one_known) two_known sound)
+    (small_after context (base_after (base_after (base_of (home context.site.tree.now object))
+    (offset % 65536)) one_known) two_known sound)
     (base_with_is context object offset one_known two_known sound referred)
     (all_known shift.bytes offset shift_too.bytes one_known two_known bytes bytes_too) same in
     record {
@@ -87,15 +98,20 @@ lies_by_split {context = context} object offset first second tree_one member_sub
           ∙ lies.1 s;
       is_at = lies.2;
     }
-lies_by_split object offset first second tree_one member_subscript member _ _ one_known two_known location sound referred
-    (IsComputed of bound inner shift is types address high means bytes kept less) two same = absurd (none-some _ same)
-lies_by_split object offset first second tree_one member_subscript member _ _ one_known two_known location sound referred
-    (AllKnown shift means bytes kept) (IsComputed of bound inner shift_too is types address high means_too bytes_too kept_too less) same =
+lies_by_split object offset first second tree_one member_subscript member _ _ one_known two_known
+    location sound referred
+    (IsComputed of bound inner shift is types address high means bytes kept less) two same =
+    absurd (none-some _ same)
+lies_by_split object offset first second tree_one member_subscript member _ _ one_known two_known
+    location sound referred
+    (AllKnown shift means bytes kept)
+    (IsComputed of bound inner shift_too is types address high means_too bytes_too kept_too less) same =
     absurd (none-some _ same)
 
 -- where tree code knows the location of a part of an object, the source has the part
 pub lies_there :
-    {context : Context} {bound : ℕ} {reference : Reference} {tree : TypedReference} (facts : Facts) (location : Location)
+    {context : Context} {bound : ℕ} {reference : Reference} {tree : TypedReference} (facts : Facts)
+    (location : Location)
     → IsSound context
     → IsReference (nodes_in context) context.storage bound reference tree
     → IsReferred context tree
@@ -104,7 +120,8 @@ pub lies_there :
     → LiesThere context tree location
 unfolding location_of located
 lies_there facts location sound
-    (IsPart {object = object} {offset = offset} {member = member} {first = first} {second = second} {subscript = subscript} {member_subscript = member_subscript} one two)
+    (IsPart {object = object} {offset = offset} {member = member} {first = first} {second = second}
+    {subscript = subscript} {member_subscript = member_subscript} one two)
     referred types same =
     lies_by_split object offset first second subscript member_subscript member _ _ _ _ location sound referred
     (is_split facts sound one types.0) (is_split facts sound two types.1) same
@@ -133,16 +150,21 @@ static_only one two = absurd cc
 
 -- the code of the word of a part of memory
 pub word_in_memory_law :
-    {context : Context} {facts last : Facts} {reference : Reference} {pushed from to bound : ℕ} {tree : TypedReference}
+    {context : Context} {facts last : Facts} {reference : Reference} {pushed from to bound : ℕ}
+    {tree : TypedReference}
     → IsSound context
-    → StepsStand context (PartDoes context) facts from (word_in_memory_steps (knowing context.site facts) reference pushed) last to
+    → StepsStand context (PartDoes context) facts from
+    (word_in_memory_steps (knowing context.site facts) reference pushed) last to
     → IsReference (nodes_in context) context.storage bound reference tree
     → RefersToScalar context.typed context.within Address tree
     → TypesHoldInReference context.typed context.within tree
     → Carries context facts pushed (2 * height_of_reference tree) 0 from to Nothing
-    (λ s. then_do (located_in context tree s) (λ place t. read_scalar context.activation.around.program Address place t))
+    (λ s. then_do (located_in context tree s)
+    (λ place t. read_scalar context.activation.around.program Address place t))
     (WordIsLoaded context facts last reference)
-word_in_memory_law {context = context} {facts = facts} {last = last} {reference = reference} {pushed = pushed} {from = from} {to = to} {bound = bound} {tree = tree} sound stand is refers types top base s r memory less room ready known asked =
+word_in_memory_law {context = context} {facts = facts} {last = last} {reference = reference} {pushed = pushed}
+    {from = from} {to = to} {bound = bound} {tree = tree} sound stand is refers types top base s r memory less
+    room ready known asked =
     by_location (location_of (knowing context.site facts) reference) refl stand
   where
     by_location : (found : Option Location) → location_of (knowing context.site facts) reference ≡ found
@@ -152,20 +174,25 @@ word_in_memory_law {context = context} {facts = facts} {last = last} {reference 
           | None ↦ part (tasks.Address reference) pushed ∷ word_at_hl_steps
         ]) last to
         → Does context.activation.around.program.script s.budget 0 (at_place from r memory s.events)
-        (then_do (located_in context tree s) (λ place t. read_scalar context.activation.around.program Address place t))
+        (then_do (located_in context tree s)
+        (λ place t. read_scalar context.activation.around.program Address place t))
         (Arrives context.activation top base to (WordIsLoaded context facts last reference r memory))
     by_location (Some location) found stand =
-        let lies = lies_there facts location sound is (refers_is_referred context Address tree refers) types found in
+        let lies =
+        lies_there facts location sound is (refers_is_referred context Address tree refers) types found in
         let address : ℕ = address_on_machine context.activation lies.place in
         let low : ℕ = byte_at memory address in
         let high : ℕ = byte_at memory (wrap (address + 1)) in
         let low_small = byte_small memory address ready.shares.is_memory in
         let high_small = byte_small memory (wrap (address + 1)) ready.shares.is_memory in
-        subst (λ (outcome : Outcome ℕ). Does context.activation.around.program.script s.budget 0 (at_place from r memory s.events) outcome
+        subst (λ (outcome : Outcome ℕ). Does context.activation.around.program.script s.budget 0
+        (at_place from r memory s.events) outcome
         (Arrives context.activation top base to (WordIsLoaded context facts last reference r memory)))
         (given_again (read_scalar context.activation.around.program Address lies.place s)
-        ∙ sym (ap (λ (outcome : Outcome SourcePlace). then_do outcome (λ place t. read_scalar context.activation.around.program Address place t)) (lies.means s)))
-        (word_read lies.place s (λ n t. Gave n t) sound ready (located_fits context Address tree lies.place s s sound refers (lies.means s))
+        ∙ sym (ap (λ (outcome : Outcome SourcePlace). then_do outcome
+        (λ place t. read_scalar context.activation.around.program Address place t)) (lies.means s)))
+        (word_read lies.place s (λ n t. Gave n t) sound ready
+        (located_fits context Address tree lies.place s s sound refers (lies.means s))
         (λ steady next.
         location_word_goes facts location r sound room
         (subst (λ (n : ℕ). IsSteady context.activation n) lies.is_at steady)
@@ -177,7 +204,8 @@ word_in_memory_law {context = context} {facts = facts} {last = last} {reference 
           is_at = refl;
           ready = on.ready;
           holds = record {
-            h = high_is now.h low high low_small (loaded.high ∙ ap (λ (n : ℕ). byte_at memory (wrap (n + 1))) (sym lies.is_at)) high_small;
+            h = high_is now.h low high low_small
+                (loaded.high ∙ ap (λ (n : ℕ). byte_at memory (wrap (n + 1))) (sym lies.is_at)) high_small;
             l = low_is now.l low high low_small (loaded.low ∙ ap (byte_at memory) (sym lies.is_at));
             small = two_bytes_fit low high low_small high_small;
             known = on.known;
@@ -189,7 +217,8 @@ word_in_memory_law {context = context} {facts = facts} {last = last} {reference 
         }))))
     by_location None found (PartThere {middle = middle} does stand) =
         then_does_where
-        (does bound tree is (refers_is_referred context Address tree refers) types top base s r memory less room ready known tt)
+        (does bound tree is (refers_is_referred context Address tree refers) types top base s r memory less
+        room ready known tt)
         (λ place t end same given fewer.
         let there : Registers = given.r in
         let ended : List ℕ = given.memory in
@@ -198,14 +227,19 @@ word_in_memory_law {context = context} {facts = facts} {last = last} {reference 
         let high : ℕ = byte_at ended (wrap (address + 1)) in
         let low_small = byte_small ended address given.ready.shares.is_memory in
         let high_small = byte_small ended (wrap (address + 1)) given.ready.shares.is_memory in
-        subst (λ (state : State). Does context.activation.around.program.script t.budget 0 state (read_scalar context.activation.around.program Address place t)
-        (Arrives context.activation top base to (WordIsLoaded context facts last reference r memory))) (sym given.is_at)
-        (subst (λ (outcome : Outcome ℕ). Does context.activation.around.program.script t.budget 0 (at_place middle there ended t.events) outcome
+        subst (λ (state : State). Does context.activation.around.program.script t.budget 0 state
+        (read_scalar context.activation.around.program Address place t)
+        (Arrives context.activation top base to (WordIsLoaded context facts last reference r memory)))
+        (sym given.is_at)
+        (subst (λ (outcome : Outcome ℕ). Does context.activation.around.program.script t.budget 0
+        (at_place middle there ended t.events) outcome
         (Arrives context.activation top base to (WordIsLoaded context facts last reference r memory)))
         (given_again (read_scalar context.activation.around.program Address place t))
-        (word_read place t (λ n u. Gave n u) sound given.ready (located_fits context Address tree place s t sound refers same)
+        (word_read place t (λ n u. Gave n u) sound given.ready
+        (located_fits context Address tree place s t sound refers same)
         (λ steady next.
-        word_at_hl_goes address there sound steady (given.holds).hl stand (record { ready = given.ready; known = (given.holds).known })
+        word_at_hl_goes address there sound steady (given.holds).hl stand
+        (record { ready = given.ready; known = (given.holds).known })
         (λ now loaded on. does_without_step (record {
           r = now;
           memory = ended;

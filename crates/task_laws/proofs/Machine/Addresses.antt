@@ -25,7 +25,8 @@ pub record AddressBeside (address : ℕ) (r now : Registers) : Type 0 where
   pub e : now.e ≡ r.e
 
 pub at_address :
-    {address other : ℕ} {r now : Registers} → address ≡ other → AddressBeside address r now → AddressBeside other r now
+    {address other : ℕ} {r now : Registers} → address ≡ other → AddressBeside address r now
+    → AddressBeside other r now
 at_address same beside = record { hl = beside.hl ∙ same; a = beside.a; d = beside.d; e = beside.e }
 
 one_more : (h l count now : ℕ) → h < 256 → l < 256
@@ -55,7 +56,9 @@ inx_go (suc count) r sound stand on rest =
     let low = on.ready.registers.l in
     registers_then (Inx Hl ∷ []) (repeat_steps (Inx Hl) count) r sound (tt, tt) stand on
     (λ middle found stand on.
-    inx_go count (record r { h = high_byte (wrap (word r.h r.l + 1)); l = low_byte (wrap (word r.h r.l + 1)) }) sound stand on
+    inx_go count
+    (record r { h = high_byte (wrap (word r.h r.l + 1)); l = low_byte (wrap (word r.h r.l + 1)) }) sound
+    stand on
     (λ now beside.
     rest now (record {
       hl = one_more r.h r.l count (word now.h now.l) high low beside.hl;
@@ -65,7 +68,8 @@ inx_go (suc count) r sound stand on rest =
     })))
 
 one_less_more : (h l count now : ℕ) → h < 256 → l < 256
-    → now ≡ wrap (word (high_byte (wrap (word h l + 65535))) (low_byte (wrap (word h l + 65535))) + 65535 * count)
+    → now ≡ wrap
+    (word (high_byte (wrap (word h l + 65535))) (low_byte (wrap (word h l + 65535))) + 65535 * count)
     → now ≡ wrap (word h l + 65535 * suc count)
 one_less_more h l count now one two is = omega (arith, is)
 
@@ -91,7 +95,9 @@ dcx_go (suc count) r sound stand on rest =
     let low = on.ready.registers.l in
     registers_then (Dcx Hl ∷ []) (repeat_steps (Dcx Hl) count) r sound (tt, tt) stand on
     (λ middle found stand on.
-    dcx_go count (record r { h = high_byte (wrap (word r.h r.l + 65535)); l = low_byte (wrap (word r.h r.l + 65535)) }) sound stand on
+    dcx_go count
+    (record r { h = high_byte (wrap (word r.h r.l + 65535)); l = low_byte (wrap (word r.h r.l + 65535)) })
+    sound stand on
     (λ now beside.
     rest now (record {
       hl = one_less_more r.h r.l count (word now.h now.l) high low beside.hl;
@@ -114,14 +120,19 @@ pub registers_end :
     → StepsStand context PartIs facts from (plain instructions) last to
     → GoesOn context facts top base source frame r memory
     → (GoesOn context last top base source frame (effect instructions r) memory
-    → Does context.activation.around.program.script budget more (at_place to (effect instructions r) memory events) outcome Good)
+    → Does context.activation.around.program.script budget more
+    (at_place to (effect instructions r) memory events) outcome Good)
     → Does context.activation.around.program.script budget more (at_place from r memory events) outcome Good
-registers_end {outcome = outcome} {Good = Good} {context = context} {PartIs = PartIs} {last = last} {to = to} {top = top} {budget = budget} {more = more} {base = base} {source = source} {memory = memory} {frame = frame} {events = events} {facts = facts} {from = from} instructions r sound on stand going rest =
+registers_end {outcome = outcome} {Good = Good} {context = context} {PartIs = PartIs} {last = last} {to = to}
+    {top = top} {budget = budget} {more = more} {base = base} {source = source} {memory = memory}
+    {frame = frame} {events = events} {facts = facts} {from = from} instructions r sound on stand going rest =
     registers_then instructions [] r sound on
-    (subst (λ (list : List Step). StepsStand context PartIs facts from list last to) (sym (append-nil (plain instructions))) stand)
+    (subst (λ (list : List Step). StepsStand context PartIs facts from list last to)
+    (sym (append-nil (plain instructions))) stand)
     going (λ middle found stand going. nothing_goes (effect instructions r) stand going rest)
 
-added_word : (h l number : ℕ) → wrap (word h l + word (high_byte number) (low_byte number)) ≡ wrap (word h l + number)
+added_word : (h l number : ℕ) → wrap (word h l + word (high_byte number) (low_byte number))
+    ≡ wrap (word h l + number)
 added_word h l number = omega arith
 
 pub back_together : (n : ℕ) → word (high_byte (wrap n)) (low_byte (wrap n)) ≡ wrap n
@@ -141,7 +152,9 @@ pub number_added_goes :
     → GoesOn context last top base source frame now memory
     → Does context.activation.around.program.script budget more (at_place to now memory events) outcome Good)
     → Does context.activation.around.program.script budget more (at_place from r memory events) outcome Good
-number_added_goes {outcome = outcome} {Good = Good} {context = context} {PartIs = PartIs} {last = last} {to = to} {top = top} {budget = budget} {more = more} {base = base} {source = source} {memory = memory} {frame = frame} {events = events} {facts = facts} {from = from} number r sound small stand on rest =
+number_added_goes {outcome = outcome} {Good = Good} {context = context} {PartIs = PartIs} {last = last}
+    {to = to} {top = top} {budget = budget} {more = more} {base = base} {source = source} {memory = memory}
+    {frame = frame} {events = events} {facts = facts} {from = from} number r sound small stand on rest =
     by_size (nat_le number 3) (nat_le (negated number) 3) stand
   where
     by_size : (few lacking : Bool)
@@ -149,7 +162,8 @@ number_added_goes {outcome = outcome} {Good = Good} {context = context} {PartIs 
         (if few then repeat_steps (Inx Hl) number
         else if lacking then repeat_steps (Dcx Hl) (negated number)
         else plain (Lxi Bc number ∷ Dad Bc ∷ [])) last to
-        → Does context.activation.around.program.script budget more (at_place from r memory events) outcome Good
+        → Does context.activation.around.program.script budget more
+        (at_place from r memory events) outcome Good
     by_size true lacking stand = inx_go number r sound stand on rest
     by_size false true stand =
         dcx_go (negated number) r sound stand on
@@ -157,7 +171,8 @@ number_added_goes {outcome = outcome} {Good = Good} {context = context} {PartIs 
     by_size false false stand =
         registers_end (Lxi Bc number ∷ Dad Bc ∷ []) r sound (tt, (tt, tt)) stand on
         (λ on. rest _ (record {
-          hl = back_together (word r.h r.l + word (high_byte number) (low_byte number)) ∙ added_word r.h r.l number;
+          hl = back_together (word r.h r.l + word (high_byte number) (low_byte number))
+              ∙ added_word r.h r.l number;
           a = refl;
           d = refl;
           e = refl;
@@ -173,11 +188,13 @@ word_added_goes :
     → place_at context.activation.layout place < 65536
     → StepsStand context PartIs facts from (Word (LoadPair Bc) place ∷ Plain (Dad Bc) ∷ []) last to
     → GoesOn context facts top base source frame r memory
-    → ((now : Registers) → AddressBeside (wrap (word r.h r.l + place_at context.activation.layout place)) r now
+    → ((now : Registers) → AddressBeside
+    (wrap (word r.h r.l + place_at context.activation.layout place)) r now
     → GoesOn context last top base source frame now memory
     → Does context.activation.around.program.script budget more (at_place to now memory events) outcome Good)
     → Does context.activation.around.program.script budget more (at_place from r memory events) outcome Good
-word_added_goes {context = context} {memory = memory} {events = events} place r sound small (WordThere there stand) on rest =
+word_added_goes {context = context} {memory = memory} {events = events} place r sound small
+    (WordThere there stand) on rest =
     let number : ℕ = place_at context.activation.layout place in
     let bytes = on.ready.registers in
     let now : Registers = record r { b = high_byte number; c = low_byte number } in
@@ -192,7 +209,8 @@ word_added_goes {context = context} {memory = memory} {events = events} place r 
       known = known;
     })
     (λ on. rest _ (record {
-      hl = back_together (word r.h r.l + word (high_byte number) (low_byte number)) ∙ added_word r.h r.l number;
+      hl = back_together (word r.h r.l + word (high_byte number) (low_byte number))
+          ∙ added_word r.h r.l number;
       a = refl;
       d = refl;
       e = refl;
@@ -208,13 +226,17 @@ pub addition_goes :
     → place_at context.activation.layout place < 65536
     → StepsStand context PartIs facts from (addition_steps place) last to
     → GoesOn context facts top base source frame r memory
-    → ((now : Registers) → AddressBeside (wrap (word r.h r.l + place_at context.activation.layout place)) r now
+    → ((now : Registers) → AddressBeside
+    (wrap (word r.h r.l + place_at context.activation.layout place)) r now
     → GoesOn context last top base source frame now memory
     → Does context.activation.around.program.script budget more (at_place to now memory events) outcome Good)
     → Does context.activation.around.program.script budget more (at_place from r memory events) outcome Good
-addition_goes (Number number) r sound small stand on rest = number_added_goes number r sound small stand on rest
-addition_goes (Code offset) r sound small stand on rest = word_added_goes (Code offset) r sound small stand on rest
-addition_goes (Data offset) r sound small stand on rest = word_added_goes (Data offset) r sound small stand on rest
+addition_goes (Number number) r sound small stand on rest =
+    number_added_goes number r sound small stand on rest
+addition_goes (Code offset) r sound small stand on rest =
+    word_added_goes (Code offset) r sound small stand on rest
+addition_goes (Data offset) r sound small stand on rest =
+    word_added_goes (Data offset) r sound small stand on rest
 addition_goes (External offset name) r sound small stand on rest =
     word_added_goes (External offset name) r sound small stand on rest
 
@@ -223,7 +245,8 @@ address_known :
     (context : Context) (r : Registers) (memory : List ℕ) (location : Location)
     → word r.h r.l ≡ location_at context.activation (distances_in context) location
     → Know context (record no_facts { address_in_hl = Some location }) r memory
-address_known context r memory location is = record { byte_holds = tt; word_holds = tt; address_holds = is; zero_holds = tt }
+address_known context r memory location is =
+    record { byte_holds = tt; word_holds = tt; address_holds = is; zero_holds = tt }
 
 -- a fact that the plan makes up of HL as an address, at the end
 note_address_goes :
@@ -268,7 +291,8 @@ new_address_goes :
     → Does context.activation.around.program.script budget more (at_place to now memory events) outcome Good)
     → Does context.activation.around.program.script budget more (at_place from r memory events) outcome Good
 unfolding distance
-new_address_goes {context = context} {memory = memory} used (locations.Static place) r sound room small (WordThere there stand) on rest =
+new_address_goes {context = context} {memory = memory} used (locations.Static place) r sound room small
+    (WordThere there stand) on rest =
     let number : ℕ = place_at context.activation.layout place in
     let bytes = on.ready.registers in
     let now : Registers = record r { h = high_byte number; l = low_byte number } in
@@ -284,15 +308,18 @@ new_address_goes {context = context} {memory = memory} used (locations.Static pl
     })
     (small_again number small)
     (λ on. rest now (record { hl = small_again number small; a = refl; d = refl; e = refl }) on))
-new_address_goes {context = context} {top = top} {pushed = pushed} used (locations.Frame variable offset) r sound room small stand on rest =
+new_address_goes {context = context} {top = top} {pushed = pushed} used (locations.Frame variable offset) r
+    sound room small stand on rest =
     let away : ℕ = distance context.site variable offset pushed in
-    let is : word (high_byte (wrap (word (high_byte away) (low_byte away) + r.sp))) (low_byte (wrap (word (high_byte away) (low_byte away) + r.sp)))
+    let is : word (high_byte (wrap (word (high_byte away) (low_byte away) + r.sp)))
+    (low_byte (wrap (word (high_byte away) (low_byte away) + r.sp)))
     ≡ location_at context.activation (distances_in context) (locations.Frame variable offset)
     = back_together (word (high_byte away) (low_byte away) + r.sp)
     ∙ ap (λ (sp : ℕ). wrap (word (high_byte away) (low_byte away) + sp)) on.ready.pointer
     ∙ ap (λ (n : ℕ). wrap (n + wrap top)) (small_again away (omega arith))
     ∙ frame_address context.activation.level (distances_in context variable) offset top pushed room.depth in
-    registers_then (Lxi Hl away ∷ Dad Sp ∷ []) (note_address_steps (locations.Frame variable offset)) r sound (tt, (tt, tt)) stand on
+    registers_then (Lxi Hl away ∷ Dad Sp ∷ []) (note_address_steps (locations.Frame variable offset)) r sound
+    (tt, (tt, tt)) stand on
     (λ middle found stand on.
     note_address_goes (locations.Frame variable offset) _ stand on is
     (λ on. rest _ (record { hl = is; a = refl; d = refl; e = refl }) on))
@@ -307,14 +334,18 @@ pub location_address_goes :
     → HasRoom context.activation top pushed need
     → location_at context.activation (distances_in context) location < 65536
     → Know context used r memory
-    → StepsStand context PartIs facts from (location_address_steps (knowing context.site used) location pushed) last to
+    → StepsStand context PartIs facts from
+    (location_address_steps (knowing context.site used) location pushed) last to
     → GoesOn context facts top base source frame r memory
     → ((now : Registers)
     → AddressBeside (location_at context.activation (distances_in context) location) r now
     → GoesOn context last top base source frame now memory
     → Does context.activation.around.program.script budget more (at_place to now memory events) outcome Good)
     → Does context.activation.around.program.script budget more (at_place from r memory events) outcome Good
-location_address_goes {outcome = outcome} {Good = Good} {context = context} {PartIs = PartIs} {last = last} {to = to} {top = top} {pushed = pushed} {budget = budget} {more = more} {base = base} {source = source} {memory = memory} {frame = frame} {events = events} {facts = facts} {from = from} used location r sound room small known stand on rest =
+location_address_goes {outcome = outcome} {Good = Good} {context = context} {PartIs = PartIs} {last = last}
+    {to = to} {top = top} {pushed = pushed} {budget = budget} {more = more} {base = base} {source = source}
+    {memory = memory} {frame = frame} {events = events} {facts = facts} {from = from} used location r sound
+    room small known stand on rest =
     by_test (is_at used.address_in_hl location) (is_at used.address_in_hl (before location))
     (is_at used.address_in_hl (location_after location 1)) refl refl refl stand
   where
@@ -326,12 +357,15 @@ location_address_goes {outcome = outcome} {Good = Good} {context = context} {Par
         (if here then []
         else if next then Plain (Inx Hl) ∷ note_address_steps location
         else if last_one then Plain (Dcx Hl) ∷ note_address_steps location
-        else new_address_steps (knowing context.site used) location pushed ++ note_address_steps location) last to
-        → Does context.activation.around.program.script budget more (at_place from r memory events) outcome Good
+        else new_address_steps (knowing context.site used) location pushed
+        ++ note_address_steps location) last to
+        → Does context.activation.around.program.script budget more
+        (at_place from r memory events) outcome Good
     by_test true next last_one here_is next_is last_is stand =
         nothing_goes r stand on
         (rest r (record {
-          hl = address_in_hl_is context.activation (distances_in context) used.address_in_hl location r.h r.l here_is known.address_holds;
+          hl = address_in_hl_is context.activation (distances_in context) used.address_in_hl location r.h r.l
+              here_is known.address_holds;
           a = refl;
           d = refl;
           e = refl;
@@ -341,7 +375,8 @@ location_address_goes {outcome = outcome} {Good = Good} {context = context} {Par
         ≡ location_at context.activation (distances_in context) location
         = back_together (word r.h r.l + 1)
         ∙ ap (λ (n : ℕ). wrap (n + 1))
-        (address_in_hl_is context.activation (distances_in context) used.address_in_hl (before location) r.h r.l next_is known.address_holds)
+        (address_in_hl_is context.activation (distances_in context) used.address_in_hl (before location) r.h
+        r.l next_is known.address_holds)
         ∙ after_before context.activation (distances_in context) location small in
         registers_then (Inx Hl ∷ []) (note_address_steps location) r sound (tt, tt) stand on
         (λ middle found stand on.
@@ -352,7 +387,8 @@ location_address_goes {outcome = outcome} {Good = Good} {context = context} {Par
         ≡ location_at context.activation (distances_in context) location
         = back_together (word r.h r.l + 65535)
         ∙ ap (λ (n : ℕ). wrap (n + 65535))
-        (address_in_hl_is context.activation (distances_in context) used.address_in_hl (location_after location 1) r.h r.l last_is known.address_holds
+        (address_in_hl_is context.activation (distances_in context) used.address_in_hl
+        (location_after location 1) r.h r.l last_is known.address_holds
         ∙ location_after_is context.activation (distances_in context) location 1)
         ∙ wrapped_back (location_at context.activation (distances_in context) location) small in
         registers_then (Dcx Hl ∷ []) (note_address_steps location) r sound (tt, tt) stand on

@@ -28,7 +28,8 @@ one_goes :
     → Does (script_of context) s.budget 0 (at_place from r memory s.events)
     (then_do (value context.later context.activation.around tree s) (λ found t. Gave (go found) t))
     (Arrives context.activation top base to (NothingIsGiven context last r memory))
-one_goes {from = from} {to = to} {number = number} go top need base s r memory (PartThere does NoneThere) node types fewer stage =
+one_goes {from = from} {to = to} {number = number} go top need base s r memory (PartThere does NoneThere)
+    node types fewer stage =
     at_effects from to number does node types fewer stage
     (λ found u now memory_now is next. ends_here to (go found) next)
 
@@ -52,7 +53,9 @@ two_go :
     (λ one t. then_do (value context.later context.activation.around second t) (λ two u. go one two u)))
     (Arrives context.activation top base to (NothingIsGiven context last r memory))
 unfolding both_effects_steps
-two_go {from = from} {to = to} {left = left} {right = right} go quiet top need base s r memory (PartThere {middle = middle} one (PartThere two NoneThere)) first_node second_node first_types second_types fewer other stage =
+two_go {from = from} {to = to} {left = left} {right = right} go quiet top need base s r memory
+    (PartThere {middle = middle} one (PartThere two NoneThere)) first_node second_node first_types
+    second_types fewer other stage =
     at_effects from middle left one first_node first_types fewer stage
     (λ found u now memory_now is next.
     at_effects middle to right two second_node second_types other next
@@ -64,7 +67,8 @@ byte_or_255 : (bytes : List ℕ) (index : ℕ) → All (λ byte. byte < 256) byt
     255 < 256
 byte_or_255 [] index all = omega arith
 byte_or_255 (byte ∷ bytes) zero all = all 0 255 (omega arith)
-byte_or_255 (byte ∷ bytes) (suc index) all = byte_or_255 bytes index (λ k d less. all (suc k) d (omega (arith, less)))
+byte_or_255 (byte ∷ bytes) (suc index) all =
+    byte_or_255 bytes index (λ k d less. all (suc k) d (omega (arith, less)))
 
 -- a read of a port
 pub input_goes :
@@ -91,7 +95,9 @@ input_goes {context = context} {t = t} {r = r} {memory = memory} port sound ther
     (λ known. rest small (record {
       below = stage.below;
       room = stage.room;
-      ready = ready_with_registers refl (record { a = small; b = bytes.b; c = bytes.c; d = bytes.d; e = bytes.e; h = bytes.h; l = bytes.l }) stage.ready;
+      ready = ready_with_registers refl
+          (record { a = small; b = bytes.b; c = bytes.c; d = bytes.d; e = bytes.e; h = bytes.h; l = bytes.l })
+          stage.ready;
       known = known;
     }))
 
@@ -123,31 +129,44 @@ form_goes :
     (value context.later context.activation.around tree s)
     (Arrives context.activation top base to (NothingIsGiven context last r memory))
 unfolding form_effects_steps
-form_goes {to = to} (forms.Number number) sound IsNumber types NoneThere top base s r memory stage = ends_here to number stage
-form_goes {context = context} {to = to} (forms.List offset) sound (IsConstantList {list = list}) types NoneThere top base s r memory stage =
+form_goes {to = to} (forms.Number number) sound IsNumber types NoneThere top base s r memory stage =
+    ends_here to number stage
+form_goes {context = context} {to = to} (forms.List offset) sound (IsConstantList {list = list}) types
+    NoneThere top base s r memory stage =
     ends_here to _ stage
-form_goes {context = context} {from = from} {to = to} (forms.Value reference) sound (IsValue {scalar = scalar} part) types stand top base s r memory stage =
+form_goes {context = context} {from = from} {to = to} (forms.Value reference) sound
+    (IsValue {scalar = scalar} part) types stand top base s r memory stage =
     at_reference from to part types.1 stand (omega arith) stage
     (λ place u now memory_now next.
     quiet_ends to (λ t. read_scalar context.activation.around.program scalar place t)
     (quiet_scalar context.activation.around.program scalar place) next)
-form_goes {from = from} {to = to} (forms.Location reference) sound (IsLocation part) types stand top base s r memory stage =
+form_goes {from = from} {to = to} (forms.Location reference) sound (IsLocation part) types stand top
+    base s r memory stage =
     at_reference from to part types.1 stand (omega arith) stage
     (λ place u now memory_now next. ends_here to (address_in_memory place) next)
-form_goes (forms.Conversion inner) sound (IsConversion {scalar = scalar} node) types stand top base s r memory stage =
+form_goes (forms.Conversion inner) sound (IsConversion {scalar = scalar} node) types stand top
+    base s r memory stage =
     one_goes (λ n. as_type scalar n) top _ base s r memory stand node types (omega arith) stage
-form_goes {from = from} {to = to} (forms.Assignment target inner) sound (IsEmbedded is_target node) types stand top base s r memory stage =
+form_goes {from = from} {to = to} (forms.Assignment target inner) sound (IsEmbedded is_target node) types
+    stand top base s r memory stage =
     does_same _ (then_itself _)
     (at_embedded from to (λ found t. Gave found t) stand is_target node types (omega arith) stage
     (λ found u now memory_now wanted small same next. ends_here to found next))
-form_goes (forms.Unary operator operand) sound (IsUnary {scalar = scalar} node) types stand top base s r memory stage =
-    one_goes (λ n. result_of_one scalar operator n) top _ base s r memory stand node types.0 (omega arith) stage
-form_goes (forms.Binary operands operator left right) sound (IsBinary first second) types stand top base s r memory stage =
-    two_go (λ one two u. computed (result_of operands operator one two) u) (λ one two. quiet_computed (result_of operands operator one two))
+form_goes (forms.Unary operator operand) sound (IsUnary {scalar = scalar} node) types stand top
+    base s r memory stage =
+    one_goes (λ n. result_of_one scalar operator n) top _ base s r memory stand node
+    types.0 (omega arith) stage
+form_goes (forms.Binary operands operator left right) sound (IsBinary first second) types stand top
+    base s r memory stage =
+    two_go (λ one two u. computed (result_of operands operator one two) u)
+    (λ one two. quiet_computed (result_of operands operator one two))
     top _ base s r memory stand first second types.1.0 types.2.0 (omega arith) (omega arith) stage
-form_goes {context = context} {last = last} {to = to} (forms.Call procedure range) sound (IsCallOf {scalar = scalar} {trees = trees} are) types stand top base s r memory stage =
+form_goes {context = context} {last = last} {to = to} (forms.Call procedure range) sound
+    (IsCallOf {scalar = scalar} {trees = trees} are) types stand top base s r memory stage =
     gives_then _
-    (Rattle.task_laws.proofs.Calls.Calls.call_does procedure range sound stand _ (Some scalar) trees are types.0 types.1 top base s r memory stage.below (room_for _ (omega arith) stage.room) stage.ready stage.known tt)
+    (Rattle.task_laws.proofs.Calls.Calls.call_does procedure range sound stand _ (Some scalar) trees are
+    types.0 types.1 top base s r memory stage.below (room_for _ (omega arith) stage.room)
+    stage.ready stage.known tt)
     (λ found t end arrives spent.
     does_without_step (record {
       r = arrives.r;
@@ -158,10 +177,13 @@ form_goes {context = context} {last = last} {to = to} (forms.Call procedure rang
     }))
 form_goes (forms.Function function operand) sound (IsFunction node) types stand top base s r memory stage =
     one_goes (λ n. function_of function n) top _ base s r memory stand node types (omega arith) stage
-form_goes (forms.Shift function value count) sound (IsShift {scalar = scalar} first second) types stand top base s r memory stage =
-    two_go (λ one two u. Gave (shifted scalar function one two) u) (λ one two. quiet_gave (shifted scalar function one two))
+form_goes (forms.Shift function value count) sound (IsShift {scalar = scalar} first second) types stand top
+    base s r memory stage =
+    two_go (λ one two u. Gave (shifted scalar function one two) u)
+    (λ one two. quiet_gave (shifted scalar function one two))
     top _ base s r memory stand first second types.1.0 types.2.0 (omega arith) (omega arith) stage
-form_goes {to = to} (forms.Input port) sound IsInput types (PlainThere there NoneThere) top base s r memory stage =
+form_goes {to = to} (forms.Input port) sound IsInput types (PlainThere there NoneThere) top
+    base s r memory stage =
     input_goes port sound there stage (λ small next. ends_here to _ next)
 
 -- the value of a quiet evaluation, with a property of every value
@@ -174,7 +196,8 @@ quiet_arrives :
     → Stage context top pushed need base u facts now memory_now
     → Does (script_of context) u.budget 0 (at_place to now memory_now u.events) (meant u)
     (Arrives context.activation top base to Holds)
-quiet_arrives {A = A} {context = context} {top = top} {base = base} {u = u} {now = now} {memory_now = memory_now} {Holds = Holds} to meant quiet holds stage =
+quiet_arrives {A = A} {context = context} {top = top} {base = base} {u = u} {now = now}
+    {memory_now = memory_now} {Holds = Holds} to meant quiet holds stage =
     answered (quiet.answer u.memory u.frame) (quiet.gives u)
   where
     answered : (answer : Rattle.treecode_laws.specs.internal.Evaluations.Answer A)
@@ -183,13 +206,15 @@ quiet_arrives {A = A} {context = context} {top = top} {base = base} {u = u} {now
         (Arrives context.activation top base to Holds)
     answered (Rattle.treecode_laws.specs.internal.Evaluations.Found found) is =
         does_same (Gave found u) is
-        (does_without_step (record { r = now; memory = memory_now; is_at = refl; ready = stage.ready; holds = holds found }))
+        (does_without_step
+        (record { r = now; memory = memory_now; is_at = refl; ready = stage.ready; holds = holds found }))
     answered (Rattle.treecode_laws.specs.internal.Evaluations.Fails reason) is =
         Rattle.code_meaning.proofs.Access.outside_does reason u is
 
 -- nothing but A has changed
 pub only_itself : (r : Registers) (memory : List ℕ) → ChangesAOnly r memory r memory
-only_itself r memory = record { b = refl; c = refl; d = refl; e = refl; h = refl; l = refl; same_memory = refl }
+only_itself r memory =
+    record { b = refl; c = refl; d = refl; e = refl; h = refl; l = refl; same_memory = refl }
 
 pub only_then :
     {r now last : Registers} {memory between ended : List ℕ}
@@ -228,8 +253,10 @@ one_free :
     → Does (script_of context) s.budget 0 (at_place from r memory s.events)
     (then_do (value context.later context.activation.around tree s) (λ found t. Gave (go found) t))
     (Arrives context.activation top base to (OnlyAIsGiven context last r memory))
-one_free {context = context} {from = from} {number = number} go top need base s r memory free (PartThere does NoneThere) node types fewer stage =
-    effects_then from s r memory does node types stage.below stage.room fewer (record { ready = stage.ready; known = stage.known })
+one_free {context = context} {from = from} {number = number} go top need base s r memory free
+    (PartThere does NoneThere) node types fewer stage =
+    effects_then from s r memory does node types stage.below stage.room fewer
+    (record { ready = stage.ready; known = stage.known })
     (λ n t now ended same less on given. does_without_step (record {
       r = now;
       memory = ended;
@@ -260,17 +287,22 @@ two_free :
     (λ one t. then_do (value context.later context.activation.around second t) (λ two u. go one two u)))
     (Arrives context.activation top base to (OnlyAIsGiven context last r memory))
 unfolding both_effects_steps
-two_free {context = context} {from = from} {to = to} {left = left} {right = right} go quiet top need base s r memory left_free right_free (PartThere {middle = middle} one (PartThere two NoneThere)) first_node second_node first_types second_types fewer other stage =
+two_free {context = context} {from = from} {to = to} {left = left} {right = right} go quiet top need base s r
+    memory left_free right_free (PartThere {middle = middle} one (PartThere two NoneThere)) first_node
+    second_node first_types second_types fewer other stage =
     let below = stage.below in
-    effects_then from s r memory one first_node first_types stage.below stage.room fewer (record { ready = stage.ready; known = stage.known })
+    effects_then from s r memory one first_node first_types stage.below stage.room fewer
+    (record { ready = stage.ready; known = stage.known })
     (λ n t now ended same less on given.
-    effects_then middle t now ended two second_node second_types (omega (arith, less, below)) stage.room other on
+    effects_then middle t now ended two second_node second_types
+    (omega (arith, less, below)) stage.room other on
     (λ m u then_now then_ended then_same then_less then_on then_given.
     let low : u.budget < context.number = omega (arith, less, then_less, below) in
     quiet_arrives {context = context} to (go n m) (quiet n m)
     (λ found. record {
       known = then_on.known;
-      only = only_then (given.free (free_is context.site left ∙ left_free)) (then_given.free (free_is context.site right ∙ right_free));
+      only = only_then (given.free (free_is context.site left ∙ left_free))
+          (then_given.free (free_is context.site right ∙ right_free));
     })
     (record { below = low; room = stage.room; ready = then_on.ready; known = then_on.known })))
 
@@ -292,35 +324,51 @@ free_form_goes :
     (value context.later context.activation.around tree s)
     (Arrives context.activation top base to (OnlyAIsGiven context last r memory))
 unfolding form_effects_steps
-free_form_goes {context = context} (forms.Value reference) scalar sound free loud (IsValue part) types stand top base s r memory stage =
-    (absurd (false≢true (sym loud ∙ value_is_quiet (nodes_in context) context.storage sound.lowered.traits part free)))
-free_form_goes (forms.Conversion inner) scalar sound free loud (IsConversion {scalar = to_scalar} node) types stand top base s r memory stage =
+free_form_goes {context = context} (forms.Value reference) scalar sound free loud (IsValue part) types stand
+    top base s r memory stage =
+    (absurd (false≢true (sym loud ∙ value_is_quiet (nodes_in context) context.storage
+    sound.lowered.traits part free)))
+free_form_goes (forms.Conversion inner) scalar sound free loud (IsConversion {scalar = to_scalar} node) types
+    stand top base s r memory stage =
     one_free (λ n. as_type to_scalar n) top _ base s r memory free stand node types (omega arith) stage
-free_form_goes (forms.Unary operator operand) scalar sound free loud (IsUnary {scalar = of} node) types stand top base s r memory stage =
-    one_free (λ n. result_of_one of operator n) top _ base s r memory free stand node types.0 (omega arith) stage
-free_form_goes {context = context} (forms.Binary operands operator left right) scalar sound free loud (IsBinary first second) types stand top base s r memory stage =
+free_form_goes (forms.Unary operator operand) scalar sound free loud (IsUnary {scalar = of} node) types stand
+    top base s r memory stage =
+    one_free (λ n. result_of_one of operator n) top _ base s r memory free stand node
+    types.0 (omega arith) stage
+free_form_goes {context = context} (forms.Binary operands operator left right) scalar sound free loud
+    (IsBinary first second) types stand top base s r memory stage =
     let both = (and_parts (has_immediate operator) (is_free_with (nodes_in context) left right) free).1 in
-    two_free (λ one two u. computed (result_of operands operator one two) u) (λ one two. quiet_computed (result_of operands operator one two))
+    two_free (λ one two u. computed (result_of operands operator one two) u)
+    (λ one two. quiet_computed (result_of operands operator one two))
     top _ base s r memory
     (and_parts (free_at (nodes_in context) left) (is_some (number_at (nodes_in context) right)) both).0
     (number_is_free (nodes_in context) context.storage sound.lowered.traits second
     (and_parts (free_at (nodes_in context) left) (is_some (number_at (nodes_in context) right)) both).1)
     stand first second types.1.0 types.2.0 (omega arith) (omega arith) stage
-free_form_goes {context = context} (forms.Function High operand) scalar sound free loud (IsFunction node) types stand top base s r memory stage =
-    (absurd (false≢true (sym loud ∙ high_is_quiet (nodes_in context) context.storage sound.lowered.traits {operand = operand} node free)))
-free_form_goes (forms.Function Low operand) scalar sound free loud (IsFunction node) types stand top base s r memory stage =
+free_form_goes {context = context} (forms.Function High operand) scalar sound free loud (IsFunction node)
+    types stand top base s r memory stage =
+    (absurd (false≢true (sym loud ∙ high_is_quiet (nodes_in context) context.storage sound.lowered.traits
+    {operand = operand} node free)))
+free_form_goes (forms.Function Low operand) scalar sound free loud (IsFunction node) types stand top
+    base s r memory stage =
     one_free (λ n. function_of Low n) top _ base s r memory free stand node types (omega arith) stage
-free_form_goes (forms.Function Double operand) scalar sound free loud (IsFunction node) types stand top base s r memory stage =
+free_form_goes (forms.Function Double operand) scalar sound free loud (IsFunction node) types stand top
+    base s r memory stage =
     one_free (λ n. function_of Double n) top _ base s r memory free stand node types (omega arith) stage
-free_form_goes {context = context} (forms.Shift function count_of count) scalar sound free loud (IsShift {scalar = of} first second) types stand top base s r memory stage =
-    let both = (and_parts (is_of_low_byte scalar function) (is_free_with (nodes_in context) count_of count) free).1 in
-    two_free (λ one two u. Gave (shifted of function one two) u) (λ one two. quiet_gave (shifted of function one two))
+free_form_goes {context = context} (forms.Shift function count_of count) scalar sound free loud
+    (IsShift {scalar = of} first second) types stand top base s r memory stage =
+    let both =
+    (and_parts (is_of_low_byte scalar function)
+    (is_free_with (nodes_in context) count_of count) free).1 in
+    two_free (λ one two u. Gave (shifted of function one two) u)
+    (λ one two. quiet_gave (shifted of function one two))
     top _ base s r memory
     (and_parts (free_at (nodes_in context) count_of) (is_some (number_at (nodes_in context) count)) both).0
     (number_is_free (nodes_in context) context.storage sound.lowered.traits second
     (and_parts (free_at (nodes_in context) count_of) (is_some (number_at (nodes_in context) count)) both).1)
     stand first second types.1.0 types.2.0 (omega arith) (omega arith) stage
-free_form_goes {to = to} (forms.Input port) scalar sound free loud IsInput types (PlainThere there NoneThere) top base s r memory stage =
+free_form_goes {to = to} (forms.Input port) scalar sound free loud IsInput types (PlainThere there NoneThere)
+    top base s r memory stage =
     input_goes port sound there stage
     (λ small next. does_without_step (record {
       r = _;
@@ -332,11 +380,16 @@ free_form_goes {to = to} (forms.Input port) scalar sound free loud IsInput types
         only = record { b = refl; c = refl; d = refl; e = refl; h = refl; l = refl; same_memory = refl };
       };
     }))
-free_form_goes (forms.Number number) scalar sound free loud form types stand top base s r memory stage = absurd (false≢true free)
-free_form_goes (forms.List offset) scalar sound free loud form types stand top base s r memory stage = absurd (false≢true free)
-free_form_goes (forms.Location reference) scalar sound free loud form types stand top base s r memory stage = absurd (false≢true free)
-free_form_goes (forms.Assignment target inner) scalar sound free loud form types stand top base s r memory stage = absurd (false≢true free)
-free_form_goes (forms.Call procedure range) scalar sound free loud form types stand top base s r memory stage = absurd (false≢true free)
+free_form_goes (forms.Number number) scalar sound free loud form types stand top base s r memory stage =
+    absurd (false≢true free)
+free_form_goes (forms.List offset) scalar sound free loud form types stand top base s r memory stage =
+    absurd (false≢true free)
+free_form_goes (forms.Location reference) scalar sound free loud form types stand top base s r memory stage =
+    absurd (false≢true free)
+free_form_goes (forms.Assignment target inner) scalar sound free loud form types stand top base s r memory
+    stage = absurd (false≢true free)
+free_form_goes (forms.Call procedure range) scalar sound free loud form types stand top base s r memory
+    stage = absurd (false≢true free)
 
 -- only quiet code keeps A and DE
 given_kept :
@@ -363,13 +416,16 @@ pub effects_do :
     (effects_steps (knowing context.site facts) number pushed) last to
     → EffectsDo context facts number pushed from last to
 unfolding effects_steps is_quiet
-effects_do {context = context} {facts = facts} {last = last} {pushed = pushed} {from = from} {to = to} number sound kept stand bound tree node types top base s r memory below room ready known asked =
+effects_do {context = context} {facts = facts} {last = last} {pushed = pushed} {from = from} {to = to} number
+    sound kept stand bound tree node types top base s r memory below room ready known asked =
     let of = node_of {number = number} sound node in
     by_quiet of.found.traits.is_quiet
-    (λ known_before. ap (λ entry. elim (entry) [ Some found ↦ found.traits.is_quiet | None ↦ false ]) (of.at_site known_before))
+    (λ known_before. ap (λ entry. elim (entry) [ Some found ↦ found.traits.is_quiet | None ↦ false ])
+    (of.at_site known_before))
     refl of.form
     (subst (λ entry. StepsStand context (PartDoes context) facts from (elim (entry) [
-      | Some found ↦ if found.traits.is_quiet then [] else form_effects_steps (knowing context.site facts) found.form pushed
+      | Some found ↦ if found.traits.is_quiet then [] else form_effects_steps
+          (knowing context.site facts) found.form pushed
       | None ↦ []
     ]) last to) (of.at_site facts) stand)
   where
@@ -386,7 +442,8 @@ effects_do {context = context} {facts = facts} {last = last} {pushed = pushed} {
         (value context.later context.activation.around tree s)
         (Arrives context.activation top base finish (EffectsAreGiven context final number r memory))
     by_quiet true is found_is shape NoneThere =
-        quiet_arrives from (λ t. value context.later context.activation.around tree t) (quiet_means facts sound node (is facts))
+        quiet_arrives from (λ t. value context.later context.activation.around tree t)
+        (quiet_means facts sound node (is facts))
         (λ found. record {
           known = known;
           a = λ keeps_it. refl;
@@ -398,7 +455,8 @@ effects_do {context = context} {facts = facts} {last = last} {pushed = pushed} {
         by_free (is_free context.site number) refl
       where
         never_kept : ((keeps context.site number).a ≡ true) ⊎ ((keeps context.site number).de ≡ true) → ⊥
-        never_kept keeps_one = (absurd (false≢true (sym (is context.site.facts) ∙ kept bound number tree node keeps_one)))
+        never_kept keeps_one =
+            (absurd (false≢true (sym (is context.site.facts) ∙ kept bound number tree node keeps_one)))
 
         loud_at : quiet_at (nodes_in context) number ≡ false
         loud_at = sym (quiet_is context.site number) ∙ is context.site.facts
@@ -411,10 +469,13 @@ effects_do {context = context} {facts = facts} {last = last} {pushed = pushed} {
             let of = node_of {number = number} sound node in
             gives_then _
             (free_form_goes form of.found.traits.scalar sound
-            (subst (λ (one : ExpressionForm). is_free_form (nodes_in context) of.found.traits.scalar one ≡ true) found_is
-            (not_known (nodes_in context) context.storage sound.lowered.traits of.found node of.is_there loud_at (sym (free_is context.site number) ∙ told)))
+            (subst (λ (one : ExpressionForm). is_free_form (nodes_in context) of.found.traits.scalar one
+            ≡ true) found_is
+            (not_known (nodes_in context) context.storage sound.lowered.traits of.found node of.is_there
+            loud_at (sym (free_is context.site number) ∙ told)))
             (subst (λ (one : ExpressionForm). is_quiet_form (nodes_in context) one ≡ false) found_is
-            (sym (quiet_of_entry (nodes_in context) context.storage sound.lowered.traits number.index of.found of.is_there) ∙ loud_at))
+            (sym (quiet_of_entry (nodes_in context) context.storage sound.lowered.traits number.index of.found
+            of.is_there) ∙ loud_at))
             shape types stand top base s r memory stage)
             (λ found t end arrives spent.
             does_without_step (record {
@@ -432,7 +493,8 @@ effects_do {context = context} {facts = facts} {last = last} {pushed = pushed} {
               memory = arrives.memory;
               is_at = arrives.is_at;
               ready = arrives.ready;
-              holds = given_kept number never_kept (λ so. absurd (absurd (false≢true (sym told ∙ so)))) arrives.holds.known;
+              holds = given_kept number never_kept (λ so. absurd (absurd (false≢true (sym told ∙ so))))
+                  arrives.holds.known;
             }))
 
 -- the registers that are kept according to the tree, as code queries them

@@ -7,7 +7,8 @@ use Rattle.task_laws.proofs.Machine.Stages.{Stage, at_effects, does_same, script
 
 -- one part after two is two parts after one
 pub then_again :
-    {A B C : Type 0} (outcome : Outcome A) (first : A → SourceState → Outcome B) (second : B → SourceState → Outcome C)
+    {A B C : Type 0} (outcome : Outcome A) (first : A → SourceState → Outcome B)
+    (second : B → SourceState → Outcome C)
     → then_do (then_do outcome first) second ≡ then_do outcome (λ found t. then_do (first found t) second)
 then_again (Gave found t) first second = refl
 then_again (Stopped why t) first second = refl
@@ -19,14 +20,18 @@ pub at_quiet :
     (place : ℕ) (meant : SourceState → Outcome A) (go : A → SourceState → Outcome B)
     → IsQuiet meant
     → Stage context top pushed need base t facts r memory
-    → ((found : A) → Does (script_of context) t.budget more (at_place place r memory t.events) (go found t) Good)
+    → ((found : A) → Does (script_of context) t.budget more
+    (at_place place r memory t.events) (go found t) Good)
     → Does (script_of context) t.budget more (at_place place r memory t.events) (then_do (meant t) go) Good
-at_quiet {A = A} {context = context} {t = t} {r = r} {memory = memory} {more = more} {Good = Good} place meant go quiet stage rest =
+at_quiet {A = A} {context = context} {t = t} {r = r} {memory = memory} {more = more} {Good = Good} place meant
+    go quiet stage rest =
     answered (quiet.answer t.memory t.frame) (quiet.gives t)
   where
     answered : (answer : Answer A) → meant t ≡ outcome_of answer t
-        → Does (script_of context) t.budget more (at_place place r memory t.events) (then_do (meant t) go) Good
-    answered (Found found) is = does_same (go found t) (ap (λ (outcome : Outcome A). then_do outcome go) is) (rest found)
+        → Does (script_of context) t.budget more (at_place place r memory t.events)
+        (then_do (meant t) go) Good
+    answered (Found found) is =
+        does_same (go found t) (ap (λ (outcome : Outcome A). then_do outcome go) is) (rest found)
     answered (Fails reason) is = outside_does reason t (ap (λ (outcome : Outcome A). then_do outcome go) is)
 
 -- the end of code without a value
@@ -53,7 +58,8 @@ pub quiet_ends :
     → Stage context top pushed need base u facts now memory_now
     → Does (script_of context) u.budget 0 (at_place to now memory_now u.events) (meant u)
     (Arrives context.activation top base to (NothingIsGiven context facts r memory))
-quiet_ends {A = A} {context = context} {top = top} {base = base} {u = u} {facts = facts} {r = r} {now = now} {memory = memory} {memory_now = memory_now} to meant quiet stage =
+quiet_ends {A = A} {context = context} {top = top} {base = base} {u = u} {facts = facts} {r = r} {now = now}
+    {memory = memory} {memory_now = memory_now} to meant quiet stage =
     answered (quiet.answer u.memory u.frame) (quiet.gives u)
   where
     answered : (answer : Answer A) → meant u ≡ outcome_of answer u
@@ -64,12 +70,14 @@ quiet_ends {A = A} {context = context} {top = top} {base = base} {u = u} {facts 
 
 -- the effects of a subscript
 pub at_subscript :
-    {B : Type 0} {context : Context} {top pushed need : ℕ} {base : List ℕ} {t : SourceState} {facts found_facts : Facts}
+    {B : Type 0} {context : Context} {top pushed need : ℕ} {base : List ℕ} {t : SourceState}
+    {facts found_facts : Facts}
     {r : Registers} {memory : List ℕ} {more bound : ℕ} {index : Option IndexNode} {subscript : Subscript}
     {go : Displacement → SourceState → Outcome B} {Good : B → SourceState → State → Type 0} (from middle : ℕ)
     → IsSubscript (nodes_in context) context.storage bound index subscript
     → TypesHoldInSubscript context.typed context.within subscript
-    → StepsStand context (PartDoes context) facts from (subscript_effects_steps index pushed) found_facts middle
+    → StepsStand context (PartDoes context) facts from
+    (subscript_effects_steps index pushed) found_facts middle
     → 2 * height_of_subscript subscript ≤ need
     → Stage context top pushed need base t facts r memory
     → ((found : Displacement) (u : SourceState) (now : Registers) (memory_now : List ℕ)
@@ -80,19 +88,25 @@ pub at_subscript :
 unfolding subscript_effects_steps
 at_subscript {t = t} {r = r} {memory = memory} from middle IsAbsent types NoneThere fewer stage rest =
     rest no_displacement t r memory stage
-at_subscript {context = context} {t = t} {go = go} from middle (IsIndex {stride = stride} {count = count} {number = number} {index = index} node) types (PartThere does NoneThere) fewer stage rest =
-    does_same _ (then_again (value context.later context.activation.around index t) (λ found u. Gave (displaced stride count found) u) go)
+at_subscript {context = context} {t = t} {go = go} from middle
+    (IsIndex {stride = stride} {count = count} {number = number} {index = index} node) types
+    (PartThere does NoneThere) fewer stage rest =
+    does_same _
+    (then_again (value context.later context.activation.around index t)
+    (λ found u. Gave (displaced stride count found) u) go)
     (at_effects from middle number does node types.0 fewer stage
     (λ found u now memory_now is next. rest (displaced stride count found) u now memory_now next))
 
 -- the effects of the subscripts of a part of an object
 pub at_reference :
-    {B : Type 0} {context : Context} {top pushed need : ℕ} {base : List ℕ} {t : SourceState} {facts found_facts : Facts}
+    {B : Type 0} {context : Context} {top pushed need : ℕ} {base : List ℕ} {t : SourceState}
+    {facts found_facts : Facts}
     {r : Registers} {memory : List ℕ} {more bound : ℕ} {reference : Reference} {tree : TypedReference}
     {go : Place → SourceState → Outcome B} {Good : B → SourceState → State → Type 0} (from middle : ℕ)
     → IsReference (nodes_in context) context.storage bound reference tree
     → TypesHoldInReference context.typed context.within tree
-    → StepsStand context (PartDoes context) facts from (reference_effects_steps reference pushed) found_facts middle
+    → StepsStand context (PartDoes context) facts from
+    (reference_effects_steps reference pushed) found_facts middle
     → 2 * height_of_reference tree ≤ need
     → Stage context top pushed need base t facts r memory
     → ((found : Place) (u : SourceState) (now : Registers) (memory_now : List ℕ)
@@ -101,9 +115,12 @@ pub at_reference :
     → Does (script_of context) t.budget more (at_place from r memory t.events)
     (then_do (located context.later context.activation.around tree t) go) Good
 unfolding reference_effects_steps
-at_reference {context = context} {pushed = pushed} {t = t} {go = go} from middle (IsPart {object = object} {offset = offset} {first = first} {second = second} {subscript = subscript} {member_subscript = member_subscript} one two) types stand fewer stage rest =
+at_reference {context = context} {pushed = pushed} {t = t} {go = go} from middle
+    (IsPart {object = object} {offset = offset} {first = first} {second = second} {subscript = subscript}
+    {member_subscript = member_subscript} one two) types stand fewer stage rest =
     let around = context.activation.around in
-    let parts = steps_split (subscript_effects_steps first pushed) (subscript_effects_steps second pushed) stand in
+    let parts =
+    steps_split (subscript_effects_steps first pushed) (subscript_effects_steps second pushed) stand in
     does_same _ (then_again (displacement context.later around subscript t) _ go)
     (at_subscript from parts.middle one types.0 parts.first (omega (arith, fewer)) stage
     (λ before u now memory_now next.

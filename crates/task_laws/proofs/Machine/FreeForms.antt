@@ -19,7 +19,8 @@ module _ (nodes : Nodes) (storage : Storage) (keeps : KeepTraits nodes) where
       ≡ is_free_of nodes expression.traits.scalar (known_of nodes expression.traits.scalar expression.form)
       expression.form
   unfolding traits_of
-  free_of_entry number expression at = ap (λ (traits : Traits). traits.is_free) (node_traits nodes number expression keeps at)
+  free_of_entry number expression at =
+      ap (λ (traits : Traits). traits.is_free) (node_traits nodes number expression keeps at)
 
   -- a number is free
   pub number_is_free :
@@ -29,9 +30,11 @@ module _ (nodes : Nodes) (storage : Storage) (keeps : KeepTraits nodes) where
       → free_at nodes (record { index = number }) ≡ true
   number_is_free (IsNode {number = number} {expression = expression} below at scalar form) some =
       let known = number_of (known_of nodes expression.traits.scalar expression.form)
-      (ap (λ (found : Option Place). is_some (known_number found)) (sym (known_of_entry nodes storage keeps number expression at)) ∙ some) in
+      (ap (λ (found : Option Place). is_some (known_number found))
+      (sym (known_of_entry nodes storage keeps number expression at)) ∙ some) in
       free_of_entry number expression at
-      ∙ ap (λ (found : Option Place). is_free_of nodes expression.traits.scalar found expression.form) known.1 ∙ known.2
+      ∙ ap (λ (found : Option Place). is_free_of nodes expression.traits.scalar found expression.form) known.1
+      ∙ known.2
 
   -- a free node that is not quiet is not known, so its form is free
   pub not_known :
@@ -48,9 +51,11 @@ module _ (nodes : Nodes) (storage : Storage) (keeps : KeepTraits nodes) where
           → is_free_form nodes expression.traits.scalar expression.form ≡ true
       by (Some place) is =
           (absurd (false≢true (sym loud ∙ known_quiet nodes storage keeps node
-          (ap (λ (found : Option Place). is_some found) (known_of_entry nodes storage keeps number expression at ∙ is)))))
+          (ap (λ (found : Option Place). is_some found)
+          (known_of_entry nodes storage keeps number expression at ∙ is)))))
       by None is =
-          sym (ap (λ (found : Option Place). is_free_of nodes expression.traits.scalar found expression.form) is)
+          sym (ap (λ (found : Option Place). is_free_of nodes expression.traits.scalar found expression.form)
+          is)
           ∙ sym (free_of_entry number expression at) ∙ free
 
   -- a value at a known place in memory
@@ -68,9 +73,14 @@ module _ (nodes : Nodes) (storage : Storage) (keeps : KeepTraits nodes) where
       → option_map_or (λ (reference : Reference). is_some (place_of_reference nodes reference))
       (byte_after scalar form) false ≡ true
       → is_quiet_form nodes form ≡ true
-  after_is_quiet Address _ tree (IsValue (IsPart {object = object} {offset = offset} {first = first} {second = second} one two)) direct =
-      let both = place_known (home_at nodes.homes object) ((offset % 65536 + 1) % 65536) (distance_of nodes first) (distance_of nodes second) direct in
-      and_from _ _ (index_known_quiet nodes storage keeps one both.0) (index_known_quiet nodes storage keeps two both.1)
+  after_is_quiet Address _ tree
+      (IsValue (IsPart {object = object} {offset = offset} {first = first} {second = second} one two))
+      direct =
+      let both =
+      place_known (home_at nodes.homes object) ((offset % 65536 + 1) % 65536) (distance_of nodes first)
+      (distance_of nodes second) direct in
+      and_from _ _ (index_known_quiet nodes storage keeps one both.0)
+      (index_known_quiet nodes storage keeps two both.1)
   after_is_quiet Address _ tree other direct = absurd (false≢true direct)
   after_is_quiet Byte _ tree other direct = absurd (false≢true direct)
 
@@ -79,8 +89,11 @@ module _ (nodes : Nodes) (storage : Storage) (keeps : KeepTraits nodes) where
       → IsExpression nodes storage bound operand.index tree
       → is_direct nodes (forms.Function High operand) ≡ true
       → quiet_at nodes operand ≡ true
-  high_is_quiet {operand = operand} (IsNode {tree = tree} {expression = expression} below at scalar form) direct =
+  high_is_quiet {operand = operand} (IsNode {tree = tree} {expression = expression} below at scalar form)
+      direct =
       quiet_of_entry nodes storage keeps operand.index expression at
       ∙ after_is_quiet expression.traits.scalar expression.form tree form
-      (sym (ap (λ (found : Option Expression). option_map_or (λ (reference : Reference). is_some (place_of_reference nodes reference))
-      (option_and_then (λ (one : Expression). byte_after one.traits.scalar one.form) found) false) at) ∙ direct)
+      (sym (ap (λ (found : Option Expression). option_map_or
+      (λ (reference : Reference). is_some (place_of_reference nodes reference))
+      (option_and_then (λ (one : Expression). byte_after one.traits.scalar one.form) found) false) at)
+      ∙ direct)

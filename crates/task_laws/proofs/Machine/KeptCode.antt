@@ -18,15 +18,19 @@ place_known (homes.Frame variable) offset first second some = absurd (false≢tr
 
 module _ (nodes : Nodes) (storage : Storage) (keeps : KeepTraits nodes) where
   -- the known value in the entry of a node
-  pub known_of_entry : (number : ℕ) (expression : Expression) → slice_get nodes.expressions number ≡ Some expression
+  pub known_of_entry : (number : ℕ) (expression : Expression)
+      → slice_get nodes.expressions number ≡ Some expression
       → known_at nodes (record { index = number }) ≡ known_of nodes expression.traits.scalar expression.form
   unfolding traits_of
-  known_of_entry number expression at = ap (λ (traits : Traits). traits.known) (node_traits nodes number expression keeps at)
+  known_of_entry number expression at =
+      ap (λ (traits : Traits). traits.known) (node_traits nodes number expression keeps at)
 
-  pub quiet_of_entry : (number : ℕ) (expression : Expression) → slice_get nodes.expressions number ≡ Some expression
+  pub quiet_of_entry : (number : ℕ) (expression : Expression)
+      → slice_get nodes.expressions number ≡ Some expression
       → quiet_at nodes (record { index = number }) ≡ is_quiet_form nodes expression.form
   unfolding traits_of
-  quiet_of_entry number expression at = ap (λ (traits : Traits). traits.is_quiet) (node_traits nodes number expression keeps at)
+  quiet_of_entry number expression at =
+      ap (λ (traits : Traits). traits.is_quiet) (node_traits nodes number expression keeps at)
 
   mutual
     pub known_quiet : {bound number : ℕ} {tree : TypedExpression}
@@ -48,9 +52,11 @@ module _ (nodes : Nodes) (storage : Storage) (keeps : KeepTraits nodes) where
     form_known_quiet scalar IsConstantList some = refl
     form_known_quiet scalar (IsConversion inner) some = known_quiet inner (from_value _ _ some)
     form_known_quiet scalar (IsEmbedded target inner) some = absurd (false≢true some)
-    form_known_quiet scalar (IsUnary operand) some = known_quiet operand (from_value _ _ (from_number _ _ some))
+    form_known_quiet scalar (IsUnary operand) some =
+        known_quiet operand (from_value _ _ (from_number _ _ some))
     form_known_quiet scalar (IsBinary {left = left} {right = right} first second) some =
-        and_from _ _ (known_quiet first (from_value _ _ some)) (known_quiet second (second_of _ (known_at nodes left) (known_at nodes right) some))
+        and_from _ _ (known_quiet first (from_value _ _ some))
+        (known_quiet second (second_of _ (known_at nodes left) (known_at nodes right) some))
       where
         second_of : (go : Place → Place → Option Place) (one other : Option Place)
             → is_some (option_and_then (λ before. option_and_then (go before) other) one) ≡ true
@@ -61,7 +67,8 @@ module _ (nodes : Nodes) (storage : Storage) (keeps : KeepTraits nodes) where
     form_known_quiet scalar (IsFunction operand) some = known_quiet operand (from_value _ _ some)
     form_known_quiet scalar (IsShift {value = value} {count = count} first second) some =
         and_from _ _ (known_quiet first (from_value _ _ (from_value _ _ some)))
-        (known_quiet second (from_value _ _ (second_of _ (number_at nodes value) (number_at nodes count) some)))
+        (known_quiet second (from_value _ _
+        (second_of _ (number_at nodes value) (number_at nodes count) some)))
       where
         second_of : (go : ℕ → ℕ → Place) (one other : Option ℕ)
             → is_some (option_and_then (λ before. option_map (go before) other) one) ≡ true
@@ -74,8 +81,11 @@ module _ (nodes : Nodes) (storage : Storage) (keeps : KeepTraits nodes) where
         → IsReference nodes storage bound reference part
         → is_some (place_of_reference nodes reference) ≡ true
         → reference_is_quiet nodes reference ≡ true
-    part_known_quiet (IsPart {object = object} {offset = offset} {first = first} {second = second} one two) some =
-        let both = place_known (home_at nodes.homes object) (offset % 65536) (distance_of nodes first) (distance_of nodes second) some in
+    part_known_quiet (IsPart {object = object} {offset = offset} {first = first} {second = second} one two)
+        some =
+        let both =
+        place_known (home_at nodes.homes object) (offset % 65536) (distance_of nodes first)
+        (distance_of nodes second) some in
         and_from _ _ (index_known_quiet one both.0) (index_known_quiet two both.1)
 
     pub index_known_quiet : {bound : ℕ} {index : Option IndexNode} {subscript : Subscript}
@@ -136,13 +146,17 @@ module _ (nodes : Nodes) (storage : Storage) (keeps : KeepTraits nodes) where
       → IfKept (keeps_of_subscript nodes index)
       → subscript_is_quiet nodes index ≡ true
   index_kept below less IsAbsent kept = refl
-  index_kept {limit = limit} below less (IsIndex {number = number} {index = tree} (IsNode less_than at scalar form)) kept =
+  index_kept {limit = limit} below less
+      (IsIndex {number = number} {index = tree} (IsNode less_than at scalar form)) kept =
       by (number_at nodes number) refl kept
     where
       by : (found : Option ℕ) → number_at nodes number ≡ found → IfKept (keeps_of_index nodes number found)
           → quiet_at nodes number ≡ true
-      by (Some value) is kept = known_quiet (IsNode less_than at scalar form) (from_value _ _ (some_of (number_at nodes number) value is))
-      by None is kept = below _ number.index tree (omega (arith, less_than, less)) (IsNode less_than at scalar form) kept
+      by (Some value) is kept =
+          known_quiet (IsNode less_than at scalar form)
+          (from_value _ _ (some_of (number_at nodes number) value is))
+      by None is kept =
+          below _ number.index tree (omega (arith, less_than, less)) (IsNode less_than at scalar form) kept
 
   reference_kept :
       {bound limit : ℕ} {reference : Reference} {part : TypedReference}
@@ -153,7 +167,8 @@ module _ (nodes : Nodes) (storage : Storage) (keeps : KeepTraits nodes) where
       → reference_is_quiet nodes reference ≡ true
   reference_kept below less (IsPart {object = object} {first = first} {second = second} one two) kept =
       let both = sum_kept (keeps_of_subscript nodes first) (keeps_of_subscript nodes second)
-      (part_kept (home_at nodes.homes object) (keeps_of_subscript nodes first) (keeps_of_subscript nodes second) kept) in
+      (part_kept (home_at nodes.homes object) (keeps_of_subscript nodes first)
+      (keeps_of_subscript nodes second) kept) in
       and_from _ _ (index_kept below less one both.0) (index_kept below less two both.1)
 
   -- a form, and one inside conversions that has the same low byte
@@ -180,15 +195,17 @@ module _ (nodes : Nodes) (storage : Storage) (keeps : KeepTraits nodes) where
       → is_quiet_form nodes form ≡ quiet_at nodes number
       → IsExpression nodes storage bound number.index tree
       → LowStep limit form
-  inner_step {limit = limit} {number = number} {tree = tree} form less is same (IsNode {expression = expression} below at scalar shape) = record {
-    inner = expression.form;
-    bound = number.index;
-    tree = tree;
-    is = is ∙ ap (λ (found : Option Expression). option_map_or (λ (one : Expression). one.form) found form) at;
-    less = omega (arith, below, less);
-    shape = shape;
-    quiet = λ quiet. same ∙ quiet_of_entry number.index expression at ∙ quiet;
-  }
+  inner_step {limit = limit} {number = number} {tree = tree} form less is same
+      (IsNode {expression = expression} below at scalar shape) = record {
+        inner = expression.form;
+        bound = number.index;
+        tree = tree;
+        is = is ∙ ap (λ (found : Option Expression). option_map_or (λ (one : Expression). one.form) found form)
+            at;
+        less = omega (arith, below, less);
+        shape = shape;
+        quiet = λ quiet. same ∙ quiet_of_entry number.index expression at ∙ quiet;
+      }
 
   low_step : {bound limit : ℕ} {form : ExpressionForm} {tree : TypedExpression}
       → bound ≤ limit
@@ -199,20 +216,24 @@ module _ (nodes : Nodes) (storage : Storage) (keeps : KeepTraits nodes) where
   low_step less whole (IsValue part) = same_step less refl whole
   low_step less whole (IsLocation part) = same_step less refl whole
   low_step less whole IsConstantList = same_step less refl whole
-  low_step less whole (IsConversion {inner = inner} node) = inner_step (forms.Conversion inner) less refl refl node
+  low_step less whole (IsConversion {inner = inner} node) =
+      inner_step (forms.Conversion inner) less refl refl node
   low_step less whole (IsEmbedded target value) = same_step less refl whole
   low_step less whole (IsUnary operand) = same_step less refl whole
   low_step less whole (IsBinary left right) = same_step less refl whole
   low_step less whole (IsCallOf are) = same_step less refl whole
-  low_step less whole (IsFunction {function = Low} {operand = operand} node) = inner_step (forms.Function Low operand) less refl refl node
-  low_step less whole (IsFunction {function = Double} {operand = operand} node) = inner_step (forms.Function Double operand) less refl refl node
+  low_step less whole (IsFunction {function = Low} {operand = operand} node) =
+      inner_step (forms.Function Low operand) less refl refl node
+  low_step less whole (IsFunction {function = Double} {operand = operand} node) =
+      inner_step (forms.Function Double operand) less refl refl node
   low_step less whole (IsFunction {function = High} node) = same_step less refl whole
   low_step less whole (IsShift value count) = same_step less refl whole
   low_step less whole IsInput = same_step less refl whole
 
   -- the high byte of an ADDRESS in memory
   high_kept :
-      {bound limit : ℕ} {tree : TypedExpression} (scalar : ScalarType) (form : ExpressionForm) (reference : Reference)
+      {bound limit : ℕ} {tree : TypedExpression} (scalar : ScalarType) (form : ExpressionForm)
+      (reference : Reference)
       → Below limit
       → bound ≤ limit
       → IsForm nodes storage bound form tree
@@ -221,18 +242,25 @@ module _ (nodes : Nodes) (storage : Storage) (keeps : KeepTraits nodes) where
       → is_quiet_form nodes form ≡ true
   high_kept Address (forms.Value whole) reference below less (IsValue part) is kept =
       reference_kept below less part
-      (subst (λ (one : Reference). Kept (keeps_of_part (home_at nodes.homes one.object) (keeps_of_subscript nodes one.subscript) (keeps_of_subscript nodes one.member_subscript)))
-      (sym (ap (λ (found : Option Reference). option_map_or (λ (one : Reference). one) found reference) is)) kept)
+      (subst (λ (one : Reference). Kept (keeps_of_part (home_at nodes.homes one.object)
+      (keeps_of_subscript nodes one.subscript) (keeps_of_subscript nodes one.member_subscript)))
+      (sym (ap (λ (found : Option Reference). option_map_or (λ (one : Reference). one) found reference) is))
+      kept)
   high_kept Byte form reference below less shape is kept = absurd (none-some _ is)
   high_kept Address (forms.Number number) reference below less shape is kept = absurd (none-some _ is)
   high_kept Address (forms.Location part) reference below less shape is kept = absurd (none-some _ is)
   high_kept Address (forms.List offset) reference below less shape is kept = absurd (none-some _ is)
   high_kept Address (forms.Conversion inner) reference below less shape is kept = absurd (none-some _ is)
-  high_kept Address (forms.Unary operator operand) reference below less shape is kept = absurd (none-some _ is)
-  high_kept Address (forms.Binary operands operator left right) reference below less shape is kept = absurd (none-some _ is)
-  high_kept Address (forms.Function function operand) reference below less shape is kept = absurd (none-some _ is)
-  high_kept Address (forms.Shift function value count) reference below less shape is kept = absurd (none-some _ is)
-  high_kept Address (forms.Assignment target value) reference below less shape is kept = absurd (none-some _ is)
+  high_kept Address (forms.Unary operator operand) reference below less shape is kept =
+      absurd (none-some _ is)
+  high_kept Address (forms.Binary operands operator left right) reference below less shape is kept =
+      absurd (none-some _ is)
+  high_kept Address (forms.Function function operand) reference below less shape is kept =
+      absurd (none-some _ is)
+  high_kept Address (forms.Shift function value count) reference below less shape is kept =
+      absurd (none-some _ is)
+  high_kept Address (forms.Assignment target value) reference below less shape is kept =
+      absurd (none-some _ is)
   high_kept Address (forms.Call procedure range) reference below less shape is kept = absurd (none-some _ is)
   high_kept Address (forms.Input port) reference below less shape is kept = absurd (none-some _ is)
 
@@ -249,7 +277,8 @@ module _ (nodes : Nodes) (storage : Storage) (keeps : KeepTraits nodes) where
   inner_kept reference below less (IsValue {reference = whole} part) is kept =
       reference_kept below less part
       (subst (λ (one : Reference). Kept (keeps_of_address nodes one))
-      (sym (ap (λ (found : Option Reference). option_map_or (λ (one : Reference). one) found reference) is)) kept)
+      (sym (ap (λ (found : Option Reference). option_map_or (λ (one : Reference). one) found reference) is))
+      kept)
   inner_kept reference below less (IsLocation part) is kept = absurd (none-some _ is)
   inner_kept reference below less IsConstantList is kept = absurd (none-some _ is)
   inner_kept reference below less (IsConversion node) is kept = absurd (none-some _ is)
@@ -259,10 +288,14 @@ module _ (nodes : Nodes) (storage : Storage) (keeps : KeepTraits nodes) where
   inner_kept reference below less (IsCallOf are) is kept = absurd (none-some _ is)
   inner_kept reference below less (IsFunction {function = Low} node) is kept = absurd (none-some _ is)
   inner_kept reference below less (IsFunction {function = Double} node) is kept = absurd (none-some _ is)
-  inner_kept reference below less (IsFunction {function = High} {operand = operand} (IsNode {expression = expression} less_than at scalar shape)) is kept =
+  inner_kept reference below less
+      (IsFunction {function = High} {operand = operand}
+      (IsNode {expression = expression} less_than at scalar shape)) is kept =
       quiet_of_entry operand.index expression at
-      ∙ high_kept expression.traits.scalar expression.form reference below (omega (arith, less_than, less)) shape
-      (sym (ap (λ (found : Option Expression). option_and_then (λ (one : Expression). byte_after one.traits.scalar one.form) found) at) ∙ is) kept
+      ∙ high_kept expression.traits.scalar expression.form reference below
+      (omega (arith, less_than, less)) shape
+      (sym (ap (λ (found : Option Expression). option_and_then
+      (λ (one : Expression). byte_after one.traits.scalar one.form) found) at) ∙ is) kept
   inner_kept reference below less (IsShift value count) is kept = absurd (none-some _ is)
   inner_kept reference below less IsInput is kept = absurd (none-some _ is)
 
@@ -283,7 +316,9 @@ module _ (nodes : Nodes) (storage : Storage) (keeps : KeepTraits nodes) where
       two = low_step one.less one.shape one.shape
 
       is_inner : memory_of_form nodes form ≡ memory_of_inner nodes two.inner
-      is_inner = ap (λ (inside : ExpressionForm). memory_of_inner nodes (same_low_byte nodes inside)) one.is ∙ ap (memory_of_inner nodes) two.is
+      is_inner =
+          ap (λ (inside : ExpressionForm). memory_of_inner nodes (same_low_byte nodes inside)) one.is
+          ∙ ap (memory_of_inner nodes) two.is
 
       by : (found : Option Reference) → memory_of_form nodes form ≡ found
           → Kept (option_map_or (keeps_of_address nodes) found keeps_none)
@@ -297,7 +332,9 @@ module _ (nodes : Nodes) (storage : Storage) (keeps : KeepTraits nodes) where
       → Kept (keeps_of_extended nodes form traits)
       → Kept (keeps_of_byte nodes form) ⊎ Kept traits.keeps
   extended_kept form traits kept =
-      by traits.scalar (subst (λ (kind : ScalarType). Kept (keeps_of_extended nodes form (record traits { scalar = kind }))) refl kept)
+      by traits.scalar
+      (subst (λ (kind : ScalarType). Kept
+      (keeps_of_extended nodes form (record traits { scalar = kind }))) refl kept)
     where
       by : (kind : ScalarType) → Kept (keeps_of_extended nodes form (record traits { scalar = kind }))
           → Kept (keeps_of_byte nodes form) ⊎ Kept traits.keeps
@@ -313,7 +350,8 @@ module _ (nodes : Nodes) (storage : Storage) (keeps : KeepTraits nodes) where
   at_node {number = number} {tree = tree} below less (IsNode less_than at scalar shape) kept =
       below _ number tree (omega (arith, less_than, less)) (IsNode less_than at scalar shape) kept
 
-  wrapped_kept : {bound limit : ℕ} {form : ExpressionForm} {tree inside : TypedExpression} {number : ExpressionNumber}
+  wrapped_kept : {bound limit : ℕ} {form : ExpressionForm} {tree inside : TypedExpression}
+      {number : ExpressionNumber}
       → Below limit
       → bound ≤ limit
       → IsForm nodes storage bound form tree
@@ -380,10 +418,12 @@ module _ (nodes : Nodes) (storage : Storage) (keeps : KeepTraits nodes) where
   form_kept Address below less whole (IsBinary {operator = Multiply} first second) kept =
       chosen_kept _
       (λ known left. and_from _ _ (at_node below less first left) (known_quiet second (from_value _ _ known)))
-      (λ known right. and_from _ _ (known_quiet first (from_value _ _ known)) (at_node below less second right)) kept
+      (λ known right. and_from _ _ (known_quiet first (from_value _ _ known))
+      (at_node below less second right)) kept
   form_kept Address below less whole (IsBinary {operator = Subtract} first second) kept =
       either_kept _
-      (λ known left. and_from _ _ (at_node below less first left) (known_quiet second (from_value _ _ known))) kept
+      (λ known left. and_from _ _ (at_node below less first left) (known_quiet second (from_value _ _ known)))
+      kept
   form_kept Address below less whole (IsBinary {operator = Or} first second) kept = none_is_kept kept
   form_kept Address below less whole (IsBinary {operator = Xor} first second) kept = none_is_kept kept
   form_kept Address below less whole (IsBinary {operator = And} first second) kept = none_is_kept kept
@@ -391,12 +431,14 @@ module _ (nodes : Nodes) (storage : Storage) (keeps : KeepTraits nodes) where
   form_kept Address below less whole (IsBinary {operator = Less} first second) kept = none_is_kept kept
   form_kept Address below less whole (IsBinary {operator = Greater} first second) kept = none_is_kept kept
   form_kept Address below less whole (IsBinary {operator = LessOrEqual} first second) kept = none_is_kept kept
-  form_kept Address below less whole (IsBinary {operator = GreaterOrEqual} first second) kept = none_is_kept kept
+  form_kept Address below less whole (IsBinary {operator = GreaterOrEqual} first second) kept =
+      none_is_kept kept
   form_kept Address below less whole (IsBinary {operator = Unequal} first second) kept = none_is_kept kept
   form_kept Address below less whole (IsBinary {operator = Divide} first second) kept = none_is_kept kept
   form_kept Address below less whole (IsBinary {operator = Modulo} first second) kept = none_is_kept kept
   form_kept Byte below less whole (IsShift value count) kept = none_is_kept kept
-  form_kept Address below less whole (IsShift {function = ShiftLeft} {value = value} {count = count} moved by) kept =
+  form_kept Address below less whole (IsShift {function = ShiftLeft} {value = value} {count = count} moved by)
+      kept =
       shifted_by (number_at nodes count) refl kept
     where
       shifted_by : (found : Option ℕ) → number_at nodes count ≡ found
@@ -412,11 +454,14 @@ module _ (nodes : Nodes) (storage : Storage) (keeps : KeepTraits nodes) where
   form_kept Address below less whole (IsShift {function = RotateRight} moved by) kept = none_is_kept kept
 
   -- the registers that the code of a node keeps
-  keeps_of_entry : (number : ℕ) (expression : Expression) → slice_get nodes.expressions number ≡ Some expression
+  keeps_of_entry : (number : ℕ) (expression : Expression)
+      → slice_get nodes.expressions number ≡ Some expression
       → keeps_at nodes (record { index = number })
-      ≡ keeps_of nodes expression.traits.scalar (known_of nodes expression.traits.scalar expression.form) expression.form
+      ≡ keeps_of nodes expression.traits.scalar
+      (known_of nodes expression.traits.scalar expression.form) expression.form
   unfolding traits_of
-  keeps_of_entry number expression at = ap (λ (traits : Traits). traits.keeps) (node_traits nodes number expression keeps at)
+  keeps_of_entry number expression at =
+      ap (λ (traits : Traits). traits.keeps) (node_traits nodes number expression keeps at)
 
   shape_kept :
       {bound limit : ℕ} {form : ExpressionForm} {tree : TypedExpression} (scalar : ScalarType)
@@ -427,14 +472,16 @@ module _ (nodes : Nodes) (storage : Storage) (keeps : KeepTraits nodes) where
       → is_quiet_form nodes form ≡ true
   shape_kept {form = form} scalar below less shape kept = by (known_of nodes scalar form) refl kept
     where
-      by : (found : Option Place) → known_of nodes scalar form ≡ found → Kept (keeps_of nodes scalar found form)
+      by : (found : Option Place) → known_of nodes scalar form ≡ found
+          → Kept (keeps_of nodes scalar found form)
           → is_quiet_form nodes form ≡ true
       by (Some place) is kept = form_known_quiet scalar shape (some_of (known_of nodes scalar form) place is)
       by None is kept = form_kept scalar below less shape shape kept
 
   kept_below : (limit : ℕ) → Below limit
   kept_below zero bound number tree less node kept = absurd (omega (arith, less))
-  kept_below (suc limit) bound number tree less (IsNode {expression = expression} less_than at scalar shape) kept =
+  kept_below (suc limit) bound number tree less
+      (IsNode {expression = expression} less_than at scalar shape) kept =
       quiet_of_entry number expression at
       ∙ shape_kept expression.traits.scalar (kept_below limit) (omega (arith, less)) shape
       (subst (λ (one : Keeps). Kept one) (keeps_of_entry number expression at) kept)

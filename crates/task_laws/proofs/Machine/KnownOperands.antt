@@ -14,7 +14,8 @@ pub number_known :
     → known (knowing context.site facts) of ≡ Some (Number n)
 number_known context facts of n here =
     known_is (knowing context.site facts) of
-    ∙ place_of_number (known_at (nodes_in context) of) n (sym (number_is (knowing context.site facts) of) ∙ here)
+    ∙ place_of_number (known_at (nodes_in context) of) n
+    (sym (number_is (knowing context.site facts) of) ∙ here)
 
 -- a relocatable address is an ADDRESS, and a known number is one of its type
 abbrev pub KnownFits : Option Place → ScalarType → Type 0
@@ -37,7 +38,8 @@ fits_conversion Address of (Some (Code n)) fits = refl
 fits_conversion Address of (Some (Data n)) fits = refl
 fits_conversion Address of (Some (External n name)) fits = refl
 
-pub one_fits : (scalar : ScalarType) (operator : UnaryOperator) (n : ℕ) → result_of_one scalar operator n < values_of scalar
+pub one_fits : (scalar : ScalarType) (operator : UnaryOperator) (n : ℕ)
+    → result_of_one scalar operator n < values_of scalar
 one_fits Byte Not n = omega arith
 one_fits Byte Negate n = omega arith
 one_fits Address Not n = omega arith
@@ -87,10 +89,12 @@ no_more x none = omega (arith, none)
 pub turned_fits : (byte count : ℕ) → byte < 256 → count < 8 → turned byte count < 256
 turned_fits byte count small few =
     let all : turned ((256 * count + byte) % 256) ((256 * count + byte) / 256) / 256 ≡ 0 =
-    equal_below (λ k. turned (k % 256) (k / 256) / 256) (λ k. 0) 2048 (256 * count + byte) refl (omega (arith, small, few)) in
+    equal_below (λ k. turned (k % 256) (k / 256) / 256) (λ k. 0) 2048 (256 * count + byte) refl
+    (omega (arith, small, few)) in
     no_more (turned byte count)
     (ap (λ (k : ℕ). turned k count / 256) (sym (turned_low byte count small few))
-    ∙ ap (λ (k : ℕ). turned ((256 * count + byte) % 256) k / 256) (sym (turned_high byte count small few)) ∙ all)
+    ∙ ap (λ (k : ℕ). turned ((256 * count + byte) % 256) k / 256) (sym (turned_high byte count small few))
+    ∙ all)
 
 pub quotient_less : (x y : ℕ) → x / y ≤ x
 quotient_less x y = Rattle.std.proofs.Math.Nat.div-le_self x y
@@ -100,12 +104,17 @@ pub shift_fits : (scalar : ScalarType) (function : ShiftFunction) (n count : ℕ
 shift_fits Byte ShiftLeft n count in_type small = omega arith
 shift_fits Address ShiftLeft n count in_type small = omega arith
 shift_fits scalar ShiftRight n count in_type small = lt_of_le_of_lt (quotient_less n (2 ^ count)) small
-shift_fits Byte RotateLeft n count in_type small = turned_fits (n % 256) (count % 8) (omega arith) (omega arith)
-shift_fits Byte RotateRight n count in_type small = turned_fits (n % 256) ((8 - count % 8) % 8) (omega arith) (omega arith)
-shift_fits Address RotateLeft n count in_type small = let same : Address ≡ Byte = in_type in bytes_differ (sym same)
-shift_fits Address RotateRight n count in_type small = let same : Address ≡ Byte = in_type in bytes_differ (sym same)
+shift_fits Byte RotateLeft n count in_type small =
+    turned_fits (n % 256) (count % 8) (omega arith) (omega arith)
+shift_fits Byte RotateRight n count in_type small =
+    turned_fits (n % 256) ((8 - count % 8) % 8) (omega arith) (omega arith)
+shift_fits Address RotateLeft n count in_type small =
+    let same : Address ≡ Byte = in_type in bytes_differ (sym same)
+shift_fits Address RotateRight n count in_type small =
+    let same : Address ≡ Byte = in_type in bytes_differ (sym same)
 
-fits_shift : (scalar : ScalarType) (function : ShiftFunction) (place count : Option Place) → ShiftsIn function scalar
+fits_shift : (scalar : ScalarType) (function : ShiftFunction) (place count : Option Place)
+    → ShiftsIn function scalar
     → KnownFits place scalar
     → KnownFits (shift_of_known (shifted scalar function) (known_number place) (known_number count)) scalar
 fits_shift scalar function None count in_type fits = tt
@@ -116,7 +125,8 @@ fits_shift scalar function (Some (Number n)) None in_type fits = tt
 fits_shift scalar function (Some (Number n)) (Some (Code k)) in_type fits = tt
 fits_shift scalar function (Some (Number n)) (Some (Data k)) in_type fits = tt
 fits_shift scalar function (Some (Number n)) (Some (External k name)) in_type fits = tt
-fits_shift scalar function (Some (Number n)) (Some (Number k)) in_type fits = shift_fits scalar function n k in_type fits
+fits_shift scalar function (Some (Number n)) (Some (Number k)) in_type fits =
+    shift_fits scalar function n k in_type fits
 
 truth_fits : (holds : Bool) → truth holds < 256
 truth_fits true = omega arith
@@ -167,7 +177,8 @@ place_fits operands operators.Add left (Number distance) same = rw same (after_f
 place_fits operands operators.Add (Number distance) (Code o) same = same
 place_fits operands operators.Add (Number distance) (Data o) same = same
 place_fits operands operators.Add (Number distance) (External o name) same = same
-place_fits operands operators.Subtract left (Number distance) same = rw same (after_fits left ((65536 - distance) % 65536))
+place_fits operands operators.Subtract left (Number distance) same =
+    rw same (after_fits left ((65536 - distance) % 65536))
 place_fits operands operator left right same = tt
 
 fits_binary : (operands : ScalarType) (operator : BinaryOperator) (left right : Option Place)
@@ -175,26 +186,37 @@ fits_binary : (operands : ScalarType) (operator : BinaryOperator) (left right : 
     → KnownFits (result_of_known operands operator left right) (type_of_result operator operands)
 fits_binary operands operator None right one two = tt
 fits_binary operands operator (Some left) None one two = tt
-fits_binary operands operator (Some (Number x)) (Some (Number y)) one two = result_fits operands operator x y one two
-fits_binary operands operator (Some (Number x)) (Some (Code y)) one two = place_fits operands operator (Number x) (Code y) two
-fits_binary operands operator (Some (Number x)) (Some (Data y)) one two = place_fits operands operator (Number x) (Data y) two
-fits_binary operands operator (Some (Number x)) (Some (External y name)) one two = place_fits operands operator (Number x) (External y name) two
-fits_binary operands operator (Some (Code x)) (Some right) one two = place_fits operands operator (Code x) right one
-fits_binary operands operator (Some (Data x)) (Some right) one two = place_fits operands operator (Data x) right one
-fits_binary operands operator (Some (External x name)) (Some right) one two = place_fits operands operator (External x name) right one
+fits_binary operands operator (Some (Number x)) (Some (Number y)) one two =
+    result_fits operands operator x y one two
+fits_binary operands operator (Some (Number x)) (Some (Code y)) one two =
+    place_fits operands operator (Number x) (Code y) two
+fits_binary operands operator (Some (Number x)) (Some (Data y)) one two =
+    place_fits operands operator (Number x) (Data y) two
+fits_binary operands operator (Some (Number x)) (Some (External y name)) one two =
+    place_fits operands operator (Number x) (External y name) two
+fits_binary operands operator (Some (Code x)) (Some right) one two =
+    place_fits operands operator (Code x) right one
+fits_binary operands operator (Some (Data x)) (Some right) one two =
+    place_fits operands operator (Data x) right one
+fits_binary operands operator (Some (External x name)) (Some right) one two =
+    place_fits operands operator (External x name) right one
 
-fits_part : (home : Home) (offset : ℕ) (first second : Option ℕ) → KnownFits (place_of_part home offset first second) Address
-fits_part (homes.Static place) offset (Some first) (Some second) = after_fits (place_after (place_after place offset) first) second
+fits_part : (home : Home) (offset : ℕ) (first second : Option ℕ)
+    → KnownFits (place_of_part home offset first second) Address
+fits_part (homes.Static place) offset (Some first) (Some second) =
+    after_fits (place_after (place_after place offset) first) second
 fits_part (homes.Static place) offset (Some first) None = tt
 fits_part (homes.Static place) offset None second = tt
 fits_part (homes.Based base) offset first second = tt
 fits_part (homes.Frame variable) offset first second = tt
 
-pub number_fits : (scalar : ScalarType) (n : ℕ) → Rattle.typed_trees.specs.WellTyped.IsNumberOf scalar n → n < 65536 → n < values_of scalar
+pub number_fits : (scalar : ScalarType) (n : ℕ) → Rattle.typed_trees.specs.WellTyped.IsNumberOf scalar n
+    → n < 65536 → n < values_of scalar
 number_fits Byte n is small = is
 number_fits Address n is small = small
 
-as_operands : (place : Option Place) (one other : ScalarType) → one ≡ other → KnownFits place one → KnownFits place other
+as_operands : (place : Option Place) (one other : ScalarType) → one ≡ other → KnownFits place one
+    → KnownFits place other
 as_operands place one other same fits = subst (λ (scalar : ScalarType). KnownFits place scalar) same fits
 
 module _ (context : Context) (numbers : NumbersAreWords (nodes_in context)) where
@@ -212,42 +234,55 @@ module _ (context : Context) (numbers : NumbersAreWords (nodes_in context)) wher
         → IsForm (nodes_in context) context.storage bound form tree
         → TypesHold context.typed context.within tree
         → KnownFits (known_value (nodes_in context).homes context.storage tree) (type_of tree)
-    form_fits small (IsNumber {number = n} {scalar = scalar}) types = number_fits scalar n types (small n refl)
+    form_fits small (IsNumber {number = n} {scalar = scalar}) types =
+        number_fits scalar n types (small n refl)
     form_fits small (IsValue reference) types = tt
-    form_fits small (IsLocation {part = PartOf object subscript member offset member_subscript} reference) types =
+    form_fits small (IsLocation {part = PartOf object subscript member offset member_subscript} reference)
+        types =
         fits_part (home_at (nodes_in context).homes object) (offset % 65536)
         (known_subscript (nodes_in context).homes context.storage subscript)
         (known_subscript (nodes_in context).homes context.storage member_subscript)
     form_fits small IsConstantList types = refl
     form_fits small (IsConversion {scalar = scalar} {tree = tree} inner) types =
-        fits_conversion scalar (type_of tree) (known_value (nodes_in context).homes context.storage tree) (known_fits inner types)
+        fits_conversion scalar (type_of tree) (known_value (nodes_in context).homes context.storage tree)
+        (known_fits inner types)
     form_fits small (IsEmbedded target inner) types = tt
     form_fits small (IsUnary {scalar = scalar} {operator = operator} {tree = tree} operand) types =
         fits_unary scalar operator (known_value (nodes_in context).homes context.storage tree)
-    form_fits small (IsBinary {operands = operands} {operator = operator} {first = first} {second = second} left right) types =
+    form_fits small
+        (IsBinary {operands = operands} {operator = operator} {first = first} {second = second} left right)
+        types =
         fits_binary operands operator (known_value (nodes_in context).homes context.storage first)
         (known_value (nodes_in context).homes context.storage second)
-        (as_operands (known_value (nodes_in context).homes context.storage first) (type_of first) operands (types.1).1 (known_fits left (types.1).0))
-        (as_operands (known_value (nodes_in context).homes context.storage second) (type_of second) operands (types.2).1 (known_fits right (types.2).0))
+        (as_operands (known_value (nodes_in context).homes context.storage first) (type_of first) operands
+        (types.1).1 (known_fits left (types.1).0))
+        (as_operands (known_value (nodes_in context).homes context.storage second) (type_of second) operands
+        (types.2).1 (known_fits right (types.2).0))
     form_fits small (IsCallOf given) types = tt
     form_fits small (IsFunction {function = function} {tree = tree} operand) types =
-        fits_function function (type_of tree) (known_value (nodes_in context).homes context.storage tree) (known_fits operand types)
-    form_fits small (IsShift {scalar = scalar} {function = function} {shifted = moved} {by = by} value count) types =
+        fits_function function (type_of tree) (known_value (nodes_in context).homes context.storage tree)
+        (known_fits operand types)
+    form_fits small (IsShift {scalar = scalar} {function = function} {shifted = moved} {by = by} value count)
+        types =
         fits_shift scalar function (known_value (nodes_in context).homes context.storage moved)
         (known_value (nodes_in context).homes context.storage by) types.0
-        (as_operands (known_value (nodes_in context).homes context.storage moved) (type_of moved) scalar (types.1).1 (known_fits value (types.1).0))
+        (as_operands (known_value (nodes_in context).homes context.storage moved) (type_of moved) scalar
+        (types.1).1 (known_fits value (types.1).0))
     form_fits small IsInput types = tt
 
-place_small : (context : Context) (place : Place) (scalar : ScalarType) → IsSound context → KnownFits (Some place) scalar
+place_small : (context : Context) (place : Place) (scalar : ScalarType) → IsSound context
+    → KnownFits (Some place) scalar
     → place_at context.activation.layout place < values_of scalar
 place_small context (Number n) scalar sound fits = fits
 place_small context (Code o) scalar sound fits = rw fits (sound.resolves.below (Code o) refl)
 place_small context (Data o) scalar sound fits = rw fits (sound.resolves.below (Data o) refl)
-place_small context (External o name) scalar sound fits = rw fits (sound.resolves.below (External o name) refl)
+place_small context (External o name) scalar sound fits =
+    rw fits (sound.resolves.below (External o name) refl)
 
 -- so a known value is of the type of the expression
 pub known_small :
-    {context : Context} {bound : ℕ} {of : ExpressionNumber} {tree : TypedExpression} (facts : Facts) (place : Place)
+    {context : Context} {bound : ℕ} {of : ExpressionNumber} {tree : TypedExpression}
+    (facts : Facts) (place : Place)
     → IsSound context
     → IsExpression (nodes_in context) context.storage bound of.index tree
     → TypesHold context.typed context.within tree
@@ -256,7 +291,8 @@ pub known_small :
 known_small {context = context} {of = of} {tree = tree} facts place sound is types here =
     place_small context place (type_of tree) sound
     (subst (λ (one : Option Place). KnownFits one (type_of tree))
-    (sym (known_kept (nodes_in context) context.storage sound.lowered.traits is) ∙ sym (known_is (knowing context.site facts) of) ∙ here)
+    (sym (known_kept (nodes_in context) context.storage sound.lowered.traits is)
+    ∙ sym (known_is (knowing context.site facts) of) ∙ here)
     (known_fits context sound.numbers is types))
 
 pub number_small :

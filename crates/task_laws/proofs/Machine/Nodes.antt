@@ -16,13 +16,14 @@ pub node_of :
     → IsExpression (nodes_in context) context.storage bound number.index tree
     → NodeOf context number tree
 unfolding expression
-node_of {context = context} {number = number} sound (IsNode {expression = found} below there scalar form) = record {
-  found = found;
-  is_there = there;
-  at_site = λ facts. there;
-  scalar = scalar;
-  traits =
-      sound.lowered.traits number.index found there
-      ∙ ap (λ given. traits_of (nodes_in context) given found.form) scalar;
-  form = form;
-}
+node_of {context = context} {number = number} sound (IsNode {expression = found} below there scalar form) =
+    record {
+      found = found;
+      is_there = there;
+      at_site = λ facts. there;
+      scalar = scalar;
+      traits =
+          sound.lowered.traits number.index found there
+          ∙ ap (λ given. traits_of (nodes_in context) given found.form) scalar;
+      form = form;
+    }

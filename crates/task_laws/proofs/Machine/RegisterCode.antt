@@ -165,17 +165,25 @@ register_small A r bytes = bytes.a
 
 with_small : (register : Register) (r : Registers) (byte : ℕ) → byte < 256 → HoldBytes r
     → HoldBytes (with_register register byte r)
-with_small B r byte small bytes = record { a = bytes.a; b = small; c = bytes.c; d = bytes.d; e = bytes.e; h = bytes.h; l = bytes.l }
-with_small C r byte small bytes = record { a = bytes.a; b = bytes.b; c = small; d = bytes.d; e = bytes.e; h = bytes.h; l = bytes.l }
-with_small D r byte small bytes = record { a = bytes.a; b = bytes.b; c = bytes.c; d = small; e = bytes.e; h = bytes.h; l = bytes.l }
-with_small E r byte small bytes = record { a = bytes.a; b = bytes.b; c = bytes.c; d = bytes.d; e = small; h = bytes.h; l = bytes.l }
-with_small H r byte small bytes = record { a = bytes.a; b = bytes.b; c = bytes.c; d = bytes.d; e = bytes.e; h = small; l = bytes.l }
-with_small L r byte small bytes = record { a = bytes.a; b = bytes.b; c = bytes.c; d = bytes.d; e = bytes.e; h = bytes.h; l = small }
-with_small A r byte small bytes = record { a = small; b = bytes.b; c = bytes.c; d = bytes.d; e = bytes.e; h = bytes.h; l = bytes.l }
+with_small B r byte small bytes =
+    record { a = bytes.a; b = small; c = bytes.c; d = bytes.d; e = bytes.e; h = bytes.h; l = bytes.l }
+with_small C r byte small bytes =
+    record { a = bytes.a; b = bytes.b; c = small; d = bytes.d; e = bytes.e; h = bytes.h; l = bytes.l }
+with_small D r byte small bytes =
+    record { a = bytes.a; b = bytes.b; c = bytes.c; d = small; e = bytes.e; h = bytes.h; l = bytes.l }
+with_small E r byte small bytes =
+    record { a = bytes.a; b = bytes.b; c = bytes.c; d = bytes.d; e = small; h = bytes.h; l = bytes.l }
+with_small H r byte small bytes =
+    record { a = bytes.a; b = bytes.b; c = bytes.c; d = bytes.d; e = bytes.e; h = small; l = bytes.l }
+with_small L r byte small bytes =
+    record { a = bytes.a; b = bytes.b; c = bytes.c; d = bytes.d; e = bytes.e; h = bytes.h; l = small }
+with_small A r byte small bytes =
+    record { a = small; b = bytes.b; c = bytes.c; d = bytes.d; e = bytes.e; h = bytes.h; l = bytes.l }
 
 with_a : (r : Registers) (byte : ℕ) (flags : Flags) → byte < 256 → HoldBytes r
     → HoldBytes (record r { a = byte; flags = flags })
-with_a r byte flags small bytes = record { a = small; b = bytes.b; c = bytes.c; d = bytes.d; e = bytes.e; h = bytes.h; l = bytes.l }
+with_a r byte flags small bytes =
+    record { a = small; b = bytes.b; c = bytes.c; d = bytes.d; e = bytes.e; h = bytes.h; l = bytes.l }
 
 operated_small : (operation : Operation) (a x : ℕ) (flags : Flags) → a < 256 → x < 256
     → (operate operation a x flags).value < 256
@@ -192,31 +200,53 @@ low_small : (n : ℕ) → n % 256 < 256
 low_small n = omega arith
 
 -- and the others hold bytes
-bytes_after : (i : Instr) (r : Registers) → IsOnRegisters i → NumbersFit i → HoldBytes r → HoldBytes (does_to i r)
-bytes_after (Lxi Bc word) r is fit bytes = record { a = bytes.a; b = high_is_byte word fit; c = low_small word; d = bytes.d; e = bytes.e; h = bytes.h; l = bytes.l }
-bytes_after (Lxi De word) r is fit bytes = record { a = bytes.a; b = bytes.b; c = bytes.c; d = high_is_byte word fit; e = low_small word; h = bytes.h; l = bytes.l }
-bytes_after (Lxi Hl word) r is fit bytes = record { a = bytes.a; b = bytes.b; c = bytes.c; d = bytes.d; e = bytes.e; h = high_is_byte word fit; l = low_small word }
-bytes_after (Inx Bc) r is fit bytes = record { a = bytes.a; b = high_of_wrapped _; c = low_small _; d = bytes.d; e = bytes.e; h = bytes.h; l = bytes.l }
-bytes_after (Inx De) r is fit bytes = record { a = bytes.a; b = bytes.b; c = bytes.c; d = high_of_wrapped _; e = low_small _; h = bytes.h; l = bytes.l }
-bytes_after (Inx Hl) r is fit bytes = record { a = bytes.a; b = bytes.b; c = bytes.c; d = bytes.d; e = bytes.e; h = high_of_wrapped _; l = low_small _ }
-bytes_after (Dcx Bc) r is fit bytes = record { a = bytes.a; b = high_of_wrapped _; c = low_small _; d = bytes.d; e = bytes.e; h = bytes.h; l = bytes.l }
-bytes_after (Dcx De) r is fit bytes = record { a = bytes.a; b = bytes.b; c = bytes.c; d = high_of_wrapped _; e = low_small _; h = bytes.h; l = bytes.l }
-bytes_after (Dcx Hl) r is fit bytes = record { a = bytes.a; b = bytes.b; c = bytes.c; d = bytes.d; e = bytes.e; h = high_of_wrapped _; l = low_small _ }
-bytes_after (Dad pair) r is fit bytes = record { a = bytes.a; b = bytes.b; c = bytes.c; d = bytes.d; e = bytes.e; h = high_of_wrapped _; l = low_small _ }
+bytes_after : (i : Instr) (r : Registers) → IsOnRegisters i → NumbersFit i → HoldBytes r
+    → HoldBytes (does_to i r)
+bytes_after (Lxi Bc word) r is fit bytes =
+    record { a = bytes.a; b = high_is_byte word fit; c = low_small word; d = bytes.d; e = bytes.e; h = bytes.h; l = bytes.l }
+bytes_after (Lxi De word) r is fit bytes =
+    record { a = bytes.a; b = bytes.b; c = bytes.c; d = high_is_byte word fit; e = low_small word; h = bytes.h; l = bytes.l }
+bytes_after (Lxi Hl word) r is fit bytes =
+    record { a = bytes.a; b = bytes.b; c = bytes.c; d = bytes.d; e = bytes.e; h = high_is_byte word fit; l = low_small word }
+bytes_after (Inx Bc) r is fit bytes =
+    record { a = bytes.a; b = high_of_wrapped _; c = low_small _; d = bytes.d; e = bytes.e; h = bytes.h; l = bytes.l }
+bytes_after (Inx De) r is fit bytes =
+    record { a = bytes.a; b = bytes.b; c = bytes.c; d = high_of_wrapped _; e = low_small _; h = bytes.h; l = bytes.l }
+bytes_after (Inx Hl) r is fit bytes =
+    record { a = bytes.a; b = bytes.b; c = bytes.c; d = bytes.d; e = bytes.e; h = high_of_wrapped _; l = low_small _ }
+bytes_after (Dcx Bc) r is fit bytes =
+    record { a = bytes.a; b = high_of_wrapped _; c = low_small _; d = bytes.d; e = bytes.e; h = bytes.h; l = bytes.l }
+bytes_after (Dcx De) r is fit bytes =
+    record { a = bytes.a; b = bytes.b; c = bytes.c; d = high_of_wrapped _; e = low_small _; h = bytes.h; l = bytes.l }
+bytes_after (Dcx Hl) r is fit bytes =
+    record { a = bytes.a; b = bytes.b; c = bytes.c; d = bytes.d; e = bytes.e; h = high_of_wrapped _; l = low_small _ }
+bytes_after (Dad pair) r is fit bytes =
+    record { a = bytes.a; b = bytes.b; c = bytes.c; d = bytes.d; e = bytes.e; h = high_of_wrapped _; l = low_small _ }
 bytes_after (Mvi (Of register) number) r is fit bytes = with_small register r number fit bytes
-bytes_after (Mov register (Of other)) r is fit bytes = with_small register r (register_of other r) (register_small other r bytes) bytes
+bytes_after (Mov register (Of other)) r is fit bytes =
+    with_small register r (register_of other r) (register_small other r bytes) bytes
 bytes_after (Accumulate operation (Of register)) r is fit bytes =
     let result = operate operation r.a (register_of register r) r.flags in
-    with_a r result.value result.flags (operated_small operation r.a (register_of register r) r.flags bytes.a (register_small register r bytes)) bytes
+    with_a r result.value result.flags
+    (operated_small operation r.a (register_of register r) r.flags bytes.a
+    (register_small register r bytes)) bytes
 bytes_after (AccumulateImmediate operation number) r is fit bytes =
     let result = operate operation r.a number r.flags in
     with_a r result.value result.flags (operated_small operation r.a number r.flags bytes.a fit) bytes
-bytes_after Rlc r is fit bytes = let a = bytes.a in record { a = omega (arith, a); b = bytes.b; c = bytes.c; d = bytes.d; e = bytes.e; h = bytes.h; l = bytes.l }
-bytes_after Rrc r is fit bytes = let a = bytes.a in record { a = omega (arith, a); b = bytes.b; c = bytes.c; d = bytes.d; e = bytes.e; h = bytes.h; l = bytes.l }
-bytes_after Ral r is fit bytes = record { a = turned_small r.a r.flags.cy bytes.a; b = bytes.b; c = bytes.c; d = bytes.d; e = bytes.e; h = bytes.h; l = bytes.l }
-bytes_after Rar r is fit bytes = record { a = half_small r.a r.flags.cy bytes.a; b = bytes.b; c = bytes.c; d = bytes.d; e = bytes.e; h = bytes.h; l = bytes.l }
-bytes_after Cma r is fit bytes = record { a = omega arith; b = bytes.b; c = bytes.c; d = bytes.d; e = bytes.e; h = bytes.h; l = bytes.l }
-bytes_after Xchg r is fit bytes = record { a = bytes.a; b = bytes.b; c = bytes.c; d = bytes.h; e = bytes.l; h = bytes.d; l = bytes.e }
+bytes_after Rlc r is fit bytes =
+    let a = bytes.a in
+    record { a = omega (arith, a); b = bytes.b; c = bytes.c; d = bytes.d; e = bytes.e; h = bytes.h; l = bytes.l }
+bytes_after Rrc r is fit bytes =
+    let a = bytes.a in
+    record { a = omega (arith, a); b = bytes.b; c = bytes.c; d = bytes.d; e = bytes.e; h = bytes.h; l = bytes.l }
+bytes_after Ral r is fit bytes =
+    record { a = turned_small r.a r.flags.cy bytes.a; b = bytes.b; c = bytes.c; d = bytes.d; e = bytes.e; h = bytes.h; l = bytes.l }
+bytes_after Rar r is fit bytes =
+    record { a = half_small r.a r.flags.cy bytes.a; b = bytes.b; c = bytes.c; d = bytes.d; e = bytes.e; h = bytes.h; l = bytes.l }
+bytes_after Cma r is fit bytes =
+    record { a = omega arith; b = bytes.b; c = bytes.c; d = bytes.d; e = bytes.e; h = bytes.h; l = bytes.l }
+bytes_after Xchg r is fit bytes =
+    record { a = bytes.a; b = bytes.b; c = bytes.c; d = bytes.h; e = bytes.l; h = bytes.d; l = bytes.e }
 bytes_after i r is fit bytes = absurd is
 
 -- it asks for nothing
@@ -276,7 +306,8 @@ pub registers_then :
     {A : Type 0} {outcome : Outcome A} {Good : A → SourceState → State → Type 0}
     {context : Context} {PartIs : (before : Facts) → Part → (from : ℕ) → (after : Facts) → (to : ℕ) → Type 0}
     {last : Facts} {to top budget more : ℕ} {base source memory : List ℕ} {frame : List (List ℕ)}
-    {events : List Event} (instructions : List Instr) (others : List Step) (r : Registers) {facts : Facts} {from : ℕ}
+    {events : List Event} (instructions : List Instr) (others : List Step) (r : Registers)
+    {facts : Facts} {from : ℕ}
     → IsSound context
     → AreOnRegisters instructions
     → StepsStand context PartIs facts from (plain instructions ++ others) last to
@@ -287,15 +318,21 @@ pub registers_then :
     → Does context.activation.around.program.script budget more
     (at_place middle (effect instructions r) memory events) outcome Good)
     → Does context.activation.around.program.script budget more (at_place from r memory events) outcome Good
-registers_then [] others r {facts = facts} {from = from} sound on stand going rest = rest from facts stand going
-registers_then {outcome = outcome} {Good = Good} {context = context} {budget = budget} {more = more} {memory = memory} {events = events} (i ∷ instructions) others r {facts = facts} {from = from} sound on (PlainThere there stand) going rest =
+registers_then [] others r {facts = facts} {from = from} sound on stand going rest =
+    rest from facts stand going
+registers_then {outcome = outcome} {Good = Good} {context = context} {budget = budget} {more = more}
+    {memory = memory} {events = events} (i ∷ instructions) others r {facts = facts} {from = from} sound on
+    (PlainThere there stand) going rest =
     let ready = going.ready in
     let now = does_to i r in
-    let stands = stands_now context.activation memory (items.Plain i ∷ []) from (from + size_of_instruction i) sound.lies ready.shares.code there in
+    let stands =
+    stands_now context.activation memory (items.Plain i ∷ []) from (from + size_of_instruction i)
+    sound.lies ready.shares.code there in
     let fit = numbers_fit i memory from ready.shares.is_memory stands.0 in
     plain_first r sound.lies ready.shares.code there
     (subst (λ (s : State). Does context.activation.around.program.script budget more s outcome Good)
-    (sym (acts_at context.activation.around.program.script i (from + size_of_instruction i) r memory events on.0))
+    (sym (acts_at context.activation.around.program.script i (from + size_of_instruction i) r
+    memory events on.0))
     (registers_then instructions others now sound on.1 stand
     (record {
       ready = ready_with_registers (stays_at i r on.0) (bytes_after i r on.0 fit ready.registers) ready;

@@ -22,7 +22,8 @@ same_memory routines.RotateLeft s is = refl
 same_memory routines.RotateRight s is = refl
 same_memory routines.Move s is = absurd is
 
-no_blocks : (routine : Routine) (s : State) (range : Range) → IsOnRegisters routine → BlocksMiss routine s range
+no_blocks : (routine : Routine) (s : State) (range : Range) → IsOnRegisters routine
+    → BlocksMiss routine s range
 no_blocks routines.Multiply s range is = tt
 no_blocks routines.Divide s range is = tt
 no_blocks routines.ShiftLeftByte s range is = tt
@@ -94,7 +95,8 @@ in_memory entry to limit less high fits = omega (arith, less, high, fits)
 
 -- bytes below the stack pointer may have been written
 pub ready_after_routine :
-    (activation : Activation) (top pushed need : ℕ) (base source memory ended : List ℕ) (frame : List (List ℕ))
+    (activation : Activation) (top pushed need : ℕ) (base source memory ended : List ℕ)
+    (frame : List (List ℕ))
     (r now : Registers)
     → LiesWell activation
     → HasRoom activation top pushed need
@@ -105,7 +107,8 @@ pub ready_after_routine :
     → Rattle.mem80.specs.Memory.IsMemory ended
     → Keeps (λ address. IsIn address (below top 2)) memory ended
     → IsReady activation top base source frame now ended
-ready_after_routine activation top pushed need base source memory ended frame r now lies room two ready pointer bytes is kept =
+ready_after_routine activation top pushed need base source memory ended frame r now lies room two ready
+    pointer bytes is kept =
     let depth = room.depth in
     let enough = room.enough in
     let bottom = lies.bottom in
@@ -172,9 +175,13 @@ pub routine_then :
     → GoesOn context no_facts top base source frame now ended
     → Computes routine r now
     → Leaves routine r now
-    → Does context.activation.around.program.script budget more (at_place (from + 3) now ended events) outcome Good)
+    → Does context.activation.around.program.script budget more
+    (at_place (from + 3) now ended events) outcome Good)
     → Does context.activation.around.program.script budget more (at_place from r memory events) outcome Good
-routine_then {outcome = outcome} {Good = Good} {context = context} {from = from} {top = top} {bytes = bytes} {need = need} {budget = budget} {more = more} {base = base} {source = source} {memory = memory} {frame = frame} {events = events} routine others r sound on room two (RoutineThere has there stand) going rest =
+routine_then {outcome = outcome} {Good = Good} {context = context} {from = from} {top = top} {bytes = bytes}
+    {need = need} {budget = budget} {more = more} {base = base} {source = source} {memory = memory}
+    {frame = frame} {events = events} routine others r sound on room two
+    (RoutineThere has there stand) going rest =
     let activation = context.activation in
     let script = activation.around.program.script in
     let lies = sound.lies in
@@ -198,13 +205,16 @@ routine_then {outcome = outcome} {Good = Good} {context = context} {from = from}
     let some = found.has_bytes in
     let call : InstructionStands memory (wrap from) (Call entry) =
     subst (λ (target : ℕ). InstructionStands memory (wrap from) (Call target))
-    (in_memory entry found.to (activation.around.program.placement.code.start + activation.around.program.placement.code.len) some here fits)
+    (in_memory entry found.to (activation.around.program.placement.code.start
+    + activation.around.program.placement.code.len) some here fits)
     (bytes_alike memory (bytes_of (Call (wrap entry))) from (wrap from) (wrapped_once from)
-    (stands_now activation memory (jump_item CallTo (label_of_routine context.site routine) ∷ []) from (from + 3) lies
+    (stands_now activation memory (jump_item CallTo (label_of_routine context.site routine) ∷ [])
+    from (from + 3) lies
     ready.shares.code there).0) in
     let returns : Returns script routine top s =
     found.is_routine found.layout entry found.to script top s ends
-    (stands_in found.layout activation.around.program.placement.code activation.image memory found.items entry found.to
+    (stands_in found.layout activation.around.program.placement.code activation.image memory
+    found.items entry found.to
     fits least here ready.shares.code found.stands)
     (record {
       running = refl;
@@ -236,11 +246,13 @@ routine_then {outcome = outcome} {Good = Good} {context = context} {from = from}
     (same_memory routine s on) back.memory in
     let going_on : GoesOn context no_facts top base source frame after.registers after.memory = record {
       ready =
-          ready_after_routine activation top bytes need base source memory after.memory frame r after.registers lies room
+          ready_after_routine activation top bytes need base source memory after.memory frame r
+          after.registers lies room
           two ready back.stack back.registers back.memory_is kept;
       known = no_facts_hold;
     } in
-    let does : Does script budget more (at_place (from + 3) after.registers after.memory events) outcome Good =
+    let does : Does script budget more (at_place (from + 3) after.registers after.memory events) outcome
+    Good =
     rest after.registers after.memory stand going_on
     (computes_there routine (wrap from) r after.registers back.computes)
     (leaves_there routine (wrap from) r after.registers back.leaves) in

@@ -17,7 +17,8 @@ pub steps_split :
     (one other : List Step) {facts last : Facts} {from to : ℕ}
     → StepsStand context PartIs facts from (one ++ other) last to
     → Parted context PartIs facts from one other last to
-steps_split [] other {facts = facts} {from = from} stand = record { found = facts; middle = from; first = NoneThere; second = stand }
+steps_split [] other {facts = facts} {from = from} stand =
+    record { found = facts; middle = from; first = NoneThere; second = stand }
 steps_split (steps.Plain i ∷ one) other (PlainThere there rest) =
     let parts = steps_split one other rest in
     record { found = parts.found; middle = parts.middle; first = PlainThere there parts.first; second = parts.second }
@@ -86,14 +87,17 @@ pub plain_goes :
     → IsSound context
     → IsThere context.activation (items.Plain i ∷ []) from (from + size_of_instruction i)
     → GoesOn context facts top base source frame r memory
-    → Asks context.activation (distances_in context) facts i (record r { pc = wrap (from + size_of_instruction i) })
+    → Asks context.activation (distances_in context) facts i
+    (record r { pc = wrap (from + size_of_instruction i) })
     → act context.activation.around.program.script i (at_place (from + size_of_instruction i) r memory events)
     ≡ at_place (from + size_of_instruction i) now ended events_after
     → (Know context (after facts i) now ended
     → Does context.activation.around.program.script budget more
     (at_place (from + size_of_instruction i) now ended events_after) outcome Good)
     → Does context.activation.around.program.script budget more (at_place from r memory events) outcome Good
-plain_goes {budget = budget} {more = more} {outcome = outcome} {Good = Good} {context = context} {facts = facts} {memory = memory} {events = events} {i = i} {from = from} r now ended events_after sound there on asks does rest =
+plain_goes {budget = budget} {more = more} {outcome = outcome} {Good = Good} {context = context}
+    {facts = facts} {memory = memory} {events = events} {i = i} {from = from} r now ended events_after sound
+    there on asks does rest =
     let script = context.activation.around.program.script in
     let place = from + size_of_instruction i in
     let shares = on.ready.shares in
@@ -112,7 +116,8 @@ pub registers_go :
     → IsSound context
     → IsThere context.activation (items.Plain i ∷ []) from (from + size_of_instruction i)
     → GoesOn context facts top base source frame r memory
-    → Asks context.activation (distances_in context) facts i (record r { pc = wrap (from + size_of_instruction i) })
+    → Asks context.activation (distances_in context) facts i
+    (record r { pc = wrap (from + size_of_instruction i) })
     → act context.activation.around.program.script i (at_place (from + size_of_instruction i) r memory events)
     ≡ at_place (from + size_of_instruction i) now memory events
     → now.sp ≡ r.sp
@@ -128,7 +133,8 @@ registers_go {memory = memory} {events = events} r now sound there on asks does 
 -- an instruction with the word of a place: its effect is carried out
 pub word_acts :
     {A : Type 0} {budget more : ℕ} {outcome : Outcome A} {Good : A → SourceState → State → Type 0}
-    {context : Context} {memory : List ℕ} {events : List Event} {from : ℕ} (form : WordForm) (place : Place) (r : Registers)
+    {context : Context} {memory : List ℕ} {events : List Event} {from : ℕ} (form : WordForm)
+    (place : Place) (r : Registers)
     → IsSound context
     → AgreesIn context.activation.around.program.placement.code context.activation.image memory
     → IsThere context.activation (word_item form place ∷ []) from (from + 3)
@@ -153,9 +159,12 @@ pub word_goes :
     (instruction_with form (place_at context.activation.layout place)) (at_place (from + 3) r memory events)
     ≡ at_place (from + 3) now ended events
     → (Know context (after_word facts form place) now ended
-    → Does context.activation.around.program.script budget more (at_place (from + 3) now ended events) outcome Good)
+    → Does context.activation.around.program.script budget more
+    (at_place (from + 3) now ended events) outcome Good)
     → Does context.activation.around.program.script budget more (at_place from r memory events) outcome Good
-word_goes {budget = budget} {more = more} {outcome = outcome} {Good = Good} {context = context} {facts = facts} {memory = memory} {events = events} {from = from} form place r now ended sound there on asks does rest =
+word_goes {budget = budget} {more = more} {outcome = outcome} {Good = Good} {context = context}
+    {facts = facts} {memory = memory} {events = events} {from = from} form place r now ended sound
+    there on asks does rest =
     let script = context.activation.around.program.script in
     let shares = on.ready.shares in
     let known : Know context (after_word facts form place) now ended
@@ -194,7 +203,8 @@ pushed_word_small Psw r bytes =
     let low = flag_byte_small r.flags in
     omega (arith, high, low)
 
-pub pushed_anywhere : (pair : StackPair) (place : ℕ) (r : Registers) → pushed_of pair (record r { pc = place }) ≡ pushed_of pair r
+pub pushed_anywhere : (pair : StackPair) (place : ℕ) (r : Registers)
+    → pushed_of pair (record r { pc = place }) ≡ pushed_of pair r
 pushed_anywhere StackBc place r = refl
 pushed_anywhere StackDe place r = refl
 pushed_anywhere StackHl place r = refl
@@ -258,7 +268,9 @@ pub push_goes :
     (at_place (from + size_of_instruction (Push pair)) (record r { sp = wrap (top - 2) })
     (pushed top (pushed_of pair r) memory) events) outcome Good)
     → Does context.activation.around.program.script budget more (at_place from r memory events) outcome Good
-push_goes {context = context} {facts = facts} {top = top} {base = base} {source = source} {frame = frame} {memory = memory} {events = events} {from = from} {bytes = bytes} {need = need} pair r sound there on two room rest =
+push_goes {context = context} {facts = facts} {top = top} {base = base} {source = source} {frame = frame}
+    {memory = memory} {events = events} {from = from} {bytes = bytes} {need = need} pair r sound
+    there on two room rest =
     let script = context.activation.around.program.script in
     let place = from + size_of_instruction (Push pair) in
     let lies = sound.lies in
@@ -274,11 +286,13 @@ push_goes {context = context} {facts = facts} {top = top} {base = base} {source 
     = push_does script pair place top r memory events on.ready.pointer limit (omega (arith, start))
     ∙ ap (λ (word : ℕ). at_place place (record r { sp = wrap (top - 2) }) (pushed top word memory) events)
     (pushed_anywhere pair (wrap place) r) in
-    plain_goes r (record r { sp = wrap (top - 2) }) (pushed top (pushed_of pair r) memory) events sound there on
+    plain_goes r (record r { sp = wrap (top - 2) }) (pushed top (pushed_of pair r) memory)
+    events sound there on
     (push_asks context.activation r.sp top lies on.ready.pointer start below) does
     (λ known. rest (record {
       ready =
-          ready_after_push context.activation top (pushed_of pair r) base source frame r memory lies start below
+          ready_after_push context.activation top (pushed_of pair r) base source frame r
+          memory lies start below
           (pushed_word_small pair r on.ready.registers) on.ready;
       known = known;
     }))
@@ -348,10 +362,15 @@ pub pop_goes :
     → (GoesOn context (after facts (Pop pair)) top base other others
     (record (with_popped pair word after_part) { sp = wrap top }) ended
     → Does context.activation.around.program.script budget more
-    (at_place (from + size_of_instruction (Pop pair)) (record (with_popped pair word after_part) { sp = wrap top })
+    (at_place (from + size_of_instruction (Pop pair))
+    (record (with_popped pair word after_part) { sp = wrap top })
     ended events) outcome Good)
-    → Does context.activation.around.program.script budget more (at_place from after_part ended events) outcome Good
-pop_goes {context = context} {facts = facts} {top = top} {base = base} {source = source} {other = other} {frame = frame} {others = others} {r = r} {memory = memory} {ended = ended} {events = events} {from = from} {bytes = bytes} {need = need} {word = word} pair after_part sound there two room before small on rest =
+    → Does context.activation.around.program.script budget more
+    (at_place from after_part ended events) outcome Good
+pop_goes {context = context} {facts = facts} {top = top} {base = base} {source = source} {other = other}
+    {frame = frame} {others = others} {r = r} {memory = memory} {ended = ended} {events = events}
+    {from = from} {bytes = bytes} {need = need} {word = word} pair after_part sound there two room
+    before small on rest =
     let activation = context.activation in
     let script = activation.around.program.script in
     let place = from + size_of_instruction (Pop pair) in
@@ -366,12 +385,15 @@ pop_goes {context = context} {facts = facts} {top = top} {base = base} {source =
     let is = still_pushed activation top word other others after_part memory ended lies start below
     before.shares.is_memory.size on.ready in
     let now : Registers = record (with_popped pair word after_part) { sp = wrap top } in
-    let does = pop_does script pair place top word after_part ended events on.ready.pointer (omega (arith, start)) limit is in
+    let does =
+    pop_does script pair place top word after_part ended events on.ready.pointer
+    (omega (arith, start)) limit is in
     plain_goes after_part now ended events sound there on
     (pop_asks context facts pair (record after_part { pc = wrap place })) does
     (λ known. rest (record {
       ready =
-          ready_after_pop activation top word base source other frame others r after_part now memory ended lies start
+          ready_after_pop activation top word base source other frame others r after_part now
+          memory ended lies start
           before on.ready refl (popped_bytes pair word after_part (wrap top) small on.ready.registers);
       known = known;
     }))
@@ -386,20 +408,26 @@ pub test_goes :
     → GoesOn context facts top base source frame r memory
     → ((now : Registers) → now ≡ record r { flags = now.flags } → now.flags.z ≡ (r.a == 0)
     → GoesOn context (after_test facts) top base source frame now memory
-    → Does context.activation.around.program.script budget more (at_place middle now memory events) outcome Good)
+    → Does context.activation.around.program.script budget more
+    (at_place middle now memory events) outcome Good)
     → Does context.activation.around.program.script budget more (at_place from r memory events) outcome Good
-test_goes {budget = budget} {more = more} {outcome = outcome} {Good = Good} {context = context} {facts = facts} {top = top} {base = base} {source = source} {frame = frame} {memory = memory} {events = events} {from = from} {middle = middle} r sound there on rest =
+test_goes {budget = budget} {more = more} {outcome = outcome} {Good = Good} {context = context}
+    {facts = facts} {top = top} {base = base} {source = source} {frame = frame} {memory = memory}
+    {events = events} {from = from} {middle = middle} r sound there on rest =
     by_flag facts.zero_shows_a refl there rest
   where
     by_flag : (shows : Bool) → facts.zero_shows_a ≡ shows
         → IsThere context.activation (if shows then [] else items.Plain test_of_a ∷ []) from middle
         → ((now : Registers) → now ≡ record r { flags = now.flags } → now.flags.z ≡ (r.a == 0)
         → GoesOn context (if shows then facts else after facts test_of_a) top base source frame now memory
-        → Does context.activation.around.program.script budget more (at_place middle now memory events) outcome Good)
-        → Does context.activation.around.program.script budget more (at_place from r memory events) outcome Good
+        → Does context.activation.around.program.script budget more
+        (at_place middle now memory events) outcome Good)
+        → Does context.activation.around.program.script budget more
+        (at_place from r memory events) outcome Good
     by_flag true shows there rest =
         let zero : ZeroHolds facts.zero_shows_a r.flags.z r.a = on.known.zero_holds in
-        subst (λ (place : ℕ). Does context.activation.around.program.script budget more (at_place place r memory events) outcome Good)
+        subst (λ (place : ℕ). Does context.activation.around.program.script budget more
+        (at_place place r memory events) outcome Good)
         (sym there.stands)
         (rest r refl (subst (λ (flag : Bool). ZeroHolds flag r.flags.z r.a) shows zero) on)
     by_flag false shows there rest =
@@ -409,8 +437,10 @@ test_goes {budget = budget} {more = more} {outcome = outcome} {Good = Good} {con
         let here : IsThere context.activation (items.Plain test_of_a ∷ []) from (from + 1)
         = record { stands = (there.stands.0, refl); low = there.low; high = subst (λ (place : ℕ). place ≤ context.activation.around.program.placement.code.start + context.activation.around.program.placement.code.len) (sym middle_is) there.high } in
         registers_go r now sound here on tt
-        (ap (λ (a : ℕ). at_place (from + 1) (record r { a = a; flags = (operate Or r.a r.a r.flags).flags }) memory events) same)
+        (ap (λ (a : ℕ). at_place (from + 1) (record r { a = a; flags = (operate Or r.a r.a r.flags).flags })
+        memory events) same)
         refl
         (record { a = on.ready.registers.a; b = on.ready.registers.b; c = on.ready.registers.c; d = on.ready.registers.d; e = on.ready.registers.e; h = on.ready.registers.h; l = on.ready.registers.l })
-        (λ on_now. subst (λ (place : ℕ). Does context.activation.around.program.script budget more (at_place place now memory events) outcome Good)
+        (λ on_now. subst (λ (place : ℕ). Does context.activation.around.program.script budget more
+        (at_place place now memory events) outcome Good)
         (sym middle_is) (rest now refl (ap (λ (a : ℕ). a == 0) same) on_now))

@@ -9,12 +9,14 @@ mutual
       → TypesHold typed within tree
       → HaveOperands (length typed.constants.lists) tree
   have_operands typed within (NumberNode scalar number origin) hold = tt
-  have_operands typed within (ValueNode scalar reference) hold = part_has_operands typed within reference hold.1
+  have_operands typed within (ValueNode scalar reference) hold =
+      part_has_operands typed within reference hold.1
   have_operands typed within (LocationNode reference) hold = part_has_operands typed within reference hold.1
   have_operands typed within (ListNode list) hold = hold
   have_operands typed within (ConversionNode scalar inner) hold = have_operands typed within inner hold
   have_operands typed within (AssignmentNode target inner) hold = have_operands typed within inner hold.0
-  have_operands typed within (UnaryNode scalar operator operand) hold = have_operands typed within operand hold.0
+  have_operands typed within (UnaryNode scalar operator operand) hold =
+      have_operands typed within operand hold.0
   have_operands typed within (BinaryNode operands operator left right) hold = (
     hold.1.1,
     hold.2.1,
@@ -65,7 +67,8 @@ quiet_is site of = by (slice_get site.tree.now.expressions.items of.index)
     by None = refl
 
 pub storing_is :
-    (site : Site) (of : ExpressionNumber) → stores_nothing site of ≡ storing_nothing_at (nodes_of site.tree.now) of
+    (site : Site) (of : ExpressionNumber)
+    → stores_nothing site of ≡ storing_nothing_at (nodes_of site.tree.now) of
 unfolding stores_nothing expression
 storing_is site of = by (slice_get site.tree.now.expressions.items of.index)
   where
@@ -92,14 +95,19 @@ number_of_known None = refl
 
 pub number_is : (site : Site) (of : ExpressionNumber) → number site of ≡ number_at (nodes_of site.tree.now) of
 unfolding number
-number_is site of = number_of_known (known site of) ∙ ap (λ (found : Option Place). known_number found) (known_is site of)
+number_is site of =
+    number_of_known (known site of) ∙ ap (λ (found : Option Place). known_number found) (known_is site of)
 
 -- a number that is known is a known place
 pub place_of_number : (found : Option Place) (n : ℕ) → known_number found ≡ Some n → found ≡ Some (Number n)
-place_of_number (Some (Number m)) n same = ap (λ (one : Option ℕ). option_map_or (λ k. Some (Number k)) one None) same
-place_of_number (Some (Code offset)) n same = ap (λ (one : Option ℕ). option_map_or (λ k. Some (Number k)) one (Some (Code offset))) same
-place_of_number (Some (Data offset)) n same = ap (λ (one : Option ℕ). option_map_or (λ k. Some (Number k)) one (Some (Data offset))) same
-place_of_number (Some (External offset name)) n same = ap (λ (one : Option ℕ). option_map_or (λ k. Some (Number k)) one (Some (External offset name))) same
+place_of_number (Some (Number m)) n same =
+    ap (λ (one : Option ℕ). option_map_or (λ k. Some (Number k)) one None) same
+place_of_number (Some (Code offset)) n same =
+    ap (λ (one : Option ℕ). option_map_or (λ k. Some (Number k)) one (Some (Code offset))) same
+place_of_number (Some (Data offset)) n same =
+    ap (λ (one : Option ℕ). option_map_or (λ k. Some (Number k)) one (Some (Data offset))) same
+place_of_number (Some (External offset name)) n same =
+    ap (λ (one : Option ℕ). option_map_or (λ k. Some (Number k)) one (Some (External offset name))) same
 place_of_number None n same = ap (λ (one : Option ℕ). option_map_or (λ k. Some (Number k)) one None) same
 
 pub exchange_is :
@@ -107,9 +115,12 @@ pub exchange_is :
     → may_exchange site left right ≡ evaluations.may_exchange (nodes_of site.tree.now) left right
 unfolding may_exchange
 exchange_is site left right =
-    ap (λ (found : Option Place). is_some found || (is_quiet site left && stores_nothing site right)) (known_is site left)
-    ∙ ap (λ b. is_some (known_at (nodes_of site.tree.now) left) || (b && stores_nothing site right)) (quiet_is site left)
-    ∙ ap (λ b. is_some (known_at (nodes_of site.tree.now) left) || (quiet_at (nodes_of site.tree.now) left && b)) (storing_is site right)
+    ap (λ (found : Option Place). is_some found || (is_quiet site left && stores_nothing site right))
+    (known_is site left)
+    ∙ ap (λ b. is_some (known_at (nodes_of site.tree.now) left) || (b && stores_nothing site right))
+    (quiet_is site left)
+    ∙ ap (λ b. is_some (known_at (nodes_of site.tree.now) left)
+    || (quiet_at (nodes_of site.tree.now) left && b)) (storing_is site right)
 
 -- the value of a tree in a context
 abbrev pub value_in : Context → TypedExpression → SourceState → Outcome ℕ
@@ -117,15 +128,19 @@ value_in context tree s = value context.later context.activation.around tree s
 
 -- an expression that is a known place is that place
 pub known_means :
-    {context : Context} {bound : ℕ} {of : ExpressionNumber} {tree : TypedExpression} (facts : Facts) (place : Place)
+    {context : Context} {bound : ℕ} {of : ExpressionNumber} {tree : TypedExpression}
+    (facts : Facts) (place : Place)
     → IsSound context
     → IsExpression (nodes_in context) context.storage bound of.index tree
     → TypesHold context.typed context.within tree
     → known (knowing context.site facts) of ≡ Some place
     → (s : SourceState) → value_in context tree s ≡ Gave (place_at context.activation.layout place) s
 known_means {context = context} {of = of} {tree = tree} facts place sound node types is s =
-    known_gives context.activation.around (nodes_in context) context.storage (place_at context.activation.layout)
-    sound.resolves context.later tree place (subst (λ (lists : ℕ). HaveOperands lists tree) (sym sound.lists) (have_operands context.typed context.within tree types))
+    known_gives context.activation.around (nodes_in context) context.storage
+    (place_at context.activation.layout)
+    sound.resolves context.later tree place
+    (subst (λ (lists : ℕ). HaveOperands lists tree) (sym sound.lists)
+    (have_operands context.typed context.within tree types))
     (sym (known_kept (nodes_in context) context.storage sound.lowered.traits node)
     ∙ sym (known_is (knowing context.site facts) of) ∙ is) s
 
@@ -140,7 +155,8 @@ pub number_means :
 number_means {context = context} {of = of} {tree = tree} facts n sound node types is s =
     known_means facts (Number n) sound node types
     (known_is (knowing context.site facts) of
-    ∙ place_of_number (known_at (nodes_in context) of) n (sym (number_is (knowing context.site facts) of) ∙ is)) s
+    ∙ place_of_number (known_at (nodes_in context) of) n
+    (sym (number_is (knowing context.site facts) of) ∙ is)) s
 
 -- an outcome is carried out if one that may replace it is
 pub does_alike :
@@ -158,7 +174,8 @@ does_alike (Gave found s) other (BothOutside one two) does = absurd one
 -- where the second of two operands may be evaluated first, code may do so
 pub does_exchanged :
     {A : Type 0} {script : List (List ℕ)} {budget more : ℕ} {from : State}
-    {context : Context} {left_bound right_bound : ℕ} {left right : ExpressionNumber} {first second : TypedExpression}
+    {context : Context} {left_bound right_bound : ℕ} {left right : ExpressionNumber}
+    {first second : TypedExpression}
     {Good : A → SourceState → State → Type 0}
     (facts : Facts) (go : ℕ → ℕ → SourceState → Outcome A) (s : SourceState)
     → IsSound context
@@ -168,12 +185,14 @@ pub does_exchanged :
     → may_exchange (knowing context.site facts) left right ≡ true
     → Does script budget more from (exchanged (value_in context first) (value_in context second) go s) Good
     → Does script budget more from (in_order (value_in context first) (value_in context second) go s) Good
-does_exchanged {context = context} {left = left} {right = right} {first = first} {second = second} facts go s sound one two types may does =
+does_exchanged {context = context} {left = left} {right = right} {first = first} {second = second} facts go s
+    sound one two types may does =
     does_alike (in_order (value_in context first) (value_in context second) go s)
     (exchanged (value_in context first) (value_in context second) go s)
     (operands_exchanged (nodes_in context) context.storage sound.lowered.traits context.activation.around
     (place_at context.activation.layout) sound.resolves context.later one two
-    (subst (λ (lists : ℕ). HaveOperands lists first) (sym sound.lists) (have_operands context.typed context.within first types))
+    (subst (λ (lists : ℕ). HaveOperands lists first) (sym sound.lists)
+    (have_operands context.typed context.within first types))
     (sym (exchange_is (knowing context.site facts) left right) ∙ may) go s)
     does
 

@@ -35,7 +35,8 @@ pub gives_then :
     → ((found : A) (t : SourceState) (end : State) → Middle found t end → t.budget ≤ budget
     → Does script t.budget more end (Gave found t) Good)
     → Does script budget more from outcome Good
-gives_then {A = A} {script = script} {budget = budget} {more = more} {from = from} outcome {Middle = Middle} {Good = Good} one rest =
+gives_then {A = A} {script = script} {budget = budget} {more = more} {from = from} outcome {Middle = Middle}
+    {Good = Good} one rest =
     subst (λ (given : Outcome A). Does script budget more from given Good) (given_again outcome)
     (then_does {go = λ found t. Gave found t} one rest)
 
@@ -45,10 +46,12 @@ pub then_does_where :
     {go : A → SourceState → Outcome B}
     {Middle : A → SourceState → State → Type 0} {Good : B → SourceState → State → Type 0}
     → Does script budget 0 from outcome Middle
-    → ((found : A) (t : SourceState) (end : State) → outcome ≡ Gave found t → Middle found t end → t.budget ≤ budget
+    → ((found : A) (t : SourceState) (end : State) → outcome ≡ Gave found t
+    → Middle found t end → t.budget ≤ budget
     → Does script t.budget other end (go found t) Good)
     → Does script budget other from (then_do outcome go) Good
-then_does_where {A = A} {B = B} {script = script} {budget = budget} {other = other} {from = from} (Gave found t) {go = go} {Middle = Middle} {Good = Good} one rest =
+then_does_where {A = A} {B = B} {script = script} {budget = budget} {other = other} {from = from}
+    (Gave found t) {go = go} {Middle = Middle} {Good = Good} one rest =
     let first : Lands script budget 0 from t.budget (Middle found t) = one.told in
     let second = rest found t first.end refl first.is_good first.spent in
     record { told = told_on first t.budget other (go found t) Good (omega arith) (omega arith) second.told }
@@ -72,19 +75,25 @@ pub at_registers :
     → Asks context.activation (distances_in context) facts i
     (record r { pc = wrap (from + size_of_instruction i) })
     → (Stage context top pushed need base t (after facts i) now memory
-    → Does (script_of context) budget more (at_place (from + size_of_instruction i) now memory t.events) outcome Good)
+    → Does (script_of context) budget more
+    (at_place (from + size_of_instruction i) now memory t.events) outcome Good)
     → Does (script_of context) budget more (at_place from r memory t.events) outcome Good
-at_registers {A = A} {context = context} {top = top} {pushed = pushed} {need = need} {base = base} {t = t} {facts = facts} {r = r} {memory = memory} {from = from} {budget = budget} {more = more} {i = i} {outcome = outcome} {Good = Good} now sound stage there acts pointer bytes asks rest =
+at_registers {A = A} {context = context} {top = top} {pushed = pushed} {need = need} {base = base} {t = t}
+    {facts = facts} {r = r} {memory = memory} {from = from} {budget = budget} {more = more} {i = i}
+    {outcome = outcome} {Good = Good} now sound stage there acts pointer bytes asks rest =
     let ready = stage.ready in
     let held = ready.registers in
     let here : HoldBytes (record r { pc = wrap (from + size_of_instruction i) }) =
     record { a = held.a; b = held.b; c = held.c; d = held.d; e = held.e; h = held.h; l = held.l } in
-    let knew : FactsHold context.activation (distances_in context) facts (record r { pc = wrap (from + size_of_instruction i) }) memory = stage.known in
+    let knew : FactsHold context.activation (distances_in context) facts
+    (record r { pc = wrap (from + size_of_instruction i) }) memory = stage.known in
     let known =
     facts_after (script_of context) context.activation (distances_in context) facts i
     (at_place (from + size_of_instruction i) r memory t.events) ready.shares.is_memory here asks knew in
-    let known_now : FactsHold context.activation (distances_in context) (after facts i) (record now { pc = wrap (from + size_of_instruction i) }) memory =
-    subst (λ (s : State). FactsHold context.activation (distances_in context) (after facts i) s.registers s.memory) acts known in
+    let known_now : FactsHold context.activation (distances_in context) (after facts i)
+    (record now { pc = wrap (from + size_of_instruction i) }) memory =
+    subst (λ (s : State). FactsHold context.activation (distances_in context) (after facts i) s.registers
+    s.memory) acts known in
     plain_first r sound.lies ready.shares.code there
     (subst (λ (s : State). Does (script_of context) budget more s outcome Good) (sym acts)
     (rest (record {
@@ -116,7 +125,8 @@ pub stage_with_a :
     (record r { pc = wrap (from + size_of_instruction i) })
     → (Stage context top pushed need base t (after facts i) (record r { a = value; flags = flags }) memory
     → Does (script_of context) budget more
-    (at_place (from + size_of_instruction i) (record r { a = value; flags = flags }) memory t.events) outcome Good)
+    (at_place (from + size_of_instruction i) (record r { a = value; flags = flags }) memory t.events) outcome
+    Good)
     → Does (script_of context) budget more (at_place from r memory t.events) outcome Good
 stage_with_a {r = r} value flags sound stage there acts small asks rest =
     let held = stage.ready.registers in
@@ -154,9 +164,12 @@ pub at_push :
     → (Stage context (top - 2) ((pushed + 2) % 65536) (need - 2) (pushed_word top word memory) t facts
     (record r { sp = wrap (top - 2) }) (pushed_word top word memory)
     → Does (script_of context) budget more
-    (at_place (from + 1) (record r { sp = wrap (top - 2) }) (pushed_word top word memory) t.events) outcome Good)
+    (at_place (from + 1) (record r { sp = wrap (top - 2) }) (pushed_word top word memory) t.events) outcome
+    Good)
     → Does (script_of context) budget more (at_place from r memory t.events) outcome Good
-at_push {context = context} {top = top} {pushed = pushed} {need = need} {base = base} {t = t} {facts = facts} {r = r} {memory = memory} {from = from} {budget = budget} {more = more} {pair = pair} {outcome = outcome} {Good = Good} word is sound enough stage there rest =
+at_push {context = context} {top = top} {pushed = pushed} {need = need} {base = base} {t = t} {facts = facts}
+    {r = r} {memory = memory} {from = from} {budget = budget} {more = more} {pair = pair} {outcome = outcome}
+    {Good = Good} word is sound enough stage there rest =
     let ready = stage.ready in
     let held = ready.registers in
     let here : HoldBytes (record r { pc = wrap (from + 1) }) =
@@ -176,15 +189,18 @@ at_push {context = context} {top = top} {pushed = pushed} {need = need} {base = 
     let acts : act (script_of context) (Push pair) (at_place (from + 1) r memory t.events)
     ≡ at_place (from + 1) (record r { sp = wrap (top - 2) }) (pushed_word top word memory) t.events =
     push_does (script_of context) pair (from + 1) top r memory t.events ready.pointer limit two
-    ∙ ap (λ n. at_place (from + 1) (record r { sp = wrap (top - 2) }) (pushed_word top n memory) t.events) is in
-    let knew : FactsHold context.activation (distances_in context) facts (record r { pc = wrap (from + 1) }) memory = stage.known in
+    ∙ ap (λ n. at_place (from + 1) (record r { sp = wrap (top - 2) }) (pushed_word top n memory) t.events)
+    is in
+    let knew : FactsHold context.activation (distances_in context) facts (record r { pc = wrap (from + 1) })
+    memory = stage.known in
     let known =
     facts_after (script_of context) context.activation (distances_in context) facts (Push pair)
     (at_place (from + 1) r memory t.events) ready.shares.is_memory here
     (push_asks context.activation r.sp top lies ready.pointer low high) knew in
     let known_now : FactsHold context.activation (distances_in context) facts
     (record r { sp = wrap (top - 2); pc = wrap (from + 1) }) (pushed_word top word memory) =
-    subst (λ (s : State). FactsHold context.activation (distances_in context) facts s.registers s.memory) acts known in
+    subst (λ (s : State). FactsHold context.activation (distances_in context) facts s.registers s.memory) acts
+    known in
     let more_room =
     room_below context.activation.floor context.activation.around.room top pushed need
     context.activation.level enough free depth level in
@@ -193,7 +209,8 @@ at_push {context = context} {top = top} {pushed = pushed} {need = need} {base = 
     (rest (record {
       below = stage.below;
       room = record { depth = more_room.0; even = let even = stage.room.even in omega (arith, even); enough = more_room.1 };
-      ready = ready_after_push context.activation top word base t.memory t.frame r memory lies low high small ready;
+      ready = ready_after_push context.activation top word base t.memory t.frame r memory lies
+          low high small ready;
       known = known_now;
     })))
 
@@ -215,7 +232,8 @@ popped_bytes Psw word sp r small held =
 pub at_pop :
     {A : Type 0} {context : Context} {top pushed need other_pushed other_need word : ℕ} {base : List ℕ}
     {s t : SourceState} {first facts : Facts}
-    {before r : Registers} {began memory : List ℕ} {from budget more : ℕ} {pair : StackPair} {outcome : Outcome A}
+    {before r : Registers} {began memory : List ℕ} {from budget more : ℕ} {pair : StackPair}
+    {outcome : Outcome A}
     {Good : A → SourceState → State → Type 0}
     → IsSound context
     → 3 ≤ need
@@ -228,7 +246,10 @@ pub at_pop :
     → Does (script_of context) budget more
     (at_place (from + 1) (record (with_popped pair word r) { sp = wrap top }) memory t.events) outcome Good)
     → Does (script_of context) budget more (at_place from r memory t.events) outcome Good
-at_pop {context = context} {top = top} {pushed = pushed} {need = need} {word = word} {base = base} {s = s} {t = t} {first = first} {facts = facts} {before = before} {r = r} {began = began} {memory = memory} {from = from} {budget = budget} {more = more} {pair = pair} {outcome = outcome} {Good = Good} sound enough small start stage there rest =
+at_pop {context = context} {top = top} {pushed = pushed} {need = need} {word = word} {base = base} {s = s}
+    {t = t} {first = first} {facts = facts} {before = before} {r = r} {began = began} {memory = memory}
+    {from = from} {budget = budget} {more = more} {pair = pair} {outcome = outcome} {Good = Good} sound enough
+    small start stage there rest =
     let ready = stage.ready in
     let held = ready.registers in
     let here : HoldBytes (record r { pc = wrap (from + 1) }) =
@@ -249,13 +270,15 @@ at_pop {context = context} {top = top} {pushed = pushed} {need = need} {word = w
     let acts : act (script_of context) (Pop pair) (at_place (from + 1) r memory t.events)
     ≡ at_place (from + 1) (record (with_popped pair word r) { sp = wrap top }) memory t.events =
     pop_does (script_of context) pair (from + 1) top word r memory t.events ready.pointer two limit is in
-    let knew : FactsHold context.activation (distances_in context) facts (record r { pc = wrap (from + 1) }) memory = stage.known in
+    let knew : FactsHold context.activation (distances_in context) facts (record r { pc = wrap (from + 1) })
+    memory = stage.known in
     let known =
     facts_after (script_of context) context.activation (distances_in context) facts (Pop pair)
     (at_place (from + 1) r memory t.events) ready.shares.is_memory here tt knew in
     let known_now : FactsHold context.activation (distances_in context) (after facts (Pop pair))
     (record (with_popped pair word r) { sp = wrap top; pc = wrap (from + 1) }) memory =
-    subst (λ (state : State). FactsHold context.activation (distances_in context) (after facts (Pop pair)) state.registers state.memory) acts known in
+    subst (λ (state : State). FactsHold context.activation (distances_in context) (after facts (Pop pair))
+    state.registers state.memory) acts known in
     plain_first r lies ready.shares.code there
     (subst (λ (state : State). Does (script_of context) budget more state outcome Good) (sym acts)
     (rest (record {
@@ -270,7 +293,8 @@ at_pop {context = context} {top = top} {pushed = pushed} {need = need} {word = w
 
 -- instructions on registers alone
 pub at_instructions :
-    {A : Type 0} {context : Context} {PartIs : (before : Facts) → Part → (from : ℕ) → (after : Facts) → (to : ℕ) → Type 0}
+    {A : Type 0} {context : Context}
+    {PartIs : (before : Facts) → Part → (from : ℕ) → (after : Facts) → (to : ℕ) → Type 0}
     {top pushed need : ℕ} {base : List ℕ} {t : SourceState} {facts last : Facts}
     {r : Registers} {memory : List ℕ} {from to budget more : ℕ} {outcome : Outcome A}
     {Good : A → SourceState → State → Type 0} (instructions : List Instr) (others : List Step)
@@ -281,12 +305,14 @@ pub at_instructions :
     → ((middle : ℕ) (found : Facts)
     → StepsStand context PartIs found middle others last to
     → Stage context top pushed need base t found (effect instructions r) memory
-    → Does (script_of context) budget more (at_place middle (effect instructions r) memory t.events) outcome Good)
+    → Does (script_of context) budget more
+    (at_place middle (effect instructions r) memory t.events) outcome Good)
     → Does (script_of context) budget more (at_place from r memory t.events) outcome Good
 at_instructions {r = r} instructions others sound on stand stage rest =
     registers_then instructions others r sound on stand (record { ready = stage.ready; known = stage.known })
     (λ middle found ends going.
-    rest middle found ends (record { below = stage.below; room = stage.room; ready = going.ready; known = going.known }))
+    rest middle found ends
+    (record { below = stage.below; room = stage.room; ready = going.ready; known = going.known }))
 
 -- the byte at a steady place into A
 pub at_load_a :
@@ -300,13 +326,15 @@ pub at_load_a :
     → (Stage context top pushed need base t (after_word facts LoadA place)
     (record r { a = byte_at memory (place_at context.activation.layout place) }) memory
     → Does (script_of context) budget more
-    (at_place (from + 3) (record r { a = byte_at memory (place_at context.activation.layout place) }) memory t.events)
+    (at_place (from + 3) (record r { a = byte_at memory (place_at context.activation.layout place) }) memory
+    t.events)
     outcome Good)
     → Does (script_of context) budget more (at_place from r memory t.events) outcome Good
 at_load_a {context = context} {r = r} {memory = memory} {place = place} sound there steady stage rest =
     let now : Registers = record r { a = byte_at memory (place_at context.activation.layout place) } in
     let held = stage.ready.registers in
-    word_goes LoadA place r now memory sound there (record { ready = stage.ready; known = stage.known }) steady refl
+    word_goes LoadA place r now memory sound there
+    (record { ready = stage.ready; known = stage.known }) steady refl
     (λ known.
     rest (record {
       below = stage.below;
@@ -326,7 +354,8 @@ at_load_a {context = context} {r = r} {memory = memory} {place = place} sound th
 
 -- no more steps
 pub at_end :
-    {A : Type 0} {context : Context} {PartIs : (before : Facts) → Part → (from : ℕ) → (after : Facts) → (to : ℕ) → Type 0}
+    {A : Type 0} {context : Context}
+    {PartIs : (before : Facts) → Part → (from : ℕ) → (after : Facts) → (to : ℕ) → Type 0}
     {top pushed need : ℕ} {base : List ℕ} {t : SourceState} {facts last : Facts}
     {r : Registers} {memory : List ℕ} {from to budget more : ℕ} {outcome : Outcome A}
     {Good : A → SourceState → State → Type 0}
@@ -356,7 +385,9 @@ pub at_carried :
     → Stage context top pushed need base u found_facts now memory_now
     → Does (script_of context) u.budget more (at_place middle now memory_now u.events) (go found u) Good)
     → Does (script_of context) t.budget more (at_place from r memory t.events) (then_do (meant t) go) Good
-at_carried {A = A} {B = B} {context = context} {top = top} {pushed = pushed} {need = need} {base = base} {t = t} {facts = facts} {r = r} {memory = memory} {more = more} {less = less} {meant = meant} {go = go} {Holds = Holds} {Good = Good} from middle found_facts carries fewer asked knows stage rest =
+at_carried {A = A} {B = B} {context = context} {top = top} {pushed = pushed} {need = need} {base = base}
+    {t = t} {facts = facts} {r = r} {memory = memory} {more = more} {less = less} {meant = meant} {go = go}
+    {Holds = Holds} {Good = Good} from middle found_facts carries fewer asked knows stage rest =
     then_does_where (meant t)
     (carries top base t r memory stage.below (room_for less fewer stage.room) stage.ready stage.known asked)
     (λ found u end is arrives spent.
@@ -371,7 +402,8 @@ at_carried {A = A} {B = B} {context = context} {top = top} {pushed = pushed} {ne
 
 -- the byte of a part into A
 pub at_byte :
-    {B : Type 0} {context : Context} {top pushed need : ℕ} {base : List ℕ} {t : SourceState} {facts found_facts : Facts}
+    {B : Type 0} {context : Context} {top pushed need : ℕ} {base : List ℕ} {t : SourceState}
+    {facts found_facts : Facts}
     {r : Registers} {memory : List ℕ} {more : ℕ} {bound : ℕ}
     {tree : TypedExpression} {go : ℕ → SourceState → Outcome B}
     {Good : B → SourceState → State → Type 0} (from middle : ℕ) (number : ExpressionNumber)
@@ -387,13 +419,15 @@ pub at_byte :
     → Does (script_of context) u.budget more (at_place middle now memory_now u.events) (go found u) Good)
     → Does (script_of context) t.budget more (at_place from r memory t.events)
     (then_do (value context.later context.activation.around tree t) go) Good
-at_byte {context = context} {found_facts = found_facts} {r = r} {memory = memory} {bound = bound} {tree = tree} from middle number does node types fewer stage rest =
+at_byte {context = context} {found_facts = found_facts} {r = r} {memory = memory} {bound = bound}
+    {tree = tree} from middle number does node types fewer stage rest =
     at_carried from middle found_facts (does bound tree node types) fewer tt
     (λ found now memory_now (given : ByteIsGiven context found_facts number (type_of tree) r memory found now memory_now). given.known) stage rest
 
 -- the word of a part into HL
 pub at_word :
-    {B : Type 0} {context : Context} {top pushed need : ℕ} {base : List ℕ} {t : SourceState} {facts found_facts : Facts}
+    {B : Type 0} {context : Context} {top pushed need : ℕ} {base : List ℕ} {t : SourceState}
+    {facts found_facts : Facts}
     {r : Registers} {memory : List ℕ} {more : ℕ} {bound : ℕ}
     {tree : TypedExpression} {go : ℕ → SourceState → Outcome B}
     {Good : B → SourceState → State → Type 0} (from middle : ℕ) (number : ExpressionNumber)
@@ -409,13 +443,15 @@ pub at_word :
     → Does (script_of context) u.budget more (at_place middle now memory_now u.events) (go found u) Good)
     → Does (script_of context) t.budget more (at_place from r memory t.events)
     (then_do (value context.later context.activation.around tree t) go) Good
-at_word {context = context} {found_facts = found_facts} {r = r} {memory = memory} {bound = bound} {tree = tree} from middle number does node types fewer stage rest =
+at_word {context = context} {found_facts = found_facts} {r = r} {memory = memory} {bound = bound}
+    {tree = tree} from middle number does node types fewer stage rest =
     at_carried from middle found_facts (does bound tree node types) fewer tt
     (λ found now memory_now (given : WordIsGiven context found_facts number (type_of tree) r memory found now memory_now). given.known) stage rest
 
 -- a part with a value that is not used
 pub at_effects :
-    {B : Type 0} {context : Context} {top pushed need : ℕ} {base : List ℕ} {t : SourceState} {facts found_facts : Facts}
+    {B : Type 0} {context : Context} {top pushed need : ℕ} {base : List ℕ} {t : SourceState}
+    {facts found_facts : Facts}
     {r : Registers} {memory : List ℕ} {more : ℕ} {bound : ℕ}
     {tree : TypedExpression} {go : ℕ → SourceState → Outcome B}
     {Good : B → SourceState → State → Type 0} (from middle : ℕ) (number : ExpressionNumber)
@@ -430,7 +466,8 @@ pub at_effects :
     → Does (script_of context) u.budget more (at_place middle now memory_now u.events) (go found u) Good)
     → Does (script_of context) t.budget more (at_place from r memory t.events)
     (then_do (value context.later context.activation.around tree t) go) Good
-at_effects {context = context} {found_facts = found_facts} {r = r} {memory = memory} {bound = bound} {tree = tree} from middle number does node types fewer stage rest =
+at_effects {context = context} {found_facts = found_facts} {r = r} {memory = memory} {bound = bound}
+    {tree = tree} from middle number does node types fewer stage rest =
     at_carried from middle found_facts (does bound tree node types) fewer tt
     (λ found now memory_now (given : EffectsAreGiven context found_facts number r memory found now memory_now). given.known) stage
     (λ found u now memory_now is given next. rest found u now memory_now is next)

@@ -4,7 +4,8 @@ use Rattle.task_laws.proofs.Prelude.{◌≡◌, ℕ, ◌+◌, Bool, List, [], �
 use Rattle.asm8080.specs.declared.item.Item.TheVariants as items
 
 -- the first item, and the others
-pub record FirstThere (activation : Activation) (item : Item) (more : List Item) (from size to : ℕ) : Type 0 where
+pub record FirstThere (activation : Activation) (item : Item) (more : List Item)
+    (from size to : ℕ) : Type 0 where
   pub first : IsThere activation (item ∷ []) from (from + size)
   pub rest : IsThere activation more (from + size) to
 
@@ -27,7 +28,8 @@ first_there activation item more from size to same there =
 abbrev pub CarryOut : Context → Type 0
 CarryOut context =
     (before after : Facts) (part : Part) (label from to : ℕ)
-    → StepsStand context (PartDoes context) before from (task_steps (knowing context.site before) part label) after to
+    → StepsStand context (PartDoes context) before from
+    (task_steps (knowing context.site before) part label) after to
     → PartDoes context before part from after to
 
 mutual
@@ -40,32 +42,48 @@ mutual
       → AreWritten site called facts steps list last
       → IsThere context.activation list from to
       → StepsStand context (PartDoes context) facts from steps last to
-  steps_stand context site called one_site one_table carry from to NoneWritten there = rw (there.stands) NoneThere
-  steps_stand context site called one_site one_table carry from to (PlainWritten {i = i} {more = more} others) there =
-      let parts = first_there context.activation (items.Plain i) more from (size_of_instruction i) to refl there in
-      PlainThere parts.first (steps_stand context site called one_site one_table carry (from + size_of_instruction i) to others parts.rest)
-  steps_stand context site called one_site one_table carry from to (WordWritten {form = form} {place = place} {more = more} others) there =
+  steps_stand context site called one_site one_table carry from to NoneWritten there =
+      rw (there.stands) NoneThere
+  steps_stand context site called one_site one_table carry from to
+      (PlainWritten {i = i} {more = more} others) there =
+      let parts =
+      first_there context.activation (items.Plain i) more from (size_of_instruction i) to refl there in
+      PlainThere parts.first
+      (steps_stand context site called one_site one_table carry (from + size_of_instruction i)
+      to others parts.rest)
+  steps_stand context site called one_site one_table carry from to
+      (WordWritten {form = form} {place = place} {more = more} others) there =
       let parts = first_there context.activation (word_item form place) more from 3 to refl there in
-      WordThere parts.first (steps_stand context site called one_site one_table carry (from + 3) to others parts.rest)
+      WordThere parts.first
+      (steps_stand context site called one_site one_table carry (from + 3) to others parts.rest)
   steps_stand context site called one_site one_table carry from to (JumpWritten {more = more} others) there =
       let parts = first_there context.activation _ more from 3 to refl there in
-      JumpThere parts.first (steps_stand context site called one_site one_table carry (from + 3) to others parts.rest)
+      JumpThere parts.first
+      (steps_stand context site called one_site one_table carry (from + 3) to others parts.rest)
   steps_stand context site called one_site one_table carry from to (MarkWritten others) there =
-      MarkThere (mark_lies there) (steps_stand context site called one_site one_table carry from to others (after_mark there))
-  steps_stand context site called one_site one_table carry from to (RoutineWritten {routine = routine} {more = more} is_called others) there =
+      MarkThere (mark_lies there)
+      (steps_stand context site called one_site one_table carry from to others (after_mark there))
+  steps_stand context site called one_site one_table carry from to
+      (RoutineWritten {routine = routine} {more = more} is_called others) there =
       let parts = first_there context.activation _ more from 3 to refl there in
-      RoutineThere (ap (λ table. has_routine table routine) one_table ∙ is_called) (rw one_site parts.first) (steps_stand context site called one_site one_table carry (from + 3) to others parts.rest)
-  steps_stand context site called one_site one_table carry from to (CallWritten {procedure = procedure} {more = more} others) there =
+      RoutineThere (ap (λ table. has_routine table routine) one_table ∙ is_called) (rw one_site parts.first)
+      (steps_stand context site called one_site one_table carry (from + 3) to others parts.rest)
+  steps_stand context site called one_site one_table carry from to
+      (CallWritten {procedure = procedure} {more = more} others) there =
       let parts = both_there (call_items site procedure) more there in
-      CallThere (rw one_site parts.first) (steps_stand context site called one_site one_table carry parts.middle to others parts.second)
-  steps_stand context site called one_site one_table carry from to (TestWritten {facts = facts} {more = more} others) there =
+      CallThere (rw one_site parts.first)
+      (steps_stand context site called one_site one_table carry parts.middle to others parts.second)
+  steps_stand context site called one_site one_table carry from to
+      (TestWritten {facts = facts} {more = more} others) there =
       let parts = both_there (test_items facts) more there in
-      TestThere parts.first (steps_stand context site called one_site one_table carry parts.middle to others parts.second)
+      TestThere parts.first
+      (steps_stand context site called one_site one_table carry parts.middle to others parts.second)
   steps_stand context site called one_site one_table carry from to (HoldsWritten others) there =
       HoldsThere (steps_stand context site called one_site one_table carry from to others there)
   steps_stand context site called one_site one_table carry from to (ChangeWritten others) there =
       ChangeThere (steps_stand context site called one_site one_table carry from to others there)
-  steps_stand context site called one_site one_table carry from to (PartWritten {part = part} {first = first} {more = more} one others) there =
+  steps_stand context site called one_site one_table carry from to
+      (PartWritten {part = part} {first = first} {more = more} one others) there =
       let parts = both_there first more there in
       PartThere (part_stands context site called one_site one_table carry from parts.middle one parts.first)
       (steps_stand context site called one_site one_table carry parts.middle to others parts.second)
@@ -79,6 +97,9 @@ mutual
       → IsWritten site called facts part list last
       → IsThere context.activation list from to
       → PartDoes context facts part from last to
-  part_stands context site called one_site one_table carry {facts = facts} {last = last} {part = part} from to (Planned label written) there =
-      carry facts last part label from to (subst (λ s. StepsStand context (PartDoes context) facts from (task_steps (knowing s facts) part label) last to) (sym one_site)
+  part_stands context site called one_site one_table carry {facts = facts} {last = last} {part = part} from to
+      (Planned label written) there =
+      carry facts last part label from to
+      (subst (λ s. StepsStand context (PartDoes context) facts from
+      (task_steps (knowing s facts) part label) last to) (sym one_site)
       (steps_stand context site called one_site one_table carry from to written there))

@@ -9,10 +9,12 @@ pub then_does_where :
     {go : A → SourceState → Outcome B} {Middle : A → SourceState → State → Type 0}
     {Good : B → SourceState → State → Type 0}
     → Does script budget 0 from outcome Middle
-    → ((found : A) (t : SourceState) (end : State) → outcome ≡ Gave found t → Middle found t end → t.budget ≤ budget
+    → ((found : A) (t : SourceState) (end : State) → outcome ≡ Gave found t
+    → Middle found t end → t.budget ≤ budget
     → Does script t.budget other end (go found t) Good)
     → Does script budget other from (then_do outcome go) Good
-then_does_where {A = A} {script = script} {budget = budget} {other = other} {from = from} {outcome = outcome} {go = go} {Middle = Middle} {Good = Good} one rest =
+then_does_where {A = A} {script = script} {budget = budget} {other = other} {from = from} {outcome = outcome}
+    {go = go} {Middle = Middle} {Good = Good} one rest =
     by outcome refl one
   where
     by : (given : Outcome A) → outcome ≡ given → Does script budget 0 from given Middle
@@ -61,13 +63,17 @@ pub word_then :
     → t.budget ≤ s.budget
     → GoesOn context found top base t.memory t.frame now ended
     → WordIsGiven context found number (type_of tree) r memory n now ended
-    → Does context.activation.around.program.script t.budget more (at_place middle now ended t.events) (go n t) Good)
+    → Does context.activation.around.program.script t.budget more
+    (at_place middle now ended t.events) (go n t) Good)
     → Does context.activation.around.program.script s.budget more (at_place from r memory s.events)
     (then_do (value context.later context.activation.around tree s) go) Good
-word_then {context = context} {found = found} {number = number} {middle = middle} {bound = bound} {top = top} {base = base} {tree = tree} from s r memory does is types less room high going rest =
+word_then {context = context} {found = found} {number = number} {middle = middle} {bound = bound} {top = top}
+    {base = base} {tree = tree} from s r memory does is types less room high going rest =
     arrived context top base middle (WordIsGiven context found number (type_of tree) r memory)
-    (does bound tree is types top base s r memory less (room_for (2 * height_of tree) high room) going.ready going.known tt)
-    (λ n t now ended same fewer ready given. rest n t now ended same fewer (record { ready = ready; known = given.known }) given)
+    (does bound tree is types top base s r memory less (room_for (2 * height_of tree) high room)
+    going.ready going.known tt)
+    (λ n t now ended same fewer ready given. rest n t now ended same fewer
+    (record { ready = ready; known = given.known }) given)
 
 -- its low byte into A, and then others
 pub byte_then :
@@ -86,13 +92,17 @@ pub byte_then :
     → t.budget ≤ s.budget
     → GoesOn context found top base t.memory t.frame now ended
     → ByteIsGiven context found number (type_of tree) r memory n now ended
-    → Does context.activation.around.program.script t.budget more (at_place middle now ended t.events) (go n t) Good)
+    → Does context.activation.around.program.script t.budget more
+    (at_place middle now ended t.events) (go n t) Good)
     → Does context.activation.around.program.script s.budget more (at_place from r memory s.events)
     (then_do (value context.later context.activation.around tree s) go) Good
-byte_then {context = context} {found = found} {number = number} {middle = middle} {bound = bound} {top = top} {base = base} {tree = tree} from s r memory does is types less room high going rest =
+byte_then {context = context} {found = found} {number = number} {middle = middle} {bound = bound} {top = top}
+    {base = base} {tree = tree} from s r memory does is types less room high going rest =
     arrived context top base middle (ByteIsGiven context found number (type_of tree) r memory)
-    (does bound tree is types top base s r memory less (room_for (2 * height_of tree) high room) going.ready going.known tt)
-    (λ n t now ended same fewer ready given. rest n t now ended same fewer (record { ready = ready; known = given.known }) given)
+    (does bound tree is types top base s r memory less (room_for (2 * height_of tree) high room)
+    going.ready going.known tt)
+    (λ n t now ended same fewer ready given. rest n t now ended same fewer
+    (record { ready = ready; known = given.known }) given)
 
 -- its effects alone, and then others
 pub effects_then :
@@ -111,13 +121,17 @@ pub effects_then :
     → t.budget ≤ s.budget
     → GoesOn context found top base t.memory t.frame now ended
     → EffectsAreGiven context found number r memory n now ended
-    → Does context.activation.around.program.script t.budget more (at_place middle now ended t.events) (go n t) Good)
+    → Does context.activation.around.program.script t.budget more
+    (at_place middle now ended t.events) (go n t) Good)
     → Does context.activation.around.program.script s.budget more (at_place from r memory s.events)
     (then_do (value context.later context.activation.around tree s) go) Good
-effects_then {context = context} {found = found} {number = number} {middle = middle} {bound = bound} {top = top} {base = base} {tree = tree} from s r memory does is types less room high going rest =
+effects_then {context = context} {found = found} {number = number} {middle = middle} {bound = bound}
+    {top = top} {base = base} {tree = tree} from s r memory does is types less room high going rest =
     arrived context top base middle (EffectsAreGiven context found number r memory)
-    (does bound tree is types top base s r memory less (room_for (2 * height_of tree) high room) going.ready going.known tt)
-    (λ n t now ended same fewer ready given. rest n t now ended same fewer (record { ready = ready; known = given.known }) given)
+    (does bound tree is types top base s r memory less (room_for (2 * height_of tree) high room)
+    going.ready going.known tt)
+    (λ n t now ended same fewer ready given. rest n t now ended same fewer
+    (record { ready = ready; known = given.known }) given)
 
 -- a value is in HL
 pub record HasWord (n : ℕ) (r : Registers) : Type 0 where
@@ -132,7 +146,8 @@ pub record KeepsThem (context : Context) (number : ExpressionNumber) (r now : Re
 
 -- the value is given at the end of steps
 pub word_given :
-    {context : Context} {after : Facts} {number : ExpressionNumber} {scalar : ScalarType} {top : ℕ} {base : List ℕ}
+    {context : Context} {after : Facts} {number : ExpressionNumber} {scalar : ScalarType}
+    {top : ℕ} {base : List ℕ}
     {to n : ℕ} {r now : Registers} {memory ended : List ℕ} (t : SourceState)
     → n < values_of scalar
     → HasWord n now
@@ -140,7 +155,8 @@ pub word_given :
     → GoesOn context after top base t.memory t.frame now ended
     → Does context.activation.around.program.script t.budget 0 (at_place to now ended t.events) (Gave n t)
     (Arrives context.activation top base to (WordIsGiven context after number scalar r memory))
-word_given {context = context} {after = after} {number = number} {scalar = scalar} {top = top} {base = base} {to = to} {n = n} {r = r} {now = now} {memory = memory} {ended = ended} t small has kept going =
+word_given {context = context} {after = after} {number = number} {scalar = scalar} {top = top} {base = base}
+    {to = to} {n = n} {r = r} {now = now} {memory = memory} {ended = ended} t small has kept going =
     does_without_step (record {
       r = now;
       memory = ended;
@@ -151,7 +167,8 @@ word_given {context = context} {after = after} {number = number} {scalar = scala
 
 -- a part that comes first
 pub record FirstPart
-    (context : Context) (facts : Facts) (from : ℕ) (part : Part) (others : List Step) (last : Facts) (to : ℕ) : Type 0 where
+    (context : Context) (facts : Facts) (from : ℕ) (part : Part) (others : List Step) (last : Facts)
+    (to : ℕ) : Type 0 where
   pub found : Facts
   pub middle : ℕ
   pub does : PartDoes context facts part from found middle
@@ -167,7 +184,8 @@ part_first (PartThere {found = found} {middle = middle} does rest) =
 -- where no step is left the value is given
 pub word_ends :
     {context : Context} {PartIs : (before : Facts) → Part → (from : ℕ) → (after : Facts) → (to : ℕ) → Type 0}
-    {found last : Facts} {middle to top n : ℕ} {number : ExpressionNumber} {scalar : ScalarType} {base : List ℕ}
+    {found last : Facts} {middle to top n : ℕ} {number : ExpressionNumber}
+    {scalar : ScalarType} {base : List ℕ}
     {r now : Registers} {memory ended : List ℕ} (t : SourceState)
     → StepsStand context PartIs found middle [] last to
     → n < values_of scalar

@@ -6,7 +6,8 @@ use Rattle.task_laws.proofs.Words.Multiples.{products_always_do}
 pub addresses_do :
     (context : Context) → IsSound context
     → (facts last : Facts) (reference : Reference) (pushed from to : ℕ)
-    → StepsStand context (PartDoes context) facts from (address_steps (knowing context.site facts) reference pushed) last to
+    → StepsStand context (PartDoes context) facts from
+    (address_steps (knowing context.site facts) reference pushed) last to
     → AddressDoes context facts reference pushed from last to
 addresses_do context sound facts last reference pushed from to stand =
     address_law (products_always_do context sound) sound stand

@@ -13,12 +13,14 @@ pub data IsBase (context : Context) (object known : ℕ) : Base → Type 0 where
   InPlace : {place : Place}
       → ((bytes rest : ℕ) (is_inside : Bool) (s : SourceState)
       → wrap bytes ≡ wrap (rest + known)
-      → based_place (home_of context.activation.around object) context.activation.around object bytes is_inside s
+      → based_place (home_of context.activation.around object) context.activation.around
+      object bytes is_inside s
       ≡ Gave (InMemory (wrap (place_at context.activation.layout place + rest))) s)
       → IsBase context object known (bases.Static place)
   InAFrame : {variable offset : ℕ}
       → ((bytes : ℕ) (is_inside : Bool) (s : SourceState)
-      → based_place (home_of context.activation.around object) context.activation.around object bytes is_inside s
+      → based_place (home_of context.activation.around object) context.activation.around
+      object bytes is_inside s
       ≡ Gave (InTheFrame object bytes is_inside) s)
       → ((bytes rest : ℕ) → wrap bytes ≡ wrap (rest + known)
       → wrap (context.activation.level + context.activation.distance object + bytes)
@@ -27,8 +29,10 @@ pub data IsBase (context : Context) (object known : ℕ) : Base → Type 0 where
   OnBase : {pointer : Location} {offset : ℕ} (base : ℕ)
       → wrap offset ≡ wrap known
       → ((bytes : ℕ) (is_inside : Bool) (s : SourceState)
-      → based_place (home_of context.activation.around object) context.activation.around object bytes is_inside s
-      ≡ then_do (read_scalar context.activation.around.program Address (place_of context.activation.around base) s)
+      → based_place (home_of context.activation.around object) context.activation.around
+      object bytes is_inside s
+      ≡ then_do
+      (read_scalar context.activation.around.program Address (place_of context.activation.around base) s)
       (λ start t. Gave (InMemory (wrap (start + bytes))) t))
       → address_on_machine context.activation (place_of context.activation.around base)
       ≡ location_at context.activation (distances_in context) pointer
@@ -41,19 +45,23 @@ IsSmall context (bases.Static place) = place_at context.activation.layout place 
 IsSmall context (bases.Frame variable offset) = Unit {0}
 IsSmall context (bases.Based pointer offset) = offset < 65536
 
-pub small_after : (context : Context) (base : Base) (more : ℕ) → IsSound context → IsSmall context (base_after base more)
+pub small_after : (context : Context) (base : Base) (more : ℕ) → IsSound context
+    → IsSmall context (base_after base more)
 small_after context (bases.Static place) more sound =
     let is = sound.resolves.after place more in omega (arith, is)
 small_after context (bases.Frame variable offset) more sound = tt
 small_after context (bases.Based pointer offset) more sound = omega arith
 
-rest_on : (bytes rest known more : ℕ) → wrap bytes ≡ wrap (rest + (known + more)) → wrap bytes ≡ wrap (rest + more + known)
+rest_on : (bytes rest known more : ℕ) → wrap bytes ≡ wrap (rest + (known + more))
+    → wrap bytes ≡ wrap (rest + more + known)
 rest_on bytes rest known more is = omega (arith, is)
 
-moved_on : (address rest more after : ℕ) → after ≡ wrap (address + more) → wrap (address + (rest + more)) ≡ wrap (after + rest)
+moved_on : (address rest more after : ℕ) → after ≡ wrap (address + more)
+    → wrap (address + (rest + more)) ≡ wrap (after + rest)
 moved_on address rest more after is = omega (arith, is)
 
-further : (offset known more : ℕ) → wrap offset ≡ wrap known → wrap ((offset + more) % 65536) ≡ wrap (known + more)
+further : (offset known more : ℕ) → wrap offset ≡ wrap known
+    → wrap ((offset + more) % 65536) ≡ wrap (known + more)
 further offset known more is = omega (arith, is)
 
 -- a base `more` bytes further on
@@ -62,20 +70,26 @@ pub base_further :
     → IsSound context
     → IsBase context object known base
     → IsBase context object (known + more) (base_after base more)
-base_further {context = context} {object = object} {known = known} (bases.Static place) more sound (InPlace at) =
+base_further {context = context} {object = object} {known = known} (bases.Static place) more
+    sound (InPlace at) =
     InPlace (λ bytes rest is_inside s is.
     at bytes (rest + more) is_inside s (rest_on bytes rest known more is)
     ∙ ap (λ (n : ℕ). Gave (InMemory n) s)
-    (moved_on (place_at context.activation.layout place) rest more (place_at context.activation.layout (place_after place more))
+    (moved_on (place_at context.activation.layout place) rest more
+    (place_at context.activation.layout (place_after place more))
     (sound.resolves.after place more)))
-base_further {context = context} {object = object} {known = known} (bases.Frame variable offset) more sound (InAFrame at is_at) =
+base_further {context = context} {object = object} {known = known} (bases.Frame variable offset) more sound
+    (InAFrame at is_at) =
     InAFrame at
     (λ bytes rest is.
     is_at bytes (rest + more) (rest_on bytes rest known more is)
-    ∙ moved_on (location_at context.activation (distances_in context) (locations.Frame variable offset)) rest more
-    (location_at context.activation (distances_in context) (locations.Frame variable ((offset + more) % 65536)))
+    ∙ moved_on (location_at context.activation (distances_in context) (locations.Frame variable offset)) rest
+    more
+    (location_at context.activation (distances_in context)
+    (locations.Frame variable ((offset + more) % 65536)))
     (location_after_is context.activation (distances_in context) (locations.Frame variable offset) more))
-base_further {context = context} {object = object} {known = known} (bases.Based pointer offset) more sound (OnBase base is at place fits) =
+base_further {context = context} {object = object} {known = known} (bases.Based pointer offset) more sound
+    (OnBase base is at place fits) =
     OnBase base (further offset known more is) at place fits
 
 -- an option has a value, with a property
@@ -95,19 +109,23 @@ pub home_there :
     → slice_get context.typed.objects object ≡ Some found
     → home_of context.activation.around object ≡ found.home
 home_there context object found sound is =
-    ap (λ (option : Option TypedModule). option_map_or (λ (typed : TypedModule). home_in typed object) option Nowhere) sound.is_module
-    ∙ ap (λ (option : Option TypedObject). option_map_or (λ (found : TypedObject). found.home) option Nowhere) is
+    ap (λ (option : Option TypedModule). option_map_or (λ (typed : TypedModule). home_in typed object) option
+    Nowhere) sound.is_module
+    ∙ ap (λ (option : Option TypedObject). option_map_or (λ (found : TypedObject). found.home) option Nowhere)
+    is
 
 -- and where tree code has it
 pub begins_there :
     (context : Context) (object : ℕ) (found : TypedObject)
     → IsSound context
     → slice_get context.typed.objects object ≡ Some found
-    → Begins context.typed context.storage object found.home (home_at context.site.tree.now.homes.items object)
+    → Begins context.typed context.storage object found.home
+    (home_at context.site.tree.now.homes.items object)
 begins_there context object found sound is =
     subst (λ (list : List Home). Begins context.typed context.storage object found.home (home_at list object))
     (sym sound.lowered.homes)
-    (begins context.typed context.storage object found is (λ base same. sound.bases object base found is same))
+    (begins context.typed context.storage object found is
+    (λ base same. sound.bases object base found is same))
 
 nothing_yet : SourceState
 nothing_yet = record { memory = []; frame = []; events = []; budget = 0 }
@@ -118,7 +136,8 @@ given (Stopped why t) = InMemory 0
 
 -- an object that is not BASED is at its home
 pub not_based :
-    (within : Within) (kind : TypedHome) (around : Surroundings) (object bytes : ℕ) (is_inside : Bool) (s : SourceState)
+    (within : Within) (kind : TypedHome) (around : Surroundings) (object bytes : ℕ)
+    (is_inside : Bool) (s : SourceState)
     → LiesFor within kind
     → based_place kind around object bytes is_inside s ≡ Gave (place_in kind around object bytes is_inside) s
 not_based within (BasedOn base) around object bytes is_inside s lies = absurd lies
@@ -133,7 +152,8 @@ not_based within (InFrame procedure) around object bytes is_inside s lies = refl
 pub own_frame :
     (within : Within) (procedure : ℕ) → LiesFor within (InFrame procedure)
     → (result : Option ScalarType) × (within ≡ WithinProcedure procedure result)
-own_frame (WithinProcedure number result) procedure lies = (result, ap (λ (n : ℕ). WithinProcedure n result) (sym lies))
+own_frame (WithinProcedure number result) procedure lies =
+    (result, ap (λ (n : ℕ). WithinProcedure n result) (sym lies))
 own_frame WithinMain procedure lies = absurd lies
 
 scalar_size : (object : TypedObject) → IsScalar Address object → size_of_object object ≡ 2
@@ -141,7 +161,8 @@ scalar_size object is =
     ap (λ (dimension : Option ℕ). count_of dimension * size_of_element object.object_type) is.0
     ∙ ap (λ (object_type : ObjectType). 1 * size_of_element object_type) is.1
 
-same_sum : (address bytes rest : ℕ) → wrap bytes ≡ wrap (rest + 0) → wrap (address + bytes) ≡ wrap (address + rest)
+same_sum : (address bytes rest : ℕ) → wrap bytes ≡ wrap (rest + 0)
+    → wrap (address + bytes) ≡ wrap (address + rest)
 same_sum address bytes rest is = omega (arith, is)
 
 framed_sum :
@@ -213,10 +234,12 @@ pointer_by_kind :
     → home_at context.site.tree.now.homes.items base ≡ home
     → Begins context.typed context.storage base kind home
     → IsPointer context base (location_of home)
-pointer_by_kind context base found kind home sound is scalar home_is lies at (BeginsInMemory {place = place}) =
+pointer_by_kind context base found kind home sound is scalar home_is lies at
+    (BeginsInMemory {place = place}) =
     pointer_in_memory context base found place sound is
     (subst (λ (kind : TypedHome). LiesFor context.within kind) (sym home_is) lies) at
-pointer_by_kind context base found kind home sound is scalar home_is lies at (BeginsInFrame {procedure = procedure}) =
+pointer_by_kind context base found kind home sound is scalar home_is lies at
+    (BeginsInFrame {procedure = procedure}) =
     pointer_in_frame context base procedure found sound is scalar home_is lies
 pointer_by_kind context base found kind home sound is scalar home_is lies at BeginsAtBase = absurd lies
 
@@ -228,7 +251,8 @@ pub pointer_is :
     → LiesFor context.within found.home
     → IsPointer context base (location_of (home_at context.site.tree.now.homes.items base))
 pointer_is context base found sound is scalar lies =
-    pointer_by_kind context base found found.home (home_at context.site.tree.now.homes.items base) sound is scalar refl
+    pointer_by_kind context base found found.home (home_at context.site.tree.now.homes.items base)
+    sound is scalar refl
     lies refl (begins_there context base found sound is)
 
 base_by_kind :
@@ -257,7 +281,8 @@ base_by_kind context object found kind home sound is home_is seen at (BeginsInFr
 base_by_kind context object found kind home sound is home_is seen at (BeginsAtBase {base = base}) =
     let its = has_some (slice_get context.typed.objects base) seen in
     let pointer = pointer_is context base its.found sound its.is its.holds.0 its.holds.1 in
-    let same : home_at context.site.tree.now.homes.items base ≡ home_at (homes_of context.typed context.storage) base
+    let same : home_at context.site.tree.now.homes.items base
+    ≡ home_at (homes_of context.typed context.storage) base
     = ap (λ (list : List Home). home_at list base) sound.lowered.homes in
     OnBase base refl
     (λ bytes is_inside s.
@@ -276,5 +301,6 @@ pub base_is :
     → IsBase context object 0 (base_of (home context.site.tree.now object))
 base_is context object sound referred =
     let its = has_some (slice_get context.typed.objects object) referred in
-    base_by_kind context object its.found (its.found).home (home_at context.site.tree.now.homes.items object) sound its.is refl
+    base_by_kind context object its.found (its.found).home
+    (home_at context.site.tree.now.homes.items object) sound its.is refl
     its.holds refl (begins_there context object its.found sound its.is)

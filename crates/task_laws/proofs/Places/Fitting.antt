@@ -6,7 +6,8 @@ use Rattle.task_laws.proofs.Places.Bases.{has_some, home_there, own_frame}
 use Rattle.task_laws.proofs.Places.Reading.{FitsIn}
 
 -- the given value comes from the first evaluation
-pub record GaveFirst {A B : Type 0} (outcome : Outcome A) (go : A → State → Outcome B) (found : B) (u : State) : Type 0 where
+pub record GaveFirst {A B : Type 0} (outcome : Outcome A) (go : A → State → Outcome B) (found : B)
+    (u : State) : Type 0 where
   pub first : A
   pub t : State
   pub is : outcome ≡ Gave first t
@@ -31,7 +32,9 @@ displacement_lies :
 displacement_lies context NoSubscript found s u same inside =
     ap (λ (d : Displacement). d.bytes) (sym (same_given same))
 displacement_lies context (At stride count index) found s u same inside =
-    let given = gave_first (value context.later context.activation.around index s) (λ n t. Gave (displaced stride count n) t) found u same in
+    let given =
+    gave_first (value context.later context.activation.around index s)
+    (λ n t. Gave (displaced stride count n) t) found u same in
     let is : displaced stride count given.first ≡ found = same_given given.next in (
       given.first,
       ltb-true given.first count (ap (λ (d : Displacement). d.is_inside) is ∙ inside),
@@ -40,26 +43,34 @@ displacement_lies context (At stride count index) found s u same inside =
 
 -- a place that is located from a base fits
 based_fits :
-    (context : Context) (object bytes size : ℕ) (is_inside : Bool) (found : TypedObject) (place : Place) (s u : State)
+    (context : Context) (object bytes size : ℕ) (is_inside : Bool) (found : TypedObject)
+    (place : Place) (s u : State)
     → IsSound context
     → slice_get context.typed.objects object ≡ Some found
     → IsSeen context.typed context.within found.home
     → (is_inside ≡ true → bytes + size ≤ size_of_object found)
-    → based_place (home_of context.activation.around object) context.activation.around object bytes is_inside s ≡ Gave place u
+    → based_place (home_of context.activation.around object) context.activation.around object bytes
+    is_inside s ≡ Gave place u
     → FitsIn context.activation size place
 based_fits context object bytes size is_inside found place s u sound is seen fits same =
     by_kind found.home refl
     (sym (ap (λ (kind : TypedHome). based_place kind context.activation.around object bytes is_inside s)
     (home_there context object found sound is)) ∙ same)
   where
-    in_memory : (address : ℕ) → InMemory (address % MEMORY_SIZE) ≡ place → FitsIn context.activation size place
-    in_memory address is_there = subst (λ (place : Place). FitsIn context.activation size place) is_there (remainder_in_memory address)
+    in_memory : (address : ℕ) → InMemory (address % MEMORY_SIZE) ≡ place
+        → FitsIn context.activation size place
+    in_memory address is_there =
+        subst (λ (place : Place). FitsIn context.activation size place) is_there (remainder_in_memory address)
 
     by_kind : (kind : TypedHome) → found.home ≡ kind
         → based_place kind context.activation.around object bytes is_inside s ≡ Gave place u
         → FitsIn context.activation size place
     by_kind (BasedOn base) kind_is same =
-        let given = gave_first (read_scalar context.activation.around.program Rattle.trees.specs.declared.declaration.ScalarType.TheVariants.Address (place_of context.activation.around base) s)
+        let given =
+        gave_first
+        (read_scalar context.activation.around.program
+        Rattle.trees.specs.declared.declaration.ScalarType.TheVariants.Address
+        (place_of context.activation.around base) s)
         (λ start t. Gave (InMemory ((start + bytes) % MEMORY_SIZE)) t) place u same in
         in_memory (given.first + bytes) (same_given given.next)
     by_kind (InFrame procedure) kind_is same =
@@ -82,7 +93,8 @@ pub located_fits :
     → RefersToScalar context.typed context.within scalar tree
     → located context.later context.activation.around tree s ≡ Gave place u
     → FitsIn context.activation (size_of_scalar scalar) place
-located_fits context scalar (PartOf object subscript member offset member_subscript) place s u sound refers same =
+located_fits context scalar (PartOf object subscript member offset member_subscript) place s
+    u sound refers same =
     let its = has_some (slice_get context.typed.objects object) refers in
     let one = gave_first (displacement context.later context.activation.around subscript s)
     (λ one t. then_do (displacement context.later context.activation.around member_subscript t)
@@ -94,9 +106,12 @@ located_fits context scalar (PartOf object subscript member offset member_subscr
     based_fits context object ((one.first).bytes + offset + (two.first).bytes) (size_of_scalar scalar)
     ((one.first).is_inside && (two.first).is_inside) its.found place two.t u sound its.is its.holds.0
     (λ inside.
-    scalar_lies_within its.found scalar object subscript member offset member_subscript (one.first).bytes (two.first).bytes its.holds.1
-    (displacement_lies context subscript one.first s one.t one.is (and_parts (one.first).is_inside (two.first).is_inside inside).0)
-    (displacement_lies context member_subscript two.first one.t two.t two.is (and_parts (one.first).is_inside (two.first).is_inside inside).1))
+    scalar_lies_within its.found scalar object subscript member offset member_subscript (one.first).bytes
+    (two.first).bytes its.holds.1
+    (displacement_lies context subscript one.first s one.t one.is
+    (and_parts (one.first).is_inside (two.first).is_inside inside).0)
+    (displacement_lies context member_subscript two.first one.t two.t two.is
+    (and_parts (one.first).is_inside (two.first).is_inside inside).1))
     two.next
 
 -- a scalar that is referred to is an object that is
@@ -111,6 +126,7 @@ refers_is_referred context scalar (PartOf object subscript member offset member_
         → IsSomeAnd found
         (λ (object_found : TypedObject). IsSeen context.typed context.within object_found.home
         × IsScalarOf object_found scalar (PartOf object subscript member offset member_subscript))
-        → IsSomeAnd found (λ (object_found : TypedObject). IsSeen context.typed context.within object_found.home)
+        → IsSomeAnd found
+        (λ (object_found : TypedObject). IsSeen context.typed context.within object_found.home)
     by_found (Some found) is = is.0
     by_found None is = absurd is

@@ -30,13 +30,16 @@ made_from typed storage before (first ∷ others) zero number object is found =
       is =
           earlier_kept typed storage more others number (homes.Static (Number 0)) (omega (arith, is, long))
           ∙ ap (λ (n : ℕ). get_or more n (homes.Static (Number 0))) here
-          ∙ get_or_push before (next_home typed storage before first) (homes.Static (Number 0)) (length before) refl
+          ∙ get_or_push before (next_home typed storage before first) (homes.Static (Number 0))
+          (length before) refl
           ∙ ap (λ (object : TypedObject). home_of_object typed storage before (length before) object.home)
           (same_Some first object found)
           ∙ ap (λ (n : ℕ). home_of_object typed storage before n object.home) (sym here);
       same = λ other less.
-          sym (earlier_kept typed storage more others other (homes.Static (Number 0)) (omega (arith, less, is, long))
-          ∙ get_or_append_left before (next_home typed storage before first ∷ []) (homes.Static (Number 0)) other
+          sym (earlier_kept typed storage more others other (homes.Static (Number 0))
+          (omega (arith, less, is, long))
+          ∙ get_or_append_left before (next_home typed storage before first ∷ [])
+          (homes.Static (Number 0)) other
           (omega (arith, less, is)));
     }
 made_from typed storage before (first ∷ others) (suc index) number object is found =
@@ -49,17 +52,20 @@ pub is_made :
     → slice_get typed.objects number ≡ Some object
     → IsMade typed storage (homes_of typed storage) number object.home
 unfolding homes_of
-is_made typed storage number object found = made_from typed storage [] typed.objects number number object (omega arith) found
+is_made typed storage number object found =
+    made_from typed storage [] typed.objects number number object (omega arith) found
 
 -- where objects begin, by their kinds
 pub data Begins (typed : TypedModule) (storage : Storage) (number : ℕ) : TypedHome → Home → Type 0 where
   BeginsAtBase : {base : ℕ}
-      → Begins typed storage number (BasedOn base) (homes.Based (location_of (home_at (homes_of typed storage) base)))
+      → Begins typed storage number (BasedOn base)
+      (homes.Based (location_of (home_at (homes_of typed storage) base)))
   BeginsInFrame : {procedure : ℕ}
       → Begins typed storage number (InFrame procedure) (homes.Frame (frame_number typed procedure number))
   BeginsInMemory : {kind : TypedHome} {place : Place} → Begins typed storage number kind (homes.Static place)
 
-after_is_static : (home : Home) (distance : ℕ) → (place : Place) × (home_after home distance ≡ homes.Static place)
+after_is_static : (home : Home) (distance : ℕ)
+    → (place : Place) × (home_after home distance ≡ homes.Static place)
 after_is_static (homes.Static place) distance = (Rattle.treecode.specs.Homes.place_after place distance, refl)
 after_is_static (homes.Based base) distance = (Number distance, refl)
 after_is_static (homes.Frame variable) distance = (Number distance, refl)
@@ -77,12 +83,14 @@ by_kind :
     → Begins typed storage number kind (home_at (homes_of typed storage) number)
 by_kind typed storage number (InData values) less made = at_place (InData values) _ made.is
 by_kind typed storage number (InConstants values) less made = at_place (InConstants values) _ made.is
-by_kind typed storage number (Placed (AtNumber address)) less made = at_place (Placed (AtNumber address)) _ made.is
+by_kind typed storage number (Placed (AtNumber address)) less made =
+    at_place (Placed (AtNumber address)) _ made.is
 by_kind typed storage number (Placed (AtObject object offset)) less made =
     let after = after_is_static (home_at made.before object) offset in
     at_place (Placed (AtObject object offset)) after.0 (made.is ∙ after.1)
 by_kind typed storage number (BasedOn base) less made =
-    rw (made.is ∙ ap (λ (home : Home). homes.Based (location_of home)) (made.same base (less base refl))) BeginsAtBase
+    rw (made.is ∙ ap (λ (home : Home). homes.Based (location_of home)) (made.same base (less base refl)))
+    BeginsAtBase
 by_kind typed storage number Elsewhere less made = at_place Elsewhere _ made.is
 by_kind typed storage number Nowhere less made = at_place Nowhere _ made.is
 by_kind typed storage number (InFrame procedure) less made = rw made.is BeginsInFrame

@@ -60,7 +60,8 @@ pub load_a_goes :
     → GoesOn context last top base source frame now memory
     → Does context.activation.around.program.script budget more (at_place to now memory events) outcome Good)
     → Does context.activation.around.program.script budget more (at_place from r memory events) outcome Good
-load_a_goes {context = context} {memory = memory} {facts = facts} address r sound steady is (PlainThere there stand) on rest =
+load_a_goes {context = context} {memory = memory} {facts = facts} address r sound steady is
+    (PlainThere there stand) on rest =
     let bytes = on.ready.registers in
     let byte : ℕ = byte_at memory (word r.h r.l) in
     let small = byte_small memory (word r.h r.l) on.ready.shares.is_memory in
@@ -91,13 +92,15 @@ copy_goes {memory = memory} true address r sound is (PlainThere there stand) on 
     let now : Registers = record r { a = r.h } in
     registers_go r now sound there on tt refl refl
     (record { a = bytes.h; b = bytes.b; c = bytes.c; d = bytes.d; e = bytes.e; h = bytes.h; l = bytes.l })
-    (λ on_now. nothing_goes now stand on_now (rest now (record { a = is; others = λ alone. only_a r r.h memory })))
+    (λ on_now. nothing_goes now stand on_now
+    (rest now (record { a = is; others = λ alone. only_a r r.h memory })))
 copy_goes {memory = memory} false address r sound is (PlainThere there stand) on rest =
     let bytes = on.ready.registers in
     let now : Registers = record r { a = r.l } in
     registers_go r now sound there on tt refl refl
     (record { a = bytes.l; b = bytes.b; c = bytes.c; d = bytes.d; e = bytes.e; h = bytes.h; l = bytes.l })
-    (λ on_now. nothing_goes now stand on_now (rest now (record { a = is; others = λ alone. only_a r r.l memory })))
+    (λ on_now. nothing_goes now stand on_now
+    (rest now (record { a = is; others = λ alone. only_a r r.l memory })))
 
 -- The word at the stack pointer: if one byte of it is steady, so is the other one. If only words are pushed,
 -- the first one is at the level.
@@ -118,7 +121,8 @@ next_is_steady activation top pushed need sp from one two lies room pointer stea
         let above = lies.above in
         let stack = lies.placed.stack_in_memory in
         let enough = room.enough in
-        absurd (steady.apart (omega (arith, pointer, less, above, stack, enough)) (omega (arith, pointer, less, above, stack)))
+        absurd (steady.apart (omega (arith, pointer, less, above, stack, enough))
+        (omega (arith, pointer, less, above, stack)))
     by (inr more) = record { apart = λ low below. at_end low below (cases_lt (activation.level + 1) 65536) }
       where
         at_end : activation.floor ≤ wrap (sp + 1) → wrap (sp + 1) < activation.level
@@ -127,10 +131,13 @@ next_is_steady activation top pushed need sp from one two lies room pointer stea
             let depth = room.depth in
             omega (arith, pointer, more, depth, low, below, inside)
         at_end low below (inr edge) =
-            at_code (cases_lt (from + 1) (activation.around.program.placement.stack.start + activation.around.program.placement.stack.len))
+            at_code (cases_lt (from + 1) (activation.around.program.placement.stack.start
+            + activation.around.program.placement.stack.len))
           where
-            at_code : (from + 1 < activation.around.program.placement.stack.start + activation.around.program.placement.stack.len)
-                ⊎ (activation.around.program.placement.stack.start + activation.around.program.placement.stack.len ≤ from + 1)
+            at_code : (from + 1 < activation.around.program.placement.stack.start
+                + activation.around.program.placement.stack.len)
+                ⊎ (activation.around.program.placement.stack.start
+                + activation.around.program.placement.stack.len ≤ from + 1)
                 → ⊥
             at_code (inl within) =
                 let depth = room.depth in
@@ -167,7 +174,8 @@ first_is_steady activation top pushed need sp lies room pointer steady =
         let above = lies.above in
         let stack = lies.placed.stack_in_memory in
         let enough = room.enough in
-        steady.apart (omega (arith, pointer, less, above, stack, enough)) (omega (arith, pointer, less, above, stack))
+        steady.apart (omega (arith, pointer, less, above, stack, enough))
+        (omega (arith, pointer, less, above, stack))
     by low below (inr more) =
         let depth = room.depth in
         let even = room.even in
@@ -179,7 +187,8 @@ first_is_steady activation top pushed need sp lies room pointer steady =
 pub at_one : (away sp address : ℕ) → away ≡ 1 → wrap (away + sp) ≡ address → wrap (sp + 1) ≡ address
 at_one away sp address one is = omega (arith, one, is)
 
-back_one : (sp address before : ℕ) → sp < MEMORY_SIZE → wrap (sp + 1) ≡ address → before ≡ wrap (address + 65535) → sp ≡ before
+back_one : (sp address before : ℕ) → sp < MEMORY_SIZE → wrap (sp + 1) ≡ address
+    → before ≡ wrap (address + 65535) → sp ≡ before
 back_one sp address before small is before_is = omega (arith, small, is, before_is)
 
 -- a fact that the planner notes about HL as a word, and the rest
@@ -187,7 +196,8 @@ held_goes :
     {Given : Type 0} {outcome : Outcome Given} {Good : Given → SourceState → State → Type 0}
     {context : Context} {PartIs : (before : Facts) → Part → (from : ℕ) → (after : Facts) → (to : ℕ) → Type 0}
     {last : Facts} {to top budget more : ℕ} {base source memory : List ℕ} {frame : List (List ℕ)}
-    {events : List Event} {facts : Facts} {from : ℕ} (location : Location) (others : List Step) (r : Registers)
+    {events : List Event} {facts : Facts} {from : ℕ} (location : Location)
+    (others : List Step) (r : Registers)
     → StepsStand context PartIs facts from (note_word_steps location ++ others) last to
     → GoesOn context facts top base source frame r memory
     → Know context (record no_facts { word_in_hl = Some location }) r memory
@@ -205,42 +215,57 @@ frame_byte_goes :
     {events : List Event} {facts : Facts} {from : ℕ} (used : Facts) (variable offset : ℕ) (r : Registers)
     → IsSound context
     → HasRoom context.activation top pushed need
-    → IsSteady context.activation (location_at context.activation (distances_in context) (locations.Frame variable offset))
+    → IsSteady context.activation
+    (location_at context.activation (distances_in context) (locations.Frame variable offset))
     → Know context used r memory
     → StepsStand context PartIs facts from
-    (frame_byte_steps (knowing context.site used) (locations.Frame variable offset) (distance (knowing context.site used) variable offset pushed) pushed) last to
+    (frame_byte_steps (knowing context.site used) (locations.Frame variable offset)
+    (distance (knowing context.site used) variable offset pushed) pushed) last to
     → GoesOn context facts top base source frame r memory
     → ((now : Registers)
-    → ByteBeside memory (location_at context.activation (distances_in context) (locations.Frame variable offset)) false r now
+    → ByteBeside memory
+    (location_at context.activation (distances_in context) (locations.Frame variable offset)) false r now
     → GoesOn context last top base source frame now memory
     → Does context.activation.around.program.script budget more (at_place to now memory events) outcome Good)
     → Does context.activation.around.program.script budget more (at_place from r memory events) outcome Good
 unfolding distance
-frame_byte_goes {outcome = outcome} {Good = Good} {context = context} {PartIs = PartIs} {last = last} {to = to} {top = top} {pushed = pushed} {need = need} {budget = budget} {more = more} {base = base} {source = source} {memory = memory} {frame = frame} {events = events} {facts = facts} {from = from} used variable offset r sound room steady known stand on rest =
-    by_test (distance context.site variable offset pushed == 0) (distance context.site variable offset pushed == 1) refl refl stand
+frame_byte_goes {outcome = outcome} {Good = Good} {context = context} {PartIs = PartIs} {last = last}
+    {to = to} {top = top} {pushed = pushed} {need = need} {budget = budget} {more = more} {base = base}
+    {source = source} {memory = memory} {frame = frame} {events = events} {facts = facts} {from = from} used
+    variable offset r sound room steady known stand on rest =
+    by_test (distance context.site variable offset pushed == 0)
+    (distance context.site variable offset pushed == 1) refl refl stand
   where
     by_test : (none one : Bool)
         → (distance context.site variable offset pushed == 0) ≡ none
         → (distance context.site variable offset pushed == 1) ≡ one
         → StepsStand context PartIs facts from
-        (if none then top_word_steps ++ note_word_steps (locations.Frame variable offset) ++ (Plain (copy A L) ∷ [])
-        else if one then top_word_steps ++ note_word_steps (before (locations.Frame variable offset)) ++ (Plain (copy A H) ∷ [])
-        else location_address_steps (knowing context.site used) (locations.Frame variable offset) pushed ++ (Plain (load A) ∷ [])) last to
-        → Does context.activation.around.program.script budget more (at_place from r memory events) outcome Good
+        (if none then top_word_steps ++ note_word_steps (locations.Frame variable offset)
+        ++ (Plain (copy A L) ∷ [])
+        else if one then top_word_steps ++ note_word_steps (before (locations.Frame variable offset))
+        ++ (Plain (copy A H) ∷ [])
+        else location_address_steps (knowing context.site used) (locations.Frame variable offset) pushed
+        ++ (Plain (load A) ∷ [])) last to
+        → Does context.activation.around.program.script budget more
+        (at_place from r memory events) outcome Good
     by_test true one none_is one_is (PlainThere there (PlainThere again stand)) =
         let mem = on.ready.shares.is_memory in
         let pointer = on.ready.pointer in
         let location : Location = locations.Frame variable offset in
         let address : ℕ = location_at context.activation (distances_in context) location in
-        let away_is : distance context.site variable offset pushed ≡ 0 = eqb-true (distance context.site variable offset pushed) 0 none_is in
+        let away_is : distance context.site variable offset pushed ≡ 0 =
+        eqb-true (distance context.site variable offset pushed) 0 none_is in
         let here : r.sp ≡ address
         = at_none (distance context.site variable offset pushed) r.sp address away_is (omega (arith, pointer))
         (frame_away context top pushed need variable offset r.sp room pointer) in
-        let low : low_byte (word_at memory r.sp) ≡ byte_at memory address = low_there memory r.sp mem ∙ ap (byte_at memory) here in
+        let low : low_byte (word_at memory r.sp) ≡ byte_at memory address =
+        low_there memory r.sp mem ∙ ap (byte_at memory) here in
         let high : high_byte (word_at memory r.sp) ≡ byte_at memory (wrap (address + 1))
         = high_there memory r.sp mem ∙ ap (λ (n : ℕ). byte_at memory (wrap (n + 1))) here in
-        let now : Registers = record r { h = high_byte (word_at memory r.sp); l = low_byte (word_at memory r.sp) } in
-        top_word_goes (note_word_steps location ++ (Plain (copy A L) ∷ [])) r sound (PlainThere there (PlainThere again stand)) on
+        let now : Registers =
+        record r { h = high_byte (word_at memory r.sp); l = low_byte (word_at memory r.sp) } in
+        top_word_goes (note_word_steps location ++ (Plain (copy A L) ∷ [])) r sound
+        (PlainThere there (PlainThere again stand)) on
         (λ middle found stand on.
         held_goes location (Plain (copy A L) ∷ []) now stand on
         (word_known context now memory location steady
@@ -256,17 +281,22 @@ frame_byte_goes {outcome = outcome} {Good = Good} {context = context} {PartIs = 
         let location : Location = locations.Frame variable offset in
         let address : ℕ = location_at context.activation (distances_in context) location in
         let earlier : ℕ = location_at context.activation (distances_in context) (before location) in
-        let away_is : distance context.site variable offset pushed ≡ 1 = eqb-true (distance context.site variable offset pushed) 1 one_is in
+        let away_is : distance context.site variable offset pushed ≡ 1 =
+        eqb-true (distance context.site variable offset pushed) 1 one_is in
         let next : wrap (r.sp + 1) ≡ address
         = at_one (distance context.site variable offset pushed) r.sp address away_is
         (frame_away context top pushed need variable offset r.sp room pointer) in
         let here : r.sp ≡ earlier
-        = back_one r.sp address earlier (omega (arith, pointer)) next (location_after_is context.activation (distances_in context) location 65535) in
-        let low : low_byte (word_at memory r.sp) ≡ byte_at memory earlier = low_there memory r.sp mem ∙ ap (byte_at memory) here in
+        = back_one r.sp address earlier (omega (arith, pointer)) next
+        (location_after_is context.activation (distances_in context) location 65535) in
+        let low : low_byte (word_at memory r.sp) ≡ byte_at memory earlier =
+        low_there memory r.sp mem ∙ ap (byte_at memory) here in
         let high : high_byte (word_at memory r.sp) ≡ byte_at memory address
         = high_there memory r.sp mem ∙ ap (byte_at memory) next in
-        let after_is : wrap (earlier + 1) ≡ address = after_before context.activation (distances_in context) location (omega arith) in
-        let now : Registers = record r { h = high_byte (word_at memory r.sp); l = low_byte (word_at memory r.sp) } in
+        let after_is : wrap (earlier + 1) ≡ address =
+        after_before context.activation (distances_in context) location (omega arith) in
+        let now : Registers =
+        record r { h = high_byte (word_at memory r.sp); l = low_byte (word_at memory r.sp) } in
         top_word_goes (note_word_steps (before location) ++ (Plain (copy A H) ∷ [])) r sound stand on
         (λ middle found stand on.
         held_goes (before location) (Plain (copy A H) ∷ []) now stand on
@@ -274,15 +304,21 @@ frame_byte_goes {outcome = outcome} {Good = Good} {context = context} {PartIs = 
         (subst (λ (n : ℕ). IsSteady context.activation n) here
         (first_is_steady context.activation top pushed need r.sp sound.lies room pointer
         (subst (λ (n : ℕ). IsSteady context.activation n) (sym next) steady)))
-        (subst (λ (n : ℕ). IsSteady context.activation n) (sym after_is) steady) low (high ∙ ap (byte_at memory) (sym after_is)))
+        (subst (λ (n : ℕ). IsSteady context.activation n) (sym after_is) steady) low
+        (high ∙ ap (byte_at memory) (sym after_is)))
         (λ found_too stand on.
         copy_goes true address now sound high stand on
         (λ last_one beside on. rest last_one (record { a = beside.a; others = λ never. absurd cc }) on)))
     by_test false false none_is one_is stand =
-        let parts = steps_split (location_address_steps (knowing context.site used) (locations.Frame variable offset) pushed) (Plain (load A) ∷ []) stand in
-        location_address_goes used (locations.Frame variable offset) r sound room (omega arith) known parts.first on
+        let parts =
+        steps_split
+        (location_address_steps (knowing context.site used) (locations.Frame variable offset) pushed)
+        (Plain (load A) ∷ []) stand in
+        location_address_goes used (locations.Frame variable offset) r sound room (omega arith)
+        known parts.first on
         (λ there beside on_there.
-        load_a_goes (location_at context.activation (distances_in context) (locations.Frame variable offset)) there sound steady beside.hl parts.second on_there
+        load_a_goes (location_at context.activation (distances_in context) (locations.Frame variable offset))
+        there sound steady beside.hl parts.second on_there
         (λ now byte on. rest now (record { a = byte.a; others = λ never. absurd cc }) on))
 
 -- the byte at a location
@@ -296,15 +332,21 @@ pub location_byte_goes :
     → location_at context.activation (distances_in context) location < MEMORY_SIZE
     → IsSteady context.activation (location_at context.activation (distances_in context) location)
     → Know context used r memory
-    → StepsStand context PartIs facts from (location_byte_steps (knowing context.site used) location pushed) last to
+    → StepsStand context PartIs facts from
+    (location_byte_steps (knowing context.site used) location pushed) last to
     → GoesOn context facts top base source frame r memory
     → ((now : Registers)
-    → ByteBeside memory (location_at context.activation (distances_in context) location) (is_static_location location) r now
+    → ByteBeside memory (location_at context.activation (distances_in context) location)
+    (is_static_location location) r now
     → GoesOn context last top base source frame now memory
     → Does context.activation.around.program.script budget more (at_place to now memory events) outcome Good)
     → Does context.activation.around.program.script budget more (at_place from r memory events) outcome Good
-location_byte_goes {outcome = outcome} {Good = Good} {context = context} {PartIs = PartIs} {last = last} {to = to} {top = top} {pushed = pushed} {need = need} {budget = budget} {more = more} {base = base} {source = source} {memory = memory} {frame = frame} {events = events} {facts = facts} {from = from} used location r sound room small steady known stand on rest =
-    by_test (is_at used.byte_in_a location) (is_at used.word_in_hl location) (is_at used.word_in_hl (before location))
+location_byte_goes {outcome = outcome} {Good = Good} {context = context} {PartIs = PartIs} {last = last}
+    {to = to} {top = top} {pushed = pushed} {need = need} {budget = budget} {more = more} {base = base}
+    {source = source} {memory = memory} {frame = frame} {events = events} {facts = facts} {from = from} used
+    location r sound room small steady known stand on rest =
+    by_test (is_at used.byte_in_a location) (is_at used.word_in_hl location)
+    (is_at used.word_in_hl (before location))
     (is_at used.address_in_hl location) refl refl refl refl stand
   where
     address : ℕ
@@ -318,30 +360,38 @@ location_byte_goes {outcome = outcome} {Good = Good} {context = context} {PartIs
               frame_byte_steps (knowing context.site used) (locations.Frame variable offset)
               (distance (knowing context.site used) variable offset pushed) pushed
         ]) last to
-        → Does context.activation.around.program.script budget more (at_place from r memory events) outcome Good
+        → Does context.activation.around.program.script budget more
+        (at_place from r memory events) outcome Good
     by_location (locations.Static place) of_is stand =
         static_byte_goes place r sound
-        (subst (λ (l : Location). IsSteady context.activation (location_at context.activation (distances_in context) l)) of_is steady)
+        (subst (λ (l : Location). IsSteady context.activation
+        (location_at context.activation (distances_in context) l)) of_is steady)
         stand on
         (subst (λ (l : Location). (now : Registers)
-        → ByteBeside memory (location_at context.activation (distances_in context) l) (is_static_location l) r now
+        → ByteBeside memory (location_at context.activation (distances_in context) l)
+        (is_static_location l) r now
         → GoesOn context last top base source frame now memory
-        → Does context.activation.around.program.script budget more (at_place to now memory events) outcome Good) of_is rest)
+        → Does context.activation.around.program.script budget more (at_place to now memory events)
+        outcome Good) of_is rest)
     by_location (locations.Frame variable offset) of_is stand =
         frame_byte_goes used variable offset r sound room
-        (subst (λ (l : Location). IsSteady context.activation (location_at context.activation (distances_in context) l)) of_is steady)
+        (subst (λ (l : Location). IsSteady context.activation
+        (location_at context.activation (distances_in context) l)) of_is steady)
         known stand on
         (subst (λ (l : Location). (now : Registers)
-        → ByteBeside memory (location_at context.activation (distances_in context) l) (is_static_location l) r now
+        → ByteBeside memory (location_at context.activation (distances_in context) l)
+        (is_static_location l) r now
         → GoesOn context last top base source frame now memory
-        → Does context.activation.around.program.script budget more (at_place to now memory events) outcome Good) of_is rest)
+        → Does context.activation.around.program.script budget more (at_place to now memory events)
+        outcome Good) of_is rest)
 
     by_hl : (low high here : Bool)
         → is_at used.word_in_hl location ≡ low
         → is_at used.word_in_hl (before location) ≡ high
         → is_at used.address_in_hl location ≡ here
         → StepsStand context PartIs facts from
-        (elim (if low then Some (copy A L) else if high then Some (copy A H) else if here then Some (load A) else None) as (λ (found : Option Instr). List Step) [
+        (elim (if low then Some (copy A L) else if high then Some (copy A H) else if here then Some
+        (load A) else None) as (λ (found : Option Instr). List Step) [
           | Some instruction ↦ Plain instruction ∷ []
           | None ↦ elim location [
             | locations.Static place ↦ Word LoadA place ∷ []
@@ -350,18 +400,27 @@ location_byte_goes {outcome = outcome} {Good = Good} {context = context} {PartIs
                 (distance (knowing context.site used) variable offset pushed) pushed
           ]
         ]) last to
-        → Does context.activation.around.program.script budget more (at_place from r memory events) outcome Good
+        → Does context.activation.around.program.script budget more
+        (at_place from r memory events) outcome Good
     by_hl true high here low_is high_is here_is stand =
-        let is = word_in_hl_is context.activation (distances_in context) used.word_in_hl location r.h r.l memory low_is known.word_holds in
-        copy_goes false (location_at context.activation (distances_in context) location) r sound is.low_is.0 stand on
+        let is =
+        word_in_hl_is context.activation (distances_in context) used.word_in_hl location r.h r.l memory
+        low_is known.word_holds in
+        copy_goes false (location_at context.activation (distances_in context) location) r sound
+        is.low_is.0 stand on
         (λ now beside on. rest now (record { a = beside.a; others = λ alone. beside.others refl }) on)
     by_hl false true here low_is high_is here_is stand =
-        let is = byte_in_h_is context.activation (distances_in context) used.word_in_hl location r.h r.l memory small high_is known.word_holds in
+        let is =
+        byte_in_h_is context.activation (distances_in context) used.word_in_hl location r.h r.l memory
+        small high_is known.word_holds in
         copy_goes true (location_at context.activation (distances_in context) location) r sound is.0 stand on
         (λ now beside on. rest now (record { a = beside.a; others = λ alone. beside.others refl }) on)
     by_hl false false true low_is high_is here_is stand =
-        let is = address_in_hl_is context.activation (distances_in context) used.address_in_hl location r.h r.l here_is known.address_holds in
-        load_a_goes (location_at context.activation (distances_in context) location) r sound steady is stand on
+        let is =
+        address_in_hl_is context.activation (distances_in context) used.address_in_hl location r.h r.l
+        here_is known.address_holds in
+        load_a_goes (location_at context.activation (distances_in context) location) r
+        sound steady is stand on
         (λ now beside on. rest now (record { a = beside.a; others = λ alone. beside.others refl }) on)
     by_hl false false false low_is high_is here_is stand = by_location location refl stand
 
@@ -372,7 +431,8 @@ location_byte_goes {outcome = outcome} {Good = Good} {context = context} {PartIs
         → is_at used.address_in_hl location ≡ here
         → StepsStand context PartIs facts from
         (if in_a then []
-        else elim (if low then Some (copy A L) else if high then Some (copy A H) else if here then Some (load A) else None) as (λ (found : Option Instr). List Step) [
+        else elim (if low then Some (copy A L) else if high then Some (copy A H) else if here then Some
+        (load A) else None) as (λ (found : Option Instr). List Step) [
           | Some instruction ↦ Plain instruction ∷ []
           | None ↦ elim location [
             | locations.Static place ↦ Word LoadA place ∷ []
@@ -381,8 +441,12 @@ location_byte_goes {outcome = outcome} {Good = Good} {context = context} {PartIs
                 (distance (knowing context.site used) variable offset pushed) pushed
           ]
         ]) last to
-        → Does context.activation.around.program.script budget more (at_place from r memory events) outcome Good
+        → Does context.activation.around.program.script budget more
+        (at_place from r memory events) outcome Good
     by_test true low high here a_is low_is high_is here_is stand =
-        let is = byte_in_a_is context.activation (distances_in context) used.byte_in_a location r.a memory a_is known.byte_holds in
+        let is =
+        byte_in_a_is context.activation (distances_in context) used.byte_in_a location r.a memory
+        a_is known.byte_holds in
         nothing_goes r stand on (rest r (record { a = is.0; others = λ alone. only_itself r memory }))
-    by_test false low high here a_is low_is high_is here_is stand = by_hl low high here low_is high_is here_is stand
+    by_test false low high here a_is low_is high_is here_is stand =
+        by_hl low high here low_is high_is here_is stand

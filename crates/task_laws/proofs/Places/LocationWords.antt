@@ -18,13 +18,16 @@ low_of_two : (low high : ℕ) → low < 256 → high < 256 → low_byte (low + 2
 low_of_two low high one two = omega (arith, one, two)
 
 -- the two bytes of a word in memory
-pub high_there : (memory : List ℕ) (p : ℕ) → IsMemory memory → high_byte (word_at memory p) ≡ byte_at memory (wrap (p + 1))
+pub high_there : (memory : List ℕ) (p : ℕ) → IsMemory memory
+    → high_byte (word_at memory p) ≡ byte_at memory (wrap (p + 1))
 high_there memory p is =
-    high_of_two (byte_at memory p) (byte_at memory (wrap (p + 1))) (byte_small memory p is) (byte_small memory (wrap (p + 1)) is)
+    high_of_two (byte_at memory p) (byte_at memory (wrap (p + 1))) (byte_small memory p is)
+    (byte_small memory (wrap (p + 1)) is)
 
 pub low_there : (memory : List ℕ) (p : ℕ) → IsMemory memory → low_byte (word_at memory p) ≡ byte_at memory p
 low_there memory p is =
-    low_of_two (byte_at memory p) (byte_at memory (wrap (p + 1))) (byte_small memory p is) (byte_small memory (wrap (p + 1)) is)
+    low_of_two (byte_at memory p) (byte_at memory (wrap (p + 1))) (byte_small memory p is)
+    (byte_small memory (wrap (p + 1)) is)
 
 pub word_small : (memory : List ℕ) (p : ℕ) → IsMemory memory → word_at memory p < MEMORY_SIZE
 word_small memory p is =
@@ -34,21 +37,25 @@ word_small memory p is =
 
 -- a word that was popped is pushed again: the memory is unchanged
 pub push_back :
-    (script : List (List ℕ)) (pair : StackPair) (place p : ℕ) (r : Registers) (memory : List ℕ) (events : List Event)
+    (script : List (List ℕ)) (pair : StackPair) (place p : ℕ) (r : Registers) (memory : List ℕ)
+    (events : List Event)
     → r.sp ≡ wrap (p + 2)
     → p < MEMORY_SIZE
     → IsMemory memory
     → pushed_of pair r ≡ word_at memory p
-    → act script (Push pair) (at_place place r memory events) ≡ at_place place (record r { sp = p }) memory events
+    → act script (Push pair) (at_place place r memory events)
+    ≡ at_place place (record r { sp = p }) memory events
 push_back script pair place p r memory events pointer small is same =
-    ap (λ (w : ℕ). left (one_less r.sp) (two_less r.sp) (high_byte w) (low_byte w)) (pushed_anywhere pair (wrap place) r ∙ same)
+    ap (λ (w : ℕ). left (one_less r.sp) (two_less r.sp) (high_byte w) (low_byte w))
+    (pushed_anywhere pair (wrap place) r ∙ same)
     ∙ ap (λ (n : ℕ). left n (two_less r.sp) (high_byte (word_at memory p)) (low_byte (word_at memory p)))
     (ap one_less pointer ∙ up_and_one_down p small)
     ∙ ap (λ (n : ℕ). left (wrap (p + 1)) n (high_byte (word_at memory p)) (low_byte (word_at memory p)))
     (ap two_less pointer ∙ up_and_down p small)
     ∙ ap (λ (n : ℕ). left (wrap (p + 1)) p n (low_byte (word_at memory p))) (high_there memory p is)
     ∙ ap (λ (n : ℕ). left (wrap (p + 1)) p (byte_at memory (wrap (p + 1))) n) (low_there memory p is)
-    ∙ ap (λ (other : List ℕ). at_place place (record r { sp = p }) (slice_set other p (byte_at memory p)) events)
+    ∙ ap (λ (other : List ℕ). at_place place (record r { sp = p })
+    (slice_set other p (byte_at memory p)) events)
     (set_same memory (wrap (p + 1)))
     ∙ ap (λ (other : List ℕ). at_place place (record r { sp = p }) other events) (set_same memory p)
   where
@@ -70,10 +77,13 @@ pub top_word_goes :
     → GoesOn context found top base source frame
     (record r { h = high_byte (word_at memory r.sp); l = low_byte (word_at memory r.sp) }) memory
     → Does context.activation.around.program.script budget more
-    (at_place middle (record r { h = high_byte (word_at memory r.sp); l = low_byte (word_at memory r.sp) }) memory events)
+    (at_place middle (record r { h = high_byte (word_at memory r.sp); l = low_byte (word_at memory r.sp) })
+    memory events)
     outcome Good)
     → Does context.activation.around.program.script budget more (at_place from r memory events) outcome Good
-top_word_goes {outcome = outcome} {Good = Good} {context = context} {top = top} {budget = budget} {more = more} {memory = memory} {events = events} {facts = facts} {from = from} others r sound (PlainThere there (PlainThere again stand)) on rest =
+top_word_goes {outcome = outcome} {Good = Good} {context = context} {top = top} {budget = budget}
+    {more = more} {memory = memory} {events = events} {facts = facts} {from = from} others r sound
+    (PlainThere there (PlainThere again stand)) on rest =
     let script = context.activation.around.program.script in
     let shares = on.ready.shares in
     let is = shares.is_memory in
@@ -82,11 +92,13 @@ top_word_goes {outcome = outcome} {Good = Good} {context = context} {top = top} 
     let small : r.sp < MEMORY_SIZE = omega (arith, pointer) in
     let number : ℕ = word_at memory r.sp in
     let fits : number < MEMORY_SIZE = word_small memory r.sp is in
-    let after_pop : Registers = record r { h = high_byte number; l = low_byte number; sp = wrap (r.sp + 2) } in
+    let after_pop : Registers =
+    record r { h = high_byte number; l = low_byte number; sp = wrap (r.sp + 2) } in
     plain_first r sound.lies shares.code there
     (plain_first after_pop sound.lies shares.code again
     (subst (λ (s : State). Does script budget more s outcome Good)
-    (sym (push_back script StackHl (from + 1 + 1) r.sp after_pop memory events refl small is (omega (arith, fits))))
+    (sym (push_back script StackHl (from + 1 + 1) r.sp after_pop memory events refl small is
+    (omega (arith, fits))))
     (rest (from + 1 + 1) _ stand (record {
       ready =
           ready_with_registers refl
@@ -109,9 +121,12 @@ pub second_word_goes :
     → now ≡ record r { b = now.b; c = now.c; h = high_byte (word_at memory (wrap (r.sp + 2))); l = low_byte (word_at memory (wrap (r.sp + 2))) }
     → StepsStand context PartIs found middle others last to
     → GoesOn context found top base source frame now memory
-    → Does context.activation.around.program.script budget more (at_place middle now memory events) outcome Good)
+    → Does context.activation.around.program.script budget more
+    (at_place middle now memory events) outcome Good)
     → Does context.activation.around.program.script budget more (at_place from r memory events) outcome Good
-second_word_goes {outcome = outcome} {Good = Good} {context = context} {top = top} {budget = budget} {more = more} {memory = memory} {events = events} {facts = facts} {from = from} others r sound (PlainThere there (PlainThere next (PlainThere again (PlainThere once stand)))) on rest =
+second_word_goes {outcome = outcome} {Good = Good} {context = context} {top = top} {budget = budget}
+    {more = more} {memory = memory} {events = events} {facts = facts} {from = from} others r sound
+    (PlainThere there (PlainThere next (PlainThere again (PlainThere once stand)))) on rest =
     let script = context.activation.around.program.script in
     let shares = on.ready.shares in
     let is = shares.is_memory in
@@ -127,15 +142,18 @@ second_word_goes {outcome = outcome} {Good = Good} {context = context} {top = to
     let one : Registers = record r { b = high_byte first; c = low_byte first; sp = above } in
     let two : Registers = record one { h = high_byte second; l = low_byte second; sp = wrap (above + 2) } in
     let three : Registers = record two { sp = above } in
-    let now : Registers = record r { b = high_byte first; c = low_byte first; h = high_byte second; l = low_byte second } in
+    let now : Registers =
+    record r { b = high_byte first; c = low_byte first; h = high_byte second; l = low_byte second } in
     plain_first r sound.lies shares.code there
     (plain_first one sound.lies shares.code next
     (plain_first two sound.lies shares.code again
     (subst (λ (s : State). Does script budget more s outcome Good)
-    (sym (push_back script StackHl (from + 1 + 1 + 1) above two memory events refl above_small is (omega (arith, fits_too))))
+    (sym (push_back script StackHl (from + 1 + 1 + 1) above two memory events refl above_small is
+    (omega (arith, fits_too))))
     (plain_first three sound.lies shares.code once
     (subst (λ (s : State). Does script budget more s outcome Good)
-    (sym (push_back script StackBc (from + 1 + 1 + 1 + 1) r.sp three memory events refl small is (omega (arith, fits))))
+    (sym (push_back script StackBc (from + 1 + 1 + 1 + 1) r.sp three memory events refl small is
+    (omega (arith, fits))))
     (rest (from + 1 + 1 + 1 + 1) _ now refl stand (record {
       ready =
           ready_with_registers refl
@@ -167,7 +185,8 @@ pub word_at_hl_goes :
     → GoesOn context last top base source frame now memory
     → Does context.activation.around.program.script budget more (at_place to now memory events) outcome Good)
     → Does context.activation.around.program.script budget more (at_place from r memory events) outcome Good
-word_at_hl_goes {context = context} {memory = memory} {events = events} {facts = facts} address r sound steady is (PlainThere there (PlainThere next (PlainThere again stand))) on rest =
+word_at_hl_goes {context = context} {memory = memory} {events = events} {facts = facts} address r sound steady
+    is (PlainThere there (PlainThere next (PlainThere again stand))) on rest =
     let bytes = on.ready.registers in
     let mem = on.ready.shares.is_memory in
     let low : ℕ = byte_at memory (word r.h r.l) in
@@ -249,42 +268,57 @@ frame_word_goes :
     {events : List Event} {facts : Facts} {from : ℕ} (used : Facts) (variable offset : ℕ) (r : Registers)
     → IsSound context
     → HasRoom context.activation top pushed need
-    → IsSteady context.activation (location_at context.activation (distances_in context) (locations.Frame variable offset))
-    → IsSteady context.activation (wrap (location_at context.activation (distances_in context) (locations.Frame variable offset) + 1))
+    → IsSteady context.activation
+    (location_at context.activation (distances_in context) (locations.Frame variable offset))
+    → IsSteady context.activation
+    (wrap (location_at context.activation (distances_in context) (locations.Frame variable offset) + 1))
     → Know context used r memory
     → StepsStand context PartIs facts from
-    (frame_word_steps (knowing context.site used) (locations.Frame variable offset) (distance (knowing context.site used) variable offset pushed) pushed) last to
+    (frame_word_steps (knowing context.site used) (locations.Frame variable offset)
+    (distance (knowing context.site used) variable offset pushed) pushed) last to
     → GoesOn context facts top base source frame r memory
     → ((now : Registers)
-    → WordBeside memory (location_at context.activation (distances_in context) (locations.Frame variable offset)) false r now
+    → WordBeside memory
+    (location_at context.activation (distances_in context) (locations.Frame variable offset)) false r now
     → GoesOn context last top base source frame now memory
     → Does context.activation.around.program.script budget more (at_place to now memory events) outcome Good)
     → Does context.activation.around.program.script budget more (at_place from r memory events) outcome Good
 unfolding distance
-frame_word_goes {outcome = outcome} {Good = Good} {context = context} {PartIs = PartIs} {last = last} {to = to} {top = top} {pushed = pushed} {need = need} {budget = budget} {more = more} {base = base} {source = source} {memory = memory} {frame = frame} {events = events} {facts = facts} {from = from} used variable offset r sound room steady next known stand on rest =
-    by_test (distance context.site variable offset pushed == 0) (distance context.site variable offset pushed == 2) refl refl stand
+frame_word_goes {outcome = outcome} {Good = Good} {context = context} {PartIs = PartIs} {last = last}
+    {to = to} {top = top} {pushed = pushed} {need = need} {budget = budget} {more = more} {base = base}
+    {source = source} {memory = memory} {frame = frame} {events = events} {facts = facts} {from = from} used
+    variable offset r sound room steady next known stand on rest =
+    by_test (distance context.site variable offset pushed == 0)
+    (distance context.site variable offset pushed == 2) refl refl stand
   where
     by_test : (none two : Bool)
         → (distance context.site variable offset pushed == 0) ≡ none
         → (distance context.site variable offset pushed == 2) ≡ two
         → StepsStand context PartIs facts from
-        (if none then plain (Pop StackHl ∷ Push StackHl ∷ []) ++ note_word_steps (locations.Frame variable offset)
-        else if two then plain (Pop StackBc ∷ Pop StackHl ∷ Push StackHl ∷ Push StackBc ∷ []) ++ note_word_steps (locations.Frame variable offset)
-        else location_address_steps (knowing context.site used) (locations.Frame variable offset) pushed ++ word_at_hl_steps
+        (if none then plain (Pop StackHl ∷ Push StackHl ∷ [])
+        ++ note_word_steps (locations.Frame variable offset)
+        else if two then plain (Pop StackBc ∷ Pop StackHl ∷ Push StackHl ∷ Push StackBc ∷ [])
+        ++ note_word_steps (locations.Frame variable offset)
+        else location_address_steps (knowing context.site used) (locations.Frame variable offset) pushed
+        ++ word_at_hl_steps
         ++ note_word_steps (locations.Frame variable offset)) last to
-        → Does context.activation.around.program.script budget more (at_place from r memory events) outcome Good
+        → Does context.activation.around.program.script budget more
+        (at_place from r memory events) outcome Good
     by_test true two none_is two_is stand =
         let mem = on.ready.shares.is_memory in
         let pointer = on.ready.pointer in
-        let address : ℕ = location_at context.activation (distances_in context) (locations.Frame variable offset) in
+        let address : ℕ =
+        location_at context.activation (distances_in context) (locations.Frame variable offset) in
         let here : r.sp ≡ address
         = at_none (distance context.site variable offset pushed) r.sp address
         (eqb-true (distance context.site variable offset pushed) 0 none_is) (omega (arith, pointer))
         (frame_away context top pushed need variable offset r.sp room pointer) in
-        let low : low_byte (word_at memory r.sp) ≡ byte_at memory address = low_there memory r.sp mem ∙ ap (byte_at memory) here in
+        let low : low_byte (word_at memory r.sp) ≡ byte_at memory address =
+        low_there memory r.sp mem ∙ ap (byte_at memory) here in
         let high : high_byte (word_at memory r.sp) ≡ byte_at memory (wrap (address + 1))
         = high_there memory r.sp mem ∙ ap (λ (n : ℕ). byte_at memory (wrap (n + 1))) here in
-        let now : Registers = record r { h = high_byte (word_at memory r.sp); l = low_byte (word_at memory r.sp) } in
+        let now : Registers =
+        record r { h = high_byte (word_at memory r.sp); l = low_byte (word_at memory r.sp) } in
         top_word_goes (note_word_steps (locations.Frame variable offset)) r sound stand on
         (λ middle found stand on.
         note_word_goes (locations.Frame variable offset) now stand on
@@ -293,7 +327,8 @@ frame_word_goes {outcome = outcome} {Good = Good} {context = context} {PartIs = 
     by_test false true none_is two_is stand =
         let mem = on.ready.shares.is_memory in
         let pointer = on.ready.pointer in
-        let address : ℕ = location_at context.activation (distances_in context) (locations.Frame variable offset) in
+        let address : ℕ =
+        location_at context.activation (distances_in context) (locations.Frame variable offset) in
         let here : wrap (r.sp + 2) ≡ address
         = at_two (distance context.site variable offset pushed) r.sp address
         (eqb-true (distance context.site variable offset pushed) 2 two_is)
@@ -316,12 +351,19 @@ frame_word_goes {outcome = outcome} {Good = Good} {context = context} {PartIs = 
           e = ap (λ (r : Registers). r.e) is;
         }) on))
     by_test false false none_is two_is stand =
-        let address : ℕ = location_at context.activation (distances_in context) (locations.Frame variable offset) in
-        let later = steps_split (location_address_steps (knowing context.site used) (locations.Frame variable offset) pushed ++ word_at_hl_steps)
+        let address : ℕ =
+        location_at context.activation (distances_in context) (locations.Frame variable offset) in
+        let later =
+        steps_split
+        (location_address_steps (knowing context.site used) (locations.Frame variable offset) pushed
+        ++ word_at_hl_steps)
         (note_word_steps (locations.Frame variable offset)) stand in
-        let parts = steps_split (location_address_steps (knowing context.site used) (locations.Frame variable offset) pushed)
+        let parts =
+        steps_split
+        (location_address_steps (knowing context.site used) (locations.Frame variable offset) pushed)
         word_at_hl_steps later.first in
-        location_address_goes used (locations.Frame variable offset) r sound room (omega arith) known parts.first on
+        location_address_goes used (locations.Frame variable offset) r sound room (omega arith)
+        known parts.first on
         (λ there beside on_there.
         word_at_hl_goes address there sound steady beside.hl parts.second on_there
         (λ now word on_now.
@@ -386,14 +428,19 @@ pub location_word_goes :
     → IsSteady context.activation (location_at context.activation (distances_in context) location)
     → IsSteady context.activation (wrap (location_at context.activation (distances_in context) location + 1))
     → Know context used r memory
-    → StepsStand context PartIs facts from (location_word_steps (knowing context.site used) location pushed) last to
+    → StepsStand context PartIs facts from
+    (location_word_steps (knowing context.site used) location pushed) last to
     → GoesOn context facts top base source frame r memory
     → ((now : Registers)
-    → WordBeside memory (location_at context.activation (distances_in context) location) (is_static_location location) r now
+    → WordBeside memory (location_at context.activation (distances_in context) location)
+    (is_static_location location) r now
     → GoesOn context last top base source frame now memory
     → Does context.activation.around.program.script budget more (at_place to now memory events) outcome Good)
     → Does context.activation.around.program.script budget more (at_place from r memory events) outcome Good
-location_word_goes {outcome = outcome} {Good = Good} {context = context} {PartIs = PartIs} {last = last} {to = to} {top = top} {pushed = pushed} {need = need} {budget = budget} {more = more} {base = base} {source = source} {memory = memory} {frame = frame} {events = events} {facts = facts} {from = from} used location r sound room steady next known stand on rest =
+location_word_goes {outcome = outcome} {Good = Good} {context = context} {PartIs = PartIs} {last = last}
+    {to = to} {top = top} {pushed = pushed} {need = need} {budget = budget} {more = more} {base = base}
+    {source = source} {memory = memory} {frame = frame} {events = events} {facts = facts} {from = from} used
+    location r sound room steady next known stand on rest =
     by_test (is_at used.word_in_hl location) refl location refl stand
   where
     by_test : (here : Bool) → is_at used.word_in_hl location ≡ here
@@ -406,26 +453,37 @@ location_word_goes {outcome = outcome} {Good = Good} {context = context} {PartIs
               frame_word_steps (knowing context.site used) (locations.Frame variable offset)
               (distance (knowing context.site used) variable offset pushed) pushed
         ]) last to
-        → Does context.activation.around.program.script budget more (at_place from r memory events) outcome Good
+        → Does context.activation.around.program.script budget more
+        (at_place from r memory events) outcome Good
     by_test true here_is of of_is stand =
-        let is = word_in_hl_is context.activation (distances_in context) used.word_in_hl location r.h r.l memory here_is known.word_holds in
+        let is =
+        word_in_hl_is context.activation (distances_in context) used.word_in_hl location r.h r.l memory
+        here_is known.word_holds in
         nothing_goes r stand on
         (rest r (record { low = is.low_is.0; high = is.high_is.0; a = λ kept. refl; d = refl; e = refl }))
     by_test false here_is (locations.Static place) of_is stand =
         static_goes place r sound
-        (subst (λ (l : Location). IsSteady context.activation (location_at context.activation (distances_in context) l)) of_is steady)
-        (subst (λ (l : Location). IsSteady context.activation (wrap (location_at context.activation (distances_in context) l + 1))) of_is next)
+        (subst (λ (l : Location). IsSteady context.activation
+        (location_at context.activation (distances_in context) l)) of_is steady)
+        (subst (λ (l : Location). IsSteady context.activation
+        (wrap (location_at context.activation (distances_in context) l + 1))) of_is next)
         stand on
         (subst (λ (l : Location). (now : Registers)
-        → WordBeside memory (location_at context.activation (distances_in context) l) (is_static_location l) r now
+        → WordBeside memory (location_at context.activation (distances_in context) l)
+        (is_static_location l) r now
         → GoesOn context last top base source frame now memory
-        → Does context.activation.around.program.script budget more (at_place to now memory events) outcome Good) of_is rest)
+        → Does context.activation.around.program.script budget more (at_place to now memory events)
+        outcome Good) of_is rest)
     by_test false here_is (locations.Frame variable offset) of_is stand =
         frame_word_goes used variable offset r sound room
-        (subst (λ (l : Location). IsSteady context.activation (location_at context.activation (distances_in context) l)) of_is steady)
-        (subst (λ (l : Location). IsSteady context.activation (wrap (location_at context.activation (distances_in context) l + 1))) of_is next)
+        (subst (λ (l : Location). IsSteady context.activation
+        (location_at context.activation (distances_in context) l)) of_is steady)
+        (subst (λ (l : Location). IsSteady context.activation
+        (wrap (location_at context.activation (distances_in context) l + 1))) of_is next)
         known stand on
         (subst (λ (l : Location). (now : Registers)
-        → WordBeside memory (location_at context.activation (distances_in context) l) (is_static_location l) r now
+        → WordBeside memory (location_at context.activation (distances_in context) l)
+        (is_static_location l) r now
         → GoesOn context last top base source frame now memory
-        → Does context.activation.around.program.script budget more (at_place to now memory events) outcome Good) of_is rest)
+        → Does context.activation.around.program.script budget more (at_place to now memory events)
+        outcome Good) of_is rest)

@@ -13,7 +13,8 @@ pub record ProductIsGiven
   pub e : Left (keeps context.site index).de r.e now.e
 
 abbrev pub ProductDoes :
-    Context → (before : Facts) → (index : ExpressionNumber) → (stride pushed from : ℕ) → (after : Facts) → (to : ℕ) → Type 0
+    Context → (before : Facts) → (index : ExpressionNumber) → (stride pushed from : ℕ)
+    → (after : Facts) → (to : ℕ) → Type 0
 ProductDoes context before index stride pushed from after to =
     (bound : ℕ) (tree : TypedExpression)
     → IsExpression (nodes_in context) context.storage bound index.index tree
@@ -34,7 +35,8 @@ ProductsDo context =
 -- a product, and then others
 pub product_then :
     {B : Type 0} {more : ℕ} {go : ℕ → SourceState → Outcome B} {Good : B → SourceState → State → Type 0}
-    {context : Context} {facts found : Facts} {index : ExpressionNumber} {stride pushed middle bound top need : ℕ}
+    {context : Context} {facts found : Facts} {index : ExpressionNumber}
+    {stride pushed middle bound top need : ℕ}
     {base : List ℕ} {tree : TypedExpression} (from : ℕ) (s : SourceState) (r : Registers) (memory : List ℕ)
     → ProductDoes context facts index stride pushed from found middle
     → IsExpression (nodes_in context) context.storage bound index.index tree
@@ -48,12 +50,17 @@ pub product_then :
     → t.budget ≤ s.budget
     → GoesOn context found top base t.memory t.frame now ended
     → ProductIsGiven context found index stride r memory n now ended
-    → Does context.activation.around.program.script t.budget more (at_place middle now ended t.events) (go n t) Good)
+    → Does context.activation.around.program.script t.budget more
+    (at_place middle now ended t.events) (go n t) Good)
     → Does context.activation.around.program.script s.budget more (at_place from r memory s.events)
     (then_do (value context.later context.activation.around tree s) go) Good
-product_then {more = more} {go = go} {Good = Good} {context = context} {bound = bound} {top = top} {base = base} {tree = tree} from s r memory does is types address less room high on rest =
+product_then {more = more} {go = go} {Good = Good} {context = context} {bound = bound} {top = top}
+    {base = base} {tree = tree} from s r memory does is types address less room high on rest =
     then_does
-    (does bound tree is types address top base s r memory less (room_for (2 * height_of tree) high room) on.ready on.known tt)
+    (does bound tree is types address top base s r memory less (room_for (2 * height_of tree) high room)
+    on.ready on.known tt)
     (λ n t end given fewer.
-    subst (λ (state : State). Does context.activation.around.program.script t.budget more state (go n t) Good) (sym given.is_at)
-    (rest n t given.r given.memory fewer (record { ready = given.ready; known = (given.holds).known }) given.holds))
+    subst (λ (state : State). Does context.activation.around.program.script t.budget more state (go n t) Good)
+    (sym given.is_at)
+    (rest n t given.r given.memory fewer
+    (record { ready = given.ready; known = (given.holds).known }) given.holds))

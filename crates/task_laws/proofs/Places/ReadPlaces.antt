@@ -28,7 +28,8 @@ then_outside (Stopped More t) go is = absurd is
 
 -- a value was given without a change of the state, and its low byte is at an address
 pub record LowIsAt
-    (context : Context) (scalar : ScalarType) (address : ℕ) (memory : List ℕ) (t : SourceState) (outcome : Outcome ℕ) : Type 0 where
+    (context : Context) (scalar : ScalarType) (address : ℕ) (memory : List ℕ) (t : SourceState)
+    (outcome : Outcome ℕ) : Type 0 where
   pub found : ℕ
   pub is : outcome ≡ Gave found t
   pub low : byte_at memory address ≡ found % 256
@@ -63,21 +64,24 @@ byte_found {context = context} {memory = memory} (InMemory address) t sound read
         ≡ Gave (byte_at memory address) t))
         ⊎ GoesOutside (if declared then Gave (byte_at t.memory address) t else Stopped
         (Outside UndeclaredByte) t)
-    by_test true is = inl (declared_is_steady context.activation address sound.lies is, ap (λ (n : ℕ). Gave n t) (sym (ready.shares.declared address is)))
+    by_test true is =
+        inl (declared_is_steady context.activation address sound.lies is, ap (λ (n : ℕ). Gave n t) (sym (ready.shares.declared address is)))
     by_test false is = inr tt
 byte_found {context = context} {memory = memory} (InTheFrame object offset true) t sound ready fits =
     let within : offset + 1 ≤ context.activation.size object = fits refl in
     let less : offset < context.activation.size object = omega (arith, within) in
     let is = frame_is context object offset sound less in
     inl (
-      of_frame context.activation object offset (wrap (context.activation.level + context.activation.distance object + offset)) less is,
+      of_frame context.activation object offset
+          (wrap (context.activation.level + context.activation.distance object + offset)) less is,
       ap (λ (n : ℕ). Gave n t) (sym (ap (byte_at memory) is ∙ ready.frame_lies.bytes object offset less)),
     )
 byte_found (InTheFrame object offset false) t sound ready fits = inr tt
 
 -- an ADDRESS that is read; both its bytes are steady
 pub record WordIsAt
-    (context : Context) (place : Place) (memory : List ℕ) (t : SourceState) (outcome : Outcome ℕ) : Type 0 where
+    (context : Context) (place : Place) (memory : List ℕ) (t : SourceState)
+    (outcome : Outcome ℕ) : Type 0 where
   pub low_is : LowIsAt context Address (address_on_machine context.activation place) memory t outcome
   pub high_is : HighIsAt context (address_on_machine context.activation (next_place place)) memory t outcome
 
@@ -107,16 +111,21 @@ word_found {context = context} {memory = memory} place t sound ready fits =
         ⊎ GoesOutside (read_byte context.activation.around.program (next_place place) t)
         → WordIsAt context place memory t (read_scalar context.activation.around.program Address place t)
         ⊎ GoesOutside (read_scalar context.activation.around.program Address place t)
-    by_first (inr outside) second = inr (then_outside (read_byte context.activation.around.program place t) _ outside)
+    by_first (inr outside) second =
+        inr (then_outside (read_byte context.activation.around.program place t) _ outside)
     by_first (inl first) (inr outside) =
-        inr (rw first.1 (then_outside (read_byte context.activation.around.program (next_place place) t) (λ high u. Gave (byte_at memory here + 256 * high) u) outside))
+        inr (rw first.1 (then_outside (read_byte context.activation.around.program (next_place place) t)
+        (λ high u. Gave (byte_at memory here + 256 * high) u) outside))
     by_first (inl first) (inl second) =
         let small = byte_small memory here ready.shares.is_memory in
         let small_too = byte_small memory next ready.shares.is_memory in
-        let is : read_scalar context.activation.around.program Address place t ≡ Gave (byte_at memory here + 256 * byte_at memory next) t
+        let is : read_scalar context.activation.around.program Address place t
+        ≡ Gave (byte_at memory here + 256 * byte_at memory next) t
         = ap (λ (outcome : Outcome ℕ). then_do outcome
-        (λ low u. then_do (read_byte context.activation.around.program (next_place place) u) (λ high v. Gave (low + 256 * high) v))) first.1
-        ∙ ap (λ (outcome : Outcome ℕ). then_do outcome (λ high v. Gave (byte_at memory here + 256 * high) v)) second.1 in
+        (λ low u. then_do (read_byte context.activation.around.program (next_place place) u)
+        (λ high v. Gave (low + 256 * high) v))) first.1
+        ∙ ap (λ (outcome : Outcome ℕ). then_do outcome (λ high v. Gave (byte_at memory here + 256 * high) v))
+        second.1 in
         inl (record {
           low_is = record {
             found = byte_at memory here + 256 * byte_at memory next;

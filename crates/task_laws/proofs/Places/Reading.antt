@@ -54,23 +54,28 @@ pub byte_read :
     (go (byte_at memory (address_on_machine context.activation place)) s) Good)
     → Does context.activation.around.program.script budget more from
     (then_do (read_scalar context.activation.around.program Byte place s) go) Good
-byte_read {budget = budget} {more = more} {from = from} {Good = Good} {context = context} {memory = memory} (InMemory address) s go sound ready fits does =
+byte_read {budget = budget} {more = more} {from = from} {Good = Good} {context = context} {memory = memory}
+    (InMemory address) s go sound ready fits does =
     by_test (is_declared context.activation.around.program address) refl
   where
     by_test : (declared : Bool) → is_declared context.activation.around.program address ≡ declared
         → Does context.activation.around.program.script budget more from
-        (then_do (if declared then Gave (byte_at s.memory address) s else Stopped (Outside UndeclaredByte) s) go) Good
+        (then_do (if declared then Gave (byte_at s.memory address) s else Stopped (Outside UndeclaredByte) s)
+        go) Good
     by_test true is =
         subst (λ (byte : ℕ). Does context.activation.around.program.script budget more from (go byte s) Good)
-        (ready.shares.declared address is) (does (declared_is_steady context.activation address sound.lies is))
+        (ready.shares.declared address is)
+        (does (declared_is_steady context.activation address sound.lies is))
     by_test false is = record { told = tt }
-byte_read {budget = budget} {more = more} {from = from} {Good = Good} {context = context} {memory = memory} (InTheFrame object offset true) s go sound ready fits does =
+byte_read {budget = budget} {more = more} {from = from} {Good = Good} {context = context} {memory = memory}
+    (InTheFrame object offset true) s go sound ready fits does =
     let within : offset + 1 ≤ context.activation.size object = fits refl in
     let less : offset < context.activation.size object = omega (arith, within) in
     let is = frame_is context object offset sound less in
     subst (λ (byte : ℕ). Does context.activation.around.program.script budget more from (go byte s) Good)
     (ap (byte_at memory) is ∙ ready.frame_lies.bytes object offset less)
-    (does (of_frame context.activation object offset (wrap (context.activation.level + context.activation.distance object + offset)) less is))
+    (does (of_frame context.activation object offset
+    (wrap (context.activation.level + context.activation.distance object + offset)) less is))
 byte_read {Good = Good} (InTheFrame object offset false) s go sound ready fits does = record { told = tt }
 
 -- and an ADDRESS
@@ -88,7 +93,8 @@ pub word_read :
     + 256 * byte_at memory (wrap (address_on_machine context.activation place + 1))) s) Good)
     → Does context.activation.around.program.script budget more from
     (then_do (read_scalar context.activation.around.program Address place s) go) Good
-word_read {budget = budget} {more = more} {from = from} {Good = Good} {context = context} {memory = memory} (InMemory address) s go sound ready fits does =
+word_read {budget = budget} {more = more} {from = from} {Good = Good} {context = context} {memory = memory}
+    (InMemory address) s go sound ready fits does =
     by_test (is_declared context.activation.around.program address)
     (is_declared context.activation.around.program (wrap (address + 1))) refl refl
   where
@@ -99,18 +105,22 @@ word_read {budget = budget} {more = more} {from = from} {Good = Good} {context =
         (then_do
         (then_do (if first then Gave (byte_at s.memory address) s else Stopped (Outside UndeclaredByte) s)
         (λ low t. then_do
-        (if second then Gave (byte_at t.memory (wrap (address + 1))) t else Stopped (Outside UndeclaredByte) t)
+        (if second then Gave (byte_at t.memory (wrap (address + 1))) t else Stopped
+        (Outside UndeclaredByte) t)
         (λ high u. Gave (low + 256 * high) u)))
         go) Good
     by_test true true one two =
-        subst (λ (number : ℕ). Does context.activation.around.program.script budget more from (go number s) Good)
+        subst (λ (number : ℕ). Does context.activation.around.program.script budget more
+        from (go number s) Good)
         (ap (λ (low : ℕ). low + 256 * byte_at memory (wrap (address + 1))) (ready.shares.declared address one)
-        ∙ ap (λ (high : ℕ). byte_at s.memory address + 256 * high) (ready.shares.declared (wrap (address + 1)) two))
+        ∙ ap (λ (high : ℕ). byte_at s.memory address + 256 * high)
+        (ready.shares.declared (wrap (address + 1)) two))
         (does (declared_is_steady context.activation address sound.lies one)
         (declared_is_steady context.activation (wrap (address + 1)) sound.lies two))
     by_test true false one two = record { told = tt }
     by_test false second one two = record { told = tt }
-word_read {budget = budget} {more = more} {from = from} {Good = Good} {context = context} {memory = memory} (InTheFrame object offset true) s go sound ready fits does =
+word_read {budget = budget} {more = more} {from = from} {Good = Good} {context = context} {memory = memory}
+    (InTheFrame object offset true) s go sound ready fits does =
     let within : offset + 2 ≤ context.activation.size object = fits refl in
     let less : offset < context.activation.size object = omega (arith, within) in
     let less_too : offset + 1 < context.activation.size object = omega (arith, within) in

@@ -24,7 +24,8 @@ high_enough height need is = omega (arith, is)
 
 pub second_then :
     {B : Type 0} {more : ℕ} {go : ℕ → SourceState → Outcome B} {Good : B → SourceState → State → Type 0}
-    {context : Context} {facts last : Facts} {to pushed bound top need : ℕ} {base : List ℕ} {tree : TypedExpression}
+    {context : Context} {facts last : Facts} {to pushed bound top need : ℕ} {base : List ℕ}
+    {tree : TypedExpression}
     (used : Facts) (second : IndexNode) (from : ℕ) (s : SourceState) (r : Registers) (memory : List ℕ)
     → ProductsDo context
     → second.stride < 65536
@@ -35,17 +36,21 @@ pub second_then :
     → s.budget < context.number
     → HasRoom context.activation top pushed need
     → 2 + 2 * height_of tree ≤ need
-    → StepsStand context (PartDoes context) facts from (second_steps (knowing context.site used) second pushed) last to
+    → StepsStand context (PartDoes context) facts from
+    (second_steps (knowing context.site used) second pushed) last to
     → GoesOn context facts top base s.memory s.frame r memory
     → ((n : ℕ) (t : SourceState) (now : Registers) (ended : List ℕ)
     → t.budget ≤ s.budget
     → GoesOn context last top base t.memory t.frame now ended
     → word now.h now.l ≡ wrap (word r.h r.l + n * second.stride)
     → Left (keeps context.site second.index).a r.a now.a
-    → Does context.activation.around.program.script t.budget more (at_place to now ended t.events) (go n t) Good)
+    → Does context.activation.around.program.script t.budget more
+    (at_place to now ended t.events) (go n t) Good)
     → Does context.activation.around.program.script s.budget more (at_place from r memory s.events)
     (then_do (value context.later context.activation.around tree s) go) Good
-second_then {more = more} {go = go} {Good = Good} {context = context} {facts = facts} {last = last} {to = to} {pushed = pushed} {bound = bound} {top = top} {need = need} {base = base} {tree = tree} used second from s r memory products small sound is types address less room high stand on rest =
+second_then {more = more} {go = go} {Good = Good} {context = context} {facts = facts} {last = last} {to = to}
+    {pushed = pushed} {bound = bound} {top = top} {need = need} {base = base} {tree = tree} used second from s
+    r memory products small sound is types address less room high stand on rest =
     by_test (keeps (knowing context.site used) second.index).de refl stand
   where
     by_test : (kept : Bool) → (keeps (knowing context.site used) second.index).de ≡ kept
@@ -58,11 +63,14 @@ second_then {more = more} {go = go} {Good = Good} {context = context} {facts = f
         (then_do (value context.later context.activation.around tree s) go) Good
     by_test true kept stand =
         let kept_here : (keeps context.site second.index).de ≡ true
-        = ap (λ (of : Rattle.treecode.specs.declared.traits.Keeps.Keeps). of.de) (sym (keeps_anywhere context used second.index)) ∙ kept in
+        = ap (λ (of : Rattle.treecode.specs.declared.traits.Keeps.Keeps). of.de)
+        (sym (keeps_anywhere context used second.index)) ∙ kept in
         let one : Registers = record r { h = r.d; l = r.e; d = r.h; e = r.l } in
-        registers_then (Xchg ∷ []) (product_steps second.index second.stride pushed ++ (Plain (Dad De) ∷ [])) r sound (tt, tt) stand on
+        registers_then (Xchg ∷ []) (product_steps second.index second.stride pushed ++ (Plain (Dad De) ∷ []))
+        r sound (tt, tt) stand on
         (λ middle found stand on_one.
-        let parts = steps_split (product_steps second.index second.stride pushed) (Plain (Dad De) ∷ []) stand in
+        let parts =
+        steps_split (product_steps second.index second.stride pushed) (Plain (Dad De) ∷ []) stand in
         product_then middle s one memory
         (products found parts.found second.index second.stride pushed middle parts.middle small parts.first)
         is types address less room (high_enough (height_of tree) need high) on_one
@@ -78,12 +86,15 @@ second_then {more = more} {go = go} {Good = Good} {context = context} {facts = f
         let number : ℕ = pushed_of StackHl r in
         let lower : Registers = record r { sp = wrap (top - 2) } in
         let after : List ℕ = pushed_memory top number memory in
-        let parts = steps_split (product_steps second.index second.stride ((pushed + 2) % 65536)) (plain (Pop StackDe ∷ Dad De ∷ [])) stand in
+        let parts =
+        steps_split (product_steps second.index second.stride ((pushed + 2) % 65536))
+        (plain (Pop StackDe ∷ Dad De ∷ [])) stand in
         let two : 2 ≤ need = omega (arith, high) in
         push_goes StackHl r sound there on two room
         (λ on_lower.
         product_then (from + 1) s lower after
-        (products facts parts.found second.index second.stride ((pushed + 2) % 65536) (from + 1) parts.middle small parts.first)
+        (products facts parts.found second.index second.stride ((pushed + 2) % 65536) (from + 1)
+        parts.middle small parts.first)
         is types address less
         (more_pushed (2 * height_of tree) sound.lies (omega (arith, some)) high room) (omega arith) on_lower
         (λ n t now ended fewer on_now given.
@@ -91,20 +102,24 @@ second_then {more = more} {go = go} {Good = Good} {context = context} {facts = f
       where
         popped : {found : Facts} {middle : ℕ} (n : ℕ) (t : SourceState) (now : Registers) (ended : List ℕ)
             → t.budget ≤ s.budget
-            → GoesOn context found (top - 2) (pushed_memory top (pushed_of StackHl r) memory) t.memory t.frame now ended
+            → GoesOn context found (top - 2) (pushed_memory top (pushed_of StackHl r) memory)
+            t.memory t.frame now ended
             → ProductIsGiven context found second.index second.stride (record r { sp = wrap (top - 2) })
             (pushed_memory top (pushed_of StackHl r) memory) n now ended
             → StepsStand context (PartDoes context) found middle (plain (Pop StackDe ∷ Dad De ∷ [])) last to
-            → Does context.activation.around.program.script t.budget more (at_place middle now ended t.events) (go n t) Good
+            → Does context.activation.around.program.script t.budget more
+            (at_place middle now ended t.events) (go n t) Good
         popped {found = found} {middle = middle} n t now ended fewer on_now given (PlainThere there stand) =
             let two : 2 ≤ need = omega (arith, high) in
             let number : ℕ = pushed_of StackHl r in
             let back : Registers = record now { d = high_byte number; e = low_byte number; sp = wrap top } in
-            pop_goes StackDe now sound there two room on.ready (pushed_word_small StackHl r on.ready.registers) on_now
+            pop_goes StackDe now sound there two room on.ready
+            (pushed_word_small StackHl r on.ready.registers) on_now
             (λ on_back.
             registers_end (Dad De ∷ []) back sound (tt, tt) stand on_back
             (λ on_sum. rest n t _ ended fewer on_sum
             (back_together (word now.h now.l + word (high_byte number) (low_byte number))
-            ∙ sum_in_hl now.h now.l (high_byte number) (low_byte number) (word r.h r.l) (n * second.stride) given.hl
+            ∙ sum_in_hl now.h now.l (high_byte number) (low_byte number) (word r.h r.l)
+            (n * second.stride) given.hl
             (word_of_bytes number))
             given.a))

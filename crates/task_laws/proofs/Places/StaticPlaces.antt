@@ -13,7 +13,8 @@ pub not_computed :
 unfolding split
 not_computed context facts None some = refl
 not_computed context facts (Some subscript) some =
-    by (number_at (nodes_in context) subscript.index) some (number_is (knowing context.site facts) subscript.index)
+    by (number_at (nodes_in context) subscript.index) some
+    (number_is (knowing context.site facts) subscript.index)
   where
     by : (found : Option ℕ) → is_some (known_distance subscript.stride found) ≡ true
         → number_of (knowing context.site facts) subscript.index ≡ found
@@ -44,7 +45,8 @@ static_location context facts reference some =
 
     there : (home : Home) → (first second : Option IndexNode) → Option Location
     there home first second =
-        let base : Base = base_after (base_after (base_after (base_of home) reference.offset) one.offset) two.offset in
+        let base : Base =
+        base_after (base_after (base_after (base_of home) reference.offset) one.offset) two.offset in
         elim (located_at base first second).first as (λ (found : Option IndexNode). Option Location) [
           | Some subscript ↦ None
           | None ↦ location_at (located_at base first second).base
@@ -55,11 +57,15 @@ static_location context facts reference some =
         (distance_of (nodes_in context) reference.member_subscript)) ≡ true
         → (place : Place) × (there home one.computed two.computed ≡ Some (Static place))
     by_home (homes.Static place) some =
-        let both = place_known (homes.Static place) reference.offset (distance_of (nodes_in context) reference.subscript)
+        let both =
+        place_known (homes.Static place) reference.offset
+        (distance_of (nodes_in context) reference.subscript)
         (distance_of (nodes_in context) reference.member_subscript) some in (
           _,
-          ap (λ found. there (homes.Static place) found two.computed) (not_computed context facts reference.subscript both.0)
-              ∙ ap (λ found. there (homes.Static place) None found) (not_computed context facts reference.member_subscript both.1),
+          ap (λ found. there (homes.Static place) found two.computed)
+              (not_computed context facts reference.subscript both.0)
+              ∙ ap (λ found. there (homes.Static place) None found)
+              (not_computed context facts reference.member_subscript both.1),
         )
     by_home (homes.Based base) some = absurd (false≢true some)
     by_home (homes.Frame variable) some = absurd (false≢true some)

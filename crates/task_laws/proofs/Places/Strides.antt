@@ -13,7 +13,8 @@ sum_stride :
     (subscript : IndexNode) (operator : BinaryOperator) (left : ExpressionNumber) (found : Option ℕ)
     → subscript.stride < 65536
     → HasStride (unwrap_or
-    (option_and_then (λ value. split_sum subscript operator value left) found) (split_whole subscript)).computed
+    (option_and_then (λ value. split_sum subscript operator value left) found)
+    (split_whole subscript)).computed
 sum_stride subscript operator left None small = small
 sum_stride subscript operators.Add left (Some n) small = small
 sum_stride subscript operators.Subtract left (Some n) small = small
@@ -41,7 +42,8 @@ computed_stride site subscript small = by (expression site subscript.index)
     by None = small
 
 pub has_stride :
-    {nodes : Nodes} {storage : Storage} {bound : ℕ} {given : Option IndexNode} {subscript : Subscript} (site : Site)
+    {nodes : Nodes} {storage : Storage} {bound : ℕ} {given : Option IndexNode}
+    {subscript : Subscript} (site : Site)
     → IsSubscript nodes storage bound given subscript
     → HasStride (split site given).computed
 unfolding split

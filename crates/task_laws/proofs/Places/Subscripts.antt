@@ -22,7 +22,8 @@ pub data IsSplit (context : Context) (given : Option IndexNode) (subscript : Sub
       → wrap shift.bytes ≡ wrap offset
       → keeps_of_subscript (nodes_in context) given ≡ None
       → IsSplit context given subscript None offset
-  IsComputed : {index : IndexNode} {offset : ℕ} (of : Keeps) (bound : ℕ) (inner : TypedExpression) (shift : ℕ → Displacement)
+  IsComputed : {index : IndexNode} {offset : ℕ} (of : Keeps) (bound : ℕ) (inner : TypedExpression)
+      (shift : ℕ → Displacement)
       → IsExpression (nodes_in context) context.storage bound (index.index).index inner
       → TypesHold context.typed context.within inner
       → type_of inner ≡ Address
@@ -116,7 +117,8 @@ difference_bytes stride n k small =
     let whole = mul-mod_second stride (n + (65536 - k)) 65536 in
     let parts = mul-add stride n (65536 - k) in
     let all = mul-add stride (65536 - k) k in
-    let together : stride * (65536 - k + k) ≡ stride * 65536 = ap (λ (n : ℕ). stride * n) (omega (arith, small)) in
+    let together : stride * (65536 - k + k) ≡ stride * 65536 =
+    ap (λ (n : ℕ). stride * n) (omega (arith, small)) in
     omega (arith, same, same_too, turned, turned_too, whole, parts, all, together)
 
 -- how a subscript is taken apart: where it is known, and where not
@@ -138,7 +140,8 @@ split_unknown context facts index is = rw (is, split) refl
 split_by_form :
     (context : Context) (facts : Facts) (index : IndexNode) (found : Expression)
     → expression (knowing context.site facts) index.index ≡ Some found
-    → split_computed (knowing context.site facts) index ≡ split_form (knowing context.site facts) index found.form
+    → split_computed (knowing context.site facts) index
+    ≡ split_form (knowing context.site facts) index found.form
 unfolding split_computed
 split_by_form context facts index found is = rw (is, split_computed) refl
 
@@ -157,8 +160,10 @@ sum_means :
     (found_by : ℕ → ℕ) (s : State)
     → ((t : State) → value context.later context.activation.around right t ≡ Gave k t)
     → ((n : ℕ) → result_of Address operator n k ≡ Some (found_by n))
-    → displacement context.later context.activation.around (At stride count (BinaryNode Address operator left right)) s
-    ≡ then_do (value context.later context.activation.around left s) (λ n t. Gave (displaced stride count (found_by n)) t)
+    → displacement context.later context.activation.around
+    (At stride count (BinaryNode Address operator left right)) s
+    ≡ then_do (value context.later context.activation.around left s)
+    (λ n t. Gave (displaced stride count (found_by n)) t)
 sum_means context stride count k operator left right found_by s is by_operator =
     then_two (value context.later context.activation.around left s)
     (λ first t. then_do (value context.later context.activation.around right t)
@@ -166,9 +171,11 @@ sum_means context stride count k operator left right found_by s is by_operator =
     (λ number t. Gave (displaced stride count number) t)
     (λ n t. Gave (displaced stride count (found_by n)) t)
     (λ n t.
-    ap (λ (outcome : Outcome ℕ). then_do (then_do outcome (λ second u. computed (result_of Address operator n second) u))
+    ap (λ (outcome : Outcome ℕ). then_do
+    (then_do outcome (λ second u. computed (result_of Address operator n second) u))
     (λ number u. Gave (displaced stride count number) u)) (is t)
-    ∙ ap (λ (result : Option ℕ). then_do (computed result t) (λ number u. Gave (displaced stride count number) u))
+    ∙ ap (λ (result : Option ℕ). then_do (computed result t)
+    (λ number u. Gave (displaced stride count number) u))
     (by_operator n))
 
 -- code of all of an index
@@ -179,12 +186,15 @@ whole_is :
     → TypesHold context.typed context.within tree
     → type_of tree ≡ Address
     → number (knowing context.site facts) index.index ≡ None
-    → IsSplit context (Some index) (At stride count tree) (split_whole index).computed (split_whole index).offset
+    → IsSplit context (Some index) (At stride count tree) (split_whole index).computed
+    (split_whole index).offset
 whole_is context facts index stride count bound tree stride_is is types address unknown =
-    IsComputed (keeps_at (nodes_in context) index.index) bound tree (displaced stride count) is types address (omega arith)
+    IsComputed (keeps_at (nodes_in context) index.index) bound tree (displaced stride count) is types
+    address (omega arith)
     (λ s. refl)
     (λ n. index_bytes stride n ∙ ap (λ (stride : ℕ). wrap (n * stride + 0)) (sym stride_is))
-    (ap (λ (found : Option ℕ). Rattle.treecode.specs.Traits.keeps_of_index (nodes_in context) index.index found)
+    (ap (λ (found : Option ℕ). Rattle.treecode.specs.Traits.keeps_of_index
+    (nodes_in context) index.index found)
     (sym (number_same context facts index.index) ∙ unknown))
     (record {
       a = λ kept. ap (λ (of : Keeps). of.a) (keeps_same context index.index) ∙ kept;
@@ -202,7 +212,8 @@ unfolding traits_of
 known_keeps {context = context} {of = of} {tree = tree} place sound is known_is =
     let node = node_of sound is in
     let there : traits_at (nodes_in context) of ≡ traits_of (nodes_in context) (type_of tree) node.found.form
-    = ap (λ (found : Option Expression). option_map_or (λ (expression : Expression). expression.traits) found no_traits) node.is_there
+    = ap (λ (found : Option Expression). option_map_or (λ (expression : Expression). expression.traits) found
+    no_traits) node.is_there
     ∙ node.traits in
     ap (λ (traits : Traits). traits.keeps) there
     ∙ ap (λ (place : Option Place). keeps_of (nodes_in context) (type_of tree) place node.found.form)
@@ -226,7 +237,8 @@ sum_keeps :
     → known_at (nodes_in context) right ≡ Some (Number k)
     → KeepsLess
     (keeps_of (nodes_in context) Address
-    (result_of_known Address operators.Add (known_at (nodes_in context) left) (known_at (nodes_in context) right))
+    (result_of_known Address operators.Add (known_at (nodes_in context) left)
+    (known_at (nodes_in context) right))
     (forms.Binary Address operators.Add left right))
     (keeps_at (nodes_in context) left)
 sum_keeps context bound k left right tree sound is right_is = by_left (known_at (nodes_in context) left) refl
@@ -252,10 +264,12 @@ difference_keeps :
     → known_at (nodes_in context) right ≡ Some (Number k)
     → KeepsLess
     (keeps_of (nodes_in context) Address
-    (result_of_known Address operators.Subtract (known_at (nodes_in context) left) (known_at (nodes_in context) right))
+    (result_of_known Address operators.Subtract (known_at (nodes_in context) left)
+    (known_at (nodes_in context) right))
     (forms.Binary Address operators.Subtract left right))
     (keeps_at (nodes_in context) left)
-difference_keeps context bound k left right tree sound is right_is = by_left (known_at (nodes_in context) left) refl
+difference_keeps context bound k left right tree sound is right_is =
+    by_left (known_at (nodes_in context) left) refl
   where
     by_left : (place : Option Place) → known_at (nodes_in context) left ≡ place
         → KeepsLess
@@ -286,12 +300,15 @@ less_from first one other same less = record {
 
 -- the code of a node keeps the registers that its form says
 form_keeps :
-    {context : Context} {number : ExpressionNumber} {tree : TypedExpression} (node : NodeOf context number tree)
+    {context : Context} {number : ExpressionNumber} {tree : TypedExpression}
+    (node : NodeOf context number tree)
     → keeps_at (nodes_in context) number
-    ≡ keeps_of (nodes_in context) (type_of tree) (known_of (nodes_in context) (type_of tree) node.found.form) node.found.form
+    ≡ keeps_of (nodes_in context) (type_of tree)
+    (known_of (nodes_in context) (type_of tree) node.found.form) node.found.form
 unfolding traits_of
 form_keeps {context = context} node =
-    ap (λ (found : Option Expression). (option_map_or (λ (expression : Expression). expression.traits) found no_traits).keeps) node.is_there
+    ap (λ (found : Option Expression). (option_map_or (λ (expression : Expression). expression.traits) found
+    no_traits).keeps) node.is_there
     ∙ ap (λ (traits : Traits). traits.keeps) node.traits
 
 -- an index with a number that is added
@@ -311,8 +328,10 @@ sum_split :
     → IsSplit context (Some (record { index = number; stride = stride % 65536 }))
     (At stride count (BinaryNode Address operators.Add first second))
     (Some (record { index = left; stride = stride % 65536 })) ((k * (stride % 65536)) % 65536)
-sum_split context facts number left right stride count bound k first second sound node form_is one two types address types_too unknown known_is =
-    IsComputed (keeps_at (nodes_in context) number) bound first (λ n. displaced stride count ((n + k) % 65536)) one types address
+sum_split context facts number left right stride count bound k first second sound node form_is one two types
+    address types_too unknown known_is =
+    IsComputed (keeps_at (nodes_in context) number) bound first
+    (λ n. displaced stride count ((n + k) % 65536)) one types address
     (left_high (height_of first) (height_of second))
     (λ s. sum_means context stride count k operators.Add first second (λ n. (n + k) % 65536) s
     (number_means facts k sound two types_too known_is) (λ n. refl))
@@ -321,10 +340,12 @@ sum_split context facts number left right stride count bound k first second soun
     (sym (number_same context facts number) ∙ unknown))
     (less_from (keeps_at (nodes_in context) number) _ (keeps context.site left)
     (form_keeps node
-    ∙ ap (λ (form : ExpressionForm). keeps_of (nodes_in context) Address (known_of (nodes_in context) Address form) form) form_is)
+    ∙ ap (λ (form : ExpressionForm). keeps_of (nodes_in context) Address
+    (known_of (nodes_in context) Address form) form) form_is)
     (less_than _ (keeps_at (nodes_in context) left) (keeps context.site left)
     (sum_keeps context bound k left right first sound one
-    (place_of_number (known_at (nodes_in context) right) k (sym (number_same context facts right) ∙ known_is)))
+    (place_of_number (known_at (nodes_in context) right) k
+    (sym (number_same context facts right) ∙ known_is)))
     (sym (keeps_same context left))))
 
 -- and with one that is taken
@@ -344,10 +365,15 @@ difference_split :
     → Rattle.steps8080.specs.Queries.number (knowing context.site facts) right ≡ Some k
     → IsSplit context (Some (record { index = number; stride = stride % 65536 }))
     (At stride count (BinaryNode Address operators.Subtract first second))
-    (Some (record { index = left; stride = stride % 65536 })) ((65536 - (k * (stride % 65536)) % 65536) % 65536)
-difference_split context facts number left right stride count bound k first second sound node form_is one two types address types_too address_too unknown known_is =
-    let small : k < 65536 = subst (λ (scalar : ScalarType). k < values_of scalar) address_too (number_small facts k sound two types_too known_is) in
-    IsComputed (keeps_at (nodes_in context) number) bound first (λ n. displaced stride count ((n + (65536 - k)) % 65536)) one types address
+    (Some (record { index = left; stride = stride % 65536 }))
+    ((65536 - (k * (stride % 65536)) % 65536) % 65536)
+difference_split context facts number left right stride count bound k first second sound node form_is one two
+    types address types_too address_too unknown known_is =
+    let small : k < 65536 =
+    subst (λ (scalar : ScalarType). k < values_of scalar) address_too
+    (number_small facts k sound two types_too known_is) in
+    IsComputed (keeps_at (nodes_in context) number) bound first
+    (λ n. displaced stride count ((n + (65536 - k)) % 65536)) one types address
     (left_high (height_of first) (height_of second))
     (λ s. sum_means context stride count k operators.Subtract first second (λ n. (n + (65536 - k)) % 65536) s
     (number_means facts k sound two types_too known_is) (λ n. refl))
@@ -356,15 +382,18 @@ difference_split context facts number left right stride count bound k first seco
     (sym (number_same context facts number) ∙ unknown))
     (less_from (keeps_at (nodes_in context) number) _ (keeps context.site left)
     (form_keeps node
-    ∙ ap (λ (form : ExpressionForm). keeps_of (nodes_in context) Address (known_of (nodes_in context) Address form) form) form_is)
+    ∙ ap (λ (form : ExpressionForm). keeps_of (nodes_in context) Address
+    (known_of (nodes_in context) Address form) form) form_is)
     (less_than _ (keeps_at (nodes_in context) left) (keeps context.site left)
     (difference_keeps context bound k left right first sound one
-    (place_of_number (known_at (nodes_in context) right) k (sym (number_same context facts right) ∙ known_is)))
+    (place_of_number (known_at (nodes_in context) right) k
+    (sym (number_same context facts right) ∙ known_is)))
     (sym (keeps_same context left))))
 
 -- an operator from which no number is split off
 other_split :
-    (context : Context) (facts : Facts) (of left right : ExpressionNumber) (operator : BinaryOperator) (stride count bound : ℕ)
+    (context : Context) (facts : Facts) (of left right : ExpressionNumber) (operator : BinaryOperator)
+    (stride count bound : ℕ)
     (tree : TypedExpression)
     → ((k : ℕ) → split_sum (record { index = of; stride = stride % 65536 }) operator k left ≡ None)
     → IsExpression (nodes_in context) context.storage bound of.index tree
@@ -372,10 +401,12 @@ other_split :
     → type_of tree ≡ Address
     → number (knowing context.site facts) of ≡ None
     → IsSplit context (Some (record { index = of; stride = stride % 65536 })) (At stride count tree)
-    (unwrap_or (option_and_then (λ value. split_sum (record { index = of; stride = stride % 65536 }) operator value left)
+    (unwrap_or (option_and_then (λ value. split_sum (record { index = of; stride = stride % 65536 })
+    operator value left)
     (number (knowing context.site facts) right))
     (split_whole (record { index = of; stride = stride % 65536 }))).computed
-    (unwrap_or (option_and_then (λ value. split_sum (record { index = of; stride = stride % 65536 }) operator value left)
+    (unwrap_or (option_and_then (λ value. split_sum (record { index = of; stride = stride % 65536 })
+    operator value left)
     (number (knowing context.site facts) right))
     (split_whole (record { index = of; stride = stride % 65536 }))).offset
 other_split context facts of left right operator stride count bound tree none is types address unknown =
@@ -384,20 +415,24 @@ other_split context facts of left right operator stride count bound tree none is
     whole : IsSplit context (Some (record { index = of; stride = stride % 65536 })) (At stride count tree)
         (Some (record { index = of; stride = stride % 65536 })) 0
     whole =
-        whole_is context facts (record { index = of; stride = stride % 65536 }) stride count bound tree refl is types address unknown
+        whole_is context facts (record { index = of; stride = stride % 65536 }) stride count bound tree refl
+        is types address unknown
 
     by_right : (found : Option ℕ)
         → IsSplit context (Some (record { index = of; stride = stride % 65536 })) (At stride count tree)
-        (unwrap_or (option_and_then (λ value. split_sum (record { index = of; stride = stride % 65536 }) operator value left) found)
+        (unwrap_or (option_and_then (λ value. split_sum (record { index = of; stride = stride % 65536 })
+        operator value left) found)
         (split_whole (record { index = of; stride = stride % 65536 }))).computed
-        (unwrap_or (option_and_then (λ value. split_sum (record { index = of; stride = stride % 65536 }) operator value left) found)
+        (unwrap_or (option_and_then (λ value. split_sum (record { index = of; stride = stride % 65536 })
+        operator value left) found)
         (split_whole (record { index = of; stride = stride % 65536 }))).offset
     by_right None = whole
     by_right (Some k) = rw (none k) whole
 
 -- an index that is no number
 computed_split :
-    (context : Context) (facts : Facts) (of : ExpressionNumber) (stride count bound : ℕ) (tree : TypedExpression)
+    (context : Context) (facts : Facts) (of : ExpressionNumber) (stride count bound : ℕ)
+    (tree : TypedExpression)
     → IsSound context
     → (node : NodeOf context of tree)
     → IsExpression (nodes_in context) context.storage bound of.index tree
@@ -411,15 +446,19 @@ computed_split :
     (split_form (knowing context.site facts) (record { index = of; stride = stride % 65536 }) form).computed
     (split_form (knowing context.site facts) (record { index = of; stride = stride % 65536 }) form).offset
 computed_split context facts of stride count bound tree sound node is types address unknown form form_is
-    (IsBinary {operands = Address} {operator = operators.Add} {left = left} {right = right} {first = first} {second = second} one two) =
+    (IsBinary {operands = Address} {operator = operators.Add} {left = left} {right = right} {first = first}
+    {second = second} one two) =
     by_right (Rattle.steps8080.specs.Queries.number (knowing context.site facts) right) refl
   where
     by_right : (found : Option ℕ)
         → Rattle.steps8080.specs.Queries.number (knowing context.site facts) right ≡ found
-        → IsSplit context (Some (record { index = of; stride = stride % 65536 })) (At stride count (BinaryNode Address operators.Add first second))
-        (unwrap_or (option_and_then (λ value. split_sum (record { index = of; stride = stride % 65536 }) operators.Add value left) found)
+        → IsSplit context (Some (record { index = of; stride = stride % 65536 }))
+        (At stride count (BinaryNode Address operators.Add first second))
+        (unwrap_or (option_and_then (λ value. split_sum (record { index = of; stride = stride % 65536 })
+        operators.Add value left) found)
         (split_whole (record { index = of; stride = stride % 65536 }))).computed
-        (unwrap_or (option_and_then (λ value. split_sum (record { index = of; stride = stride % 65536 }) operators.Add value left) found)
+        (unwrap_or (option_and_then (λ value. split_sum (record { index = of; stride = stride % 65536 })
+        operators.Add value left) found)
         (split_whole (record { index = of; stride = stride % 65536 }))).offset
     by_right (Some k) known_is =
         sum_split context facts of left right stride count of.index k first second sound node form_is one two
@@ -428,27 +467,35 @@ computed_split context facts of stride count bound tree sound node is types addr
         whole_is context facts (record { index = of; stride = stride % 65536 }) stride count bound
         (BinaryNode Address operators.Add first second) refl is types address unknown
 computed_split context facts of stride count bound tree sound node is types address unknown form form_is
-    (IsBinary {operands = Address} {operator = operators.Subtract} {left = left} {right = right} {first = first} {second = second} one two) =
+    (IsBinary {operands = Address} {operator = operators.Subtract} {left = left} {right = right}
+    {first = first} {second = second} one two) =
     by_right (Rattle.steps8080.specs.Queries.number (knowing context.site facts) right) refl
   where
     by_right : (found : Option ℕ)
         → Rattle.steps8080.specs.Queries.number (knowing context.site facts) right ≡ found
-        → IsSplit context (Some (record { index = of; stride = stride % 65536 })) (At stride count (BinaryNode Address operators.Subtract first second))
-        (unwrap_or (option_and_then (λ value. split_sum (record { index = of; stride = stride % 65536 }) operators.Subtract value left) found)
+        → IsSplit context (Some (record { index = of; stride = stride % 65536 }))
+        (At stride count (BinaryNode Address operators.Subtract first second))
+        (unwrap_or (option_and_then (λ value. split_sum (record { index = of; stride = stride % 65536 })
+        operators.Subtract value left) found)
         (split_whole (record { index = of; stride = stride % 65536 }))).computed
-        (unwrap_or (option_and_then (λ value. split_sum (record { index = of; stride = stride % 65536 }) operators.Subtract value left) found)
+        (unwrap_or (option_and_then (λ value. split_sum (record { index = of; stride = stride % 65536 })
+        operators.Subtract value left) found)
         (split_whole (record { index = of; stride = stride % 65536 }))).offset
     by_right (Some k) known_is =
-        difference_split context facts of left right stride count of.index k first second sound node form_is one two
+        difference_split context facts of left right stride count of.index k first second sound
+        node form_is one two
         (types.1).0 (types.1).1 (types.2).0 (types.2).1 unknown known_is
     by_right None known_is =
         whole_is context facts (record { index = of; stride = stride % 65536 }) stride count bound
         (BinaryNode Address operators.Subtract first second) refl is types address unknown
 computed_split context facts of stride count bound tree sound node is types address unknown form form_is
     (IsBinary {operands = Address} {operator = operator} {left = left} {right = right} one two) =
-    other_split context facts of left right operator stride count bound tree (λ k. refl) is types address unknown
-computed_split context facts of stride count bound tree sound node is types address unknown form form_is is_form =
-    whole_is context facts (record { index = of; stride = stride % 65536 }) stride count bound tree refl is types address unknown
+    other_split context facts of left right operator stride count bound tree (λ k. refl) is
+    types address unknown
+computed_split context facts of stride count bound tree sound node is types address unknown
+    form form_is is_form =
+    whole_is context facts (record { index = of; stride = stride % 65536 }) stride count bound tree refl is
+    types address unknown
 
 -- a subscript as a site takes it apart
 pub is_split :
@@ -460,7 +507,8 @@ pub is_split :
     (split (knowing context.site facts) given).offset
 unfolding split
 is_split facts sound IsAbsent types = AllKnown no_displacement (λ s. refl) refl refl
-is_split {context = context} facts sound (IsIndex {stride = stride} {count = count} {number = of} {index = tree} is) types =
+is_split {context = context} facts sound
+    (IsIndex {stride = stride} {count = count} {number = of} {index = tree} is) types =
     by_number (number (knowing context.site facts) of) refl
   where
     by_number : (found : Option ℕ) → number (knowing context.site facts) of ≡ found
@@ -469,16 +517,24 @@ is_split {context = context} facts sound (IsIndex {stride = stride} {count = cou
         (split (knowing context.site facts) (Some (record { index = of; stride = stride % 65536 }))).offset
     by_number (Some n) known_is =
         let apart = split_known context facts (record { index = of; stride = stride % 65536 }) n known_is in
-        subst (λ (computed : Option IndexNode). IsSplit context (Some (record { index = of; stride = stride % 65536 })) (At stride count tree) computed
-        (split (knowing context.site facts) (Some (record { index = of; stride = stride % 65536 }))).offset) (sym apart.0)
-        (subst (λ (offset : ℕ). IsSplit context (Some (record { index = of; stride = stride % 65536 })) (At stride count tree) None offset) (sym apart.1)
+        subst (λ (computed : Option IndexNode). IsSplit context
+        (Some (record { index = of; stride = stride % 65536 })) (At stride count tree) computed
+        (split (knowing context.site facts) (Some (record { index = of; stride = stride % 65536 }))).offset)
+        (sym apart.0)
+        (subst (λ (offset : ℕ). IsSplit context (Some (record { index = of; stride = stride % 65536 }))
+        (At stride count tree) None offset) (sym apart.1)
         (AllKnown (displaced stride count n)
-        (λ s. ap (λ (outcome : Outcome ℕ). then_do outcome (λ n t. Gave (displaced stride count n) t)) (number_means facts n sound is types.0 known_is s))
+        (λ s. ap (λ (outcome : Outcome ℕ). then_do outcome (λ n t. Gave (displaced stride count n) t))
+        (number_means facts n sound is types.0 known_is s))
         (known_bytes stride n)
-        (ap (λ (found : Option ℕ). keeps_of_index (nodes_in context) of found) (sym (number_same context facts of) ∙ known_is))))
+        (ap (λ (found : Option ℕ). keeps_of_index (nodes_in context) of found)
+        (sym (number_same context facts of) ∙ known_is))))
     by_number None unknown =
         let node = node_of sound is in
         let apart = split_unknown context facts (record { index = of; stride = stride % 65536 }) unknown
-        ∙ split_by_form context facts (record { index = of; stride = stride % 65536 }) node.found (node.at_site facts) in
-        subst (λ split. IsSplit context (Some (record { index = of; stride = stride % 65536 })) (At stride count tree) split.computed split.offset) (sym apart)
-        (computed_split context facts of stride count _ tree sound node is types.0 types.1 unknown node.found.form refl node.form)
+        ∙ split_by_form context facts (record { index = of; stride = stride % 65536 }) node.found
+        (node.at_site facts) in
+        subst (λ split. IsSplit context (Some (record { index = of; stride = stride % 65536 }))
+        (At stride count tree) split.computed split.offset) (sym apart)
+        (computed_split context facts of stride count _ tree sound node is types.0 types.1 unknown
+        node.found.form refl node.form)

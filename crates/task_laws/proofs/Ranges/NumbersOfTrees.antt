@@ -56,7 +56,8 @@ module _ (nodes : Nodes) (storage : Storage) (words : NumbersAreWords nodes) whe
   in_targets NoTargets = tt
   in_targets (MoreTargets there is more) = (in_target is, in_targets more)
 
-  in_head : (head : Iteration) (tree : TypedIteration) → IsIteration nodes storage head tree → NumbersFitInHead tree
+  in_head : (head : Iteration) (tree : TypedIteration) → IsIteration nodes storage head tree
+      → NumbersFitInHead tree
   in_head head tree is = (in_node is.first, in_node is.last, in_optional is.step)
 
   mutual
@@ -74,7 +75,8 @@ module _ (nodes : Nodes) (storage : Storage) (words : NumbersAreWords nodes) whe
     in_statement_form (IsReturn is) = in_optional is
     in_statement_form IsHalt = tt
     in_statement_form (IsGoto there) = tt
-    in_statement_form (IsIf condition body otherwise) = (in_node condition, in_statement body, in_else otherwise)
+    in_statement_form (IsIf condition body otherwise) =
+        (in_node condition, in_statement body, in_else otherwise)
     in_statement_form (IsDo list) = in_list list
     in_statement_form (IsWhile condition list) = (in_node condition, in_list list)
     in_statement_form (IsIterate {head = head} {tree = tree} is list) = (in_head head tree is, in_list list)
@@ -127,7 +129,8 @@ numbers_of_lowered typed storage tree lowered words = record {
         → number < length tree.procedures.items
         → NumbersFitInList heading.body
     by number heading is (inl found) less =
-        in_list (nodes_of tree) storage words (lowered.procedures number found.0 heading found.2 is).has_body.body
+        in_list (nodes_of tree) storage words
+        (lowered.procedures number found.0 heading found.2 is).has_body.body
     by number heading is (inr past) less = let most = past.0 in absurd (omega (arith, less, most))
 
 -- a typed module is well typed, and its tree code has only numbers of 16 bits

@@ -16,7 +16,8 @@ module _ (context : Context) (sound : IsSound context) where
   calls_give : CallsGive context.later context.typed context.activation.around
   calls_give procedure heading arguments s there types source =
       gives_from
-      (called_for context.later (callee_in context.activation.around procedure) arguments context.activation.around s)
+      (called_for context.later (callee_in context.activation.around procedure) arguments
+      context.activation.around s)
       (λ found t same. sound.calls_fit procedure found heading arguments s t there types source same)
 
   fits_node : {bound index : ℕ} {tree : TypedExpression} (s : State)
@@ -26,7 +27,8 @@ module _ (context : Context) (sound : IsSound context) where
       → Gives (λ n t. (n < values_of (type_of tree)) × Fits t)
       (value context.later context.activation.around tree s)
   fits_node {tree = tree} s is types source =
-      tree_fits context.later context.typed context.within context.activation.around sound.script calls_give tree s types
+      tree_fits context.later context.typed context.within context.activation.around sound.script
+      calls_give tree s types
       (in_node (nodes_in context) context.storage sound.numbers is) source
 
 -- where code may go on, the source's bytes are bytes
@@ -62,7 +64,8 @@ pub value_fits :
     → value context.later context.activation.around tree s ≡ Gave n t
     → n < values_of (type_of tree)
 value_fits {context = context} {n = n} {tree = tree} {t = t} s sound is types source same =
-    (given_by (value context.later context.activation.around tree s) n t same (fits_node context sound s is types source)).0
+    (given_by (value context.later context.activation.around tree s) n t same
+    (fits_node context sound s is types source)).0
 
 -- and bytes stay bytes
 pub bytes_fit_after :
@@ -74,7 +77,8 @@ pub bytes_fit_after :
     → value context.later context.activation.around tree s ≡ Gave n t
     → SourceFits context.activation.around t
 bytes_fit_after {context = context} {n = n} {tree = tree} {t = t} s sound is types source same =
-    (given_by (value context.later context.activation.around tree s) n t same (fits_node context sound s is types source)).1
+    (given_by (value context.later context.activation.around tree s) n t same
+    (fits_node context sound s is types source)).1
 
 below_number : (found : Option ℕ) (bound : ℕ)
     → elim found [
@@ -92,7 +96,8 @@ right_by_eight x count small most =
     let less : x / 256 / 2 ^ (count - 8) ≤ x / 256 = quotient_less (x / 256) (2 ^ (count - 8)) in
     omega (arith, same, less, small)
 
-pub operands_are_addresses : (operator : BinaryOperator) (operands : ScalarType) → type_of_result operator operands ≡ Address
+pub operands_are_addresses : (operator : BinaryOperator) (operands : ScalarType)
+    → type_of_result operator operands ≡ Address
     → operands ≡ Address
 operands_are_addresses Equal operands same = let bad : Byte ≡ Address = same in cc
 operands_are_addresses Less operands same = let bad : Byte ≡ Address = same in cc
@@ -113,7 +118,8 @@ module _ (context : Context) (sound : IsSound context) (facts : Facts) where
       → number_of (knowing context.site facts) of ≡ Some number
       → Gives (λ n t. n ≡ number) (meant tree s)
   is_number number s is types here =
-      subst (λ (outcome : Outcome ℕ). Gives (λ n t. n ≡ number) outcome) (sym (number_means facts number sound is types here s))
+      subst (λ (outcome : Outcome ℕ). Gives (λ n t. n ≡ number) outcome)
+      (sym (number_means facts number sound is types here s))
       (IsGiven refl)
 
   any_value : {bound : ℕ} {of : ExpressionNumber} {tree : TypedExpression} (s : State)
@@ -153,7 +159,8 @@ module _ (context : Context) (sound : IsSound context) (facts : Facts) where
 
   -- AND with a number below 256, and a remainder by one below 257
   two_below :
-      {bound : ℕ} {left right : ExpressionNumber} {first second : TypedExpression} (operator : BinaryOperator) (s : State)
+      {bound : ℕ} {left right : ExpressionNumber} {first second : TypedExpression}
+      (operator : BinaryOperator) (s : State)
       → IsExpression (nodes_in context) context.storage bound left.index first
       → IsExpression (nodes_in context) context.storage bound right.index second
       → TypesHold context.typed context.within first
@@ -161,14 +168,16 @@ module _ (context : Context) (sound : IsSound context) (facts : Facts) where
       → result_fits_byte (knowing context.site facts) operator left right ≡ true
       → Gives (λ n t. n < 256) (meant (BinaryNode Address operator first second) s)
   unfolding result_fits_byte is_number_below
-  two_below {left = left} {right = right} {first = first} {second = second} And s one two types_one types_two fits =
+  two_below {left = left} {right = right} {first = first} {second = second} And s one two
+      types_one types_two fits =
       by (is_number_below (knowing context.site facts) left 256) refl
     where
       by : (test : Bool) → is_number_below (knowing context.site facts) left 256 ≡ test
           → Gives (λ n t. n < 256) (meant (BinaryNode Address And first second) s)
       by true here =
           let known = below_number (number_of (knowing context.site facts) left) 256 here in
-          gives_then (meant first s) (λ x t. then_do (meant second t) (λ y u. computed (result_of Address And x y) u))
+          gives_then (meant first s)
+          (λ x t. then_do (meant second t) (λ y u. computed (result_of Address And x y) u))
           (is_number known.0 s one types_one known.1)
           (λ x t is.
           gives_then (meant second t) (λ y u. computed (result_of Address And x y) u) (any_value t two)
@@ -177,8 +186,10 @@ module _ (context : Context) (sound : IsSound context) (facts : Facts) where
           let small = known.2 in omega (arith, less, small, is))))
       by false here =
           let known = below_number (number_of (knowing context.site facts) right) 256
-          (sym (ap (λ (test : Bool). test || is_number_below (knowing context.site facts) right 256) here) ∙ fits) in
-          gives_then (meant first s) (λ x t. then_do (meant second t) (λ y u. computed (result_of Address And x y) u))
+          (sym (ap (λ (test : Bool). test || is_number_below (knowing context.site facts) right 256) here)
+          ∙ fits) in
+          gives_then (meant first s)
+          (λ x t. then_do (meant second t) (λ y u. computed (result_of Address And x y) u))
           (any_value s one)
           (λ x t any.
           gives_then (meant second t) (λ y u. computed (result_of Address And x y) u)
@@ -186,9 +197,11 @@ module _ (context : Context) (sound : IsSound context) (facts : Facts) where
           (λ y u is. IsGiven (
           let less : bit_and x y ≤ y = and_le_r x y in
           let small = known.2 in omega (arith, less, small, is))))
-  two_below {left = left} {right = right} {first = first} {second = second} Modulo s one two types_one types_two fits =
+  two_below {left = left} {right = right} {first = first} {second = second} Modulo s one two
+      types_one types_two fits =
       let known = below_number (number_of (knowing context.site facts) right) 257 fits in
-      gives_then (meant first s) (λ x t. then_do (meant second t) (λ y u. computed (result_of Address Modulo x y) u))
+      gives_then (meant first s)
+      (λ x t. then_do (meant second t) (λ y u. computed (result_of Address Modulo x y) u))
       (any_value s one)
       (λ x t any.
       gives_then (meant second t) (λ y u. computed (result_of Address Modulo x y) u)
@@ -202,7 +215,8 @@ module _ (context : Context) (sound : IsSound context) (facts : Facts) where
   number_eight function found is = absurd (false≢true is)
 
   shift_below :
-      {bound : ℕ} {of count : ExpressionNumber} {moved by : TypedExpression} (function : ShiftFunction) (s : State)
+      {bound : ℕ} {of count : ExpressionNumber} {moved by : TypedExpression}
+      (function : ShiftFunction) (s : State)
       → IsExpression (nodes_in context) context.storage bound of.index moved
       → IsExpression (nodes_in context) context.storage bound count.index by
       → TypesHold context.typed context.within moved
@@ -212,15 +226,19 @@ module _ (context : Context) (sound : IsSound context) (facts : Facts) where
       → Fits context sound s
       → Gives (λ n t. n < 256) (meant (ShiftNode Address function moved by) s)
   unfolding shift_fits_byte
-  shift_below {of = of} {count = count} {moved = moved} {by = by} function s one two types_one is_address types_two fits source =
+  shift_below {of = of} {count = count} {moved = moved} {by = by} function s one two types_one is_address
+      types_two fits source =
       let known = number_eight function (number_of (knowing context.site facts) count) fits in
       gives_then (meant moved s) (λ n t. then_do (meant by t) (λ k u. Gave (shifted Address function n k) u))
       (fits_node context sound s one types_one source)
       (λ n t first.
-      gives_then (meant by t) (λ k u. Gave (shifted Address function n k) u) (is_number known.0 t two types_two known.1)
+      gives_then (meant by t) (λ k u. Gave (shifted Address function n k) u)
+      (is_number known.0 t two types_two known.1)
       (λ k u is. IsGiven (
       let most = known.2 in
-      let small = right_by_eight n k (of_type (type_of moved) Address n is_address first.0) (omega (arith, most, is)) in
+      let small =
+      right_by_eight n k (of_type (type_of moved) Address n is_address first.0)
+      (omega (arith, most, is)) in
       subst (λ (f : ShiftFunction). shifted Address f n k < 256) (sym known.3) small)))
 
   form_below :
@@ -233,16 +251,24 @@ module _ (context : Context) (sound : IsSound context) (facts : Facts) where
       → Gives (λ n t. n < 256) (meant tree s)
   unfolding form_fits_byte
   form_below s (IsConversion {inner = of} {scalar = scalar} {tree = inner} is) address types fits source =
-      gives_then (meant inner s) (λ n t. Gave (as_type scalar n) t) (fits_node context sound s is types source)
+      gives_then (meant inner s) (λ n t. Gave (as_type scalar n) t)
+      (fits_node context sound s is types source)
       (λ n t one. IsGiven (lesser scalar n (of_type (type_of inner) Byte n (scalar_is is fits) one.0)))
   form_below s (IsFunction {function = Double} {tree = inner} is) address types fits source =
       gives_then (meant inner s) (λ n t. Gave n t) (fits_node context sound s is types source)
       (λ n t one. IsGiven (of_type (type_of inner) Byte n (scalar_is is fits) one.0))
-  form_below s (IsBinary {operands = operands} {operator = operator} {left = left} {right = right} {first = first} {second = second} one two) address types fits source =
-      subst (λ (scalar : ScalarType). Gives (λ n t. n < 256) (meant (BinaryNode scalar operator first second) s))
-      (sym (operands_are_addresses operator operands address)) (two_below operator s one two (types.1).0 (types.2).0 fits)
-  form_below s (IsShift {scalar = scalar} {function = function} {value = of} {count = count} {shifted = moved} {by = by} one two) address types fits source =
-      subst (λ (of_scalar : ScalarType). Gives (λ n t. n < 256) (meant (ShiftNode of_scalar function moved by) s)) (sym address)
+  form_below s
+      (IsBinary {operands = operands} {operator = operator} {left = left} {right = right} {first = first}
+      {second = second} one two) address types fits source =
+      subst (λ (scalar : ScalarType). Gives (λ n t. n < 256)
+      (meant (BinaryNode scalar operator first second) s))
+      (sym (operands_are_addresses operator operands address))
+      (two_below operator s one two (types.1).0 (types.2).0 fits)
+  form_below s
+      (IsShift {scalar = scalar} {function = function} {value = of} {count = count} {shifted = moved}
+      {by = by} one two) address types fits source =
+      subst (λ (of_scalar : ScalarType). Gives (λ n t. n < 256)
+      (meant (ShiftNode of_scalar function moved by) s)) (sym address)
       (shift_below function s one two (types.1).0 ((types.1).1 ∙ address) (types.2).0 fits source)
   form_below s IsNumber address types fits source = absurd (false≢true fits)
   form_below s (IsValue reference) address types fits source = absurd (false≢true fits)
@@ -267,7 +293,8 @@ module _ (context : Context) (sound : IsSound context) (facts : Facts) where
   gives_below {of = of} {tree = tree} s is types fits source =
       let node : NodeOf context of tree = node_of sound is in
       by_type node (type_of tree) refl
-      (sym (ap (λ (scalar : ScalarType). fits_byte_by (knowing context.site facts) of scalar node.found.form) node.scalar)
+      (sym (ap (λ (scalar : ScalarType). fits_byte_by (knowing context.site facts) of scalar node.found.form)
+      node.scalar)
       ∙ sym (ap (λ (found : Option Expression). elim found [
         | Some expression ↦
             fits_byte_by (knowing context.site facts) of expression.traits.scalar expression.form

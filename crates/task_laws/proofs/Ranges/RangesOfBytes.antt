@@ -27,7 +27,8 @@ picked true inside reason s given = given refl
 picked false inside reason s given = IsStopped
 
 -- a byte of a byte list, or 0 past it
-small_at : (bytes : List ℕ) (offset : ℕ) → All (λ byte. byte < 256) bytes → slice_index_or bytes offset 0 < 256
+small_at : (bytes : List ℕ) (offset : ℕ) → All (λ byte. byte < 256) bytes
+    → slice_index_or bytes offset 0 < 256
 small_at bytes offset all = by (cases_lt offset (length bytes))
   where
     by : (offset < length bytes) ⊎ (length bytes ≤ offset) → slice_index_or bytes offset 0 < 256
@@ -38,8 +39,10 @@ bytes_at : (frame : List (List ℕ)) (object : ℕ) → All (λ bytes. All (λ b
     → All (λ byte. byte < 256) (frame_bytes frame object)
 bytes_at frame object all = by (cases_lt object (length frame))
   where
-    by : (object < length frame) ⊎ (length frame ≤ object) → All (λ byte. byte < 256) (frame_bytes frame object)
-    by (inl inside) = All-get_or (λ (bytes : List ℕ). All (λ byte. byte < 256) bytes) frame object [] inside all
+    by : (object < length frame) ⊎ (length frame ≤ object)
+        → All (λ byte. byte < 256) (frame_bytes frame object)
+    by (inl inside) =
+        All-get_or (λ (bytes : List ℕ). All (λ byte. byte < 256) bytes) frame object [] inside all
     by (inr past) = rw (get_or_past frame object [] past) (All-nil (λ (byte : ℕ). byte < 256))
 
 -- an address that a program can ask for
@@ -59,7 +62,8 @@ pub given_by :
     → outcome ≡ Gave found t
     → Gives Holds outcome
     → Holds found t
-given_by {A = A} {Holds = Holds} outcome found t same gives = by (subst (λ (given : Outcome A). Gives Holds given) same gives)
+given_by {A = A} {Holds = Holds} outcome found t same gives =
+    by (subst (λ (given : Outcome A). Gives Holds given) same gives)
   where
     by : Gives Holds (Gave found t) → Holds found t
     by (IsGiven holds) = holds
@@ -83,10 +87,12 @@ module _ (around : Surroundings) where
       (λ declared. IsGiven (source.memory address declared, source))
   read_fits (InTheFrame object offset is_inside) s source =
       picked is_inside (Gave (slice_index_or (frame_bytes s.frame object) offset 0) s) _ s
-      (λ inside. IsGiven (small_at (frame_bytes s.frame object) offset (bytes_at s.frame object source.frame), source))
+      (λ inside. IsGiven
+      (small_at (frame_bytes s.frame object) offset (bytes_at s.frame object source.frame), source))
 
   pub scalar_fits : (scalar : ScalarType) (place : Place) (s : State) → SourceFits around s
-      → Gives (λ n t. (n < values_of scalar) × SourceFits around t) (read_scalar around.program scalar place s)
+      → Gives (λ n t. (n < values_of scalar) × SourceFits around t)
+      (read_scalar around.program scalar place s)
   scalar_fits Byte place s source = read_fits place s source
   scalar_fits Address place s source =
       gives_then (read_byte around.program place s)
@@ -105,9 +111,11 @@ module _ (around : Surroundings) where
       past : length memory ≤ address → length (slice_set memory address byte) ≤ address
       past less = rw (length-set memory address byte) less
 
-      same : (address < length memory) ⊎ (length memory ≤ address) → byte_at (slice_set memory address byte) address < 256
+      same : (address < length memory) ⊎ (length memory ≤ address)
+          → byte_at (slice_set memory address byte) address < 256
       same (inl inside) = rw (byte_put memory address byte inside) small
-      same (inr outside) = rw (get_or_past (slice_set memory address byte) address 0 (past outside)) (omega arith)
+      same (inr outside) =
+          rw (get_or_past (slice_set memory address byte) address 0 (past outside)) (omega arith)
 
       by : (other ≡ address) ⊎ (other ≢ address) → byte_at (slice_set memory address byte) other < 256
       by (inl here) = rw here (same (cases_lt address (length memory)))
@@ -130,7 +138,8 @@ module _ (around : Surroundings) where
       })
   byte_fits (InTheFrame object offset is_inside) byte s small source =
       picked is_inside
-      (Gave tt (record s { frame = slice_set s.frame object (slice_set (frame_bytes s.frame object) offset byte) })) _ s
+      (Gave tt
+      (record s { frame = slice_set s.frame object (slice_set (frame_bytes s.frame object) offset byte) })) _ s
       (λ inside. IsGiven (record {
         memory = source.memory;
         frame =
@@ -152,7 +161,8 @@ module _ (around : Surroundings) where
       (λ found t one. byte_fits (next_place place) (number / 256) t (high_fits number Address small) one)
 
   pub place_fits : (home : Home) (object bytes : ℕ) (is_inside : Bool) (s : State) → SourceFits around s
-      → Gives (λ place t. PlaceFits place × SourceFits around t) (based_place home around object bytes is_inside s)
+      → Gives (λ place t. PlaceFits place × SourceFits around t)
+      (based_place home around object bytes is_inside s)
   place_fits (BasedOn base) object bytes is_inside s source =
       gives_then (read_scalar around.program Address (place_of around base) s)
       (λ start t. Gave (InMemory ((start + bytes) % MEMORY_SIZE)) t)
@@ -179,16 +189,21 @@ pub list_fits : (around : Surroundings) (list : ℕ) → address_of_list around 
 list_fits around list = by (slice_get around.program.placement.modules around.number_of_module)
   where
     by : (found : Option ModulePlacement)
-        → option_map_or (λ (placed : ModulePlacement). slice_index_or placed.lists list 0 % MEMORY_SIZE) found 0 < 65536
+        → option_map_or (λ (placed : ModulePlacement). slice_index_or placed.lists list 0 % MEMORY_SIZE) found
+        0 < 65536
     by (Some placed) = omega arith
     by None = omega arith
 
-pub input_fits : (script : List (List ℕ)) (events : List Event) (port : ℕ) → IsScript script → input_value script events port < 256
+pub input_fits : (script : List (List ℕ)) (events : List Event) (port : ℕ) → IsScript script
+    → input_value script events port < 256
 input_fits script events port is = by (cases_lt (reads_of events port) (length (queue_of script port)))
   where
-    by : (reads_of events port < length (queue_of script port)) ⊎ (length (queue_of script port) ≤ reads_of events port)
+    by : (reads_of events port < length (queue_of script port))
+        ⊎ (length (queue_of script port) ≤ reads_of events port)
         → input_value script events port < 256
-    by (inl inside) = All-get_or (λ (byte : ℕ). byte < 256) (queue_of script port) (reads_of events port) 255 inside (is port)
+    by (inl inside) =
+        All-get_or (λ (byte : ℕ). byte < 256) (queue_of script port) (reads_of events port)
+        255 inside (is port)
     by (inr past) = rw (get_or_past (queue_of script port) (reads_of events port) 255 past) (omega arith)
 
 -- a value of a type

@@ -14,7 +14,8 @@ module _ (around : Surroundings) (program : HasTypes around.program) (typed : Ty
     (here : slice_get around.program.modules around.number_of_module ≡ Some typed) where
   callee_is : (procedure : ℕ) (heading : TypedProcedure) → slice_get typed.procedures procedure ≡ Some heading
       → callee_in around procedure
-      ≡ procedure_meant around.program.modules (record { number_of_module = around.number_of_module; number = procedure })
+      ≡ procedure_meant around.program.modules
+      (record { number_of_module = around.number_of_module; number = procedure })
       heading heading.visibility
   callee_is procedure heading is =
       ap (λ (entry : Option TypedModule).
@@ -22,13 +23,15 @@ module _ (around : Surroundings) (program : HasTypes around.program) (typed : Ty
       (λ (its : TypedModule).
       option_and_then
       (λ (found : TypedProcedure).
-      procedure_meant around.program.modules (record { number_of_module = around.number_of_module; number = procedure })
+      procedure_meant around.program.modules
+      (record { number_of_module = around.number_of_module; number = procedure })
       found found.visibility)
       (slice_get its.procedures procedure)) entry) here
       ∙ ap (λ (entry : Option TypedProcedure).
       option_and_then
       (λ (found : TypedProcedure).
-      procedure_meant around.program.modules (record { number_of_module = around.number_of_module; number = procedure })
+      procedure_meant around.program.modules
+      (record { number_of_module = around.number_of_module; number = procedure })
       found found.visibility) entry) is
 
   -- the procedure at a place in the program
@@ -40,7 +43,8 @@ module _ (around : Surroundings) (program : HasTypes around.program) (typed : Ty
       ap (λ (entry : Option TypedModule).
       option_and_then
       (λ (one : TypedModule).
-      option_map (λ (procedure : TypedProcedure). (one, procedure)) (slice_get one.procedures at.number)) entry) is
+      option_map (λ (procedure : TypedProcedure). (one, procedure))
+      (slice_get one.procedures at.number)) entry) is
       ∙ ap (λ (entry : Option TypedProcedure).
       option_map (λ (procedure : TypedProcedure). (its, procedure)) entry) there
 
@@ -79,7 +83,8 @@ module _ (around : Surroundings) (program : HasTypes around.program) (typed : Ty
       by_found its None is there holds = absurd holds
       by_found its (Some found) is there holds =
           let same = procedures_agree heading found holds.1 in
-          headed_by around.program.modules at heading its found (at_place around.program.modules at its found is there)
+          headed_by around.program.modules at heading its found
+          (at_place around.program.modules at its found is there)
           (sym same.0, sym same.1)
 
       by_module : (entry : Option TypedModule)
@@ -100,8 +105,10 @@ module _ (around : Surroundings) (program : HasTypes around.program) (typed : Ty
           → IsHeaded around.program.modules at heading.result heading.parameter_types
       own same =
           let place : record { number_of_module = around.number_of_module; number = procedure } ≡ at = cc in
-          subst (λ (one : InProgram). IsHeaded around.program.modules one heading.result heading.parameter_types) place
-          (headed_by around.program.modules (record { number_of_module = around.number_of_module; number = procedure })
+          subst (λ (one : InProgram). IsHeaded around.program.modules one heading.result
+          heading.parameter_types) place
+          (headed_by around.program.modules
+          (record { number_of_module = around.number_of_module; number = procedure })
           heading typed heading
           (at_place around.program.modules
           (record { number_of_module = around.number_of_module; number = procedure }) typed heading here is)
@@ -109,22 +116,27 @@ module _ (around : Surroundings) (program : HasTypes around.program) (typed : Ty
 
       by : (visibility : Visibility) → heading.visibility ≡ visibility
           → procedure_meant around.program.modules
-          (record { number_of_module = around.number_of_module; number = procedure }) heading heading.visibility ≡ Some at
+          (record { number_of_module = around.number_of_module; number = procedure }) heading
+          heading.visibility ≡ Some at
           → IsHeaded around.program.modules at heading.result heading.parameter_types
       by visibilities.External is_external same =
           meant_headed at heading
-          (subst (λ (found : Option InProgram). IsSomeAnd found (MeansProcedure around.program.modules heading)) same
-          (external_procedure_meant around.program.modules program.joined program.globals around.number_of_module
+          (subst (λ (found : Option InProgram). IsSomeAnd found
+          (MeansProcedure around.program.modules heading)) same
+          (external_procedure_meant around.program.modules program.joined program.globals
+          around.number_of_module
           procedure typed heading here is is_external))
       by visibilities.Public is_public same =
           own (sym (ap (λ (visibility : Visibility).
           procedure_meant around.program.modules
-          (record { number_of_module = around.number_of_module; number = procedure }) heading visibility) is_public)
+          (record { number_of_module = around.number_of_module; number = procedure }) heading
+          visibility) is_public)
           ∙ same)
       by visibilities.Private is_private same =
           own (sym (ap (λ (visibility : Visibility).
           procedure_meant around.program.modules
-          (record { number_of_module = around.number_of_module; number = procedure }) heading visibility) is_private)
+          (record { number_of_module = around.number_of_module; number = procedure }) heading
+          visibility) is_private)
           ∙ same)
 
 -- a frame of zeros
@@ -132,7 +144,8 @@ zeros_fit : (procedure : ℕ) (typed : TypedModule)
     → All (λ bytes. All (λ byte. byte < 256) bytes) (frame_of procedure typed)
 zeros_fit procedure typed =
     All-map (λ (bytes : List ℕ). All (λ (byte : ℕ). byte < 256) bytes)
-    (λ (object : TypedObject). if is_frame_of procedure object.home then replicate (size_of_object object) 0 else [])
+    (λ (object : TypedObject). if is_frame_of procedure object.home then replicate
+    (size_of_object object) 0 else [])
     typed.objects (All-from_recursion _ typed.objects (each typed.objects))
   where
     one : (test : Bool) (object : TypedObject)
@@ -164,7 +177,8 @@ parameters_fit around (scalar ∷ scalars) (parameter ∷ parameters) (argument 
     (λ _ t one. parameters_fit around scalars parameters arguments t types.1 one)
 
 -- the value of a call
-flow_value : (number : ℕ) (result : Option ScalarType) (flow : Flow) → FlowFits (WithinProcedure number result) flow
+flow_value : (number : ℕ) (result : Option ScalarType) (flow : Flow)
+    → FlowFits (WithinProcedure number result) flow
     → IsOfResult result (value_of_flow flow)
 flow_value number result Onward fits = nothing_fits result
 flow_value number result (Returned found) fits = fits
@@ -173,7 +187,8 @@ flow_value number result (Jumped label) fits = nothing_fits result
 module _ (later : Later) (fits : LaterFits later) where
   -- the body of a procedure
   entered_fits :
-      (around : Surroundings) (typed : TypedModule) (number : ℕ) (procedure : TypedProcedure) (arguments : List ℕ)
+      (around : Surroundings) (typed : TypedModule) (number : ℕ) (procedure : TypedProcedure)
+      (arguments : List ℕ)
       (s : State)
       → HasTypes around.program
       → slice_get around.program.modules around.number_of_module ≡ Some typed
@@ -203,12 +218,14 @@ module _ (later : Later) (fits : LaterFits later) where
       body_types : TypesHoldInList typed (WithinProcedure number procedure.result) procedure.body
       body_types =
           numbered_at (TypesHoldInProcedure typed) typed.procedures number procedure
-          (holds_for_item IsWellTyped around.program.modules around.number_of_module typed program.types here).procedures is
+          (holds_for_item IsWellTyped around.program.modules around.number_of_module typed
+          program.types here).procedures is
 
       body_numbers : NumbersFitInList procedure.body
       body_numbers =
           holds_for_item NumbersFitInProcedure typed.procedures number procedure
-          (holds_for_item NumbersFitInModule around.program.modules around.number_of_module typed program.numbers here).procedures
+          (holds_for_item NumbersFitInModule around.program.modules around.number_of_module typed
+          program.numbers here).procedures
           is
 
   -- a call of a procedure that is found
@@ -250,11 +267,13 @@ module _ (later : Later) (fits : LaterFits later) where
       run typed procedure here is are =
           either (nat_lt around.room (charge_of procedure)) (Stopped (Outside Stack) s)
           (entered later typed at.number procedure arguments
-          (record around { number_of_module = at.number_of_module; room = around.room - charge_of procedure }) s)
+          (record around { number_of_module = at.number_of_module; room = around.room - charge_of procedure })
+          s)
           IsStopped
           (back (around.room - charge_of procedure) procedure
           (entered later typed at.number procedure arguments
-          (record around { number_of_module = at.number_of_module; room = around.room - charge_of procedure }) s)
+          (record around { number_of_module = at.number_of_module; room = around.room - charge_of procedure })
+          s)
           are.0
           (entered_fits
           (record around { number_of_module = at.number_of_module; room = around.room - charge_of procedure })
@@ -266,7 +285,8 @@ module _ (later : Later) (fits : LaterFits later) where
           → slice_get around.program.modules at.number_of_module ≡ Some typed
           → slice_get typed.procedures at.number ≡ entry
           → ((its : TypedModule) (procedure : TypedProcedure)
-          → option_map {U = TypedModule × TypedProcedure} (λ (procedure : TypedProcedure). (typed, procedure)) entry
+          → option_map {U = TypedModule × TypedProcedure}
+          (λ (procedure : TypedProcedure). (typed, procedure)) entry
           ≡ Some (its, procedure)
           → (procedure.result ≡ result) × (procedure.parameter_types ≡ scalars))
           → Gives (λ found t. IsOfResult result found × SourceFits around t)
@@ -274,7 +294,8 @@ module _ (later : Later) (fits : LaterFits later) where
           (λ (found : TypedModule × TypedProcedure).
           charged (charge_of found.1) (record around { number_of_module = at.number_of_module }) s
           (λ within u. entered later found.0 at.number found.1 arguments within u))
-          (option_map {U = TypedModule × TypedProcedure} (λ (procedure : TypedProcedure). (typed, procedure)) entry)
+          (option_map {U = TypedModule × TypedProcedure}
+          (λ (procedure : TypedProcedure). (typed, procedure)) entry)
           (Gave 0 s))
       by_procedure typed None here is are = IsGiven (nothing_fits result, source)
       by_procedure typed (Some procedure) here is are = run typed procedure here is (are typed procedure refl)
@@ -330,7 +351,8 @@ later_fits zero = record {
 }
 later_fits (suc number) = record {
   call = λ at result scalars arguments around s program headed types source.
-      call_fits (later_by number) (later_fits number) at result scalars arguments around s program headed types source;
+      call_fits (later_by number) (later_fits number) at result scalars arguments around s program
+      headed types source;
   again = λ typed within turn around s program here types source.
       turn_fits (later_by number) (later_fits number) typed within around program
       (callees_headed around program typed here) here turn s types source;
@@ -339,8 +361,8 @@ later_fits (suc number) = record {
       (callees_headed around program typed here) here list rest s types more source;
 }
 
--- Calls in a module of a program, with arguments of the types of parameters, give values of the types of results, and
--- leave bytes in declared memory and frames.
+-- Calls in a module of a program, with arguments of the types of parameters, give values of the types of
+-- results, and leave bytes in declared memory and frames.
 pub calls_of_program_fit :
     (bound procedure found : ℕ) (typed : TypedModule) (heading : TypedProcedure) (values : List ℕ)
     (around : Surroundings) (s t : State)
@@ -353,7 +375,8 @@ pub calls_of_program_fit :
     → IsOfResult heading.result found × SourceFits around t
 calls_of_program_fit bound procedure found typed heading values around s t program here is types source same =
     given_by (called_for (later_by bound) (callee_in around procedure) values around s) found t same
-    (calls_give (later_by bound) typed around (later_fits bound) program (callees_headed around program typed here)
+    (calls_give (later_by bound) typed around (later_fits bound) program
+    (callees_headed around program typed here)
     procedure heading values s is types source)
 
 -- The same for a context: the assumptions are properties of its program.
@@ -365,9 +388,11 @@ pub calls_fit :
     ≡ Some context.typed
     → CallsFit context
 calls_fit context bound is_later program here procedure found heading values s t is types source same =
-    calls_of_program_fit bound procedure found context.typed heading values context.activation.around s t program here is
+    calls_of_program_fit bound procedure found context.typed heading values
+    context.activation.around s t program here is
     types source
     (subst
     (λ (later : Later).
-    called_for later (callee_in context.activation.around procedure) values context.activation.around s ≡ Gave found t)
+    called_for later (callee_in context.activation.around procedure) values context.activation.around s
+    ≡ Gave found t)
     is_later same)

@@ -51,7 +51,8 @@ rest_types typed within label (ListOf first_label places statements) rest types 
         → TypesHoldInStatements typed within rest × NumbersFitInStatements rest
     by true (Some place) same =
         let found : dropped place statements ≡ rest = cc in (
-          subst (TypesHoldInStatements typed within) found (dropped_types typed within place statements types.0),
+          subst (TypesHoldInStatements typed within) found
+              (dropped_types typed within place statements types.0),
           subst NumbersFitInStatements found (dropped_numbers place statements types.1),
         )
     by true None same = absurd cc
@@ -86,7 +87,8 @@ module _ (around : Surroundings) where
       gives_weaker outcome (IsGiven both) = IsGiven both.1
       gives_weaker outcome IsStopped = IsStopped
 
-module _ (later : Later) (fits : LaterFits later) (typed : TypedModule) (within : Within) (around : Surroundings)
+module _ (later : Later) (fits : LaterFits later) (typed : TypedModule) (within : Within)
+    (around : Surroundings)
     (program : HasTypes around.program) (headed : CalleesAreHeaded typed around)
     (here : slice_get around.program.modules around.number_of_module ≡ Some typed) where
   -- the result of a part of a body
@@ -99,7 +101,8 @@ module _ (later : Later) (fits : LaterFits later) (typed : TypedModule) (within 
   value_is : (tree : TypedExpression) (s : State)
       → TypesHold typed within tree → NumbersFit tree → SourceFits around s
       → Gives (λ n t. (n < values_of (type_of tree)) × SourceFits around t) (value later around tree s)
-  value_is tree s types small source = tree_fits later typed within around program.script calls tree s types small source
+  value_is tree s types small source =
+      tree_fits later typed within around program.script calls tree s types small source
 
   -- the rest after a part of a body
   after_fits : (turn : Turn) (flow : Flow) (s : State)
@@ -151,7 +154,8 @@ module _ (later : Later) (fits : LaterFits later) (typed : TypedModule) (within 
       by : (its : Within) → IsReturned typed its (Some tree)
           → TypesHold typed its tree × ((n : ℕ) → n < values_of (type_of tree) → ReturnFits its n)
       by (WithinProcedure number None) is = absurd is
-      by (WithinProcedure number (Some scalar)) is = (is.0, λ n less. of_type (type_of tree) scalar n is.1 less)
+      by (WithinProcedure number (Some scalar)) is =
+          (is.0, λ n less. of_type (type_of tree) scalar n is.1 less)
       by WithinMain is = absurd is
 
   -- an iterative DO
@@ -239,15 +243,18 @@ module _ (later : Later) (fits : LaterFits later) (typed : TypedModule) (within 
         (value_is tree s types.0 small.0 source)
         (λ n t one.
         gives_then (stored_in_each later around targets n t) (λ _ u. Gave Onward u)
-        (targets_fit later typed within around program.script calls (type_of tree) targets t n types.1 small.1 one.1)
+        (targets_fit later typed within around program.script calls (type_of tree) targets t n
+        types.1 small.1 one.1)
         (λ _ u two. IsGiven (tt, two)))
     statement_fits (CallStatement procedure trees) s types small source =
         gives_then (values later around trees s)
-        (λ given t. then_do (called_for later (callee_in around procedure) given around t) (λ _ u. Gave Onward u))
+        (λ given t. then_do (called_for later (callee_in around procedure) given around t)
+        (λ _ u. Gave Onward u))
         (trees_fit later typed within around program.script calls trees s types.1 small source)
         (λ given t one.
         gives_then (called_for later (callee_in around procedure) given around t) (λ _ u. Gave Onward u)
-        (takes_fits later typed within around program.script calls procedure None trees given t types.0 one.0 one.1)
+        (takes_fits later typed within around program.script calls procedure None trees given t
+        types.0 one.0 one.1)
         (λ found u two. IsGiven (tt, two.1)))
     statement_fits (MoveStatement count source_tree destination) s types small source =
         gives_then (value later around count s)
@@ -298,7 +305,8 @@ module _ (later : Later) (fits : LaterFits later) (typed : TypedModule) (within 
         (λ u. then_do (done_list later around body u) (after_turn later around (WhileTurn condition body))))
         (Gave Onward t)
         (after_taking around t
-        (λ u. then_do (done_list later around body u) (after_turn later around (WhileTurn condition body))) one.1
+        (λ u. then_do (done_list later around body u) (after_turn later around (WhileTurn condition body)))
+        one.1
         (λ u less.
         gives_then (done_list later around body u) (after_turn later around (WhileTurn condition body))
         (list_fits body u types.1 small.1 less)
@@ -331,7 +339,8 @@ module _ (later : Later) (fits : LaterFits later) (typed : TypedModule) (within 
     else_fits (ElseStatement statement) s types small source = statement_fits statement s types small source
 
     case_fits : (statements : TypedStatements) (number : ℕ) (s : State)
-        → TypesHoldInStatements typed within statements → NumbersFitInStatements statements → SourceFits around s
+        → TypesHoldInStatements typed within statements → NumbersFitInStatements statements
+        → SourceFits around s
         → FlowIs (done_case later around statements number s)
     case_fits NoStatements number s types small source = IsGiven (tt, source)
     case_fits (MoreStatements first others) zero s types small source =
@@ -340,11 +349,13 @@ module _ (later : Later) (fits : LaterFits later) (typed : TypedModule) (within 
         case_fits others number s types.1 small.1 source
 
     pub statements_fit : (statements : TypedStatements) (s : State)
-        → TypesHoldInStatements typed within statements → NumbersFitInStatements statements → SourceFits around s
+        → TypesHoldInStatements typed within statements → NumbersFitInStatements statements
+        → SourceFits around s
         → FlowIs (done_all later around statements s)
     statements_fit NoStatements s types small source = IsGiven (tt, source)
     statements_fit (MoreStatements first others) s types small source =
-        gives_then (done later around first s) (λ flow t. going_on flow (λ u. done_all later around others u) t)
+        gives_then (done later around first s)
+        (λ flow t. going_on flow (λ u. done_all later around others u) t)
         (statement_fits first s types.0 small.0 source)
         (λ flow t one.
         goes_on flow (λ u. done_all later around others u) t

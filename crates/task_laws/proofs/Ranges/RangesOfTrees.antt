@@ -49,7 +49,8 @@ pub record LaterFits (later : Later) : Type 0 where
       → SourceFits around s
       → Gives (λ flow t. FlowFits within flow × SourceFits around t) (later.again turn around s)
   pub onto :
-      (typed : TypedModule) (within : Within) (list : TypedList) (rest : TypedStatements) (around : Surroundings)
+      (typed : TypedModule) (within : Within) (list : TypedList) (rest : TypedStatements)
+      (around : Surroundings)
       (s : State)
       → HasTypes around.program
       → slice_get around.program.modules around.number_of_module ≡ Some typed
@@ -129,7 +130,8 @@ module _ (later : Later) (typed : TypedModule) (within : Within) (around : Surro
     pub tree_fits : (tree : TypedExpression) (s : State)
         → TypesHold typed within tree → NumbersFit tree → SourceFits around s
         → Gives (λ n t. (n < values_of (type_of tree)) × SourceFits around t) (value later around tree s)
-    tree_fits (NumberNode scalar n origin) s types small source = IsGiven (number_fits scalar n types small, source)
+    tree_fits (NumberNode scalar n origin) s types small source =
+        IsGiven (number_fits scalar n types small, source)
     tree_fits (ValueNode scalar part) s types small source =
         gives_then (located later around part s) (λ place t. read_scalar around.program scalar place t)
         (location_fits part s types.1 small source)
@@ -197,7 +199,8 @@ module _ (later : Later) (typed : TypedModule) (within : Within) (around : Surro
 
     pub trees_fit : (trees : TypedArguments) (s : State)
         → TypesHoldInArguments typed within trees → NumbersFitInArguments trees → SourceFits around s
-        → Gives (λ given t. AreOfTypes (types_of trees) given × SourceFits around t) (values later around trees s)
+        → Gives (λ given t. AreOfTypes (types_of trees) given × SourceFits around t)
+        (values later around trees s)
     trees_fit NoArguments s types small source = IsGiven (tt, source)
     trees_fit (MoreArguments tree others) s types small source =
         gives_then (value later around tree s)

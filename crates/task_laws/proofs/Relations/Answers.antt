@@ -88,7 +88,8 @@ same_turned v w =
     (λ is. ne_eqb v w (λ same. eqb-false w v is (sym same)))
 
 -- the question with its sides changed has the same answer
-pub mirrored_asks : (question : Question) (v w : ℕ) → question_truth (mirrored question) w v ≡ question_truth question v w
+pub mirrored_asks : (question : Question) (v w : ℕ)
+    → question_truth (mirrored question) w v ≡ question_truth question v w
 mirrored_asks LeftBelow v w = refl
 mirrored_asks RightBelow v w = refl
 mirrored_asks Equal v w = same_turned v w

@@ -79,7 +79,9 @@ left_by_register site comparison question asks =
         → Fits site comparison question (if both then Some (WithE (in_order comparison)) else None)
     by false is = tt
     by true is =
-        let parts = and_parts (is_free site comparison.left) (may_exchange site comparison.left comparison.right) is in
+        let parts =
+        and_parts (is_free site comparison.left)
+        (may_exchange site comparison.left comparison.right) is in
         LeftWithE asks parts.0 parts.1
 
 right_by_register :
@@ -94,7 +96,8 @@ right_by_register site comparison question asks =
     by true is = RightWithE asks (and_parts (is_free site comparison.right) true is).0
 
 chosen_fits :
-    (site : Site) (comparison : Comparison) (question : Question) (test : Bool) (register memory : Option Form)
+    (site : Site) (comparison : Comparison) (question : Question) (test : Bool)
+    (register memory : Option Form)
     → Fits site comparison question register
     → Fits site comparison question memory
     → Fits site comparison question
@@ -139,16 +142,19 @@ better_fits site comparison question (Some form) (Some other) true first second 
 better_fits site comparison question (Some (WithMemory sides reference)) None true first second = first
 better_fits site comparison question (Some (WithE sides)) None true first second = first
 better_fits site comparison question (Some Pushed) None true first second = first
-better_fits site comparison question (Some (WithMemory sides reference)) (Some other) false first second = first
+better_fits site comparison question (Some (WithMemory sides reference)) (Some other) false first second =
+    first
 better_fits site comparison question (Some (WithMemory sides reference)) None false first second = first
-better_fits site comparison question (Some (WithE sides)) (Some (WithMemory others reference)) false first second = second
+better_fits site comparison question (Some (WithE sides)) (Some (WithMemory others reference)) false
+    first second = second
 better_fits site comparison question (Some (WithE sides)) (Some (WithE others)) false first second = first
 better_fits site comparison question (Some (WithE sides)) (Some Pushed) false first second = first
 better_fits site comparison question (Some (WithE sides)) None false first second = first
 better_fits site comparison question (Some Pushed) (Some other) false first second = first
 better_fits site comparison question (Some Pushed) None false first second = first
 
-form_fits : (site : Site) (comparison : Comparison) → IsFormOf site comparison comparison.question (form_of site comparison)
+form_fits : (site : Site) (comparison : Comparison)
+    → IsFormOf site comparison comparison.question (form_of site comparison)
 unfolding form_of
 form_fits site comparison = by comparison.question
   where
@@ -174,7 +180,8 @@ shows_with_left :
     → IsOperated (comparing question setting) v w now
     → AnswerShows setting.purpose (answer_to question) (question_truth question v w) now
 shows_with_left LeftBelow setting v w now asks one two is = compared_below v w now one two is
-shows_with_left RightBelow setting v w now asks one two is = absurd (Rattle.std.proofs.lemmas.Bool.false≢true asks)
+shows_with_left RightBelow setting v w now asks one two is =
+    absurd (Rattle.std.proofs.lemmas.Bool.false≢true asks)
 shows_with_left Equal setting v w now asks one two is = by setting.purpose is
   where
     by : (purpose : Purpose)
@@ -191,7 +198,8 @@ shows_with_right :
     → w < 256
     → IsOperated (comparing question setting) w v now
     → AnswerShows setting.purpose (answer_to question) (question_truth question v w) now
-shows_with_right LeftBelow setting v w now asks one two is = absurd (Rattle.std.proofs.lemmas.Bool.false≢true asks)
+shows_with_right LeftBelow setting v w now asks one two is =
+    absurd (Rattle.std.proofs.lemmas.Bool.false≢true asks)
 shows_with_right RightBelow setting v w now asks one two is = compared_below w v now two one is
 shows_with_right Equal setting v w now asks one two is = by setting.purpose is
   where
@@ -203,7 +211,8 @@ shows_with_right Equal setting v w now asks one two is = by setting.purpose is
 
 -- the rest of the code after two values were compared
 abbrev pub GoesOnCompared :
-    {C : Type 0} → Context → (first second : TypedExpression) → (left right : ExpressionNumber) → Question → Setting → (top pushed need : ℕ)
+    {C : Type 0} → Context → (first second : TypedExpression) → (left right : ExpressionNumber) → Question
+    → Setting → (top pushed need : ℕ)
     → (base : List ℕ) → Facts → (place more : ℕ) → (go : ℕ → ℕ → SourceState → Outcome C)
     → (Good : C → SourceState → State → Type 0) → Type 0
 GoesOnCompared context first second left right question setting top pushed need base last place more go Good =
@@ -245,23 +254,30 @@ compared_in_form :
     → StepsStand context (PartDoes context) facts from
     (steps_of_form (asking operands left right question) setting (comparing question setting) form) last to
     → Stage context top setting.pushed need base t facts r memory
-    → GoesOnCompared context first second left right question setting top setting.pushed need base last to more go Good
+    → GoesOnCompared context first second left right question setting top setting.pushed need base
+    last to more go Good
     → Does (script_of context) t.budget more (at_place from r memory t.events)
     (evaluated_in_order (value_in context first) (value_in context second) go t) Good
-compared_in_form {context = context} {t = t} {first = first} {second = second} known_there operands left right question setting go (LeftWithMemory {reference = reference} asks there) asked sound one types two other_types fewer less stand stage rest =
+compared_in_form {context = context} {t = t} {first = first} {second = second} known_there operands left right
+    question setting go (LeftWithMemory {reference = reference} asks there) asked sound one types two
+    other_types fewer less stand stage rest =
     operated_with_memory known_there go asked sound one types two other_types
     (operand_at known_there right reference there) stand (omega (arith, fewer)) (omega (arith, less)) stage
     (λ v w u now memory_now small other_small is next.
     rest v w u now memory_now small other_small
     (λ byte other_byte. shows_with_left question setting v w now asks byte other_byte is) next)
-compared_in_form {context = context} {t = t} {first = first} {second = second} known_there operands left right question setting go (RightWithMemory {reference = reference} asks there may) asked sound one types two other_types fewer less stand stage rest =
+compared_in_form {context = context} {t = t} {first = first} {second = second} known_there operands left right
+    question setting go (RightWithMemory {reference = reference} asks there may) asked sound one types two
+    other_types fewer less stand stage rest =
     does_exchanged known_there go t sound one two types may
     (operated_with_memory known_there (λ w v u. go v w u) asked sound two other_types one types
     (operand_at known_there left reference there) stand (omega (arith, less)) (omega (arith, fewer)) stage
     (λ w v u now memory_now other_small small is next.
     rest v w u now memory_now small other_small
     (λ byte other_byte. shows_with_right question setting v w now asks byte other_byte is) next))
-compared_in_form {context = context} {t = t} {first = first} {second = second} known_there operands left right question setting go (LeftWithE asks free may) asked sound one types two other_types fewer less stand stage rest =
+compared_in_form {context = context} {t = t} {first = first} {second = second} known_there operands left right
+    question setting go (LeftWithE asks free may) asked sound one types two other_types fewer
+    less stand stage rest =
     does_exchanged known_there go t sound one two types may
     (operated_with_e go asked sound one types two other_types
     (free_is context.site left ∙ sym (free_is (knowing context.site known_there) left) ∙ free)
@@ -269,24 +285,29 @@ compared_in_form {context = context} {t = t} {first = first} {second = second} k
     (λ v w u now memory_now small other_small is next.
     rest v w u now memory_now small other_small
     (λ byte other_byte. shows_with_left question setting v w now asks byte other_byte is) next))
-compared_in_form {context = context} {t = t} {first = first} {second = second} known_there operands left right question setting go (RightWithE asks free) asked sound one types two other_types fewer less stand stage rest =
+compared_in_form {context = context} {t = t} {first = first} {second = second} known_there operands left right
+    question setting go (RightWithE asks free) asked sound one types two other_types fewer
+    less stand stage rest =
     operated_with_e (λ w v u. go v w u) asked sound two other_types one types
     (free_is context.site right ∙ sym (free_is (knowing context.site known_there) right) ∙ free)
     stand (omega (arith, less)) (omega (arith, fewer)) stage
     (λ w v u now memory_now other_small small is next.
     rest v w u now memory_now small other_small
     (λ byte other_byte. shows_with_right question setting v w now asks byte other_byte is) next)
-compared_in_form {context = context} {t = t} {first = first} {second = second} known_there operands left right LeftBelow setting go WithPush asked sound one types two other_types fewer less stand stage rest =
+compared_in_form {context = context} {t = t} {first = first} {second = second} known_there operands left right
+    LeftBelow setting go WithPush asked sound one types two other_types fewer less stand stage rest =
     operated_with_second_in_b go asked sound one types two other_types stand (omega (arith, fewer)) less stage
     (λ v w u now memory_now small other_small is next.
     rest v w u now memory_now small other_small
     (λ byte other_byte. shows_with_left LeftBelow setting v w now refl byte other_byte is) next)
-compared_in_form {context = context} {t = t} {first = first} {second = second} known_there operands left right RightBelow setting go WithPush asked sound one types two other_types fewer less stand stage rest =
+compared_in_form {context = context} {t = t} {first = first} {second = second} known_there operands left right
+    RightBelow setting go WithPush asked sound one types two other_types fewer less stand stage rest =
     operated_with_first_in_b go asked sound one types two other_types stand (omega (arith, fewer)) less stage
     (λ w v u now memory_now other_small small is next.
     rest v w u now memory_now small other_small
     (λ byte other_byte. shows_with_right RightBelow setting v w now refl byte other_byte is) next)
-compared_in_form {context = context} {t = t} {first = first} {second = second} known_there operands left right Equal setting go WithPush asked sound one types two other_types fewer less stand stage rest =
+compared_in_form {context = context} {t = t} {first = first} {second = second} known_there operands left right
+    Equal setting go WithPush asked sound one types two other_types fewer less stand stage rest =
     operated_with_first_in_b go asked sound one types two other_types stand (omega (arith, fewer)) less stage
     (λ w v u now memory_now other_small small is next.
     rest v w u now memory_now small other_small
@@ -322,12 +343,15 @@ pub bytes_compared :
     → 2 + 2 * height_of first ≤ need
     → 2 + 2 * height_of second ≤ need
     → StepsStand context (PartDoes context) facts from
-    (byte_relation_steps (knowing context.site known_there) (asking operands left right question) setting) last to
+    (byte_relation_steps (knowing context.site known_there) (asking operands left right question) setting)
+    last to
     → Stage context top setting.pushed need base t facts r memory
-    → GoesOnCompared context first second left right question setting top setting.pushed need base last to more go Good
+    → GoesOnCompared context first second left right question setting top setting.pushed need base
+    last to more go Good
     → Does (script_of context) t.budget more (at_place from r memory t.events)
     (evaluated_in_order (value_in context first) (value_in context second) go t) Good
-bytes_compared {context = context} {facts = facts} {last = last} {from = from} {to = to} known_there operands left right question setting go asked sound one types two other_types fewer less stand stage rest =
+bytes_compared {context = context} {facts = facts} {last = last} {from = from} {to = to} known_there operands
+    left right question setting go asked sound one types two other_types fewer less stand stage rest =
     let site = knowing context.site known_there in
     compared_in_form known_there operands left right question setting go
     (form_fits site (asking operands left right question)) asked sound one types two other_types fewer less

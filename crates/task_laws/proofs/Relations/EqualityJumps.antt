@@ -17,7 +17,8 @@ pub data HasWords (context : Context) (x y : ℕ) (r : Registers) (memory : List
       → IsSteady context.activation (place_at context.activation.layout (place_after place 1))
       → IsSteady context.activation (place_at context.activation.layout place)
       → HasWords context x y r memory (PlaceAndHl place)
-  InRegisters : r.h ≡ y / 256 → r.l ≡ y % 256 → r.d ≡ x / 256 → r.e ≡ x % 256 → HasWords context x y r memory DeAndHl
+  InRegisters : r.h ≡ y / 256 → r.l ≡ y % 256 → r.d ≡ x / 256 → r.e ≡ x % 256
+      → HasWords context x y r memory DeAndHl
 
 -- the facts after a difference
 abbrev taken : Facts → Facts
@@ -43,16 +44,20 @@ module _
       → Stage context top pushed need base t (taken facts) now memory
       → Does (script_of context) budget more (at_place middle now memory t.events) outcome Good)
       → Does (script_of context) budget more (at_place from r memory t.events) outcome Good
-  low_taken {r = r} {x = x} {y = y} others small (InMemory {place = place} h l high low two one) (WordThere first (PlainThere there rest_stand)) stage rest =
+  low_taken {r = r} {x = x} {y = y} others small (InMemory {place = place} h l high low two one)
+      (WordThere first (PlainThere there rest_stand)) stage rest =
       let lo = byte_at memory (place_at context.activation.layout place) in
       at_load_a sound first one stage
-      (λ loaded. stage_with_a (subtract_of lo r.l false).value (subtract_of lo r.l false).flags sound loaded there refl (omega arith) tt
+      (λ loaded. stage_with_a (subtract_of lo r.l false).value (subtract_of lo r.l false).flags sound loaded
+      there refl (omega arith) tt
       (λ next. rest _ _ rest_stand (InMemory h l high low two one)
       (low_equal lo r.l loaded.ready.registers.a stage.ready.registers.l
       ∙ same_bytes lo r.l (x % 256) (y % 256) (sym low) l) next))
-  low_taken {r = r} {x = x} {y = y} others small (InRegisters h l d e) (PlainThere first (PlainThere there rest_stand)) stage rest =
+  low_taken {r = r} {x = x} {y = y} others small (InRegisters h l d e)
+      (PlainThere first (PlainThere there rest_stand)) stage rest =
       stage_with_a r.e r.flags sound stage first refl stage.ready.registers.e tt
-      (λ copied. stage_with_a (subtract_of r.e r.l false).value (subtract_of r.e r.l false).flags sound copied there refl (omega arith) tt
+      (λ copied. stage_with_a (subtract_of r.e r.l false).value (subtract_of r.e r.l false).flags sound copied
+      there refl (omega arith) tt
       (λ next. rest _ _ rest_stand (InRegisters h l d e)
       (low_equal r.e r.l stage.ready.registers.e stage.ready.registers.l
       ∙ same_bytes r.e r.l (x % 256) (y % 256) e l) next))
@@ -68,16 +73,20 @@ module _
       → Stage context top pushed need base t (taken facts) now memory
       → Does (script_of context) budget more (at_place middle now memory t.events) outcome Good)
       → Does (script_of context) budget more (at_place from r memory t.events) outcome Good
-  high_taken {r = r} {x = x} {y = y} others (InMemory {place = place} h l high low two one) (WordThere first (PlainThere there rest_stand)) stage rest =
+  high_taken {r = r} {x = x} {y = y} others (InMemory {place = place} h l high low two one)
+      (WordThere first (PlainThere there rest_stand)) stage rest =
       let hi = byte_at memory (place_at context.activation.layout (place_after place 1)) in
       at_load_a sound first two stage
-      (λ loaded. stage_with_a (subtract_of hi r.h false).value (subtract_of hi r.h false).flags sound loaded there refl (omega arith) tt
+      (λ loaded. stage_with_a (subtract_of hi r.h false).value (subtract_of hi r.h false).flags sound loaded
+      there refl (omega arith) tt
       (λ next. rest _ _ rest_stand
       (low_equal hi r.h loaded.ready.registers.a stage.ready.registers.h
       ∙ same_bytes hi r.h (x / 256) (y / 256) (sym high) h) next))
-  high_taken {r = r} {x = x} {y = y} others (InRegisters h l d e) (PlainThere first (PlainThere there rest_stand)) stage rest =
+  high_taken {r = r} {x = x} {y = y} others (InRegisters h l d e)
+      (PlainThere first (PlainThere there rest_stand)) stage rest =
       stage_with_a r.d r.flags sound stage first refl stage.ready.registers.d tt
-      (λ copied. stage_with_a (subtract_of r.d r.h false).value (subtract_of r.d r.h false).flags sound copied there refl (omega arith) tt
+      (λ copied. stage_with_a (subtract_of r.d r.h false).value (subtract_of r.d r.h false).flags sound copied
+      there refl (omega arith) tt
       (λ next. rest _ _ rest_stand
       (low_equal r.d r.h stage.ready.registers.d stage.ready.registers.h
       ∙ same_bytes r.d r.h (x / 256) (y / 256) d h) next))
@@ -85,7 +94,8 @@ module _
 low_differs : (x y : ℕ) → (x % 256 == y % 256) ≡ false → (x == y) ≡ false
 low_differs x y is = ne_eqb x y (λ same. eqb-false (x % 256) (y % 256) is (ap (λ n. n % 256) same))
 
-high_decides : (x y : ℕ) (answer : Bool) → (x % 256 == y % 256) ≡ true → (x / 256 == y / 256) ≡ answer → (x == y) ≡ answer
+high_decides : (x y : ℕ) (answer : Bool) → (x % 256 == y % 256) ≡ true
+    → (x / 256 == y / 256) ≡ answer → (x == y) ≡ answer
 high_decides x y true low is =
     let lows = eqb-true (x % 256) (y % 256) low in
     let highs = eqb-true (x / 256) (y / 256) is in
@@ -103,7 +113,8 @@ ends_at NoneThere = (refl, refl)
 -- the jump to the label
 goes_there :
     {context : Context} {top pushed need : ℕ} {base : List ℕ} {u : SourceState} {facts last : Facts}
-    {r : Registers} {memory : List ℕ} {tree : TypedExpression} {sense : Bool} (from to : ℕ) (c : Condition) (label : LabelNumber)
+    {r : Registers} {memory : List ℕ} {tree : TypedExpression} {sense : Bool} (from to : ℕ) (c : Condition)
+    (label : LabelNumber)
     (found : ℕ)
     → IsSound context
     → holds c r.flags ≡ true
@@ -113,9 +124,11 @@ goes_there :
     → Stage context top pushed need base u facts r memory
     → Does (script_of context) u.budget 0 (at_place from r memory u.events) (Gave found u)
     (Parts context last tree label sense top base to)
-goes_there {context = context} {u = u} {r = r} {memory = memory} from to c label found sound here is there known stage =
+goes_there {context = context} {u = u} {r = r} {memory = memory} from to c label found sound here
+    is there known stage =
     does_without_step (Goes (at_place (context.activation.layout.place_of label.index) r memory u.events) is
-    (word_step (script_of context) context.activation (forms.JumpWhere c) (AtLabel label.index) [] from (from + 3) r
+    (word_step (script_of context) context.activation (forms.JumpWhere c) (AtLabel label.index)
+    [] from (from + 3) r
     memory u.events sound.lies stage.ready.shares.code there
     ∙ ap (λ b. if b then at_place (context.activation.layout.place_of label.index) r memory u.events
     else at_place (from + 3) r memory u.events) here)
@@ -144,14 +157,17 @@ pub equal_jumps :
     → Stage context top pushed need base u facts r memory
     → Does (script_of context) u.budget 0 (at_place from r memory u.events) (Gave found u)
     (Parts context last tree branch.label branch.sense top base to)
-equal_jumps {context = context} {top = top} {pushed = pushed} {need = need} {base = base} {u = u} {facts = facts} {last = last} {memory = memory} {to = to} {tree = tree} words x y found true branch first sound small goes stays has stand stage =
+equal_jumps {context = context} {top = top} {pushed = pushed} {need = need} {base = base} {u = u}
+    {facts = facts} {last = last} {memory = memory} {to = to} {tree = tree} words x y found true branch first
+    sound small goes stays has stand stage =
     low_taken sound _ small has stand stage
     (λ middle now others has_still shows next. after_low middle now others has_still shows next)
   where
     after_high :
         (place : ℕ) (now : Registers)
         → (x % 256 == y % 256) ≡ true
-        → StepsStand context (PartDoes context) (taken (taken facts)) place (Jump (forms.JumpWhere Zero) branch.label ∷ Mark (label_of first) ∷ []) last to
+        → StepsStand context (PartDoes context) (taken (taken facts)) place
+        (Jump (forms.JumpWhere Zero) branch.label ∷ Mark (label_of first) ∷ []) last to
         → now.flags.z ≡ (x / 256 == y / 256)
         → Stage context top pushed need base u (taken (taken facts)) now memory
         → (answer : Bool) → (x / 256 == y / 256) ≡ answer
@@ -159,7 +175,8 @@ equal_jumps {context = context} {top = top} {pushed = pushed} {need = need} {bas
         (Parts context last tree branch.label branch.sense top base to)
     after_high place now low (JumpThere there mark) shows next true is =
         let ending = marked mark in
-        goes_there place to Zero branch.label found sound (shows ∙ is) (goes (high_decides x y true low is)) there
+        goes_there place to Zero branch.label found sound (shows ∙ is)
+        (goes (high_decides x y true low is)) there
         (ending.2 now memory) next
     after_high place now low (JumpThere there mark) shows next false is =
         let ending = marked mark in
@@ -177,7 +194,8 @@ equal_jumps {context = context} {top = top} {pushed = pushed} {need = need} {bas
         (Jump (forms.JumpWhere NotZero) (label_of first)
         ∷ high_difference_steps words
         ++ (Jump (forms.JumpWhere Zero) branch.label ∷ Mark (label_of first) ∷ [])) last to
-        → (context.activation.layout.place_of first ≡ to) × ((end : Registers) (ended : List ℕ) → Know context last end ended)
+        → (context.activation.layout.place_of first ≡ to)
+        × ((end : Registers) (ended : List ℕ) → Know context last end ended)
         → HasWords context x y now memory words
         → now.flags.z ≡ (x % 256 == y % 256)
         → Stage context top pushed need base u (taken facts) now memory
@@ -202,7 +220,8 @@ equal_jumps {context = context} {top = top} {pushed = pushed} {need = need} {bas
         → StepsStand context (PartDoes context) found_facts place
         (high_difference_steps words_there
         ++ (Jump (forms.JumpWhere Zero) branch.label ∷ Mark (label_of first) ∷ [])) last to
-        → (context.activation.layout.place_of first ≡ to) × ((end : Registers) (ended : List ℕ) → Know context last end ended)
+        → (context.activation.layout.place_of first ≡ to)
+        × ((end : Registers) (ended : List ℕ) → Know context last end ended)
     last_mark (PlaceAndHl place) (WordThere one (PlainThere two (JumpThere three mark))) =
         let ending = marked mark in (ending.0, ending.2)
     last_mark DeAndHl (PlainThere one (PlainThere two (JumpThere three mark))) =
@@ -220,14 +239,19 @@ equal_jumps {context = context} {top = top} {pushed = pushed} {need = need} {bas
         → Does (script_of context) u.budget 0 (at_place middle now memory u.events) (Gave found u)
         (Parts context last tree branch.label branch.sense top base to)
     after_low middle now (JumpThere there rest_stand) has_still shows next =
-        by middle now (JumpThere there rest_stand) (last_mark words rest_stand) has_still shows next (x % 256 == y % 256) refl
-equal_jumps {context = context} {top = top} {pushed = pushed} {need = need} {base = base} {u = u} {facts = facts} {last = last} {memory = memory} {to = to} {tree = tree} words x y found false branch first sound small goes stays has stand stage =
+        by middle now (JumpThere there rest_stand) (last_mark words rest_stand) has_still shows next
+        (x % 256 == y % 256) refl
+equal_jumps {context = context} {top = top} {pushed = pushed} {need = need} {base = base} {u = u}
+    {facts = facts} {last = last} {memory = memory} {to = to} {tree = tree} words x y found false branch first
+    sound small goes stays has stand stage =
     low_taken sound _ small has stand stage
-    (λ middle now others has_still shows next. by middle now others has_still shows next (x % 256 == y % 256) refl)
+    (λ middle now others has_still shows next. by middle now others has_still shows next
+    (x % 256 == y % 256) refl)
   where
     ends_known : {place : ℕ}
         → StepsStand context (PartDoes context) (taken facts) place [] last to
-        → ((end : Registers) (ended : List ℕ) → Know context (taken facts) end ended → Know context last end ended) × (place ≡ to)
+        → ((end : Registers) (ended : List ℕ) → Know context (taken facts) end ended
+        → Know context last end ended) × (place ≡ to)
     ends_known ends =
         let is = ends_at ends in
         ((λ end ended known. subst (λ (facts_now : Facts). Know context facts_now end ended) is.0 known), is.1)
@@ -235,21 +259,25 @@ equal_jumps {context = context} {top = top} {pushed = pushed} {need = need} {bas
     last_facts : (words_there : Words) {place : ℕ}
         → StepsStand context (PartDoes context) (taken facts) place
         (high_difference_steps words_there ++ (Jump (forms.JumpWhere NotZero) branch.label ∷ [])) last to
-        → (end : Registers) (ended : List ℕ) → Know context (taken facts) end ended → Know context last end ended
-    last_facts (PlaceAndHl place) (WordThere one (PlainThere two (JumpThere three ends))) = (ends_known ends).0
+        → (end : Registers) (ended : List ℕ) → Know context (taken facts) end ended
+        → Know context last end ended
+    last_facts (PlaceAndHl place) (WordThere one (PlainThere two (JumpThere three ends))) =
+        (ends_known ends).0
     last_facts DeAndHl (PlainThere one (PlainThere two (JumpThere three ends))) = (ends_known ends).0
 
     after_high :
         (place : ℕ) (now : Registers)
         → (x % 256 == y % 256) ≡ true
-        → StepsStand context (PartDoes context) (taken (taken facts)) place (Jump (forms.JumpWhere NotZero) branch.label ∷ []) last to
+        → StepsStand context (PartDoes context) (taken (taken facts)) place
+        (Jump (forms.JumpWhere NotZero) branch.label ∷ []) last to
         → now.flags.z ≡ (x / 256 == y / 256)
         → Stage context top pushed need base u (taken (taken facts)) now memory
         → (answer : Bool) → (x / 256 == y / 256) ≡ answer
         → Does (script_of context) u.budget 0 (at_place place now memory u.events) (Gave found u)
         (Parts context last tree branch.label branch.sense top base to)
     after_high place now low (JumpThere there ends) shows next false is =
-        goes_there place to NotZero branch.label found sound (ap not (shows ∙ is)) (goes (high_decides x y false low is)) there
+        goes_there place to NotZero branch.label found sound (ap not (shows ∙ is))
+        (goes (high_decides x y false low is)) there
         ((ends_known ends).0 now memory next.known) next
     after_high place now low (JumpThere there ends) shows next true is =
         let ending = ends_known ends in
@@ -277,5 +305,6 @@ equal_jumps {context = context} {top = top} {pushed = pushed} {need = need} {bas
         (high_taken sound _ has_still rest_stand next
         (λ place end others flag final. after_high place end is others flag final (x / 256 == y / 256) refl))
     by middle now (JumpThere there rest_stand) has_still shows next false is =
-        goes_there middle to NotZero branch.label found sound (ap not (shows ∙ is)) (goes (low_differs x y is)) there
+        goes_there middle to NotZero branch.label found sound (ap not (shows ∙ is))
+        (goes (low_differs x y is)) there
         (last_facts words rest_stand now memory next.known) next

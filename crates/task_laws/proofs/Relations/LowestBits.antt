@@ -25,7 +25,8 @@ type_keeps_bit scalars.Address v = same_bit (v % 65536) v (omega arith)
 pub low_keeps_bit : (v : ℕ) → is_true (v % 256) ≡ is_true v
 low_keeps_bit v = same_bit (v % 256) v (omega arith)
 
-pub negation_keeps_bit : (scalar : ScalarType) (v : ℕ) → v < values_of scalar → is_true (result_of_one scalar Negate v) ≡ is_true v
+pub negation_keeps_bit : (scalar : ScalarType) (v : ℕ) → v < values_of scalar
+    → is_true (result_of_one scalar Negate v) ≡ is_true v
 negation_keeps_bit scalars.Byte v small = same_bit ((256 - v) % 256) v (omega (arith, small))
 negation_keeps_bit scalars.Address v small = same_bit ((65536 - v) % 65536) v (omega (arith, small))
 
@@ -36,7 +37,8 @@ other_bit a b odd = by (is_true b) refl
     by true is = let low = bit_is b true is in ne_eqb (a % 2) 1 (λ same. omega (arith, low, same, odd))
     by false is = let low = bit_is b false is in eq-eqb (a % 2) 1 (omega (arith, low, odd))
 
-pub complement_turns_bit : (scalar : ScalarType) (v : ℕ) → v < values_of scalar → is_true (result_of_one scalar Not v) ≡ not (is_true v)
+pub complement_turns_bit : (scalar : ScalarType) (v : ℕ) → v < values_of scalar
+    → is_true (result_of_one scalar Not v) ≡ not (is_true v)
 complement_turns_bit scalars.Byte v small = other_bit ((256 - 1) - v) v (omega (arith, small))
 complement_turns_bit scalars.Address v small = other_bit ((65536 - 1) - v) v (omega (arith, small))
 

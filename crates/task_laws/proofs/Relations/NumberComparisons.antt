@@ -30,8 +30,10 @@ is_zero_too v n is = ap (λ m. v == m) (sym (eqb-true n 0 is))
 
 -- A holds the byte of the question, and the rest uses the facts then
 abbrev pub GoesOnShown :
-    {B : Type 0} → Context → Purpose → Answer → (truth : Bool) → (top pushed need : ℕ) → (base : List ℕ) → SourceState
-    → Facts → (memory : List ℕ) → (place budget more : ℕ) → Outcome B → (B → SourceState → State → Type 0) → Type 0
+    {B : Type 0} → Context → Purpose → Answer → (truth : Bool) → (top pushed need : ℕ)
+    → (base : List ℕ) → SourceState
+    → Facts → (memory : List ℕ) → (place budget more : ℕ) → Outcome B
+    → (B → SourceState → State → Type 0) → Type 0
 GoesOnShown context purpose answer truth top pushed need base t last memory place budget more outcome Good =
     (now : Registers)
     → AnswerShows purpose answer truth now
@@ -48,14 +50,17 @@ module _
       → (r.a == 0) ≡ truth
       → StepsStand context (PartDoes context) facts from (is_zero_steps setting) last to
       → Stage context top pushed need base t facts r memory
-      → GoesOnShown context setting.purpose Zero truth top pushed need base t last memory to budget more outcome Good
+      → GoesOnShown context setting.purpose Zero truth top pushed need base t last memory to
+      budget more outcome Good
       → Does (script_of context) budget more (at_place from r memory t.events) outcome Good
   zero_in_a {facts = facts} {from = from} {r = r} truth setting is = by setting.purpose
     where
       by : (purpose : Purpose)
-          → StepsStand context (PartDoes context) facts from (elim purpose [ Branch ↦ TestA ∷ [] | Value ↦ [] ]) last to
+          → StepsStand context (PartDoes context) facts from
+          (elim purpose [ Branch ↦ TestA ∷ [] | Value ↦ [] ]) last to
           → Stage context top pushed need base t facts r memory
-          → GoesOnShown context purpose Zero truth top pushed need base t last memory to budget more outcome Good
+          → GoesOnShown context purpose Zero truth top pushed need base t last memory to
+          budget more outcome Good
           → Does (script_of context) budget more (at_place from r memory t.events) outcome Good
       by Value ends stage rest = at_end ends stage (λ final. rest r is final)
       by Branch (TestThere there ends) stage rest =
@@ -91,7 +96,8 @@ module _
       → n < 256
       → StepsStand context (PartDoes context) facts from (byte_is_steps n setting) last to
       → Stage context top pushed need base t facts r memory
-      → GoesOnShown context setting.purpose Zero (v == n) top pushed need base t last memory to budget more outcome Good
+      → GoesOnShown context setting.purpose Zero (v == n) top pushed need base t last memory to
+      budget more outcome Good
       → Does (script_of context) budget more (at_place from r memory t.events) outcome Good
   is_in_a {facts = facts} {from = from} {r = r} v n setting is small other_small =
       by setting.purpose (n == 1) refl (n == 255) refl
@@ -106,22 +112,28 @@ module _
                 else Plain (AccumulateImmediate Subtract n) ∷ []
           ]) last to
           → Stage context top pushed need base t facts r memory
-          → GoesOnShown context purpose Zero (v == n) top pushed need base t last memory to budget more outcome Good
+          → GoesOnShown context purpose Zero (v == n) top pushed need base t last memory to
+          budget more outcome Good
           → Does (script_of context) budget more (at_place from r memory t.events) outcome Good
       by Branch is_one one is_last two stand stage rest =
           compared_in_a v n is small other_small stand stage (λ now carry zero final. rest now zero final)
       by Value true one is_last two (PlainThere there ends) stage rest =
-          stage_with_a (decrement_of r.a r.flags).value (decrement_of r.a r.flags).flags sound stage there refl (omega arith) tt
+          stage_with_a (decrement_of r.a r.flags).value (decrement_of r.a r.flags).flags sound stage there
+          refl (omega arith) tt
           (λ next. at_end ends next
           (λ final. rest _
-          (down_shows r.a stage.ready.registers.a ∙ ap (λ m. m == 1) is ∙ ap (λ m. v == m) (sym (eqb-true n 1 one))) final))
+          (down_shows r.a stage.ready.registers.a ∙ ap (λ m. m == 1) is
+          ∙ ap (λ m. v == m) (sym (eqb-true n 1 one))) final))
       by Value false one true two (PlainThere there ends) stage rest =
-          stage_with_a (increment_of r.a r.flags).value (increment_of r.a r.flags).flags sound stage there refl (omega arith) tt
+          stage_with_a (increment_of r.a r.flags).value (increment_of r.a r.flags).flags sound stage there
+          refl (omega arith) tt
           (λ next. at_end ends next
           (λ final. rest _
-          (count_shows r.a r.flags stage.ready.registers.a ∙ ap (λ m. m == 255) is ∙ ap (λ m. v == m) (sym (eqb-true n 255 two))) final))
+          (count_shows r.a r.flags stage.ready.registers.a ∙ ap (λ m. m == 255) is
+          ∙ ap (λ m. v == m) (sym (eqb-true n 255 two))) final))
       by Value false one false two (PlainThere there ends) stage rest =
-          stage_with_a (subtract_of r.a n false).value (subtract_of r.a n false).flags sound stage there refl (omega arith) tt
+          stage_with_a (subtract_of r.a n false).value (subtract_of r.a n false).flags sound stage there
+          refl (omega arith) tt
           (λ next. at_end ends next
           (λ final. rest _
           (zero_shows r.a n stage.ready.registers.a other_small ∙ ap (λ m. m == n) is) final))
@@ -133,7 +145,8 @@ module _
       → v < 256
       → StepsStand context (PartDoes context) facts from (number_in_a_steps question setting) last to
       → Stage context top pushed need base t facts r memory
-      → GoesOnShown context setting.purpose (number_in_a_answer question) (number_truth question v) top pushed need base t
+      → GoesOnShown context setting.purpose (number_in_a_answer question) (number_truth question v)
+      top pushed need base t
       last memory to budget more outcome Good
       → Does (script_of context) budget more (at_place from r memory t.events) outcome Good
   number_in_a {facts = facts} {from = from} {r = r} Never setting v is small ends stage rest =
@@ -147,14 +160,16 @@ module _
           else if is_byte then Plain (AccumulateImmediate Compare n) ∷ []
           else []) last to
           → Stage context top pushed need base t facts r memory
-          → GoesOnShown context setting.purpose (if is_one then Zero else if is_byte then Carry else Known true)
+          → GoesOnShown context setting.purpose
+          (if is_one then Zero else if is_byte then Carry else Known true)
           (nat_lt v n) top pushed need base t last memory to budget more outcome Good
           → Does (script_of context) budget more (at_place from r memory t.events) outcome Good
       by true one is_byte two stand stage rest =
           zero_in_a (nat_lt v n) setting
           (ap (λ m. m == 0) is ∙ below_one v ∙ ap (λ m. nat_lt v m) (sym (eqb-true n 1 one))) stand stage rest
       by false one true two stand stage rest =
-          compared_in_a v n is small (ltb-true n 256 two) stand stage (λ now carry zero final. rest now carry final)
+          compared_in_a v n is small (ltb-true n 256 two) stand stage
+          (λ now carry zero final. rest now carry final)
       by false one false two ends stage rest =
           at_end ends stage (λ final. rest r (lt-ltb v n (omega (arith, small, ltb-false n 256 two))) final)
   number_in_a {facts = facts} {from = from} {r = r} (Is n) setting v is small stand stage rest =
@@ -166,7 +181,8 @@ module _
           else if is_byte then byte_is_steps n setting
           else []) last to
           → Stage context top pushed need base t facts r memory
-          → GoesOnShown context setting.purpose (if is_zero then Zero else if is_byte then Zero else Known false)
+          → GoesOnShown context setting.purpose
+          (if is_zero then Zero else if is_byte then Zero else Known false)
           (v == n) top pushed need base t last memory to budget more outcome Good
           → Does (script_of context) budget more (at_place from r memory t.events) outcome Good
       by true one is_byte two stand stage rest =
@@ -198,12 +214,16 @@ known_number_answer :
 known_number_answer Never v answer small is = Rattle.std.proofs.lemmas.Option.same_Some false answer is
 known_number_answer (Below n) v answer small is = by (nat_lt 255 n) refl is
   where
-    by : (great : Bool) → nat_lt 255 n ≡ great → (if great then Some true else None) ≡ Some answer → nat_lt v n ≡ answer
-    by true here same = lt-ltb v n (omega (arith, small, ltb-true 255 n here)) ∙ Rattle.std.proofs.lemmas.Option.same_Some true answer same
+    by : (great : Bool) → nat_lt 255 n ≡ great → (if great then Some true else None) ≡ Some answer
+        → nat_lt v n ≡ answer
+    by true here same =
+        lt-ltb v n (omega (arith, small, ltb-true 255 n here))
+        ∙ Rattle.std.proofs.lemmas.Option.same_Some true answer same
     by false here same = absurd (Rattle.std.proofs.lemmas.Option.none-some answer same)
 known_number_answer (Is n) v answer small is = by (nat_lt 255 n) refl is
   where
-    by : (great : Bool) → nat_lt 255 n ≡ great → (if great then Some false else None) ≡ Some answer → (v == n) ≡ answer
+    by : (great : Bool) → nat_lt 255 n ≡ great
+        → (if great then Some false else None) ≡ Some answer → (v == n) ≡ answer
     by true here same =
         ne_eqb v n (λ equal. omega (arith, small, ltb-true 255 n here, equal))
         ∙ Rattle.std.proofs.lemmas.Option.same_Some false answer same
@@ -225,22 +245,28 @@ pub byte_asked :
     → 2 * height_of tree ≤ need
     → StepsStand context (PartDoes context) facts from (byte_number_steps operand question setting) last to
     → Stage context top setting.pushed need base t facts r memory
-    → GoesOnAsked context tree operand setting.purpose (byte_number_answer question) (number_truth question) top
+    → GoesOnAsked context tree operand setting.purpose (byte_number_answer question)
+    (number_truth question) top
     setting.pushed need base last to more go Good
     → Does (script_of context) t.budget more (at_place from r memory t.events)
     (then_do (value_in context tree t) go) Good
-byte_asked {C = C} {context = context} {top = top} {need = need} {base = base} {t = t} {facts = facts} {last = last} {r = r} {memory = memory} {from = from} {to = to} {more = more} {tree = tree} {Good = Good} operand question setting go asked sound node types byte fewer =
+byte_asked {C = C} {context = context} {top = top} {need = need} {base = base} {t = t} {facts = facts}
+    {last = last} {r = r} {memory = memory} {from = from} {to = to} {more = more} {tree = tree} {Good = Good}
+    operand question setting go asked sound node types byte fewer =
     by (known_answer question) refl
   where
     by : (found : Option Bool) → known_answer question ≡ found
         → StepsStand context (PartDoes context) facts from
         (elim found [
           | Some answer ↦ known_steps operand setting
-          | None ↦ Rattle.steps8080.specs.Step.part (Rattle.steps8080.specs.declared.step.Task.TheVariants.Byte operand) setting.pushed ∷ number_in_a_steps question setting
+          | None ↦ Rattle.steps8080.specs.Step.part
+              (Rattle.steps8080.specs.declared.step.Task.TheVariants.Byte operand) setting.pushed
+              ∷ number_in_a_steps question setting
         ]) last to
         → Stage context top setting.pushed need base t facts r memory
         → GoesOnAsked context tree operand setting.purpose
-        (elim found [ Some answer ↦ Known answer | None ↦ number_in_a_answer question ]) (number_truth question) top
+        (elim found [ Some answer ↦ Known answer | None ↦ number_in_a_answer question ])
+        (number_truth question) top
         setting.pushed need base last to more go Good
         → Does (script_of context) t.budget more (at_place from r memory t.events)
         (then_do (value_in context tree t) go) Good

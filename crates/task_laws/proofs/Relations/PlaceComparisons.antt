@@ -84,15 +84,19 @@ apart_fits :
     (site : Site) (operands : ScalarType) (left right : ExpressionNumber) (question : Question)
     → Fits site left right question (operand_apart site (asking operands left right question))
 unfolding operand_apart
-apart_fits site operands left right LeftBelow = left_fits site operands left right LeftBelow LeftBelow (inl refl)
-apart_fits site operands left right RightBelow = right_fits site operands left right RightBelow RightBelow (inl refl)
+apart_fits site operands left right LeftBelow =
+    left_fits site operands left right LeftBelow LeftBelow (inl refl)
+apart_fits site operands left right RightBelow =
+    right_fits site operands left right RightBelow RightBelow (inl refl)
 apart_fits site operands left right Equal =
     either_fits site left right Equal (right_apart site (asking operands left right Equal))
     (left_apart site (asking operands left right Equal))
-    (right_fits site operands left right Equal Equal (inr refl)) (left_fits site operands left right Equal Equal (inr refl))
+    (right_fits site operands left right Equal Equal (inr refl))
+    (left_fits site operands left right Equal Equal (inr refl))
 
 pub is_apart :
-    (site : Site) (operands : ScalarType) (left right : ExpressionNumber) (question : Question) (apart : Apart)
+    (site : Site) (operands : ScalarType) (left right : ExpressionNumber)
+    (question : Question) (apart : Apart)
     → operand_apart site (asking operands left right question) ≡ Some apart
     → IsApart site left right question apart
 is_apart site operands left right question apart is =
@@ -101,11 +105,13 @@ is_apart site operands left right question apart is =
 
 -- a word that is read at its place, or goes outside
 pub read_then :
-    {B : Type 0} {script : List (List ℕ)} {budget more : ℕ} {from : State} {Good : B → SourceState → State → Type 0}
+    {B : Type 0} {script : List (List ℕ)} {budget more : ℕ} {from : State}
+    {Good : B → SourceState → State → Type 0}
     {context : Context} {place : Place} {memory : List ℕ} {u : SourceState} (outcome : Outcome ℕ)
     (go : ℕ → SourceState → Outcome B)
     → WordAtPlace context place memory u outcome ⊎ GoesOutside outcome
-    → ((read : WordAtPlace context place memory u outcome) → Does script budget more from (go read.found u) Good)
+    → ((read : WordAtPlace context place memory u outcome)
+    → Does script budget more from (go read.found u) Good)
     → Does script budget more from (then_do outcome go) Good
 read_then {u = u} outcome go (inl read) rest =
     does_same (go read.found u) (ap (λ (given : Outcome ℕ). then_do given go) read.is) (rest read)
@@ -116,7 +122,8 @@ read_then (Gave found s) go (inr outside) rest = absurd outside
 
 -- HL is taken from the word at a place
 taken_from_place :
-    {A : Type 0} {context : Context} {top pushed need : ℕ} {base : List ℕ} {t : SourceState} {facts last : Facts}
+    {A : Type 0} {context : Context} {top pushed need : ℕ} {base : List ℕ} {t : SourceState}
+    {facts last : Facts}
     {r : Registers} {memory : List ℕ} {from to budget more : ℕ} {outcome : Outcome A}
     {Good : A → SourceState → State → Type 0} (place : Place) (x y : ℕ) (question : Question)
     → IsSound context
@@ -129,7 +136,8 @@ taken_from_place :
     → x < 65536
     → y < 65536
     → StepsStand context (PartDoes context) facts from
-    (load_a_steps place ++ low_steps in_hl question ++ load_a_steps (place_after place 1) ++ high_steps in_hl question)
+    (load_a_steps place ++ low_steps in_hl question ++ load_a_steps (place_after place 1)
+    ++ high_steps in_hl question)
     last to
     → Stage context top pushed need base t facts r memory
     → ((now : Registers)
@@ -138,13 +146,18 @@ taken_from_place :
     → Stage context top pushed need base t last now memory
     → Does (script_of context) budget more (at_place to now memory t.events) outcome Good)
     → Does (script_of context) budget more (at_place from r memory t.events) outcome Good
-taken_from_place {context = context} {r = r} {memory = memory} place x y LeftBelow sound low high one two h l small other_small (WordThere first (PlainThere low_taken (WordThere second (PlainThere high_taken ends)))) stage rest =
+taken_from_place {context = context} {r = r} {memory = memory} place x y LeftBelow sound low high one two h l
+    small other_small (WordThere first (PlainThere low_taken (WordThere second (PlainThere high_taken ends))))
+    stage rest =
     let lo = byte_at memory (place_at context.activation.layout place) in
     let hi = byte_at memory (place_at context.activation.layout (place_after place 1)) in
     at_load_a sound first one stage
-    (λ loaded. stage_with_a (subtract_of lo r.l false).value (subtract_of lo r.l false).flags sound loaded low_taken refl (omega arith) tt
+    (λ loaded. stage_with_a (subtract_of lo r.l false).value (subtract_of lo r.l false).flags sound loaded
+    low_taken refl (omega arith) tt
     (λ lower. at_load_a sound second two lower
-    (λ again. stage_with_a (subtract_of hi r.h (subtract_of lo r.l false).flags.cy).value (subtract_of hi r.h (subtract_of lo r.l false).flags.cy).flags sound again high_taken refl (omega arith) tt
+    (λ again. stage_with_a (subtract_of hi r.h (subtract_of lo r.l false).flags.cy).value
+    (subtract_of hi r.h (subtract_of lo r.l false).flags.cy).flags sound again high_taken
+    refl (omega arith) tt
     (λ next. at_end ends next
     (λ final. rest _
     (λ same. absurd (differ same))
@@ -153,13 +166,18 @@ taken_from_place {context = context} {r = r} {memory = memory} place x y LeftBel
   where
     differ : LeftBelow ≡ Equal → ⊥
     differ same = subst IsOrder same tt
-taken_from_place {context = context} {r = r} {memory = memory} place x y RightBelow sound low high one two h l small other_small (WordThere first (PlainThere low_taken (WordThere second (PlainThere high_taken ends)))) stage rest =
+taken_from_place {context = context} {r = r} {memory = memory} place x y RightBelow sound low high one two h l
+    small other_small (WordThere first (PlainThere low_taken (WordThere second (PlainThere high_taken ends))))
+    stage rest =
     let lo = byte_at memory (place_at context.activation.layout place) in
     let hi = byte_at memory (place_at context.activation.layout (place_after place 1)) in
     at_load_a sound first one stage
-    (λ loaded. stage_with_a (subtract_of lo r.l false).value (subtract_of lo r.l false).flags sound loaded low_taken refl (omega arith) tt
+    (λ loaded. stage_with_a (subtract_of lo r.l false).value (subtract_of lo r.l false).flags sound loaded
+    low_taken refl (omega arith) tt
     (λ lower. at_load_a sound second two lower
-    (λ again. stage_with_a (subtract_of hi r.h (subtract_of lo r.l false).flags.cy).value (subtract_of hi r.h (subtract_of lo r.l false).flags.cy).flags sound again high_taken refl (omega arith) tt
+    (λ again. stage_with_a (subtract_of hi r.h (subtract_of lo r.l false).flags.cy).value
+    (subtract_of hi r.h (subtract_of lo r.l false).flags.cy).flags sound again high_taken
+    refl (omega arith) tt
     (λ next. at_end ends next
     (λ final. rest _
     (λ same. absurd (differ same))
@@ -168,20 +186,29 @@ taken_from_place {context = context} {r = r} {memory = memory} place x y RightBe
   where
     differ : RightBelow ≡ Equal → ⊥
     differ same = subst IsOrder same tt
-taken_from_place {context = context} {r = r} {memory = memory} place x y Equal sound low high one two h l small other_small (WordThere first (PlainThere low_taken (PlainThere kept (WordThere second (PlainThere high_taken (PlainThere ored ends)))))) stage rest =
+taken_from_place {context = context} {r = r} {memory = memory} place x y Equal sound low high one two h l
+    small other_small
+    (WordThere first (PlainThere low_taken
+    (PlainThere kept (WordThere second (PlainThere high_taken (PlainThere ored ends)))))) stage rest =
     let lo = byte_at memory (place_at context.activation.layout place) in
     let hi = byte_at memory (place_at context.activation.layout (place_after place 1)) in
     let low_difference = (subtract_of lo r.l false).value in
     let high_difference = (subtract_of hi r.h (subtract_of lo r.l false).flags.cy).value in
     at_load_a sound first one stage
-    (λ loaded. stage_with_a low_difference (subtract_of lo r.l false).flags sound loaded low_taken refl (omega arith) tt
+    (λ loaded. stage_with_a low_difference (subtract_of lo r.l false).flags sound loaded low_taken
+    refl (omega arith) tt
     (λ lower.
     let held = lower.ready.registers in
-    at_registers (record r { a = low_difference; b = low_difference; flags = (subtract_of lo r.l false).flags }) sound lower kept refl refl
+    at_registers
+    (record r { a = low_difference; b = low_difference; flags = (subtract_of lo r.l false).flags }) sound
+    lower kept refl refl
     (record { a = held.a; b = held.a; c = held.c; d = held.d; e = held.e; h = held.h; l = held.l }) tt
     (λ in_b. at_load_a sound second two in_b
-    (λ again. stage_with_a high_difference (subtract_of hi r.h (subtract_of lo r.l false).flags.cy).flags sound again high_taken refl (omega arith) tt
-    (λ upper. stage_with_a (bit_or high_difference low_difference) (operate Or high_difference low_difference (subtract_of hi r.h (subtract_of lo r.l false).flags.cy).flags).flags
+    (λ again. stage_with_a high_difference (subtract_of hi r.h (subtract_of lo r.l false).flags.cy).flags
+    sound again high_taken refl (omega arith) tt
+    (λ upper. stage_with_a (bit_or high_difference low_difference)
+    (operate Or high_difference low_difference
+    (subtract_of hi r.h (subtract_of lo r.l false).flags.cy).flags).flags
     sound upper ored refl (or_of_8 high_difference low_difference (omega arith) (omega arith)) tt
     (λ next. at_end ends next
     (λ final.
@@ -214,7 +241,8 @@ shown_from_right :
     → AnswerShows purpose (answer_to question) (question_truth question v w) now
 shown_from_right RightBelow purpose v w now is equal below = below (inr refl)
 shown_from_right Equal purpose v w now is equal below =
-    let both = equal refl in zero_for purpose (v == w) now (both.0 ∙ same_turned v w) (both.1 ∙ same_turned v w)
+    let both = equal refl in
+    zero_for purpose (v == w) now (both.0 ∙ same_turned v w) (both.1 ∙ same_turned v w)
 shown_from_right LeftBelow purpose v w now (inl same) equal below =
     absurd (subst NotRight same tt)
 shown_from_right LeftBelow purpose v w now (inr same) equal below =
@@ -237,34 +265,48 @@ pub place_compared :
     → 2 * height_of first ≤ need
     → 2 * height_of second ≤ need
     → IsApart (knowing context.site known_there) left right question apart
-    → StepsStand context (PartDoes context) facts from (with_place_steps apart question setting.pushed) last to
+    → StepsStand context (PartDoes context) facts from
+    (with_place_steps apart question setting.pushed) last to
     → Stage context top setting.pushed need base t facts r memory
     → GoesOnBoth context question setting.purpose top setting.pushed need base last to more go Good
     → Does (script_of context) t.budget more (at_place from r memory t.events)
     (evaluated_in_order (value_in context first) (value_in context second) go t) Good
-place_compared {context = context} {top = top} {base = base} {t = t} {bound = bound} {first = first} {second = second} known_there left right question setting go asked sound one types two other_types fewer less (LeftStays {place = place} asks may lies) (PartThere does stand) stage rest =
+place_compared {context = context} {top = top} {base = base} {t = t} {bound = bound} {first = first}
+    {second = second} known_there left right question setting go asked sound one types two other_types fewer
+    less (LeftStays {place = place} asks may lies) (PartThere does stand) stage rest =
     does_exchanged known_there go t sound one two types may
     (at_word _ _ _ does two other_types less stage
     (λ w u now memory_now is given next.
     read_then (value_in context first u) (λ v s. go v w s)
     (asked.places known_there left place bound top first base u now memory_now one types lies next.ready)
     (λ read.
-    let v_small = value_is_word (type_of first) read.found (asked.values_fit left bound top read.found first base u u now memory_now one types next.ready read.is) in
+    let v_small =
+    value_is_word (type_of first) read.found
+    (asked.values_fit left bound top read.found first base u u now memory_now one types
+    next.ready read.is) in
     let w_small = value_is_word (type_of second) w given.small in
-    taken_from_place place read.found w question sound read.low read.high read.low_steady read.high_steady given.h given.l
+    taken_from_place place read.found w question sound read.low read.high read.low_steady
+    read.high_steady given.h given.l
     v_small w_small stand next
     (λ end equal below final.
     rest read.found w u end memory_now v_small w_small
     (shown_from_left question setting.purpose read.found w end asks equal below) final))))
-place_compared {context = context} {top = top} {base = base} {t = t} {bound = bound} {first = first} {second = second} known_there left right question setting go asked sound one types two other_types fewer less (RightStays {place = place} asks lies) (PartThere does stand) stage rest =
+place_compared {context = context} {top = top} {base = base} {t = t} {bound = bound} {first = first}
+    {second = second} known_there left right question setting go asked sound one types two other_types fewer
+    less (RightStays {place = place} asks lies) (PartThere does stand) stage rest =
     at_word _ _ _ does one types fewer stage
     (λ v u now memory_now is given next.
     read_then (value_in context second u) (λ w s. go v w s)
-    (asked.places known_there right place bound top second base u now memory_now two other_types lies next.ready)
+    (asked.places known_there right place bound top second base u now memory_now two
+    other_types lies next.ready)
     (λ read.
-    let w_small = value_is_word (type_of second) read.found (asked.values_fit right bound top read.found second base u u now memory_now two other_types next.ready read.is) in
+    let w_small =
+    value_is_word (type_of second) read.found
+    (asked.values_fit right bound top read.found second base u u now memory_now two other_types
+    next.ready read.is) in
     let v_small = value_is_word (type_of first) v given.small in
-    taken_from_place place read.found v question sound read.low read.high read.low_steady read.high_steady given.h given.l
+    taken_from_place place read.found v question sound read.low read.high read.low_steady
+    read.high_steady given.h given.l
     w_small v_small stand next
     (λ end equal below final.
     rest v read.found u end memory_now v_small w_small

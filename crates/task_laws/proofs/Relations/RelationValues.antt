@@ -10,7 +10,8 @@ use Rattle.task_laws.proofs.Machine.Rules.{steps_split}
 use Rattle.task_laws.proofs.Machine.SiteNodes.{value_in}
 use Rattle.task_laws.proofs.Machine.Stages.{Stage, stage_with_a, at_end, does_same, script_of}
 
-borrow_fills : (a : ℕ) (carry holds : Bool) → a < 256 → carry ≡ holds → (subtract_of a a carry).value ≡ truth holds
+borrow_fills : (a : ℕ) (carry holds : Bool) → a < 256 → carry ≡ holds
+    → (subtract_of a a carry).value ≡ truth holds
 borrow_fills a true true small is = omega (arith, small)
 borrow_fills a false false small is = omega (arith, small)
 borrow_fills a true false small is = absurd (false≢true (sym is))
@@ -31,7 +32,8 @@ sum_carries a false is = ap (λ n. nat_le 256 (n + 255 + 0)) (eqb-true a 0 is)
 
 -- 0FFH or 0 is put into A
 outcome_in_a :
-    {B : Type 0} {context : Context} {top pushed need : ℕ} {base : List ℕ} {t : SourceState} {facts last : Facts}
+    {B : Type 0} {context : Context} {top pushed need : ℕ} {base : List ℕ} {t : SourceState}
+    {facts last : Facts}
     {r : Registers} {memory : List ℕ} {from to budget more : ℕ} {outcome : Outcome B}
     {Good : B → SourceState → State → Type 0} (shown : Shown) (holds : Bool)
     → IsSound context
@@ -47,34 +49,44 @@ outcome_in_a {r = r} (Known true) holds sound shows (PlainThere there ends) stag
     (λ next. at_end ends next (λ final. rest _ (ap truth (sym shows)) final))
 outcome_in_a {r = r} (Known false) holds sound shows (PlainThere there ends) stage rest =
     let is = xor_self r.a in
-    stage_with_a (bit_xor r.a r.a) (operate ExclusiveOr r.a r.a r.flags).flags sound stage there refl (omega (arith, is)) tt
+    stage_with_a (bit_xor r.a r.a) (operate ExclusiveOr r.a r.a r.flags).flags sound stage there refl
+    (omega (arith, is)) tt
     (λ next. at_end ends next (λ final. rest _ (is ∙ ap truth (sym shows)) final))
 outcome_in_a {r = r} (Where conditions.Carry) holds sound shows (PlainThere there ends) stage rest =
-    stage_with_a (subtract_of r.a r.a r.flags.cy).value (subtract_of r.a r.a r.flags.cy).flags sound stage there refl (omega arith) tt
+    stage_with_a (subtract_of r.a r.a r.flags.cy).value (subtract_of r.a r.a r.flags.cy).flags sound stage
+    there refl (omega arith) tt
     (λ next. at_end ends next
     (λ final. rest _ (borrow_fills r.a r.flags.cy holds stage.ready.registers.a shows) final))
-outcome_in_a {r = r} (Where conditions.NoCarry) holds sound shows (PlainThere turned (PlainThere there ends)) stage rest =
+outcome_in_a {r = r} (Where conditions.NoCarry) holds sound shows
+    (PlainThere turned (PlainThere there ends)) stage rest =
     let flags : Flags = record r.flags { cy = not r.flags.cy } in
     stage_with_a r.a flags sound stage turned refl stage.ready.registers.a tt
     (λ middle.
-    stage_with_a (subtract_of r.a r.a flags.cy).value (subtract_of r.a r.a flags.cy).flags sound middle there refl (omega arith) tt
+    stage_with_a (subtract_of r.a r.a flags.cy).value (subtract_of r.a r.a flags.cy).flags sound middle there
+    refl (omega arith) tt
     (λ next. at_end ends next
-    (λ final. rest _ (borrow_fills r.a (not r.flags.cy) holds stage.ready.registers.a (ap not shows ∙ not-not holds)) final)))
-outcome_in_a {r = r} (Where conditions.Zero) holds sound shows (PlainThere turned (PlainThere there ends)) stage rest =
+    (λ final. rest _ (borrow_fills r.a (not r.flags.cy) holds stage.ready.registers.a
+    (ap not shows ∙ not-not holds)) final)))
+outcome_in_a {r = r} (Where conditions.Zero) holds sound shows
+    (PlainThere turned (PlainThere there ends)) stage rest =
     let one = subtract_of r.a 1 false in
     let carry : one.flags.cy ≡ holds = borrow_shows r.a 1 (omega arith) ∙ sym (below_one r.a) ∙ shows in
     stage_with_a one.value one.flags sound stage turned refl (omega arith) tt
     (λ middle.
-    stage_with_a (subtract_of one.value one.value one.flags.cy).value (subtract_of one.value one.value one.flags.cy).flags sound middle there refl (omega arith) tt
+    stage_with_a (subtract_of one.value one.value one.flags.cy).value
+    (subtract_of one.value one.value one.flags.cy).flags sound middle there refl (omega arith) tt
     (λ next. at_end ends next
     (λ final. rest _ (borrow_fills one.value one.flags.cy holds (omega arith) carry) final)))
-outcome_in_a {r = r} (Where conditions.NotZero) holds sound shows (PlainThere turned (PlainThere there ends)) stage rest =
+outcome_in_a {r = r} (Where conditions.NotZero) holds sound shows
+    (PlainThere turned (PlainThere there ends)) stage rest =
     let one = add_of r.a 255 false in
     stage_with_a one.value one.flags sound stage turned refl (omega arith) tt
     (λ middle.
-    stage_with_a (subtract_of one.value one.value one.flags.cy).value (subtract_of one.value one.value one.flags.cy).flags sound middle there refl (omega arith) tt
+    stage_with_a (subtract_of one.value one.value one.flags.cy).value
+    (subtract_of one.value one.value one.flags.cy).flags sound middle there refl (omega arith) tt
     (λ next. at_end ends next
-    (λ final. rest _ (borrow_fills one.value one.flags.cy holds (omega arith) (sum_carries r.a holds shows)) final)))
+    (λ final. rest _ (borrow_fills one.value one.flags.cy holds (omega arith) (sum_carries r.a holds shows))
+    final)))
 outcome_in_a (Where conditions.ParityOdd) holds sound shows stand stage rest = absurd shows
 outcome_in_a (Where conditions.ParityEven) holds sound shows stand stage rest = absurd shows
 outcome_in_a (Where conditions.Plus) holds sound shows stand stage rest = absurd shows
@@ -105,12 +117,15 @@ pub relation_value :
     ++ outcome_value_steps (relation_outcome (knowing context.site facts) relation)) last to
     → Carries context facts pushed (2 * height_of tree) 0 from to Nothing (value_in context tree)
     (ByteIsGiven context last number (type_of tree))
-relation_value {context = context} {facts = facts} {last = last} {from = from} {to = to} {pushed = pushed} {tree = tree} number relation asked sound node types is bound_free stand top base s r memory below room ready known nothing =
+relation_value {context = context} {facts = facts} {last = last} {from = from} {to = to} {pushed = pushed}
+    {tree = tree} number relation asked sound node types is bound_free stand top base s r memory below room
+    ready known nothing =
     let parts = steps_split (relation_steps (knowing context.site facts) relation (value_setting pushed))
     (outcome_value_steps (relation_outcome (knowing context.site facts) relation)) stand in
     does_same _ (given_itself (value_in context tree s))
     (relation_shown ℕ context top (2 * height_of tree) base facts parts.found memory parts.middle 0
-    (Arrives context.activation top base to (ByteIsGiven context last number (type_of tree) r memory)) asked sound
+    (Arrives context.activation top base to (ByteIsGiven context last number (type_of tree) r memory)) asked
+    sound
     (value_setting pushed) s r from number.index tree relation (λ found u. Gave found u)
     (relation_is facts relation sound node is) types (omega arith) parts.first
     (record { below = below; room = room; ready = ready; known = known })

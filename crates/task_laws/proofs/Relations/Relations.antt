@@ -49,25 +49,31 @@ pub data IsRelation (context : Context) (facts : Facts) (bound : ℕ) : TypedExp
       → IsExpression (nodes_in context) context.storage bound right.index second
       → question_of operator ≡ Some (question, holds_if)
       → {relation : Relation}
-      → relation_between (knowing context.site facts) (asking operands left right question) holds_if ≡ relation
+      → relation_between (knowing context.site facts) (asking operands left right question) holds_if
+      ≡ relation
       → IsRelation context facts bound (BinaryNode operands operator first second) relation
 
 relation_of_node :
-    {context : Context} {bound : ℕ} {tree : TypedExpression} {form : ExpressionForm} (facts : Facts) (relation : Relation)
+    {context : Context} {bound : ℕ} {tree : TypedExpression} {form : ExpressionForm} (facts : Facts)
+    (relation : Relation)
     → IsForm (nodes_in context) context.storage bound form tree
     → relation_of_form (knowing context.site facts) form ≡ Some relation
     → IsRelation context facts bound tree relation
-relation_of_node {context = context} {bound = bound} facts relation (IsBinary {operands = operands} {operator = operator} {left = left} {right = right} {first = first} {second = second} one two) is =
+relation_of_node {context = context} {bound = bound} facts relation
+    (IsBinary {operands = operands} {operator = operator} {left = left} {right = right} {first = first}
+    {second = second} one two) is =
     by (question_of operator) refl is
   where
     by : (found : Option (Question × Bool)) → question_of operator ≡ found
         → option_map
-        (λ (asked : Question × Bool). relation_between (knowing context.site facts) (asking operands left right asked.0) asked.1)
+        (λ (asked : Question × Bool). relation_between (knowing context.site facts)
+        (asking operands left right asked.0) asked.1)
         found
         ≡ Some relation
         → IsRelation context facts bound (BinaryNode operands operator first second) relation
     by None there same = absurd (none-some relation same)
-    by (Some (question, holds_if)) there same = Relates question holds_if one two there (same_Some _ relation same)
+    by (Some (question, holds_if)) there same =
+        Relates question holds_if one two there (same_Some _ relation same)
 relation_of_node facts relation IsNumber is = absurd (none-some relation is)
 relation_of_node facts relation (IsValue part) is = absurd (none-some relation is)
 relation_of_node facts relation (IsLocation part) is = absurd (none-some relation is)
@@ -82,7 +88,8 @@ relation_of_node facts relation IsInput is = absurd (none-some relation is)
 
 -- an expression that is a relation
 pub relation_is :
-    {context : Context} {bound : ℕ} {of : ExpressionNumber} {tree : TypedExpression} (facts : Facts) (relation : Relation)
+    {context : Context} {bound : ℕ} {of : ExpressionNumber} {tree : TypedExpression} (facts : Facts)
+    (relation : Relation)
     → IsSound context
     → IsExpression (nodes_in context) context.storage bound of.index tree
     → relation_of (knowing context.site facts) of ≡ Some relation
@@ -91,13 +98,15 @@ unfolding relation_of
 relation_is {context = context} {of = of} facts relation sound node is =
     let found = node_of sound node in
     relation_of_node facts relation found.form
-    (ap (λ (one : Option Expression). option_and_then (λ (given : Expression). relation_of_form (knowing context.site facts) given.form) one)
+    (ap (λ (one : Option Expression). option_and_then
+    (λ (given : Expression). relation_of_form (knowing context.site facts) given.form) one)
     (sym (found.at_site facts)) ∙ is)
 
 abbrev first_of : NumberQuestion × Bool → NumberQuestion
 first_of pair = pair.0
 
-bounded : (question : Question) (n : ℕ) (scalar : ScalarType) → n < 65536 → IsBounded (number_question question n scalar).0
+bounded : (question : Question) (n : ℕ) (scalar : ScalarType) → n < 65536
+    → IsBounded (number_question question n scalar).0
 bounded Equal n scalar small = small
 bounded LeftBelow n scalar small = by (n == 0)
   where
@@ -106,13 +115,15 @@ bounded LeftBelow n scalar small = by (n == 0)
     by false = small
 bounded RightBelow n scalar small = by (nat_le (greatest scalar) n)
   where
-    by : (is_great : Bool) → IsBounded (first_of (if is_great then (Never, true) else (Below (min (n + 1) 65535), false)))
+    by : (is_great : Bool)
+        → IsBounded (first_of (if is_great then (Never, true) else (Below (min (n + 1) 65535), false)))
     by true = tt
     by false = omega arith
 
 -- the rest of the code after a relation
 abbrev pub GoesOnRelated :
-    {C : Type 0} → Context → Purpose → Shown → (top pushed need : ℕ) → (base : List ℕ) → Facts → (place more : ℕ)
+    {C : Type 0} → Context → Purpose → Shown → (top pushed need : ℕ) → (base : List ℕ)
+    → Facts → (place more : ℕ)
     → (go : ℕ → SourceState → Outcome C) → (Good : C → SourceState → State → Type 0) → Type 0
 GoesOnRelated context purpose shown top pushed need base last place more go Good =
     (holds : Bool) (u : SourceState) (now : Registers) (memory : List ℕ)
@@ -131,7 +142,8 @@ between site operands left right question holds_if None None =
     record { inquiry = Between (asking operands left right question); holds_if = holds_if }
 
 pub between_is :
-    (site : Site) (operands : ScalarType) (left right : ExpressionNumber) (question : Question) (holds_if : Bool)
+    (site : Site) (operands : ScalarType) (left right : ExpressionNumber)
+    (question : Question) (holds_if : Bool)
     → relation_between site (asking operands left right question) holds_if
     ≡ between site operands left right question holds_if (number site right) (number site left)
 unfolding relation_between
@@ -139,10 +151,12 @@ between_is site operands left right question holds_if = by (number site right) (
   where
     by : (right_number left_number : Option ℕ)
         → elim right_number [
-          | Some value ↦ relation_with_number left value (asking operands left right question) question holds_if
+          | Some value ↦ relation_with_number left value
+              (asking operands left right question) question holds_if
           | None ↦ elim left_number [
             | Some value ↦
-                relation_with_number right value (asking operands left right question) (mirrored question) holds_if
+                relation_with_number right value (asking operands left right question)
+                (mirrored question) holds_if
             | None ↦ record { inquiry = Between (asking operands left right question); holds_if = holds_if }
           ]
         ]
@@ -153,7 +167,8 @@ between_is site operands left right question holds_if = by (number site right) (
 
 -- the value of an operator, and then the rest
 pub in_order_of :
-    {C : Type 0} (context : Context) (first second : TypedExpression) (operands : ScalarType) (operator : BinaryOperator)
+    {C : Type 0} (context : Context) (first second : TypedExpression) (operands : ScalarType)
+    (operator : BinaryOperator)
     (go : ℕ → SourceState → Outcome C) (t : SourceState)
     → then_do (value_in context (BinaryNode operands operator first second) t) go
     ≡ evaluated_in_order (value_in context first) (value_in context second)
@@ -161,15 +176,18 @@ pub in_order_of :
 in_order_of {C = C} context first second operands operator go t = by (value_in context first t)
   where
     inner : (v : ℕ) (outcome : Outcome ℕ)
-        → ◌≡◌ {A = Outcome C} (then_do (then_do outcome (λ w s. computed (result_of operands operator v w) s)) go)
+        → ◌≡◌ {A = Outcome C}
+        (then_do (then_do outcome (λ w s. computed (result_of operands operator v w) s)) go)
         (then_do outcome (λ w s. then_do (computed (result_of operands operator v w) s) go))
     inner v (Gave w u) = refl
     inner v (Stopped why u) = refl
 
     by : (outcome : Outcome ℕ)
         → ◌≡◌ {A = Outcome C}
-        (then_do (then_do outcome (λ v u. then_do (value_in context second u) (λ w s. computed (result_of operands operator v w) s))) go)
-        (then_do outcome (λ v u. then_do (value_in context second u) (λ w s. then_do (computed (result_of operands operator v w) s) go)))
+        (then_do (then_do outcome (λ v u. then_do (value_in context second u)
+        (λ w s. computed (result_of operands operator v w) s))) go)
+        (then_do outcome (λ v u. then_do (value_in context second u)
+        (λ w s. then_do (computed (result_of operands operator v w) s) go)))
     by (Gave v s) = inner v (value_in context second s)
     by (Stopped why s) = refl
 
@@ -180,7 +198,8 @@ module _
     (asked : BytesAsked context) (sound : IsSound context) (setting : Setting) where
   -- an operand and a number
   number_asked :
-      (operand : ExpressionNumber) (operands : ScalarType) (question : NumberQuestion) (t : SourceState) (r : Registers)
+      (operand : ExpressionNumber) (operands : ScalarType) (question : NumberQuestion)
+      (t : SourceState) (r : Registers)
       (from bound : ℕ) (tree : TypedExpression) (go : ℕ → SourceState → Outcome C)
       → IsExpression (nodes_in context) context.storage bound operand.index tree
       → TypesHold context.typed context.within tree
@@ -190,19 +209,25 @@ module _
       → StepsStand context (PartDoes context) facts from
       (number_steps (knowing context.site facts) operand operands question setting) last to
       → Stage context top setting.pushed need base t facts r memory
-      → GoesOnAsked context tree operand setting.purpose (number_answer (knowing context.site facts) operand operands question)
+      → GoesOnAsked context tree operand setting.purpose
+      (number_answer (knowing context.site facts) operand operands question)
       (number_truth question) top setting.pushed need base last to more go Good
-      → Does (script_of context) t.budget more (at_place from r memory t.events) (then_do (value_in context tree t) go) Good
-  number_asked operand scalars.Byte question t r from bound tree go node types is fewer small stand stage rest =
+      → Does (script_of context) t.budget more (at_place from r memory t.events)
+      (then_do (value_in context tree t) go) Good
+  number_asked operand scalars.Byte question t r from bound tree go node types is fewer
+      small stand stage rest =
       byte_asked operand question setting go asked sound node types
       (λ v value. subst (λ scalar. v < values_of scalar) is value.small) fewer stand stage rest
-  number_asked operand scalars.Address question t r from bound tree go node types is fewer small stand stage rest =
-      word_asked C context top need base t facts last r memory from to more bound tree Good operand setting go asked sound node
+  number_asked operand scalars.Address question t r from bound tree go node types is fewer
+      small stand stage rest =
+      word_asked C context top need base t facts last r memory from to more bound tree Good operand
+      setting go asked sound node
       types is fewer question small stand stage rest
 
   -- two operands
   both_asked :
-      (operands : ScalarType) (left right : ExpressionNumber) (question : Question) (t : SourceState) (r : Registers)
+      (operands : ScalarType) (left right : ExpressionNumber) (question : Question)
+      (t : SourceState) (r : Registers)
       (from bound : ℕ) (first second : TypedExpression) (go : ℕ → ℕ → SourceState → Outcome C)
       → IsExpression (nodes_in context) context.storage bound left.index first
       → TypesHold context.typed context.within first
@@ -217,48 +242,60 @@ module _
       → GoesOnBoth context question setting.purpose top setting.pushed need base last to more go Good
       → Does (script_of context) t.budget more (at_place from r memory t.events)
       (evaluated_in_order (value_in context first) (value_in context second) go t) Good
-  both_asked scalars.Byte left right question t r from bound first second go one types is two other_types other_is fewer stand stage rest =
+  both_asked scalars.Byte left right question t r from bound first second go one types is two other_types
+      other_is fewer stand stage rest =
       bytes_compared facts scalars.Byte left right question setting go asked sound one types two other_types
       (omega (arith, fewer)) (omega (arith, fewer)) stand stage
       (λ v w u now memory_now value other_value shows final.
       let v_small : v < 256 = subst (λ scalar. v < values_of scalar) is value.small in
       let w_small : w < 256 = subst (λ scalar. w < values_of scalar) other_is other_value.small in
-      rest v w u now memory_now (omega (arith, v_small)) (omega (arith, w_small)) (shows v_small w_small) final)
-  both_asked scalars.Address left right question t r from bound first second go one types is two other_types other_is fewer stand stage rest =
+      rest v w u now memory_now (omega (arith, v_small)) (omega (arith, w_small))
+      (shows v_small w_small) final)
+  both_asked scalars.Address left right question t r from bound first second go one types is two other_types
+      other_is fewer stand stage rest =
       by (fits_byte (knowing context.site facts) left && fits_byte (knowing context.site facts) right) refl
       (operand_apart (knowing context.site facts) (asking scalars.Address left right question)) refl stand
     where
       by : (fit : Bool)
-          → (fits_byte (knowing context.site facts) left && fits_byte (knowing context.site facts) right) ≡ fit
+          → (fits_byte (knowing context.site facts) left && fits_byte (knowing context.site facts) right)
+          ≡ fit
           → (found : Option Apart)
           → operand_apart (knowing context.site facts) (asking scalars.Address left right question) ≡ found
           → StepsStand context (PartDoes context) facts from
-          (if fit then byte_relation_steps (knowing context.site facts) (asking scalars.Address left right question) setting
+          (if fit then byte_relation_steps (knowing context.site facts)
+          (asking scalars.Address left right question) setting
           else elim found [
             | Some apart ↦ with_place_steps apart question setting.pushed
-            | None ↦ with_pair_steps (knowing context.site facts) (asking scalars.Address left right question) setting.pushed
+            | None ↦ with_pair_steps (knowing context.site facts)
+                (asking scalars.Address left right question) setting.pushed
           ]) last to
           → Does (script_of context) t.budget more (at_place from r memory t.events)
           (evaluated_in_order (value_in context first) (value_in context second) go t) Good
       by true fit found lies stand =
-          let parts = and_parts (fits_byte (knowing context.site facts) left) (fits_byte (knowing context.site facts) right) fit in
-          bytes_compared facts scalars.Address left right question setting go asked sound one types two other_types
+          let parts =
+          and_parts (fits_byte (knowing context.site facts) left)
+          (fits_byte (knowing context.site facts) right) fit in
+          bytes_compared facts scalars.Address left right question setting go asked sound one
+          types two other_types
           (omega (arith, fewer)) (omega (arith, fewer)) stand stage
           (λ v w u now memory_now value other_value shows final.
           let v_small : v < 256 = value.fits facts parts.0 in
           let w_small : w < 256 = other_value.fits facts parts.1 in
-          rest v w u now memory_now (omega (arith, v_small)) (omega (arith, w_small)) (shows v_small w_small) final)
+          rest v w u now memory_now (omega (arith, v_small)) (omega (arith, w_small))
+          (shows v_small w_small) final)
       by false fit (Some apart) lies stand =
           place_compared facts left right question setting go asked sound one types two other_types
           (omega (arith, fewer)) (omega (arith, fewer))
-          (is_apart (knowing context.site facts) scalars.Address left right question apart lies) stand stage rest
+          (is_apart (knowing context.site facts) scalars.Address left right question apart lies) stand stage
+          rest
       by false fit None lies stand =
           pair_compared scalars.Address left right question setting go asked sound one types two other_types
           fewer stand stage rest
 
   -- a relation, by the known values of its operands
   related :
-      (operands : ScalarType) (operator : BinaryOperator) (left right : ExpressionNumber) (question : Question)
+      (operands : ScalarType) (operator : BinaryOperator) (left right : ExpressionNumber)
+      (question : Question)
       (holds_if : Bool) (t : SourceState) (r : Registers)
       (from bound : ℕ) (first second : TypedExpression) (go : ℕ → SourceState → Outcome C)
       → IsExpression (nodes_in context) context.storage bound left.index first
@@ -271,7 +308,8 @@ module _
       → number (knowing context.site facts) left ≡ left_number
       → StepsStand context (PartDoes context) facts from
       (relation_steps (knowing context.site facts)
-      (between (knowing context.site facts) operands left right question holds_if right_number left_number) setting) last to
+      (between (knowing context.site facts) operands left right question holds_if right_number left_number)
+      setting) last to
       → Stage context top setting.pushed need base t facts r memory
       → GoesOnRelated context setting.purpose
       (relation_outcome (knowing context.site facts)
@@ -279,50 +317,70 @@ module _
       top setting.pushed need base last to more go Good
       → Does (script_of context) t.budget more (at_place from r memory t.events)
       (then_do (value_in context (BinaryNode operands operator first second) t) go) Good
-  related operands operator left right question holds_if t r from bound first second go one two types is fewer (Some n) left_number right_is left_is stand stage rest =
+  related operands operator left right question holds_if t r from bound first second go one two types is fewer
+      (Some n) left_number right_is left_is stand stage rest =
       let site = knowing context.site facts in
       let asked_so = number_question question n operands in
       let means = number_means facts n sound two types.2.0 right_is in
-      let n_small = value_is_word (type_of second) n (asked.values_fit right bound top n second base t t r memory two types.2.0 stage.ready (means t)) in
+      let n_small =
+      value_is_word (type_of second) n
+      (asked.values_fit right bound top n second base t t r memory two types.2.0 stage.ready (means t)) in
       does_same _ (in_order_of context first second operands operator go t)
       (number_asked left operands asked_so.0 t r from bound first
-      (λ v u. then_do (value_in context second u) (λ w s. then_do (computed (result_of operands operator v w) s) go))
+      (λ v u. then_do (value_in context second u)
+      (λ w s. then_do (computed (result_of operands operator v w) s) go))
       one types.1.0 types.1.1 (omega (arith, fewer)) (bounded question n operands n_small) stand stage
       (λ v u now memory_now value shows final.
       let v_small = subst (λ scalar. v < values_of scalar) types.1.1 value.small in
       let holds = agree (question_truth question v n) holds_if in
       does_same (go (truth holds) u)
-      (ap (λ (given : Outcome ℕ). then_do given (λ w s. then_do (computed (result_of operands operator v w) s) go)) (means u)
-      ∙ ap (λ (given : Option ℕ). then_do (computed given u) go) (relation_gives operands operator question holds_if v n is))
+      (ap (λ (given : Outcome ℕ). then_do given
+      (λ w s. then_do (computed (result_of operands operator v w) s) go)) (means u)
+      ∙ ap (λ (given : Option ℕ). then_do (computed given u) go)
+      (relation_gives operands operator question holds_if v n is))
       (rest holds u now memory_now
-      (subst (λ b. OutcomeShows setting.purpose (outcome_of (number_answer site left operands asked_so.0) (agree holds_if asked_so.1)) b now)
+      (subst (λ b. OutcomeShows setting.purpose
+      (outcome_of (number_answer site left operands asked_so.0) (agree holds_if asked_so.1)) b now)
       (sym (agree_twice (number_truth asked_so.0 v) asked_so.1 holds_if)
       ∙ ap (λ b. agree b holds_if) (sym (number_asks question n operands v v_small)))
       (outcome_shown setting.purpose (number_answer site left operands asked_so.0) (agree holds_if asked_so.1)
       (number_truth asked_so.0 v) now shows)) final)))
-  related operands operator left right question holds_if t r from bound first second go one two types is fewer None (Some n) right_is left_is stand stage rest =
+  related operands operator left right question holds_if t r from bound first second go one two types is fewer
+      None (Some n) right_is left_is stand stage rest =
       let site = knowing context.site facts in
       let asked_so = number_question (mirrored question) n operands in
       let means = number_means facts n sound one types.1.0 left_is in
-      let n_small = value_is_word (type_of first) n (asked.values_fit left bound top n first base t t r memory one types.1.0 stage.ready (means t)) in
-      does_same (then_do (value_in context second t) (λ w s. then_do (computed (result_of operands operator n w) s) go))
+      let n_small =
+      value_is_word (type_of first) n
+      (asked.values_fit left bound top n first base t t r memory one types.1.0 stage.ready (means t)) in
+      does_same
+      (then_do (value_in context second t)
+      (λ w s. then_do (computed (result_of operands operator n w) s) go))
       (in_order_of context first second operands operator go t
-      ∙ ap (λ (given : Outcome ℕ). then_do given (λ v u. then_do (value_in context second u) (λ w s. then_do (computed (result_of operands operator v w) s) go))) (means t))
+      ∙ ap (λ (given : Outcome ℕ). then_do given
+      (λ v u. then_do (value_in context second u)
+      (λ w s. then_do (computed (result_of operands operator v w) s) go))) (means t))
       (number_asked right operands asked_so.0 t r from bound second
       (λ w s. then_do (computed (result_of operands operator n w) s) go)
-      two types.2.0 types.2.1 (omega (arith, fewer)) (bounded (mirrored question) n operands n_small) stand stage
+      two types.2.0 types.2.1 (omega (arith, fewer))
+      (bounded (mirrored question) n operands n_small) stand stage
       (λ w u now memory_now value shows final.
       let w_small = subst (λ scalar. w < values_of scalar) types.2.1 value.small in
       let holds = agree (question_truth question n w) holds_if in
       does_same (go (truth holds) u)
-      (ap (λ (given : Option ℕ). then_do (computed given u) go) (relation_gives operands operator question holds_if n w is))
+      (ap (λ (given : Option ℕ). then_do (computed given u) go)
+      (relation_gives operands operator question holds_if n w is))
       (rest holds u now memory_now
-      (subst (λ b. OutcomeShows setting.purpose (outcome_of (number_answer site right operands asked_so.0) (agree holds_if asked_so.1)) b now)
+      (subst (λ b. OutcomeShows setting.purpose
+      (outcome_of (number_answer site right operands asked_so.0) (agree holds_if asked_so.1)) b now)
       (sym (agree_twice (number_truth asked_so.0 w) asked_so.1 holds_if)
-      ∙ ap (λ b. agree b holds_if) (sym (number_asks (mirrored question) n operands w w_small) ∙ mirrored_asks question n w))
-      (outcome_shown setting.purpose (number_answer site right operands asked_so.0) (agree holds_if asked_so.1)
+      ∙ ap (λ b. agree b holds_if)
+      (sym (number_asks (mirrored question) n operands w w_small) ∙ mirrored_asks question n w))
+      (outcome_shown setting.purpose (number_answer site right operands asked_so.0)
+      (agree holds_if asked_so.1)
       (number_truth asked_so.0 w) now shows)) final)))
-  related operands operator left right question holds_if t r from bound first second go one two types is fewer None None right_is left_is stand stage rest =
+  related operands operator left right question holds_if t r from bound first second go one two types is fewer
+      None None right_is left_is stand stage rest =
       does_same _ (in_order_of context first second operands operator go t)
       (both_asked operands left right question t r from bound first second
       (λ v w s. then_do (computed (result_of operands operator v w) s) go)
@@ -330,9 +388,11 @@ module _
       (λ v w u now memory_now v_small w_small shows final.
       let holds = agree (question_truth question v w) holds_if in
       does_same (go (truth holds) u)
-      (ap (λ (given : Option ℕ). then_do (computed given u) go) (relation_gives operands operator question holds_if v w is))
+      (ap (λ (given : Option ℕ). then_do (computed given u) go)
+      (relation_gives operands operator question holds_if v w is))
       (rest holds u now memory_now
-      (outcome_shown setting.purpose (answer_to question) holds_if (question_truth question v w) now shows) final)))
+      (outcome_shown setting.purpose (answer_to question) holds_if (question_truth question v w) now shows)
+      final)))
 
   -- a relation
   pub relation_shown :
@@ -346,15 +406,22 @@ module _
       → Stage context top setting.pushed need base t facts r memory
       → GoesOnRelated context setting.purpose (relation_outcome (knowing context.site facts) relation)
       top setting.pushed need base last to more go Good
-      → Does (script_of context) t.budget more (at_place from r memory t.events) (then_do (value_in context tree t) go) Good
-  relation_shown t r from bound tree relation go (Relates {operands = operands} {operator = operator} {left = left} {right = right} {first = first} {second = second} question holds_if one two is same) types fewer stand stage rest =
+      → Does (script_of context) t.budget more (at_place from r memory t.events)
+      (then_do (value_in context tree t) go) Good
+  relation_shown t r from bound tree relation go
+      (Relates {operands = operands} {operator = operator} {left = left} {right = right} {first = first}
+      {second = second} question holds_if one two is same) types fewer stand stage rest =
       let site = knowing context.site facts in
-      let made : relation ≡ between site operands left right question holds_if (number site right) (number site left) =
+      let made : relation ≡ between site operands left right question holds_if (number site right)
+      (number site left) =
       sym same ∙ between_is site operands left right question holds_if in
-      related operands operator left right question holds_if t r from bound first second go one two types is fewer
+      related operands operator left right question holds_if t r from bound first second go
+      one two types is fewer
       (number site right) (number site left) refl refl
-      (subst (λ (given : Relation). StepsStand context (PartDoes context) facts from (relation_steps site given setting) last to) made stand)
+      (subst (λ (given : Relation). StepsStand context (PartDoes context) facts from
+      (relation_steps site given setting) last to) made stand)
       stage
       (λ holds u now memory_now shows final.
       rest holds u now memory_now
-      (subst (λ (given : Relation). OutcomeShows setting.purpose (relation_outcome site given) holds now) (sym made) shows) final)
+      (subst (λ (given : Relation). OutcomeShows setting.purpose (relation_outcome site given) holds now)
+      (sym made) shows) final)

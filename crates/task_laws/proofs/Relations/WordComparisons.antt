@@ -38,43 +38,51 @@ zero_for Branch answer r flag value = flag
 zero_for Value answer r flag value = value
 
 pair_is_less :
-    {A : Type 0} {context : Context} {top pushed need : ℕ} {base : List ℕ} {t : SourceState} {facts last : Facts}
+    {A : Type 0} {context : Context} {top pushed need : ℕ} {base : List ℕ} {t : SourceState}
+    {facts last : Facts}
     {r : Registers} {memory : List ℕ} {from to budget more : ℕ} {outcome : Outcome A}
-    {Good : A → SourceState → State → Type 0} (v w : ℕ) (order : PairOrder) (question : Question) (purpose : Purpose)
+    {Good : A → SourceState → State → Type 0} (v w : ℕ) (order : PairOrder)
+    (question : Question) (purpose : Purpose)
     → IsSound context
     → v < 65536
     → w < 65536
     → PairLies order v w r
     → StepsStand context (PartDoes context) facts from
-    (taken_steps (word_taken_from question order) (other_word (word_taken_from question order)) question) last to
+    (taken_steps (word_taken_from question order) (other_word (word_taken_from question order)) question) last
+    to
     → Stage context top pushed need base t facts r memory
     → ((now : Registers) → AnswerShows purpose (answer_to question) (question_truth question v w) now
     → Stage context top pushed need base t last now memory
     → Does (script_of context) budget more (at_place to now memory t.events) outcome Good)
     → Does (script_of context) budget more (at_place from r memory t.events) outcome Good
 pair_is_less {r = r} v w LeftInHl LeftBelow purpose sound small other_small lies stand stage rest =
-    at_instructions (copy A L ∷ with_register Subtract E ∷ copy A H ∷ with_register SubtractWithBorrow D ∷ []) [] sound
+    at_instructions (copy A L ∷ with_register Subtract E ∷ copy A H ∷ with_register SubtractWithBorrow D ∷ [])
+    [] sound
     (tt, (tt, (tt, (tt, tt)))) stand stage
     (λ middle found ends next. at_end ends next
     (λ final. rest _ (word_below v w r.h r.l r.d r.e lies.0 lies.1 lies.2 lies.3 other_small) final))
 pair_is_less {r = r} v w RightInHl LeftBelow purpose sound small other_small lies stand stage rest =
-    at_instructions (copy A E ∷ with_register Subtract L ∷ copy A D ∷ with_register SubtractWithBorrow H ∷ []) [] sound
+    at_instructions (copy A E ∷ with_register Subtract L ∷ copy A D ∷ with_register SubtractWithBorrow H ∷ [])
+    [] sound
     (tt, (tt, (tt, (tt, tt)))) stand stage
     (λ middle found ends next. at_end ends next
     (λ final. rest _ (word_below v w r.d r.e r.h r.l lies.2 lies.3 lies.0 lies.1 other_small) final))
 pair_is_less {r = r} v w LeftInHl RightBelow purpose sound small other_small lies stand stage rest =
-    at_instructions (copy A E ∷ with_register Subtract L ∷ copy A D ∷ with_register SubtractWithBorrow H ∷ []) [] sound
+    at_instructions (copy A E ∷ with_register Subtract L ∷ copy A D ∷ with_register SubtractWithBorrow H ∷ [])
+    [] sound
     (tt, (tt, (tt, (tt, tt)))) stand stage
     (λ middle found ends next. at_end ends next
     (λ final. rest _ (word_below w v r.d r.e r.h r.l lies.2 lies.3 lies.0 lies.1 small) final))
 pair_is_less {r = r} v w RightInHl RightBelow purpose sound small other_small lies stand stage rest =
-    at_instructions (copy A L ∷ with_register Subtract E ∷ copy A H ∷ with_register SubtractWithBorrow D ∷ []) [] sound
+    at_instructions (copy A L ∷ with_register Subtract E ∷ copy A H ∷ with_register SubtractWithBorrow D ∷ [])
+    [] sound
     (tt, (tt, (tt, (tt, tt)))) stand stage
     (λ middle found ends next. at_end ends next
     (λ final. rest _ (word_below w v r.h r.l r.d r.e lies.0 lies.1 lies.2 lies.3 small) final))
 pair_is_less {r = r} v w LeftInHl Equal purpose sound small other_small lies stand stage rest =
     at_instructions
-    (copy A E ∷ with_register Subtract L ∷ copy B A ∷ copy A D ∷ with_register SubtractWithBorrow H ∷ with_register Or B ∷ [])
+    (copy A E ∷ with_register Subtract L ∷ copy B A ∷ copy A D ∷ with_register SubtractWithBorrow H
+    ∷ with_register Or B ∷ [])
     [] sound (tt, (tt, (tt, (tt, (tt, (tt, tt)))))) stand stage
     (λ middle found ends next. at_end ends next
     (λ final.
@@ -82,16 +90,19 @@ pair_is_less {r = r} v w LeftInHl Equal purpose sound small other_small lies sta
     rest _ (zero_for purpose (v == w) _ shows shows) final))
 pair_is_less {r = r} v w RightInHl Equal purpose sound small other_small lies stand stage rest =
     at_instructions
-    (copy A E ∷ with_register Subtract L ∷ copy B A ∷ copy A D ∷ with_register SubtractWithBorrow H ∷ with_register Or B ∷ [])
+    (copy A E ∷ with_register Subtract L ∷ copy B A ∷ copy A D ∷ with_register SubtractWithBorrow H
+    ∷ with_register Or B ∷ [])
     [] sound (tt, (tt, (tt, (tt, (tt, (tt, tt)))))) stand stage
     (λ middle found ends next. at_end ends next
     (λ final.
-    let shows = word_equal w v r.h r.l r.d r.e lies.0 lies.1 lies.2 lies.3 other_small small ∙ same_turned v w in
+    let shows =
+    word_equal w v r.h r.l r.d r.e lies.0 lies.1 lies.2 lies.3 other_small small ∙ same_turned v w in
     rest _ (zero_for purpose (v == w) _ shows shows) final))
 
 -- the rest of the code after two values were compared
 abbrev pub GoesOnBoth :
-    {C : Type 0} → Context → Question → Purpose → (top pushed need : ℕ) → (base : List ℕ) → Facts → (place more : ℕ)
+    {C : Type 0} → Context → Question → Purpose → (top pushed need : ℕ) → (base : List ℕ)
+    → Facts → (place more : ℕ)
     → (go : ℕ → ℕ → SourceState → Outcome C) → (Good : C → SourceState → State → Type 0) → Type 0
 GoesOnBoth context question purpose top pushed need base last place more go Good =
     (v w : ℕ) (u : SourceState) (now : Registers) (memory : List ℕ)
@@ -117,21 +128,27 @@ pub pair_compared :
     → TypesHold context.typed context.within second
     → 2 + 2 * max (height_of first) (height_of second) ≤ need
     → StepsStand context (PartDoes context) facts from
-    (with_pair_steps (knowing context.site facts) (asking operands left right question) setting.pushed) last to
+    (with_pair_steps (knowing context.site facts) (asking operands left right question) setting.pushed) last
+    to
     → Stage context top setting.pushed need base t facts r memory
     → GoesOnBoth context question setting.purpose top setting.pushed need base last to more go Good
     → Does (script_of context) t.budget more (at_place from r memory t.events)
     (evaluated_in_order (value_in context first) (value_in context second) go t) Good
-pair_compared {context = context} {t = t} {facts = facts} {bound = bound} {first = first} {second = second} operands left right question setting go asked sound one types two other_types fewer stand stage rest =
+pair_compared {context = context} {t = t} {facts = facts} {bound = bound} {first = first} {second = second}
+    operands left right question setting go asked sound one types two other_types fewer stand stage rest =
     let site = knowing context.site facts in
     let order = pair_order site left right false in
     let parts = steps_split (pair_steps site left right false setting.pushed)
-    (taken_steps (word_taken_from question order) (other_word (word_taken_from question order)) question) stand in
+    (taken_steps (word_taken_from question order) (other_word (word_taken_from question order)) question)
+    stand in
     does_same _ (pair_then context first second go t)
     (at_carried _ _ _
-    (asked.pairs facts parts.found left right false setting.pushed _ parts.middle bound first second one types two
+    (asked.pairs facts parts.found left right false setting.pushed _ parts.middle bound first
+    second one types two
     other_types parts.first) fewer tt
-    (λ p now memory_now (given : PairIsGiven context parts.found order _ _ p now memory_now). given.known) stage
+    (λ p now memory_now (given : PairIsGiven context parts.found order _ _ p now memory_now). given.known)
+    stage
     (λ p u now memory_now is given next.
-    pair_is_less p.0 p.1 order question setting.purpose sound given.small given.other_small given.lies parts.second next
+    pair_is_less p.0 p.1 order question setting.purpose sound given.small given.other_small
+    given.lies parts.second next
     (λ end shows final. rest p.0 p.1 u end memory_now given.small given.other_small shows final)))

@@ -26,7 +26,8 @@ zero_of_halves v h l one two =
     let low_is = both.0 in
     let high_is = both.1 in
     eq-eqb v 0 (omega (arith, one, two, low_is, high_is)))
-    (λ is. ne_eqb v 0 (λ same. eqb-false (bit_or l h) 0 is (or_of_zeros l h (omega (arith, two, same)) (omega (arith, one, same)))))
+    (λ is. ne_eqb v 0 (λ same. eqb-false (bit_or l h) 0 is
+    (or_of_zeros l h (omega (arith, two, same)) (omega (arith, one, same)))))
 
 xor_is_zero : (x y : ℕ) → bit_xor x y ≡ 0 → x ≡ y
 xor_is_zero x y is =
@@ -93,24 +94,32 @@ module _
           at_instructions (copy A L ∷ with_register Or H ∷ []) [] sound (tt, (tt, tt)) stand stage
           (λ middle found ends next. at_end ends next
           (λ final.
-          let shows = difference_zero v n 0 r.h r.l small other_small (sym is) (omega (arith, one, small)) (omega (arith, two, small)) in
+          let shows =
+          difference_zero v n 0 r.h r.l small other_small (sym is) (omega (arith, one, small))
+          (omega (arith, two, small)) in
           rest _ shows shows final))
       known_step (suc zero) is less stand stage =
-          at_instructions (Inx Hl ∷ copy A L ∷ with_register Or H ∷ []) [] sound (tt, (tt, (tt, tt))) stand stage
+          at_instructions (Inx Hl ∷ copy A L ∷ with_register Or H ∷ []) [] sound
+          (tt, (tt, (tt, tt))) stand stage
           (λ middle found ends next. at_end ends next
           (λ final.
           let hl1 : ℕ = (256 * r.h + r.l + 1) % 65536 in
           let is_sum : hl1 ≡ (v + 1) % 65536 = omega (arith, one, two) in
-          let shows = difference_zero v n 1 (hl1 / 256) (hl1 % 256) small other_small (sym is) (ap (λ m. m / 256) is_sum) (ap (λ m. m % 256) is_sum) in
+          let shows =
+          difference_zero v n 1 (hl1 / 256) (hl1 % 256) small other_small (sym is)
+          (ap (λ m. m / 256) is_sum) (ap (λ m. m % 256) is_sum) in
           rest _ shows shows final))
       known_step (suc (suc zero)) is less stand stage =
-          at_instructions (Inx Hl ∷ Inx Hl ∷ copy A L ∷ with_register Or H ∷ []) [] sound (tt, (tt, (tt, (tt, tt)))) stand stage
+          at_instructions (Inx Hl ∷ Inx Hl ∷ copy A L ∷ with_register Or H ∷ []) [] sound
+          (tt, (tt, (tt, (tt, tt)))) stand stage
           (λ middle found ends next. at_end ends next
           (λ final.
           let hl1 : ℕ = (256 * r.h + r.l + 1) % 65536 in
           let hl2 : ℕ = (256 * (hl1 / 256) + hl1 % 256 + 1) % 65536 in
           let is_sum : hl2 ≡ (v + 2) % 65536 = omega (arith, one, two) in
-          let shows = difference_zero v n 2 (hl2 / 256) (hl2 % 256) small other_small (sym is) (ap (λ m. m / 256) is_sum) (ap (λ m. m % 256) is_sum) in
+          let shows =
+          difference_zero v n 2 (hl2 / 256) (hl2 % 256) small other_small (sym is)
+          (ap (λ m. m / 256) is_sum) (ap (λ m. m % 256) is_sum) in
           rest _ shows shows final))
       known_step (suc (suc (suc zero))) is less stand stage =
           at_instructions (Inx Hl ∷ Inx Hl ∷ Inx Hl ∷ copy A L ∷ with_register Or H ∷ []) [] sound
@@ -121,10 +130,13 @@ module _
           let hl2 : ℕ = (256 * (hl1 / 256) + hl1 % 256 + 1) % 65536 in
           let hl3 : ℕ = (256 * (hl2 / 256) + hl2 % 256 + 1) % 65536 in
           let is_sum : hl3 ≡ (v + 3) % 65536 = omega (arith, one, two) in
-          let shows = difference_zero v n 3 (hl3 / 256) (hl3 % 256) small other_small (sym is) (ap (λ m. m / 256) is_sum) (ap (λ m. m % 256) is_sum) in
+          let shows =
+          difference_zero v n 3 (hl3 / 256) (hl3 % 256) small other_small (sym is)
+          (ap (λ m. m / 256) is_sum) (ap (λ m. m % 256) is_sum) in
           rest _ shows shows final))
       known_step (suc (suc (suc (suc k)))) is less stand stage =
-          absurd (Rattle.std.proofs.lemmas.Bool.false≢true (sym (le-ltb (suc (suc (suc (suc k)))) 4 (omega arith)) ∙ less))
+          absurd (Rattle.std.proofs.lemmas.Bool.false≢true
+          (sym (le-ltb (suc (suc (suc (suc k)))) 4 (omega arith)) ∙ less))
 
       by : (is_zero : Bool) → (n == 0) ≡ is_zero → (is_byte : Bool) → nat_lt n 256 ≡ is_byte
           → (is_near : Bool) → nat_lt (negated n) 4 ≡ is_near
@@ -133,7 +145,8 @@ module _
           else if is_byte
           then plain (copy A L ∷ AccumulateImmediate ExclusiveOr (low n) ∷ with_register Or H ∷ [])
           else (if is_near then repeat_steps (Inx Hl) (negated n)
-          else plain (Lxi De (negated n) ∷ Dad De ∷ [])) ++ plain (copy A L ∷ with_register Or H ∷ [])) last to
+          else plain (Lxi De (negated n) ∷ Dad De ∷ []))
+          ++ plain (copy A L ∷ with_register Or H ∷ [])) last to
           → Stage context top pushed need base t facts r memory
           → Does (script_of context) budget more (at_place from r memory t.events) outcome Good
       by true is is_byte byte is_near near stand stage =
@@ -143,20 +156,26 @@ module _
           let shows = zero_of_halves v r.h r.l one two ∙ ap (λ m. v == m) (sym (eqb-true n 0 is)) in
           rest _ shows shows final))
       by false is true byte is_near near stand stage =
-          at_instructions (copy A L ∷ AccumulateImmediate ExclusiveOr (low n) ∷ with_register Or H ∷ []) [] sound (tt, (tt, (tt, tt))) stand stage
+          at_instructions (copy A L ∷ AccumulateImmediate ExclusiveOr (low n) ∷ with_register Or H ∷ []) []
+          sound (tt, (tt, (tt, tt))) stand stage
           (λ middle found ends next. at_end ends next
           (λ final.
           let lows : low n ≡ n = omega (arith, ltb-true n 256 byte) in
-          let shows = ap (λ m. bit_or (bit_xor r.l m) r.h == 0) lows ∙ is_of_halves v n r.h r.l one two (ltb-true n 256 byte) in
+          let shows =
+          ap (λ m. bit_or (bit_xor r.l m) r.h == 0) lows
+          ∙ is_of_halves v n r.h r.l one two (ltb-true n 256 byte) in
           rest _ shows shows final))
       by false is false byte true near stand stage = known_step (negated n) refl near stand stage
       by false is false byte false near stand stage =
-          at_instructions (Lxi De (negated n) ∷ Dad De ∷ copy A L ∷ with_register Or H ∷ []) [] sound (tt, (tt, (tt, (tt, tt)))) stand stage
+          at_instructions (Lxi De (negated n) ∷ Dad De ∷ copy A L ∷ with_register Or H ∷ []) [] sound
+          (tt, (tt, (tt, (tt, tt)))) stand stage
           (λ middle found ends next. at_end ends next
           (λ final.
           let hl1 : ℕ = (256 * r.h + r.l + (256 * (negated n / 256) + negated n % 256)) % 65536 in
           let is_sum : hl1 ≡ (v + negated n) % 65536 = omega (arith, one, two) in
-          let shows = difference_zero v n (negated n) (hl1 / 256) (hl1 % 256) small other_small refl (ap (λ m. m / 256) is_sum) (ap (λ m. m % 256) is_sum) in
+          let shows =
+          difference_zero v n (negated n) (hl1 / 256) (hl1 % 256) small other_small refl
+          (ap (λ m. m / 256) is_sum) (ap (λ m. m % 256) is_sum) in
           rest _ shows shows final))
 
   -- whether HL is below a number
@@ -173,7 +192,8 @@ module _
       → Does (script_of context) budget more (at_place from r memory t.events) outcome Good
   word_is_below {r = r} v n one two small stand stage rest =
       at_instructions
-      (copy A L ∷ AccumulateImmediate Subtract (low n) ∷ copy A H ∷ AccumulateImmediate SubtractWithBorrow (high n) ∷ []) []
+      (copy A L ∷ AccumulateImmediate Subtract (low n) ∷ copy A H
+      ∷ AccumulateImmediate SubtractWithBorrow (high n) ∷ []) []
       sound (tt, (tt, (tt, (tt, tt)))) stand stage
       (λ middle found ends next. at_end ends next
       (λ final. rest _ (word_below v n r.h r.l (n / 256) (n % 256) one two refl refl small) final))
@@ -207,10 +227,12 @@ module _
   -- the rest of this
   abbrev GoesOn : Answer → (ℕ → Bool) → Type 0
   GoesOn answer truth =
-      GoesOnAsked context tree operand setting.purpose answer truth top setting.pushed need base last to more go Good
+      GoesOnAsked context tree operand setting.purpose answer truth top setting.pushed need base
+      last to more go Good
 
   abbrev Comes : Type 0
-  Comes = Does (script_of context) t.budget more (at_place from r memory t.events) (then_do (value_in context tree t) go) Good
+  Comes = Does (script_of context) t.budget more (at_place from r memory t.events)
+      (then_do (value_in context tree t) go) Good
 
   word_small : (v : ℕ) → IsValueOf context tree operand v → v < 65536
   word_small v value = subst (λ scalar. v < values_of scalar) is_address value.small
@@ -229,7 +251,8 @@ module _
       (λ v now memory_now (given : ZeroIsShown context last setting.purpose r memory v now memory_now). given.known) stage
       (λ v u now memory_now is given next.
       rest v u now memory_now (value_of v asked node types stage is)
-      (zero_shows_it setting.purpose (truth v) now (λ same. given.flag same ∙ so v) (λ same. given.value same ∙ so v)) next)
+      (zero_shows_it setting.purpose (truth v) now (λ same. given.flag same ∙ so v)
+      (λ same. given.value same ∙ so v)) next)
 
   below_asked :
       (n : ℕ) → n < 65536
@@ -243,7 +266,8 @@ module _
       by : (is_even : Bool) → (n % 256 == 0) ≡ is_even
           → StepsStand context (PartDoes context) facts from
           (if is_even
-          then high_byte_steps (knowing context.site facts) operand setting.pushed ++ number_in_a_steps (Below (n / 256)) setting
+          then high_byte_steps (knowing context.site facts) operand setting.pushed
+          ++ number_in_a_steps (Below (n / 256)) setting
           else part (tasks.Word operand) setting.pushed ∷ below_steps n) last to
           → Stage context top setting.pushed need base t facts r memory
           → GoesOn (if is_even then number_in_a_answer (Below (n / 256)) else Carry) (λ v. nat_lt v n)
@@ -252,13 +276,15 @@ module _
           let parts = steps_split (high_byte_steps (knowing context.site facts) operand setting.pushed)
           (number_in_a_steps (Below (n / 256)) setting) stand in
           at_carried _ _ _
-          (asked.high_bytes facts parts.found operand setting.pushed from parts.middle bound tree node types is_address parts.first)
+          (asked.high_bytes facts parts.found operand setting.pushed from parts.middle bound tree node types
+          is_address parts.first)
           fewer tt
           (λ v now memory_now (given : HighIsGiven context parts.found r memory v now memory_now). given.known) stage
           (λ v u now memory_now equal given next.
           let value = value_of v asked node types stage equal in
           let v_small = word_small v value in
-          number_in_a sound (Below (n / 256)) setting (v / 256) given.a (omega (arith, v_small)) parts.second next
+          number_in_a sound (Below (n / 256)) setting (v / 256) given.a
+          (omega (arith, v_small)) parts.second next
           (λ end shows final.
           rest v u end memory_now value
           (subst (λ truth. AnswerShows setting.purpose (number_in_a_answer (Below (n / 256))) truth end)
@@ -290,7 +316,8 @@ module _
           → GoesOn (if is_one then Zero else word_below_answer n) (λ v. nat_lt v n)
           → Comes
       by true is stand rest =
-          zero_asked (λ v. nat_lt v n) (λ v. below_one v ∙ ap (λ m. nat_lt v m) (sym (eqb-true n 1 is))) stand stage rest
+          zero_asked (λ v. nat_lt v n) (λ v. below_one v ∙ ap (λ m. nat_lt v m) (sym (eqb-true n 1 is))) stand
+          stage rest
       by false is stand rest = below_asked n small stand stage rest
   question_asked (Is n) small stand stage rest = by (n == 0) refl stand
     where
@@ -299,13 +326,15 @@ module _
           (if is_zero then word_is_zero_steps (knowing context.site facts) operand setting
           else part (tasks.Word operand) setting.pushed ∷ word_is_steps n) last to
           → Comes
-      by true is stand = zero_asked (λ v. v == n) (λ v. ap (λ m. v == m) (sym (eqb-true n 0 is))) stand stage rest
+      by true is stand =
+          zero_asked (λ v. v == n) (λ v. ap (λ m. v == m) (sym (eqb-true n 0 is))) stand stage rest
       by false is (PartThere does stand) =
           at_word _ _ _ does node types fewer stage
           (λ v u now memory_now equal given next.
           let value = value_of v asked node types stage equal in
           word_is sound v n given.h given.l (word_small v value) small stand next
-          (λ end flag zero final. rest v u end memory_now value (zero_for setting.purpose (v == n) end flag zero) final))
+          (λ end flag zero final. rest v u end memory_now value
+          (zero_for setting.purpose (v == n) end flag zero) final))
 
   -- as of a BYTE where its form shows that it is below 256
   pub word_asked :
@@ -315,14 +344,17 @@ module _
       → Stage context top setting.pushed need base t facts r memory
       → GoesOn (word_number_answer (knowing context.site facts) operand question) (number_truth question)
       → Comes
-  word_asked question small stand stage rest = by (fits_byte (knowing context.site facts) operand) refl stand rest
+  word_asked question small stand stage rest =
+      by (fits_byte (knowing context.site facts) operand) refl stand rest
     where
       by : (fits : Bool) → fits_byte (knowing context.site facts) operand ≡ fits
           → StepsStand context (PartDoes context) facts from
           (if fits then byte_number_steps operand question setting
           else word_question_steps (knowing context.site facts) operand question setting) last to
-          → GoesOn (if fits then byte_number_answer question else word_question_answer question) (number_truth question)
+          → GoesOn (if fits then byte_number_answer question else word_question_answer question)
+          (number_truth question)
           → Comes
       by true is stand rest =
-          byte_asked operand question setting go asked sound node types (λ v value. value.fits facts is) fewer stand stage rest
+          byte_asked operand question setting go asked sound node types (λ v value. value.fits facts is)
+          fewer stand stage rest
       by false is stand rest = question_asked question small stand stage rest

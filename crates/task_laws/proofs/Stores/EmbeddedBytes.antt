@@ -26,7 +26,8 @@ does_less (Stopped More t) does = record { told = does.told }
 does_less (Stopped (Outside reason) t) does = record { told = tt }
 
 module _
-    (context : Context) (facts last : Facts) (from to pushed bound : ℕ) (number inner : ExpressionNumber) (target : Target)
+    (context : Context) (facts last : Facts) (from to pushed bound : ℕ)
+    (number inner : ExpressionNumber) (target : Target)
     (inside : TypedExpression) (place : TypedTarget) (sound : IsSound context)
     (node : IsExpression (nodes_in context) context.storage bound inner.index inside)
     (types : TypesHold context.typed context.within inside)
@@ -42,21 +43,25 @@ module _
       → Carries context facts pushed (2 * height_of (AssignmentNode place inside)) 0 from to Nothing
       (value_in context (AssignmentNode place inside))
       (ByteIsGiven context last number (type_of (AssignmentNode place inside)))
-  embedded_byte is_byte (PartThere does (PartThere stores ends)) top base s r memory below room ready known nothing =
-      at_byte _ _ _ does node types (omega arith) (record { below = below; room = room; ready = ready; known = known })
+  embedded_byte is_byte (PartThere does (PartThere stores ends)) top base s r memory below room
+      ready known nothing =
+      at_byte _ _ _ does node types (omega arith)
+      (record { below = below; room = room; ready = ready; known = known })
       (λ v u now memory_now is given next.
       let small : v < 256 = subst (λ scalar. v < values_of scalar) is_byte given.small in
       at_carried {top = top} {need = 2 * height_of (AssignmentNode place inside)} {base = base} _ _ _
       (λ top_there base_there u_there r_there memory_there below_there room_there ready_there known_there in_a.
       does_less (stored context.later context.activation.around place v u_there)
-      (stores bound v (type_of inside) place is_target target_types given.small top_there base_there u_there r_there memory_there below_there room_there ready_there known_there in_a))
+      (stores bound v (type_of inside) place is_target target_types given.small top_there base_there u_there
+      r_there memory_there below_there room_there ready_there known_there in_a))
       (omega arith)
       (subst (λ scalar. InRegister scalar v now) (sym is_byte) (given.a ∙ low_of_byte v small))
       (λ found late memory_late (kept : IsStored context _ (type_of inside) true v now memory_now found late memory_late). kept.known) next
       (λ found t late memory_late stored_is kept final_stage. at_end ends final_stage
       (λ final.
       let a : late.a ≡ v = subst (λ scalar. InRegister scalar v late) is_byte (kept.wanted refl) in
-      byte_given to number v (a ∙ sym (low_of_byte v small)) (subst (λ scalar. v < values_of scalar) (sym same_type) given.small)
+      byte_given to number v (a ∙ sym (low_of_byte v small))
+      (subst (λ scalar. v < values_of scalar) (sym same_type) given.small)
       (λ free. absurd (false≢true (sym not_free ∙ free))) final)))
 
   -- an ADDRESS is assigned
@@ -67,18 +72,22 @@ module _
       → Carries context facts pushed (2 * height_of (AssignmentNode place inside)) 0 from to Nothing
       (value_in context (AssignmentNode place inside))
       (ByteIsGiven context last number (type_of (AssignmentNode place inside)))
-  embedded_low_byte is_address (PartThere does (PartThere stores (PlainThere there ends))) top base s r memory below room ready known nothing =
-      at_word _ _ _ does node types (omega arith) (record { below = below; room = room; ready = ready; known = known })
+  embedded_low_byte is_address (PartThere does (PartThere stores (PlainThere there ends))) top base s r memory
+      below room ready known nothing =
+      at_word _ _ _ does node types (omega arith)
+      (record { below = below; room = room; ready = ready; known = known })
       (λ v u now memory_now is given next.
       at_carried {top = top} {need = 2 * height_of (AssignmentNode place inside)} {base = base} _ _ _
       (λ top_there base_there u_there r_there memory_there below_there room_there ready_there known_there in_hl.
       does_less (stored context.later context.activation.around place v u_there)
-      (stores bound v (type_of inside) place is_target target_types given.small top_there base_there u_there r_there memory_there below_there room_there ready_there known_there in_hl))
+      (stores bound v (type_of inside) place is_target target_types given.small top_there base_there u_there
+      r_there memory_there below_there room_there ready_there known_there in_hl))
       (omega arith)
       (subst (λ scalar. InRegister scalar v now) (sym is_address) (given.h, given.l))
       (λ found late memory_late (kept : IsStored context _ (type_of inside) true v now memory_now found late memory_late). kept.known) next
       (λ found t late memory_late stored_is kept final_stage.
-      let hl : (late.h ≡ v / 256) × (late.l ≡ v % 256) = subst (λ scalar. InRegister scalar v late) is_address (kept.wanted refl) in
+      let hl : (late.h ≡ v / 256) × (late.l ≡ v % 256) =
+      subst (λ scalar. InRegister scalar v late) is_address (kept.wanted refl) in
       stage_with_a late.l late.flags sound final_stage there refl final_stage.ready.registers.l tt
       (λ moved. at_end ends moved
       (λ final.

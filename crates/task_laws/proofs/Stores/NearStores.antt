@@ -35,11 +35,14 @@ push_there :
     ≡ at_place place (record r { sp = p })
     (slice_set (slice_set memory p (number % 256)) (wrap (p + 1)) (number / 256)) events
 push_there script pair place p number r memory events pointer small high low =
-    ap (λ (w : ℕ). left (one_less r.sp) (two_less r.sp) (high_byte w) (low_byte w)) (pushed_anywhere pair (wrap place) r)
+    ap (λ (w : ℕ). left (one_less r.sp) (two_less r.sp) (high_byte w) (low_byte w))
+    (pushed_anywhere pair (wrap place) r)
     ∙ ap (λ (n : ℕ). left (one_less r.sp) (two_less r.sp) n (low_byte (pushed_of pair r))) high
     ∙ ap (λ (n : ℕ). left (one_less r.sp) (two_less r.sp) (number / 256) n) low
-    ∙ ap (λ (n : ℕ). left n (two_less r.sp) (number / 256) (number % 256)) (ap one_less pointer ∙ up_and_one_down p small)
-    ∙ ap (λ (n : ℕ). left (wrap (p + 1)) n (number / 256) (number % 256)) (ap two_less pointer ∙ up_and_down p small)
+    ∙ ap (λ (n : ℕ). left n (two_less r.sp) (number / 256) (number % 256))
+    (ap one_less pointer ∙ up_and_one_down p small)
+    ∙ ap (λ (n : ℕ). left (wrap (p + 1)) n (number / 256) (number % 256))
+    (ap two_less pointer ∙ up_and_down p small)
     ∙ ap (λ (memory : List ℕ). at_place place (record r { sp = p }) memory events)
     (set_apart memory (wrap (p + 1)) p (number / 256) (number % 256) (next_is_other p small))
   where
@@ -62,7 +65,8 @@ word_kept memory p q x y one two three four =
     ap (λ (n : ℕ). n + 256 * byte_at (slice_set (slice_set memory q x) (wrap (q + 1)) y) (wrap (p + 1)))
     (byte_kept (slice_set memory q x) (wrap (q + 1)) p y two ∙ byte_kept memory q p x one)
     ∙ ap (λ (n : ℕ). byte_at memory p + 256 * n)
-    (byte_kept (slice_set memory q x) (wrap (q + 1)) (wrap (p + 1)) y four ∙ byte_kept memory q (wrap (p + 1)) x three)
+    (byte_kept (slice_set memory q x) (wrap (q + 1)) (wrap (p + 1)) y four
+    ∙ byte_kept memory q (wrap (p + 1)) x three)
 
 -- HL takes the place of a word next to the stack pointer
 pub near_stored :
@@ -92,7 +96,9 @@ pub near_stored :
     Good)
     → Does context.activation.around.program.script t.budget 1 (at_place from r ended t.events)
     (then_do (write_scalar context.activation.around.program Address place number t) go) Good
-near_stored {A = A} {Good = Good} {context = context} {facts = facts} {last = last} {top = top} {from = from} {to = to} {base = base} First others go place number t r ended sound small h l is_at fits (PlainThere there (PlainThere again (ChangeThere stand))) on rest =
+near_stored {A = A} {Good = Good} {context = context} {facts = facts} {last = last} {top = top} {from = from}
+    {to = to} {base = base} First others go place number t r ended sound small h l is_at fits
+    (PlainThere there (PlainThere again (ChangeThere stand))) on rest =
     let script = context.activation.around.program.script in
     let shares = on.ready.shares in
     let is = shares.is_memory in
@@ -101,7 +107,8 @@ near_stored {A = A} {Good = Good} {context = context} {facts = facts} {last = la
     let low : r.sp < MEMORY_SIZE = omega (arith, pointer) in
     let popped : ℕ = word_at ended r.sp in
     let fits_too : popped < MEMORY_SIZE = word_small ended r.sp is in
-    let after_pop : Registers = record r { b = high_byte popped; c = low_byte popped; sp = wrap (r.sp + 2) } in
+    let after_pop : Registers =
+    record r { b = high_byte popped; c = low_byte popped; sp = wrap (r.sp + 2) } in
     let now : Registers = record r { b = high_byte popped; c = low_byte popped } in
     let left : List ℕ = slice_set (slice_set ended r.sp (number % 256)) (wrap (r.sp + 1)) (number / 256) in
     word_written place number t go sound small on.ready fits
@@ -110,17 +117,23 @@ near_stored {A = A} {Good = Good} {context = context} {facts = facts} {last = la
     (wrap (address_on_machine context.activation place + 1)) (number / 256) ≡ left
     = ap (λ (n : ℕ). slice_set (slice_set ended n (number % 256)) (wrap (n + 1)) (number / 256)) is_at in
     let lies : WordLiesAt context.activation left (address_on_machine context.activation place) number
-    = subst (λ (memory : List ℕ). WordLiesAt context.activation memory (address_on_machine context.activation place) number) same
-    (word_lies_at context.activation ended (address_on_machine context.activation place) number is.size steady steady_too) in
+    = subst (λ (memory : List ℕ). WordLiesAt context.activation memory
+    (address_on_machine context.activation place) number) same
+    (word_lies_at context.activation ended (address_on_machine context.activation place) number is.size
+    steady steady_too) in
     let ready_left : IsReady context.activation top base u.memory u.frame r left
     = subst (λ (memory : List ℕ). IsReady context.activation top base u.memory u.frame r memory) same ready in
-    does_gaining (plain_step script context.activation (Pop StackBc) [] from (from + 1) r ended t.events sound.lies shares.code there)
+    does_gaining
+    (plain_step script context.activation (Pop StackBc) [] from (from + 1) r ended t.events
+    sound.lies shares.code there)
     (plain_first after_pop sound.lies shares.code again
     (subst (λ (s : State). Does script t.budget 0 s (go tt u) Good)
     (sym (push_there script StackHl (from + 1 + 1) r.sp number after_pop ended t.events refl low
     (high_part r.h r.l number h l) (low_part r.h r.l number h l)))
-    (subst (λ (budget : ℕ). Does script budget 0 (at_place (from + 1 + 1) now left t.events) (go tt u) Good) budget_same
-    (subst (λ (events : List Event). Does script u.budget 0 (at_place (from + 1 + 1) now left events) (go tt u) Good) events_same
+    (subst (λ (budget : ℕ). Does script budget 0 (at_place (from + 1 + 1) now left t.events) (go tt u) Good)
+    budget_same
+    (subst (λ (events : List Event). Does script u.budget 0 (at_place (from + 1 + 1) now left events)
+    (go tt u) Good) events_same
     (rest u now left (from + 1 + 1) _ refl refl refl lies stand
     (record {
       ready =
@@ -134,7 +147,9 @@ near_stored {A = A} {Good = Good} {context = context} {facts = facts} {last = la
         zero_holds = on.known.zero_holds;
       };
     })))))))
-near_stored {A = A} {Good = Good} {context = context} {facts = facts} {last = last} {top = top} {from = from} {to = to} {base = base} Second others go place number t r ended sound small h l is_at fits (PlainThere there (PlainThere next (PlainThere again (PlainThere once (ChangeThere stand))))) on rest =
+near_stored {A = A} {Good = Good} {context = context} {facts = facts} {last = last} {top = top} {from = from}
+    {to = to} {base = base} Second others go place number t r ended sound small h l is_at fits
+    (PlainThere there (PlainThere next (PlainThere again (PlainThere once (ChangeThere stand))))) on rest =
     let script = context.activation.around.program.script in
     let shares = on.ready.shares in
     let is = shares.is_memory in
@@ -150,7 +165,8 @@ near_stored {A = A} {Good = Good} {context = context} {facts = facts} {last = la
     let one : Registers = record r { b = high_byte first; c = low_byte first; sp = above } in
     let two : Registers = record one { d = high_byte second; e = low_byte second; sp = wrap (above + 2) } in
     let three : Registers = record two { sp = above } in
-    let now : Registers = record r { b = high_byte first; c = low_byte first; d = high_byte second; e = low_byte second } in
+    let now : Registers =
+    record r { b = high_byte first; c = low_byte first; d = high_byte second; e = low_byte second } in
     let left : List ℕ = slice_set (slice_set ended above (number % 256)) (wrap (above + 1)) (number / 256) in
     let stays : word_at left r.sp ≡ first
     = word_kept ended r.sp above (number % 256) (number / 256)
@@ -161,12 +177,16 @@ near_stored {A = A} {Good = Good} {context = context} {facts = facts} {last = la
     (wrap (address_on_machine context.activation place + 1)) (number / 256) ≡ left
     = ap (λ (n : ℕ). slice_set (slice_set ended n (number % 256)) (wrap (n + 1)) (number / 256)) is_at in
     let lies : WordLiesAt context.activation left (address_on_machine context.activation place) number
-    = subst (λ (memory : List ℕ). WordLiesAt context.activation memory (address_on_machine context.activation place) number) same
-    (word_lies_at context.activation ended (address_on_machine context.activation place) number is.size steady steady_too) in
+    = subst (λ (memory : List ℕ). WordLiesAt context.activation memory
+    (address_on_machine context.activation place) number) same
+    (word_lies_at context.activation ended (address_on_machine context.activation place) number is.size
+    steady steady_too) in
     let ready_left : IsReady context.activation top base u.memory u.frame r left
     = subst (λ (memory : List ℕ). IsReady context.activation top base u.memory u.frame r memory) same ready in
     let shares_left = ready_left.shares in
-    does_gaining (plain_step script context.activation (Pop StackBc) [] from (from + 1) r ended t.events sound.lies shares.code there)
+    does_gaining
+    (plain_step script context.activation (Pop StackBc) [] from (from + 1) r ended t.events
+    sound.lies shares.code there)
     (plain_first one sound.lies shares.code next
     (plain_first two sound.lies shares.code again
     (subst (λ (s : State). Does script t.budget 0 s (go tt u) Good)
@@ -174,10 +194,13 @@ near_stored {A = A} {Good = Good} {context = context} {facts = facts} {last = la
     (high_part r.h r.l number h l) (low_part r.h r.l number h l)))
     (plain_first three sound.lies shares_left.code once
     (subst (λ (s : State). Does script t.budget 0 s (go tt u) Good)
-    (sym (push_back script StackBc (from + 1 + 1 + 1 + 1) r.sp three left t.events refl low shares_left.is_memory
+    (sym (push_back script StackBc (from + 1 + 1 + 1 + 1) r.sp three left t.events refl low
+    shares_left.is_memory
     (back_together first fits_first ∙ sym stays)))
-    (subst (λ (budget : ℕ). Does script budget 0 (at_place (from + 1 + 1 + 1 + 1) now left t.events) (go tt u) Good) budget_same
-    (subst (λ (events : List Event). Does script u.budget 0 (at_place (from + 1 + 1 + 1 + 1) now left events) (go tt u) Good) events_same
+    (subst (λ (budget : ℕ). Does script budget 0 (at_place (from + 1 + 1 + 1 + 1) now left t.events)
+    (go tt u) Good) budget_same
+    (subst (λ (events : List Event). Does script u.budget 0 (at_place (from + 1 + 1 + 1 + 1) now left events)
+    (go tt u) Good) events_same
     (rest u now left (from + 1 + 1 + 1 + 1) _ refl refl refl lies stand
     (record {
       ready =

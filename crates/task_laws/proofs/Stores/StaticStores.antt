@@ -19,9 +19,11 @@ pub word_gains :
     (instruction_with form (place_at context.activation.layout place)) (at_place (from + 3) r memory events)
     ≡ at_place (from + 3) now ended events
     → (Know context (after_word facts form place) now ended
-    → Does context.activation.around.program.script budget 0 (at_place (from + 3) now ended events) outcome Good)
+    → Does context.activation.around.program.script budget 0
+    (at_place (from + 3) now ended events) outcome Good)
     → Does context.activation.around.program.script budget 1 (at_place from r memory events) outcome Good
-word_gains {A = A} {budget = budget} {outcome = outcome} {Good = Good} {context = context} {facts = facts} {memory = memory} {events = events} {from = from} form place r now ended sound there on asks does rest =
+word_gains {A = A} {budget = budget} {outcome = outcome} {Good = Good} {context = context} {facts = facts}
+    {memory = memory} {events = events} {from = from} form place r now ended sound there on asks does rest =
     let script = context.activation.around.program.script in
     let shares = on.ready.shares in
     let known : Know context (after_word facts form place) now ended
@@ -30,14 +32,16 @@ word_gains {A = A} {budget = budget} {outcome = outcome} {Good = Good} {context 
     (at_place (from + 3) r memory events)
     shares.is_memory (bytes_at_place (wrap (from + 3)) r on.ready.registers) asks on.known) in
     does_gaining
-    (word_step script context.activation form _ [] from (from + 3) r memory events sound.lies shares.code there ∙ does)
+    (word_step script context.activation form _ [] from (from + 3) r memory events sound.lies
+    shares.code there ∙ does)
     (rest known)
 
 -- STA at the place of a byte
 pub sta_stores :
     {A : Type 0} {Good : A → SourceState → State → Type 0}
     {context : Context} {facts last : Facts} {top from to : ℕ} {base : List ℕ}
-    (go : Unit {0} → SourceState → Outcome A) (static : Place) (place : SourcePlace) (byte : ℕ) (t : SourceState) (r : Registers)
+    (go : Unit {0} → SourceState → Outcome A) (static : Place) (place : SourcePlace) (byte : ℕ)
+    (t : SourceState) (r : Registers)
     (ended : List ℕ)
     → IsSound context
     → byte < 256
@@ -51,7 +55,8 @@ pub sta_stores :
     → Does context.activation.around.program.script u.budget 0 (at_place to r left u.events) (go tt u) Good)
     → Does context.activation.around.program.script t.budget 1 (at_place from r ended t.events)
     (then_do (write_byte context.activation.around.program place byte t) go) Good
-sta_stores {Good = Good} {context = context} {facts = facts} {last = last} {top = top} {from = from} {to = to} {base = base} go static place byte t r ended sound small a is_at fits (WordThere there stand) on rest =
+sta_stores {Good = Good} {context = context} {facts = facts} {last = last} {top = top} {from = from} {to = to}
+    {base = base} go static place byte t r ended sound small a is_at fits (WordThere there stand) on rest =
     let script = context.activation.around.program.script in
     let address : ℕ = place_at context.activation.layout static in
     byte_written place byte t go sound small on.ready fits
@@ -64,10 +69,12 @@ sta_stores {Good = Good} {context = context} {facts = facts} {last = last} {top 
     (λ known.
     nothing_goes r stand
     (record {
-      ready = subst (λ (memory : List ℕ). IsReady context.activation top base u.memory u.frame r memory) same ready;
+      ready = subst (λ (memory : List ℕ). IsReady context.activation top base u.memory u.frame r memory) same
+          ready;
       known = known;
     })
     (λ on_left.
     subst (λ (budget : ℕ). Does script budget 0 (at_place to r left t.events) (go tt u) Good) budget_same
-    (subst (λ (events : List Event). Does script u.budget 0 (at_place to r left events) (go tt u) Good) events_same
+    (subst (λ (events : List Event). Does script u.budget 0 (at_place to r left events) (go tt u) Good)
+    events_same
     (rest u left on_left)))))

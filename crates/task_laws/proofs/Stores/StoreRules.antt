@@ -42,7 +42,9 @@ pub beside_a_then :
     (go place t) Good)
     → Does context.activation.around.program.script s.budget more (at_place from r memory s.events)
     (then_do (located_in context tree s) go) Good
-beside_a_then {Good = Good} {context = context} {facts = facts} {last = last} {reference = reference} {bound = bound} {top = top} {pushed = pushed} {need = need} {to = to} {more = more} {base = base} {tree = tree} used scalar others go from s r memory sound stand is referred types less room fits on rest =
+beside_a_then {Good = Good} {context = context} {facts = facts} {last = last} {reference = reference}
+    {bound = bound} {top = top} {pushed = pushed} {need = need} {to = to} {more = more} {base = base}
+    {tree = tree} used scalar others go from s r memory sound stand is referred types less room fits on rest =
     by_test (keeps_of_address (knowing context.site used) reference).a refl stand
   where
     by_test : (kept : Bool) → (keeps_of_address (knowing context.site used) reference).a ≡ kept
@@ -54,12 +56,14 @@ beside_a_then {Good = Good} {context = context} {facts = facts} {last = last} {r
         (then_do (located_in context tree s) go) Good
     by_test true kept (PartThere {middle = middle} does stand) =
         let kept_here : (keeps_of_address context.site reference).a ≡ true
-        = ap (λ (of : Rattle.treecode.specs.declared.traits.Keeps.Keeps). of.a) (sym (address_keeps_anywhere context used reference)) ∙ kept in
+        = ap (λ (of : Rattle.treecode.specs.declared.traits.Keeps.Keeps). of.a)
+        (sym (address_keeps_anywhere context used reference)) ∙ kept in
         then_does_where
         (does bound tree is referred types top base s r memory less
         (room_for (2 * height_of_reference tree) (omega (arith, fits)) room) on.ready on.known tt)
         (λ place t end same given fewer.
-        subst (λ (state : State). Does context.activation.around.program.script t.budget more state (go place t) Good) (sym given.is_at)
+        subst (λ (state : State). Does context.activation.around.program.script t.budget more state
+        (go place t) Good) (sym given.is_at)
         (rest place t given.r given.memory middle _ same ((given.holds).a kept_here) (given.holds).hl stand
         (record { ready = given.ready; known = (given.holds).known })))
     by_test false kept (PlainThere there (PartThere {middle = middle} does (PlainThere again stand))) =
@@ -71,18 +75,21 @@ beside_a_then {Good = Good} {context = context} {facts = facts} {last = last} {r
         then_does_where
         (does bound tree is referred types (top - 2) (pushed_memory top (pushed_of Psw r) memory) s lower
         (pushed_memory top (pushed_of Psw r) memory) less
-        (more_pushed (2 * height_of_reference tree) sound.lies (omega (arith, high)) (omega (arith, fits)) room) on_lower.ready on_lower.known tt)
+        (more_pushed (2 * height_of_reference tree) sound.lies (omega (arith, high)) (omega (arith, fits))
+        room) on_lower.ready on_lower.known tt)
         (λ place t end same given fewer.
         let back : Registers = record (given.r) {
           a = high_byte (pushed_of Psw r);
           flags = flags_in (low_byte (pushed_of Psw r));
           sp = wrap top;
         } in
-        subst (λ (state : State). Does context.activation.around.program.script t.budget more state (go place t) Good) (sym given.is_at)
+        subst (λ (state : State). Does context.activation.around.program.script t.budget more state
+        (go place t) Good) (sym given.is_at)
         (pop_goes Psw given.r sound again two room on.ready (pushed_word_small Psw r on.ready.registers)
         (record { ready = given.ready; known = (given.holds).known })
         (λ on_back.
-        rest place t back given.memory (middle + 1) _ same (word_high_byte r.a (flag_byte r.flags) (flag_byte_small r.flags))
+        rest place t back given.memory (middle + 1) _ same
+        (word_high_byte r.a (flag_byte r.flags) (flag_byte_small r.flags))
         (given.holds).hl stand on_back))))
 
 -- the value that was in HL is put into DE
@@ -114,7 +121,9 @@ pub beside_de_then :
     (go place t) Good)
     → Does context.activation.around.program.script s.budget more (at_place from r memory s.events)
     (then_do (located_in context tree s) go) Good
-beside_de_then {Good = Good} {context = context} {facts = facts} {last = last} {reference = reference} {bound = bound} {top = top} {pushed = pushed} {need = need} {to = to} {more = more} {base = base} {tree = tree} used scalar others go from s r memory sound stand is referred types less room fits on rest =
+beside_de_then {Good = Good} {context = context} {facts = facts} {last = last} {reference = reference}
+    {bound = bound} {top = top} {pushed = pushed} {need = need} {to = to} {more = more} {base = base}
+    {tree = tree} used scalar others go from s r memory sound stand is referred types less room fits on rest =
     by_test (keeps_of_address (knowing context.site used) reference).de refl stand
   where
     by_test : (kept : Bool) → (keeps_of_address (knowing context.site used) reference).de ≡ kept
@@ -127,7 +136,8 @@ beside_de_then {Good = Good} {context = context} {facts = facts} {last = last} {
         (then_do (located_in context tree s) go) Good
     by_test true kept (PlainThere there (PartThere {middle = middle} does stand)) =
         let kept_here : (keeps_of_address context.site reference).de ≡ true
-        = ap (λ (of : Rattle.treecode.specs.declared.traits.Keeps.Keeps). of.de) (sym (address_keeps_anywhere context used reference)) ∙ kept in
+        = ap (λ (of : Rattle.treecode.specs.declared.traits.Keeps.Keeps). of.de)
+        (sym (address_keeps_anywhere context used reference)) ∙ kept in
         let bytes = on.ready.registers in
         let one : Registers = record r { h = r.d; l = r.e; d = r.h; e = r.l } in
         registers_go r one sound there on tt refl refl
@@ -137,8 +147,10 @@ beside_de_then {Good = Good} {context = context} {facts = facts} {last = last} {
         (does bound tree is referred types top base s one memory less
         (room_for (2 * height_of_reference tree) (omega (arith, fits)) room) on_one.ready on_one.known tt)
         (λ place t end same given fewer.
-        subst (λ (state : State). Does context.activation.around.program.script t.budget more state (go place t) Good) (sym given.is_at)
-        (rest place t given.r given.memory middle _ same ((given.holds).d kept_here) ((given.holds).e kept_here) (given.holds).hl stand
+        subst (λ (state : State). Does context.activation.around.program.script t.budget more state
+        (go place t) Good) (sym given.is_at)
+        (rest place t given.r given.memory middle _ same ((given.holds).d kept_here)
+        ((given.holds).e kept_here) (given.holds).hl stand
         (record { ready = given.ready; known = (given.holds).known }))))
     by_test false kept (PlainThere there (PartThere {middle = middle} does (PlainThere again stand))) =
         let high = reference_height tree in
@@ -149,18 +161,22 @@ beside_de_then {Good = Good} {context = context} {facts = facts} {last = last} {
         then_does_where
         (does bound tree is referred types (top - 2) (pushed_memory top (pushed_of StackHl r) memory) s lower
         (pushed_memory top (pushed_of StackHl r) memory) less
-        (more_pushed (2 * height_of_reference tree) sound.lies (omega (arith, high)) (omega (arith, fits)) room) on_lower.ready on_lower.known tt)
+        (more_pushed (2 * height_of_reference tree) sound.lies (omega (arith, high)) (omega (arith, fits))
+        room) on_lower.ready on_lower.known tt)
         (λ place t end same given fewer.
         let back : Registers = record (given.r) {
           d = high_byte (pushed_of StackHl r);
           e = low_byte (pushed_of StackHl r);
           sp = wrap top;
         } in
-        subst (λ (state : State). Does context.activation.around.program.script t.budget more state (go place t) Good) (sym given.is_at)
-        (pop_goes StackDe given.r sound again two room on.ready (pushed_word_small StackHl r on.ready.registers)
+        subst (λ (state : State). Does context.activation.around.program.script t.budget more state
+        (go place t) Good) (sym given.is_at)
+        (pop_goes StackDe given.r sound again two room on.ready
+        (pushed_word_small StackHl r on.ready.registers)
         (record { ready = given.ready; known = (given.holds).known })
         (λ on_back.
-        rest place t back given.memory (middle + 1) _ same (word_high_byte r.h r.l on.ready.registers.l) (word_low_byte r.h r.l on.ready.registers.l)
+        rest place t back given.memory (middle + 1) _ same (word_high_byte r.h r.l on.ready.registers.l)
+        (word_low_byte r.h r.l on.ready.registers.l)
         (given.holds).hl stand on_back))))
 
 -- a byte was stored at an address
@@ -223,7 +239,9 @@ pub one_stored :
     Good)
     → Does context.activation.around.program.script t.budget 1 (at_place from r ended t.events)
     (then_do (write_byte context.activation.around.program place byte t) go) Good
-one_stored {Good = Good} {context = context} {facts = facts} {last = last} {top = top} {from = from} {to = to} {base = base} i others go place byte t r ended sound small hl fits acts asks (PlainThere there stand) on rest =
+one_stored {Good = Good} {context = context} {facts = facts} {last = last} {top = top} {from = from} {to = to}
+    {base = base} i others go place byte t r ended sound small hl fits acts asks
+    (PlainThere there stand) on rest =
     let script = context.activation.around.program.script in
     let address : ℕ = address_on_machine context.activation place in
     let size = on.ready.shares.is_memory.size in
@@ -233,15 +251,20 @@ one_stored {Good = Good} {context = context} {facts = facts} {last = last} {top 
     let left : List ℕ = slice_set ended (word r.h r.l) byte in
     let same : slice_set ended address byte ≡ left = ap (λ (n : ℕ). slice_set ended n byte) (sym hl) in
     let there_is : byte_at left address ≡ byte
-    = ap (λ (memory : List ℕ). byte_at memory address) (sym same) ∙ byte_put ended address byte (omega (arith, size, inside)) in
+    = ap (λ (memory : List ℕ). byte_at memory address) (sym same)
+    ∙ byte_put ended address byte (omega (arith, size, inside)) in
     plain_gains r r left t.events sound there on
-    (asks (subst (λ (n : ℕ). IsSteady context.activation n) (sym hl) steady.0)) (acts (from + size_of_instruction i) ended)
+    (asks (subst (λ (n : ℕ). IsSteady context.activation n) (sym hl) steady.0))
+    (acts (from + size_of_instruction i) ended)
     (λ known.
-    subst (λ (budget : ℕ). Does script budget 0 (at_place (from + size_of_instruction i) r left t.events) (go tt u) Good) budget_same
-    (subst (λ (events : List Event). Does script u.budget 0 (at_place (from + size_of_instruction i) r left events) (go tt u) Good) events_same
+    subst (λ (budget : ℕ). Does script budget 0 (at_place (from + size_of_instruction i) r left t.events)
+    (go tt u) Good) budget_same
+    (subst (λ (events : List Event). Does script u.budget 0
+    (at_place (from + size_of_instruction i) r left events) (go tt u) Good) events_same
     (rest u left (from + size_of_instruction i) _ (record { is = there_is; steady = steady.0 }) stand
     (record {
-      ready = subst (λ (memory : List ℕ). IsReady context.activation top base u.memory u.frame r memory) same ready;
+      ready = subst (λ (memory : List ℕ). IsReady context.activation top base u.memory u.frame r memory) same
+          ready;
       known = known;
     })))))
 
@@ -281,7 +304,9 @@ pub two_stored :
     (go tt u) Good)
     → Does context.activation.around.program.script t.budget 1 (at_place from r ended t.events)
     (then_do (write_scalar context.activation.around.program Address place number t) go) Good
-two_stored {Good = Good} {context = context} {facts = facts} {last = last} {top = top} {from = from} {to = to} {base = base} i j others go place number t r ended sound small hl fits acts acts_too asks asks_too (PlainThere there (PlainThere next (PlainThere again stand))) on rest =
+two_stored {Good = Good} {context = context} {facts = facts} {last = last} {top = top} {from = from} {to = to}
+    {base = base} i j others go place number t r ended sound small hl fits acts acts_too asks asks_too
+    (PlainThere there (PlainThere next (PlainThere again stand))) on rest =
     let script = context.activation.around.program.script in
     let program = context.activation.around.program in
     let address : ℕ = address_on_machine context.activation place in
@@ -293,15 +318,18 @@ two_stored {Good = Good} {context = context} {facts = facts} {last = last} {top 
     subst (λ (outcome : Outcome _). Does script t.budget 1 (at_place from r ended t.events) outcome Good)
     (sym (then_again (write_byte program place (number % 256) t)
     (λ _ t. write_byte program (next_place place) (number / 256) t) go))
-    (byte_written place (number % 256) t (λ _ t. then_do (write_byte program (next_place place) (number / 256) t) go) sound
+    (byte_written place (number % 256) t
+    (λ _ t. then_do (write_byte program (next_place place) (number / 256) t) go) sound
     (omega arith) on.ready (first_fits context.activation place fits)
     (λ u events_same budget_same steady ready_once.
     plain_gains r r once t.events sound there on
-    (asks (subst (λ (n : ℕ). IsSteady context.activation n) (sym hl) steady.0)) (acts (from + size_of_instruction i) ended)
+    (asks (subst (λ (n : ℕ). IsSteady context.activation n) (sym hl) steady.0))
+    (acts (from + size_of_instruction i) ended)
     (λ known_once.
     registers_go r two sound next
     (record {
-      ready = subst (λ (memory : List ℕ). IsReady context.activation top base u.memory u.frame r memory) once_same ready_once;
+      ready = subst (λ (memory : List ℕ). IsReady context.activation top base u.memory u.frame r memory)
+          once_same ready_once;
       known = known_once;
     }) tt refl refl
     (record { a = bytes.a; b = bytes.b; c = bytes.c; d = bytes.d; e = bytes.e; h = omega arith; l = omega arith })
@@ -310,10 +338,13 @@ two_stored {Good = Good} {context = context} {facts = facts} {last = last} {top 
     (second_fits context.activation place fits)
     (λ v events_again budget_again steady_too ready_twice.
     let twice : List ℕ = slice_set once (word two.h two.l) (number / 256) in
-    let next_is : address_on_machine context.activation (next_place place) ≡ wrap (address + 1) = next_address context.activation place in
-    let twice_same : slice_set once (address_on_machine context.activation (next_place place)) (number / 256) ≡ twice
+    let next_is : address_on_machine context.activation (next_place place) ≡ wrap (address + 1) =
+    next_address context.activation place in
+    let twice_same : slice_set once (address_on_machine context.activation (next_place place)) (number / 256)
+    ≡ twice
     = ap (λ (n : ℕ). slice_set once n (number / 256)) (next_is ∙ sym (next_word r.h r.l address hl)) in
-    let whole_same : slice_set (slice_set ended address (number % 256)) (wrap (address + 1)) (number / 256) ≡ twice
+    let whole_same : slice_set (slice_set ended address (number % 256)) (wrap (address + 1)) (number / 256)
+    ≡ twice
     = ap (λ (memory : List ℕ). slice_set memory (wrap (address + 1)) (number / 256)) once_same
     ∙ ap (λ (n : ℕ). slice_set once n (number / 256)) (sym (next_word r.h r.l address hl)) in
     let lies : WordLiesAt context.activation twice address number
@@ -321,13 +352,18 @@ two_stored {Good = Good} {context = context} {facts = facts} {last = last} {top 
     (word_lies_at context.activation ended address number on.ready.shares.is_memory.size steady
     (subst (λ (n : ℕ). IsSteadyByte context.activation n) next_is steady_too)) in
     let place_then : ℕ = from + size_of_instruction i + 1 + size_of_instruction j in
-    plain_goes two two twice t.events sound again on_two (asks_too (after (after facts i) (Inx Hl)) (record two { pc = wrap place_then })) (acts_too place_then once)
+    plain_goes two two twice t.events sound again on_two
+    (asks_too (after (after facts i) (Inx Hl)) (record two { pc = wrap place_then }))
+    (acts_too place_then once)
     (λ known_twice.
-    subst (λ (budget : ℕ). Does script budget 0 (at_place place_then two twice t.events) (go tt v) Good) (budget_again ∙ budget_same)
-    (subst (λ (events : List Event). Does script v.budget 0 (at_place place_then two twice events) (go tt v) Good) (events_again ∙ events_same)
+    subst (λ (budget : ℕ). Does script budget 0 (at_place place_then two twice t.events) (go tt v) Good)
+    (budget_again ∙ budget_same)
+    (subst (λ (events : List Event). Does script v.budget 0 (at_place place_then two twice events) (go tt v)
+    Good) (events_again ∙ events_same)
     (rest v twice place_then _ lies stand
     (record {
-      ready = subst (λ (memory : List ℕ). IsReady context.activation top base v.memory v.frame two memory) twice_same ready_twice;
+      ready = subst (λ (memory : List ℕ). IsReady context.activation top base v.memory v.frame two memory)
+          twice_same ready_twice;
       known = known_twice;
     })))))))))
 
@@ -335,7 +371,8 @@ two_stored {Good = Good} {context = context} {facts = facts} {last = last} {top 
 abbrev pub PlaceLies : Context → Option Location → SourcePlace → Type 0
 PlaceLies context None place = Unit {0}
 PlaceLies context (Some location) place =
-    address_on_machine context.activation place ≡ location_at context.activation (distances_in context) location
+    address_on_machine context.activation place
+    ≡ location_at context.activation (distances_in context) location
 
 pub place_lies :
     {context : Context} {bound : ℕ} {reference : Reference} {tree : TypedReference} (facts : Facts)
@@ -347,7 +384,8 @@ pub place_lies :
     → TypesHoldInReference context.typed context.within tree
     → located_in context tree s ≡ Gave place t
     → PlaceLies context (location_of (knowing context.site facts) reference) place
-place_lies {context = context} {reference = reference} {tree = tree} facts place s t sound is referred types same =
+place_lies {context = context} {reference = reference} {tree = tree} facts place s t sound is
+    referred types same =
     by (location_of (knowing context.site facts) reference) refl
   where
     by : (found : Option Location) → location_of (knowing context.site facts) reference ≡ found → PlaceLies
@@ -355,7 +393,8 @@ place_lies {context = context} {reference = reference} {tree = tree} facts place
     by None told = tt
     by (Some location) told =
         let lies = lies_there facts location sound is referred types told in
-        ap (λ (of : SourcePlace). address_on_machine context.activation of) (same_given (sym same ∙ lies.means s)) ∙ lies.is_at
+        ap (λ (of : SourcePlace). address_on_machine context.activation of)
+        (same_given (sym same ∙ lies.means s)) ∙ lies.is_at
 
 -- the facts about A and HL, if a place is at a location
 pub byte_known_at :
@@ -363,9 +402,11 @@ pub byte_known_at :
     → PlaceLies context location place
     → ByteLiesAt context.activation memory (address_on_machine context.activation place) r.a
     → Know context (record no_facts { byte_in_a = location }) r memory
-byte_known_at context None place memory r lies byte = record { byte_holds = tt; word_holds = tt; address_holds = tt; zero_holds = tt }
+byte_known_at context None place memory r lies byte =
+    record { byte_holds = tt; word_holds = tt; address_holds = tt; zero_holds = tt }
 byte_known_at context (Some location) place memory r lies byte = record {
-  byte_holds = (sym byte.is ∙ ap (byte_at memory) lies, subst (λ (n : ℕ). IsSteady context.activation n) lies byte.steady);
+  byte_holds =
+      (sym byte.is ∙ ap (byte_at memory) lies, subst (λ (n : ℕ). IsSteady context.activation n) lies byte.steady);
   word_holds = tt;
   address_holds = tt;
   zero_holds = tt;
@@ -379,11 +420,13 @@ pub word_known_at :
     → r.l ≡ number % 256
     → WordLiesAt context.activation memory (address_on_machine context.activation place) number
     → Know context (record no_facts { word_in_hl = location }) r memory
-word_known_at context None place number memory r lies h l word_is = record { byte_holds = tt; word_holds = tt; address_holds = tt; zero_holds = tt }
+word_known_at context None place number memory r lies h l word_is =
+    record { byte_holds = tt; word_holds = tt; address_holds = tt; zero_holds = tt }
 word_known_at context (Some location) place number memory r lies h l word_is = record {
   byte_holds = tt;
   word_holds = record {
-    low_is = (l ∙ sym word_is.low ∙ ap (byte_at memory) lies, subst (λ (n : ℕ). IsSteady context.activation n) lies word_is.steady);
+    low_is =
+        (l ∙ sym word_is.low ∙ ap (byte_at memory) lies, subst (λ (n : ℕ). IsSteady context.activation n) lies word_is.steady);
     high_is = (
       h ∙ sym word_is.high ∙ ap (λ (n : ℕ). byte_at memory (wrap (n + 1))) lies,
       subst (λ (n : ℕ). IsSteady context.activation (wrap (n + 1))) lies word_is.steady_too,
@@ -416,29 +459,40 @@ pub shld_then :
     Good)
     → Does context.activation.around.program.script t.budget 1 (at_place from r ended t.events)
     (then_do (write_scalar context.activation.around.program Address place number t) go) Good
-shld_then {Good = Good} {context = context} {facts = facts} {last = last} {top = top} {from = from} {to = to} {base = base} others go static place number t r ended sound small h l is_at fits (WordThere there stand) on rest =
+shld_then {Good = Good} {context = context} {facts = facts} {last = last} {top = top} {from = from} {to = to}
+    {base = base} others go static place number t r ended sound small h l is_at fits
+    (WordThere there stand) on rest =
     let script = context.activation.around.program.script in
     let address : ℕ = place_at context.activation.layout static in
     word_written place number t go sound small on.ready fits
     (λ u events_same budget_same steady steady_too ready.
-    let left : List ℕ = slice_set (slice_set ended address (low_byte (word r.h r.l))) (wrap (address + 1)) (high_byte (word r.h r.l)) in
+    let left : List ℕ =
+    slice_set (slice_set ended address (low_byte (word r.h r.l))) (wrap (address + 1))
+    (high_byte (word r.h r.l)) in
     let same : slice_set (slice_set ended (address_on_machine context.activation place) (number % 256))
     (wrap (address_on_machine context.activation place + 1)) (number / 256) ≡ left
     = ap (λ (n : ℕ). slice_set (slice_set ended n (number % 256)) (wrap (n + 1)) (number / 256)) is_at
-    ∙ ap (λ (n : ℕ). slice_set (slice_set ended address n) (wrap (address + 1)) (number / 256)) (low_of_halves r.h r.l number h l)
-    ∙ ap (λ (n : ℕ). slice_set (slice_set ended address (low_byte (word r.h r.l))) (wrap (address + 1)) n) (high_of_halves r.h r.l number h l) in
+    ∙ ap (λ (n : ℕ). slice_set (slice_set ended address n) (wrap (address + 1)) (number / 256))
+    (low_of_halves r.h r.l number h l)
+    ∙ ap (λ (n : ℕ). slice_set (slice_set ended address (low_byte (word r.h r.l))) (wrap (address + 1)) n)
+    (high_of_halves r.h r.l number h l) in
     let lies : WordLiesAt context.activation left (address_on_machine context.activation place) number
-    = subst (λ (memory : List ℕ). WordLiesAt context.activation memory (address_on_machine context.activation place) number) same
-    (word_lies_at context.activation ended (address_on_machine context.activation place) number on.ready.shares.is_memory.size steady steady_too) in
+    = subst (λ (memory : List ℕ). WordLiesAt context.activation memory
+    (address_on_machine context.activation place) number) same
+    (word_lies_at context.activation ended (address_on_machine context.activation place) number
+    on.ready.shares.is_memory.size steady steady_too) in
     word_gains StoreHl static r r left sound there on (
       subst (λ (n : ℕ). IsSteadyByte context.activation n) is_at steady,
       subst (λ (n : ℕ). IsSteadyByte context.activation (wrap (n + 1))) is_at steady_too,
     ) refl
     (λ known.
-    subst (λ (budget : ℕ). Does script budget 0 (at_place (from + 3) r left t.events) (go tt u) Good) budget_same
-    (subst (λ (events : List Event). Does script u.budget 0 (at_place (from + 3) r left events) (go tt u) Good) events_same
+    subst (λ (budget : ℕ). Does script budget 0 (at_place (from + 3) r left t.events) (go tt u) Good)
+    budget_same
+    (subst (λ (events : List Event). Does script u.budget 0 (at_place (from + 3) r left events)
+    (go tt u) Good) events_same
     (rest u left (from + 3) _ lies stand
     (record {
-      ready = subst (λ (memory : List ℕ). IsReady context.activation top base u.memory u.frame r memory) same ready;
+      ready = subst (λ (memory : List ℕ). IsReady context.activation top base u.memory u.frame r memory) same
+          ready;
       known = known;
     })))))

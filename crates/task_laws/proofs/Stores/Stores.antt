@@ -27,11 +27,14 @@ pub does_gaining :
     → step_of script from ≡ to
     → Does script budget 0 to outcome Good
     → Does script budget 1 from outcome Good
-does_gaining {script = script} {budget = budget} {from = from} {to = to} {outcome = Gave found t} {Good = Good} same does =
+does_gaining {script = script} {budget = budget} {from = from} {to = to} {outcome = Gave found t}
+    {Good = Good} same does =
     record { told = lands_gaining script budget t.budget from to (Good found t) same does.told }
-does_gaining {script = script} {budget = budget} {from = from} {to = to} {outcome = Stopped Ended t} same does =
+does_gaining {script = script} {budget = budget} {from = from} {to = to}
+    {outcome = Stopped Ended t} same does =
     after_step same (record { told = does.told })
-does_gaining {script = script} {budget = budget} {from = from} {to = to} {outcome = Stopped More t} same does =
+does_gaining {script = script} {budget = budget} {from = from} {to = to}
+    {outcome = Stopped More t} same does =
     after_step same (record { told = does.told })
 does_gaining {outcome = Stopped (Outside reason) t} same does = record { told = tt }
 
@@ -39,19 +42,23 @@ does_gaining {outcome = Stopped (Outside reason) t} same does = record { told = 
 pub plain_gains :
     {A : Type 0} {budget : ℕ} {outcome : Outcome A} {Good : A → SourceState → State → Type 0}
     {context : Context} {facts : Facts} {top : ℕ} {base source : List ℕ} {frame : List (List ℕ)}
-    {memory : List ℕ} {events : List Rattle.ports.specs.declared.event.Event.Event} {i : Instr} {from : ℕ} (r now : Registers) (ended : List ℕ)
+    {memory : List ℕ} {events : List Rattle.ports.specs.declared.event.Event.Event} {i : Instr} {from : ℕ}
+    (r now : Registers) (ended : List ℕ)
     (events_after : List Rattle.ports.specs.declared.event.Event.Event)
     → IsSound context
     → IsThere context.activation (items.Plain i ∷ []) from (from + size_of_instruction i)
     → GoesOn context facts top base source frame r memory
-    → Asks context.activation (distances_in context) facts i (record r { pc = wrap (from + size_of_instruction i) })
+    → Asks context.activation (distances_in context) facts i
+    (record r { pc = wrap (from + size_of_instruction i) })
     → act context.activation.around.program.script i (at_place (from + size_of_instruction i) r memory events)
     ≡ at_place (from + size_of_instruction i) now ended events_after
     → (Know context (after facts i) now ended
     → Does context.activation.around.program.script budget 0
     (at_place (from + size_of_instruction i) now ended events_after) outcome Good)
     → Does context.activation.around.program.script budget 1 (at_place from r memory events) outcome Good
-plain_gains {budget = budget} {outcome = outcome} {Good = Good} {context = context} {facts = facts} {memory = memory} {events = events} {i = i} {from = from} r now ended events_after sound there on asks does rest =
+plain_gains {budget = budget} {outcome = outcome} {Good = Good} {context = context} {facts = facts}
+    {memory = memory} {events = events} {i = i} {from = from} r now ended events_after sound
+    there on asks does rest =
     let script = context.activation.around.program.script in
     let place = from + size_of_instruction i in
     let shares = on.ready.shares in
@@ -59,7 +66,9 @@ plain_gains {budget = budget} {outcome = outcome} {Good = Good} {context = conte
     = subst (λ (s : State). Know context (after facts i) s.registers s.memory) does
     (facts_after script context.activation (distances_in context) facts i (at_place place r memory events)
     shares.is_memory (bytes_at_place (wrap place) r on.ready.registers) asks on.known) in
-    does_gaining (plain_step script context.activation i [] from place r memory events sound.lies shares.code there ∙ does) (rest known)
+    does_gaining
+    (plain_step script context.activation i [] from place r memory events sound.lies shares.code there
+    ∙ does) (rest known)
 
 -- the facts about the registers do not change which registers the code of an address keeps
 pub address_keeps_anywhere : (context : Context) (used : Facts) (reference : Reference)

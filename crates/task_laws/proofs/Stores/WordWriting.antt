@@ -6,12 +6,14 @@ use Rattle.task_laws.proofs.Stores.Writing.{byte_written}
 use Rattle.task_laws.proofs.Machine.Effects.{then_again}
 use Rattle.task_laws.proofs.Numbers.{wrapped_step}
 
-pub first_fits : (activation : Activation) (place : Place) → FitsIn activation 2 place → FitsIn activation 1 place
+pub first_fits : (activation : Activation) (place : Place) → FitsIn activation 2 place
+    → FitsIn activation 1 place
 first_fits activation (InMemory address) fits = fits
 first_fits activation (InTheFrame object offset is_inside) fits =
     λ inside. let less = fits inside in omega (arith, less)
 
-pub second_fits : (activation : Activation) (place : Place) → FitsIn activation 2 place → FitsIn activation 1 (next_place place)
+pub second_fits : (activation : Activation) (place : Place) → FitsIn activation 2 place
+    → FitsIn activation 1 (next_place place)
 second_fits activation (InMemory address) fits = omega arith
 second_fits activation (InTheFrame object offset is_inside) fits =
     λ inside. let less = fits inside in omega (arith, less)
@@ -25,7 +27,8 @@ next_address activation (InTheFrame object offset is_inside) =
 -- an ADDRESS that is written
 pub word_written :
     {A : Type 0} {budget more : ℕ} {from : State} {Good : A → SourceState → State → Type 0}
-    {context : Context} {top : ℕ} {base memory : List ℕ} {r : Registers} (place : Place) (number : ℕ) (s : SourceState)
+    {context : Context} {top : ℕ} {base memory : List ℕ} {r : Registers} (place : Place)
+    (number : ℕ) (s : SourceState)
     (go : Unit {0} → SourceState → Outcome A)
     → IsSound context
     → number < 65536
@@ -42,14 +45,16 @@ pub word_written :
     → Does context.activation.around.program.script budget more from (go tt t) Good)
     → Does context.activation.around.program.script budget more from
     (then_do (write_scalar context.activation.around.program Address place number s) go) Good
-word_written {budget = budget} {more = more} {from = from} {Good = Good} {context = context} {top = top} {base = base} {memory = memory} {r = r} place number s go sound small ready fits does =
+word_written {budget = budget} {more = more} {from = from} {Good = Good} {context = context} {top = top}
+    {base = base} {memory = memory} {r = r} place number s go sound small ready fits does =
     let program = context.activation.around.program in
     let address : ℕ = address_on_machine context.activation place in
     let next = next_address context.activation place in
     subst (λ (outcome : Outcome _). Does program.script budget more from outcome Good)
     (sym (then_again (write_byte program place (number % 256) s)
     (λ _ t. write_byte program (next_place place) (number / 256) t) go))
-    (byte_written place (number % 256) s (λ _ t. then_do (write_byte program (next_place place) (number / 256) t) go) sound
+    (byte_written place (number % 256) s
+    (λ _ t. then_do (write_byte program (next_place place) (number / 256) t) go) sound
     (omega arith) ready (first_fits context.activation place fits)
     (λ t events_same budget_same steady ready_once.
     byte_written (next_place place) (number / 256) t go sound (omega (arith, small)) ready_once

@@ -4,7 +4,8 @@ use Rattle.meaning.specs.Access.{Place}
 use Rattle.task_laws.proofs.Places.Reading.{FitsIn, frame_is, of_frame}
 
 -- an item that is put in a list
-set_here : {A : Type 0} (xs : List A) (i : ℕ) (x d : A) → i < length xs → slice_index_or (slice_set xs i x) i d ≡ x
+set_here : {A : Type 0} (xs : List A) (i : ℕ) (x d : A) → i < length xs
+    → slice_index_or (slice_set xs i x) i d ≡ x
 set_here [] i x d less = absurd (omega (arith, less))
 set_here (first ∷ xs) zero x d less = refl
 set_here (first ∷ xs) (suc i) x d less = set_here xs i x d (omega (arith, less))
@@ -15,9 +16,11 @@ set_there [] i other x d differ = refl
 set_there (first ∷ xs) zero zero x d differ = absurd (differ refl)
 set_there (first ∷ xs) zero (suc other) x d differ = refl
 set_there (first ∷ xs) (suc i) zero x d differ = refl
-set_there (first ∷ xs) (suc i) (suc other) x d differ = set_there xs i other x d (λ same. differ (ap suc same))
+set_there (first ∷ xs) (suc i) (suc other) x d differ =
+    set_there xs i other x d (λ same. differ (ap suc same))
 
-pub no_bytes_past_frame : (frame : List (List ℕ)) (object : ℕ) → length frame ≤ object → frame_bytes frame object ≡ []
+pub no_bytes_past_frame : (frame : List (List ℕ)) (object : ℕ) → length frame ≤ object
+    → frame_bytes frame object ≡ []
 no_bytes_past_frame [] object less = refl
 no_bytes_past_frame (first ∷ frame) zero less = absurd (omega (arith, less))
 no_bytes_past_frame (first ∷ frame) (suc object) less = no_bytes_past_frame frame object (omega (arith, less))
@@ -34,7 +37,8 @@ sized_in_frame activation frame object offset within size =
     by_cases : (object < length frame) ⊎ (length frame ≤ object) → object < length frame
     by_cases (inl less) = less
     by_cases (inr more) =
-        let none : length (frame_bytes frame object) ≡ 0 = ap (λ (xs : List ℕ). length xs) (no_bytes_past_frame frame object more) in
+        let none : length (frame_bytes frame object) ≡ 0 =
+        ap (λ (xs : List ℕ). length xs) (no_bytes_past_frame frame object more) in
         absurd (omega (arith, size, none, within))
 
 in_frame :
@@ -42,7 +46,8 @@ in_frame :
     → offset < activation.size object
     → FrameLies activation frame memory
     → object < length frame
-in_frame activation frame memory object offset within lies = sized_in_frame activation frame object offset within (lies.sizes object)
+in_frame activation frame memory object offset within lies =
+    sized_in_frame activation frame object offset within (lies.sizes object)
 
 -- a byte of the frame on both sides
 put_frame :
@@ -71,15 +76,22 @@ put_frame activation frame memory object offset value well size within lies =
         (in_frame activation frame memory object offset within lies)
 
     elsewhere : (other : ℕ) → other ≢ object
-        → frame_bytes (slice_set frame object (slice_set (frame_bytes frame object) offset value)) other ≡ frame_bytes frame other
-    elsewhere other differ = set_there frame object other (slice_set (frame_bytes frame object) offset value) [] differ
+        → frame_bytes (slice_set frame object (slice_set (frame_bytes frame object) offset value)) other
+        ≡ frame_bytes frame other
+    elsewhere other differ =
+        set_there frame object other (slice_set (frame_bytes frame object) offset value) [] differ
 
     sizes_by : (other : ℕ) (test : Bool) → (other == object) ≡ test
-        → length (frame_bytes (slice_set frame object (slice_set (frame_bytes frame object) offset value)) other) ≡ activation.size other
+        → length
+        (frame_bytes (slice_set frame object (slice_set (frame_bytes frame object) offset value)) other)
+        ≡ activation.size other
     sizes_by other true same =
         let is : other ≡ object = eqb-true other object same in
-        subst (λ (n : ℕ). length (frame_bytes (slice_set frame object (slice_set (frame_bytes frame object) offset value)) n) ≡ activation.size n) (sym is)
-        (ap (λ (xs : List ℕ). length xs) here ∙ length-set (frame_bytes frame object) offset value ∙ lies.sizes object)
+        subst (λ (n : ℕ). length (frame_bytes
+        (slice_set frame object (slice_set (frame_bytes frame object) offset value)) n)
+        ≡ activation.size n) (sym is)
+        (ap (λ (xs : List ℕ). length xs) here ∙ length-set (frame_bytes frame object) offset value
+        ∙ lies.sizes object)
     sizes_by other false same =
         ap (λ (xs : List ℕ). length xs) (elsewhere other (eqb-false other object same)) ∙ lies.sizes other
 
@@ -95,51 +107,63 @@ put_frame activation frame memory object offset value well size within lies =
 
     differ_by : (other place : ℕ) → place < activation.size other
         → ((other ≡ object) × (place ≡ offset) → ⊥)
-        → activation.level + activation.distance other + place ≢ activation.level + activation.distance object + offset
+        → activation.level + activation.distance other + place
+        ≢ activation.level + activation.distance object + offset
     differ_by other place other_within differ same =
         differ (well.differ other place object offset other_within within (omega (arith, same)))
 
     same_by : (place : ℕ) → place < activation.size object → (test : Bool) → (place == offset) ≡ test
-        → byte_at (slice_set memory (activation.level + activation.distance object + offset) value) (activation.level + activation.distance object + place)
+        → byte_at (slice_set memory (activation.level + activation.distance object + offset) value)
+        (activation.level + activation.distance object + place)
         ≡ byte_at (slice_set (frame_bytes frame object) offset value) place
     same_by place place_within true same =
         let is : place ≡ offset = eqb-true place offset same in
-        subst (λ (n : ℕ). byte_at (slice_set memory (activation.level + activation.distance object + offset) value) (activation.level + activation.distance object + n)
+        subst (λ (n : ℕ). byte_at (slice_set memory (activation.level + activation.distance object + offset)
+        value) (activation.level + activation.distance object + n)
         ≡ byte_at (slice_set (frame_bytes frame object) offset value) n) (sym is)
         (byte_put memory (activation.level + activation.distance object + offset) value limit
         ∙ sym (byte_put (frame_bytes frame object) offset value long))
     same_by place place_within false same =
         let differ : place ≢ offset = eqb-false place offset same in
-        byte_kept memory (activation.level + activation.distance object + offset) (activation.level + activation.distance object + place) value
+        byte_kept memory (activation.level + activation.distance object + offset)
+        (activation.level + activation.distance object + place) value
         (differ_by object place place_within (λ both. differ both.1))
         ∙ lies.bytes object place place_within
         ∙ sym (byte_kept (frame_bytes frame object) offset place value differ)
 
     bytes_by : (other place : ℕ) → place < activation.size other → (test : Bool) → (other == object) ≡ test
-        → byte_at (slice_set memory (activation.level + activation.distance object + offset) value) (activation.level + activation.distance other + place)
-        ≡ byte_at (frame_bytes (slice_set frame object (slice_set (frame_bytes frame object) offset value)) other) place
+        → byte_at (slice_set memory (activation.level + activation.distance object + offset) value)
+        (activation.level + activation.distance other + place)
+        ≡ byte_at
+        (frame_bytes (slice_set frame object (slice_set (frame_bytes frame object) offset value)) other)
+        place
     bytes_by other place other_within true same =
         let is : other ≡ object = eqb-true other object same in
-        subst (λ (n : ℕ). byte_at (slice_set memory (activation.level + activation.distance object + offset) value) (activation.level + activation.distance n + place)
-        ≡ byte_at (frame_bytes (slice_set frame object (slice_set (frame_bytes frame object) offset value)) n) place) (sym is)
+        subst (λ (n : ℕ). byte_at (slice_set memory (activation.level + activation.distance object + offset)
+        value) (activation.level + activation.distance n + place)
+        ≡ byte_at (frame_bytes (slice_set frame object (slice_set (frame_bytes frame object) offset value)) n)
+        place) (sym is)
         (same_by place (subst (λ (n : ℕ). place < activation.size n) is other_within) (place == offset) refl
         ∙ ap (λ (xs : List ℕ). byte_at xs place) (sym here))
     bytes_by other place other_within false same =
         let differ : other ≢ object = eqb-false other object same in
-        byte_kept memory (activation.level + activation.distance object + offset) (activation.level + activation.distance other + place) value
+        byte_kept memory (activation.level + activation.distance object + offset)
+        (activation.level + activation.distance other + place) value
         (differ_by other place other_within (λ both. differ both.0))
         ∙ lies.bytes other place other_within
         ∙ ap (λ (xs : List ℕ). byte_at xs place) (sym (elsewhere other differ))
 
 -- an activation stays ready where a byte of its frame changes on both sides
 pub ready_with_frame :
-    (activation : Activation) (top : ℕ) (base source : List ℕ) (frame : List (List ℕ)) (r : Registers) (memory : List ℕ)
+    (activation : Activation) (top : ℕ) (base source : List ℕ) (frame : List (List ℕ))
+    (r : Registers) (memory : List ℕ)
     (object offset value : ℕ)
     → LiesWell activation
     → offset < activation.size object
     → value < 256
     → IsReady activation top base source frame r memory
-    → IsReady activation top base source (slice_set frame object (slice_set (frame_bytes frame object) offset value)) r
+    → IsReady activation top base source
+    (slice_set frame object (slice_set (frame_bytes frame object) offset value)) r
     (slice_set memory (activation.level + activation.distance object + offset) value)
 ready_with_frame activation top base source frame r memory object offset value well within small ready =
     let inside = well.inside object offset within in
@@ -158,14 +182,18 @@ ready_with_frame activation top base source frame r memory object offset value w
         size = shares.size;
         declared = λ other there.
             byte_kept memory address other value
-            (λ same. well.placed.stack_free other there (omega (arith, same, low, bottom)) (omega (arith, same, inside, above)))
+            (λ same. well.placed.stack_free other there (omega (arith, same, low, bottom))
+            (omega (arith, same, inside, above)))
             ∙ shares.declared other there;
         code = λ other there.
             byte_kept memory address other value
-            (λ same. well.placed.apart other there.0 there.1 (omega (arith, same, low, bottom)) (omega (arith, same, inside, above)))
+            (λ same. well.placed.apart other there.0 there.1 (omega (arith, same, low, bottom))
+            (omega (arith, same, inside, above)))
             ∙ shares.code other there;
       };
-      frame_lies = put_frame activation frame memory object offset value well shares.is_memory.size within ready.frame_lies;
+      frame_lies =
+          put_frame activation frame memory object offset value well shares.is_memory.size
+          within ready.frame_lies;
       kept =
           keeps_put (Owns activation top) base memory address value
           (inr (inr (
@@ -179,7 +207,8 @@ ready_with_frame activation top base source frame r memory object offset value w
 -- a byte that is written
 pub byte_written :
     {A : Type 0} {budget more : ℕ} {from : State} {Good : A → SourceState → State → Type 0}
-    {context : Context} {top : ℕ} {base memory : List ℕ} {r : Registers} (place : Place) (byte : ℕ) (s : SourceState)
+    {context : Context} {top : ℕ} {base memory : List ℕ} {r : Registers} (place : Place)
+    (byte : ℕ) (s : SourceState)
     (go : Unit {0} → SourceState → Outcome A)
     → IsSound context
     → byte < 256
@@ -189,12 +218,15 @@ pub byte_written :
     → t.events ≡ s.events
     → t.budget ≡ s.budget
     → IsSteadyByte context.activation (address_on_machine context.activation place)
-    → IsReady context.activation top base t.memory t.frame r (slice_set memory (address_on_machine context.activation place) byte)
+    → IsReady context.activation top base t.memory t.frame r
+    (slice_set memory (address_on_machine context.activation place) byte)
     → Does context.activation.around.program.script budget more from (go tt t) Good)
     → Does context.activation.around.program.script budget more from
     (then_do (write_byte context.activation.around.program place byte s) go) Good
-byte_written {budget = budget} {more = more} {from = from} {Good = Good} {context = context} {top = top} {base = base} {memory = memory} {r = r} (InMemory address) byte s go sound small ready fits does =
-    by_test (is_declared context.activation.around.program address) (is_constant context.activation.around.program address) refl refl
+byte_written {budget = budget} {more = more} {from = from} {Good = Good} {context = context} {top = top}
+    {base = base} {memory = memory} {r = r} (InMemory address) byte s go sound small ready fits does =
+    by_test (is_declared context.activation.around.program address)
+    (is_constant context.activation.around.program address) refl refl
   where
     by_test : (declared constant : Bool)
         → is_declared context.activation.around.program address ≡ declared
@@ -202,21 +234,31 @@ byte_written {budget = budget} {more = more} {from = from} {Good = Good} {contex
         → Does context.activation.around.program.script budget more from
         (then_do
         (if declared
-        then (if constant then Stopped (Outside Constant) s else Gave (tt {0}) (record s { memory = slice_set s.memory address byte }))
+        then (if constant then Stopped (Outside Constant) s else Gave (tt {0})
+        (record s { memory = slice_set s.memory address byte }))
         else Stopped (Outside UndeclaredByte) s) go) Good
     by_test true false declared constant =
-        does (record s { memory = slice_set s.memory address byte }) refl refl (declared_is_steady context.activation address sound.lies declared, fits)
-        (ready_with_variable context.activation top base s.memory s.frame r memory address byte sound.lies (declared, constant) fits small ready)
+        does (record s { memory = slice_set s.memory address byte }) refl refl
+        (declared_is_steady context.activation address sound.lies declared, fits)
+        (ready_with_variable context.activation top base s.memory s.frame r memory address byte sound.lies
+        (declared, constant) fits small ready)
     by_test true true declared constant = record { told = tt }
     by_test false constant declared is = record { told = tt }
-byte_written {budget = budget} {more = more} {from = from} {Good = Good} {context = context} {top = top} {base = base} {memory = memory} {r = r} (InTheFrame object offset true) byte s go sound small ready fits does =
+byte_written {budget = budget} {more = more} {from = from} {Good = Good} {context = context} {top = top}
+    {base = base} {memory = memory} {r = r} (InTheFrame object offset true) byte s go sound
+    small ready fits does =
     let within : offset + 1 ≤ context.activation.size object = fits refl in
     let less : offset < context.activation.size object = omega (arith, within) in
     let is = frame_is context object offset sound less in
     let address : ℕ = wrap (context.activation.level + context.activation.distance object + offset) in
-    does (record s { frame = slice_set s.frame object (slice_set (frame_bytes s.frame object) offset byte) }) refl refl
+    does (record s { frame = slice_set s.frame object (slice_set (frame_bytes s.frame object) offset byte) })
+    refl refl
     (of_frame context.activation object offset address less is, omega arith)
-    (subst (λ (n : ℕ). IsReady context.activation top base s.memory (slice_set s.frame object (slice_set (frame_bytes s.frame object) offset byte)) r (slice_set memory n byte))
+    (subst (λ (n : ℕ). IsReady context.activation top base s.memory
+    (slice_set s.frame object (slice_set (frame_bytes s.frame object) offset byte)) r
+    (slice_set memory n byte))
     (sym is)
-    (ready_with_frame context.activation top base s.memory s.frame r memory object offset byte sound.lies less small ready))
-byte_written {Good = Good} (InTheFrame object offset false) byte s go sound small ready fits does = record { told = tt }
+    (ready_with_frame context.activation top base s.memory s.frame r memory object offset byte
+    sound.lies less small ready))
+byte_written {Good = Good} (InTheFrame object offset false) byte s go sound small ready fits does =
+    record { told = tt }

@@ -32,7 +32,8 @@ pub below_more :
     → bound ≤ more
     → IsExpression (nodes_in context) context.storage bound index tree
     → IsExpression (nodes_in context) context.storage more index tree
-below_more context more less (IsNode below there scalar form) = IsNode (omega (arith, less, below)) there scalar form
+below_more context more less (IsNode below there scalar form) =
+    IsNode (omega (arith, less, below)) there scalar form
 
 least : (a b : ℕ) → a ≤ max a b
 least a b = omega arith
@@ -64,21 +65,28 @@ pub of_bytes_does :
     → GoesOn context facts top base s.memory s.frame r memory
     → LogicGiven context And from s r memory first second last number top base to
 unfolding byte_operation_steps low_number is_of_bytes
-of_bytes_does {context = context} {pushed = pushed} {top = top} {need = need} {to = to} {base = base} {facts = facts} {last = last} {first = first} {second = second} operands number from s r memory sound asked words bytes right_none left_none none less room height stand going =
+of_bytes_does {context = context} {pushed = pushed} {top = top} {need = need} {to = to} {base = base}
+    {facts = facts} {last = last} {first = first} {second = second} operands number from s r memory sound
+    asked words bytes right_none left_none none less room height stand going =
     subst (λ outcome. Does (script_of context) s.budget 0 (at_place from r memory s.events) outcome
     (Arrives context.activation top base to (WordIsGiven context last number Address r memory)))
     (given_again (value_in context (BinaryNode Address operators.And first second) s))
     (at_carried from parts.middle parts.found
-    (two_bytes context facts parts.found from parts.middle pushed (max words.one.bound words.two.bound) (no_expression context)
-    operands.left operands.right Address first second And (BinaryNode Address operators.And first second) asked sound
-    (below_more context (max words.one.bound words.two.bound) (least words.one.bound words.two.bound) words.one.is) words.one.types words.one_is
-    (below_more context (max words.one.bound words.two.bound) (least_too words.one.bound words.two.bound) words.two.is) words.two.types words.two_is
+    (two_bytes context facts parts.found from parts.middle pushed (max words.one.bound words.two.bound)
+    (no_expression context)
+    operands.left operands.right Address first second And
+    (BinaryNode Address operators.And first second) asked sound
+    (below_more context (max words.one.bound words.two.bound) (least words.one.bound words.two.bound)
+    words.one.is) words.one.types words.one_is
+    (below_more context (max words.one.bound words.two.bound) (least_too words.one.bound words.two.bound)
+    words.two.is) words.two.types words.two_is
     tt refl refl (λ t. refl) (none_is_not_free context) parts.first)
     height tt
     (λ n now ended (given : ByteIsGiven context parts.found (no_expression context) Address r memory n now ended). given.known)
     (record { below = less; room = room; ready = going.ready; known = going.known })
     (λ n t now ended same given next.
-    extended_then number sound none n t r now memory ended (small n t same) (equals_byte now.a n given.a (small n t same)) parts.second next))
+    extended_then number sound none n t r now memory ended (small n t same)
+    (equals_byte now.a n given.a (small n t same)) parts.second next))
   where
     by_number :
         (one other : Option ℕ)
@@ -94,27 +102,35 @@ of_bytes_does {context = context} {pushed = pushed} {top = top} {need = need} {t
           ]
         ] ++ extension_steps) last to
         → StepsStand context (PartDoes context) facts from
-        (in_form_steps (form_of (knowing context.site facts) And operands) And operands pushed ++ extension_steps) last to
+        (in_form_steps (form_of (knowing context.site facts) And operands) And operands pushed
+        ++ extension_steps) last to
     by_number None None one_is other_is one_none other_none stand = stand
     by_number (Some n) other one_is other_is one_none other_none stand = absurd cc
     by_number None (Some n) one_is other_is one_none other_none stand = absurd cc
 
     parts : Parted context (PartDoes context) facts from
-        (in_form_steps (form_of (knowing context.site facts) And operands) And operands pushed) extension_steps last to
+        (in_form_steps (form_of (knowing context.site facts) And operands) And operands pushed)
+        extension_steps last to
     parts =
-        steps_split (in_form_steps (form_of (knowing context.site facts) And operands) And operands pushed) extension_steps
-        (by_number (number_of (knowing context.site facts) operands.right) (number_of (knowing context.site facts) operands.left)
+        steps_split (in_form_steps (form_of (knowing context.site facts) And operands) And operands pushed)
+        extension_steps
+        (by_number (number_of (knowing context.site facts) operands.right)
+        (number_of (knowing context.site facts) operands.left)
         refl refl right_none left_none stand)
 
-    small : (n : ℕ) (t : SourceState) → value_in context (BinaryNode Address operators.And first second) s ≡ Gave n t → n < 256
+    small : (n : ℕ) (t : SourceState) → value_in context (BinaryNode Address operators.And first second) s
+        ≡ Gave n t → n < 256
     small n t same =
         let one = gave_first (value_in context first s)
         (λ x t. then_do (value_in context second t) (λ y u. Gave (bit_and x y) u)) n t same in
-        let two = gave_first (value_in context second one.t) (λ y u. Gave (bit_and one.first y) u) n t one.next in
+        let two =
+        gave_first (value_in context second one.t) (λ y u. Gave (bit_and one.first y) u) n t one.next in
         let source = ready_fits context s going.ready in
         subst (λ (m : ℕ). m < 256) (same_given two.next)
-        (by (or_cases (fits_byte (knowing context.site facts) operands.left) (fits_byte (knowing context.site facts) operands.right) bytes)
-        (λ fits. and_left one.first two.first (fits_means context sound facts s words.one.is words.one.types fits source one.is))
+        (by (or_cases (fits_byte (knowing context.site facts) operands.left)
+        (fits_byte (knowing context.site facts) operands.right) bytes)
+        (λ fits. and_left one.first two.first
+        (fits_means context sound facts s words.one.is words.one.types fits source one.is))
         (λ fits. and_right one.first two.first
         (fits_means context sound facts one.t words.two.is words.two.types fits
         (bytes_fit_after s sound words.one.is words.one.types source one.is) two.is)))

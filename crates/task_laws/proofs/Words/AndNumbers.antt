@@ -19,7 +19,8 @@ HighHalvesGiven context =
     (facts last : Facts) (number : ExpressionNumber) (pushed from to bound : ℕ) (tree : TypedExpression)
     → IsExpression (nodes_in context) context.storage bound number.index tree
     → TypesHold context.typed context.within tree
-    → StepsStand context (PartDoes context) facts from (high_byte_steps (knowing context.site facts) number pushed) last to
+    → StepsStand context (PartDoes context) facts from
+    (high_byte_steps (knowing context.site facts) number pushed) last to
     → Carries context facts pushed (2 * height_of tree) 0 from to Nothing (value_in context tree)
     (HighIsGiven context last)
 
@@ -33,7 +34,8 @@ and_under : (x n limit : ℕ) → n < limit → bit_and x n < limit
 and_under x n limit small = let less : bit_and x n ≤ n = and_le_r x n in omega (arith, less, small)
 
 -- a byte in A is put into HL
-pub extended : (n : ℕ) (now : Registers) → n < 256 → now.a ≡ n → HasWord n (effect (copy L A ∷ set H 0 ∷ []) now)
+pub extended : (n : ℕ) (now : Registers) → n < 256 → now.a ≡ n
+    → HasWord n (effect (copy L A ∷ set H 0 ∷ []) now)
 extended n now small same = record { h = no_high_byte n small; l = same ∙ byte_is_low n small }
 
 module _
@@ -51,10 +53,12 @@ module _
   extended_then n t r now memory ended small same stand stage =
       at_instructions (copy L A ∷ set H 0 ∷ []) [] sound (tt, (tt, tt)) stand stage
       (λ middle found ends next. at_end ends next
-      (λ final. word_given t (byte_is_word n small) (extended n now small same) (kept_none context number r _ none)
+      (λ final. word_given t (byte_is_word n small) (extended n now small same)
+      (kept_none context number r _ none)
       (record { ready = final.ready; known = final.known })))
 
-  module _ {facts : Facts} {other : ExpressionNumber} {tree : TypedExpression} (operand : IsOperand context other tree) where
+  module _ {facts : Facts} {other : ExpressionNumber} {tree : TypedExpression}
+      (operand : IsOperand context other tree) where
     -- the low byte AND a number below 256
     low_half_does :
         (n from : ℕ) (s : SourceState) (r : Registers) (memory : List ℕ)
@@ -62,7 +66,8 @@ module _
         → s.budget < context.number
         → HasRoom context.activation top pushed need
         → 2 * height_of tree ≤ need
-        → StepsStand context (PartDoes context) facts from (with_number_steps And other (low n) pushed ++ extension_steps) last to
+        → StepsStand context (PartDoes context) facts from
+        (with_number_steps And other (low n) pushed ++ extension_steps) last to
         → GoesOn context facts top base s.memory s.frame r memory
         → Does (script_of context) s.budget 0 (at_place from r memory s.events)
         (then_do (value_in context tree s) (λ x t. Gave (bit_and x n) t))
@@ -88,7 +93,8 @@ module _
             at_byte _ _ _ part operand.is operand.types height stage
             (λ x t now ended same given next.
             extended_then (bit_and x n) t r now memory ended (and_under x n 256 small)
-            (given.a ∙ sym (and_full (x % 256) (omega arith)) ∙ ap (bit_and (x % 256)) (sym (eqb-true (low n) 255 is)) ∙ low_mask x n small)
+            (given.a ∙ sym (and_full (x % 256) (omega arith))
+            ∙ ap (bit_and (x % 256)) (sym (eqb-true (low n) 255 is)) ∙ low_mask x n small)
             stand next)
         by_full false is (PartThere part stand) =
             at_byte _ _ _ part operand.is operand.types height stage
@@ -122,7 +128,8 @@ module _
         → s.budget < context.number
         → HasRoom context.activation top pushed need
         → 2 * height_of tree ≤ need
-        → StepsStand context (PartDoes context) facts from (high_half_steps (knowing context.site facts) other (high n) pushed) last to
+        → StepsStand context (PartDoes context) facts from
+        (high_half_steps (knowing context.site facts) other (high n) pushed) last to
         → GoesOn context facts top base s.memory s.frame r memory
         → Does (script_of context) s.budget 0 (at_place from r memory s.events)
         (then_do (value_in context tree s) (λ x t. Gave (bit_and x n) t))
@@ -130,12 +137,15 @@ module _
     unfolding high_half_steps
     high_half_does n from s r memory highs address fits even less room height stand going =
         let parts = steps_split (high_byte_steps (knowing context.site facts) other pushed)
-        ((if high n == 255 then [] else Plain (AccumulateImmediate And (high n)) ∷ []) ++ plain (copy H A ∷ set L 0 ∷ []))
+        ((if high n == 255 then [] else Plain (AccumulateImmediate And (high n)) ∷ [])
+        ++ plain (copy H A ∷ set L 0 ∷ []))
         (subst (λ (steps : List Step). StepsStand context (PartDoes context) facts from steps last to)
         (append_assoc (high_byte_steps (knowing context.site facts) other pushed)
-        (if high n == 255 then [] else Plain (AccumulateImmediate And (high n)) ∷ []) (plain (copy H A ∷ set L 0 ∷ []))) stand) in
+        (if high n == 255 then [] else Plain (AccumulateImmediate And (high n)) ∷ [])
+        (plain (copy H A ∷ set L 0 ∷ []))) stand) in
         at_carried from parts.middle parts.found
-        (highs facts parts.found other pushed from parts.middle operand.bound tree operand.is operand.types parts.first)
+        (highs facts parts.found other pushed from parts.middle operand.bound tree operand.is
+        operand.types parts.first)
         height tt
         (λ x now ended (given : HighIsGiven context parts.found r memory x now ended). given.known)
         (record { below = less; room = room; ready = going.ready; known = going.known })
@@ -156,7 +166,8 @@ module _
             → now.a ≡ x / 256
             → (full : Bool) → (high n == 255) ≡ full
             → StepsStand context (PartDoes context) found middle
-            ((if full then [] else Plain (AccumulateImmediate And (high n)) ∷ []) ++ plain (copy H A ∷ set L 0 ∷ [])) last to
+            ((if full then [] else Plain (AccumulateImmediate And (high n)) ∷ [])
+            ++ plain (copy H A ∷ set L 0 ∷ [])) last to
             → Stage context top pushed need base t found now ended
             → Does (script_of context) t.budget 0 (at_place middle now ended t.events) (Gave (bit_and x n) t)
             (Arrives context.activation top base to (WordIsGiven context last number Address r memory))
@@ -167,11 +178,13 @@ module _
             (λ final.
             word_given t (and_under x n 65536 fits)
             (made x now.a
-            (a ∙ sym (and_full (x / 256) (high_small x now.a a a_small)) ∙ ap (bit_and (x / 256)) (sym (eqb-true (high n) 255 is)))
+            (a ∙ sym (and_full (x / 256) (high_small x now.a a a_small))
+            ∙ ap (bit_and (x / 256)) (sym (eqb-true (high n) 255 is)))
             (effect (copy H A ∷ set L 0 ∷ []) now) refl refl)
             (kept_none context number r _ none) (record { ready = final.ready; known = final.known })))
         masked x t now ended a false is given next =
-            at_instructions (AccumulateImmediate And (high n) ∷ copy H A ∷ set L 0 ∷ []) [] sound (tt, (tt, (tt, tt))) given next
+            at_instructions (AccumulateImmediate And (high n) ∷ copy H A ∷ set L 0 ∷ []) [] sound
+            (tt, (tt, (tt, tt))) given next
             (λ middle found ends after. at_end ends after
             (λ final.
             word_given t (and_under x n 65536 fits)
@@ -188,7 +201,8 @@ module _
         → s.budget < context.number
         → HasRoom context.activation top pushed need
         → 2 * height_of tree ≤ need
-        → StepsStand context (PartDoes context) facts from (logic_with_number_steps (knowing context.site facts) And other n pushed) last to
+        → StepsStand context (PartDoes context) facts from
+        (logic_with_number_steps (knowing context.site facts) And other n pushed) last to
         → GoesOn context facts top base s.memory s.frame r memory
         → Does (script_of context) s.budget 0 (at_place from r memory s.events)
         (then_do (value_in context tree s) (λ x t. Gave (bit_and x n) t))
@@ -208,6 +222,7 @@ module _
         by true is_high here there given =
             low_half_does n from s r memory (ltb-true n 256 here) less room height given going
         by false true here there given =
-            high_half_does n from s r memory highs address fits (eqb-true (low n) 0 there) less room height given going
+            high_half_does n from s r memory highs address fits (eqb-true (low n) 0 there) less
+            room height given going
         by false false here there given =
             halves_do And n number from s r memory sound tt fits operand none less room height given going

@@ -4,7 +4,8 @@ use Rattle.task_laws.proofs.Machine.Rules.{GoesOn}
 
 -- the value of a tree is put into HL
 abbrev pub IsCarriedOut :
-    Context → (facts : Facts) → (number : ExpressionNumber) → TypedExpression → ScalarType → (pushed from : ℕ) → (last : Facts)
+    Context → (facts : Facts) → (number : ExpressionNumber) → TypedExpression → ScalarType
+    → (pushed from : ℕ) → (last : Facts)
     → (to : ℕ) → Type 0
 IsCarriedOut context facts number tree scalar pushed from last to =
     (top need : ℕ) (base : List ℕ) (s : SourceState) (r : Registers) (memory : List ℕ)

@@ -19,7 +19,8 @@ in_memory nodes found = option_map_or (keeps_of_address nodes) found keeps_none
 
 -- a form in memory is not looked through
 same_twice : (nodes : Nodes) (form : ExpressionForm)
-    → IsKeptBy (in_memory nodes (memory_of_inner nodes form)) (in_memory nodes (memory_of_inner nodes (same_low_byte nodes form)))
+    → IsKeptBy (in_memory nodes (memory_of_inner nodes form))
+    (in_memory nodes (memory_of_inner nodes (same_low_byte nodes form)))
 same_twice nodes (forms.Number n) = kept_nothing _
 same_twice nodes (forms.Value reference) = kept_same _
 same_twice nodes (forms.Location reference) = kept_nothing _
@@ -37,7 +38,8 @@ same_twice nodes (forms.Input port) = kept_nothing _
 
 -- a byte inside
 inside_kept : (nodes : Nodes) (form : ExpressionForm)
-    → IsKeptBy (in_memory nodes (memory_of_inner nodes (same_low_byte nodes form))) (keeps_of_form nodes Byte form)
+    → IsKeptBy (in_memory nodes (memory_of_inner nodes (same_low_byte nodes form)))
+    (keeps_of_form nodes Byte form)
 inside_kept nodes (forms.Number n) = kept_nothing _
 inside_kept nodes (forms.Value reference) = kept_same _
 inside_kept nodes (forms.Location reference) = kept_nothing _
@@ -47,9 +49,11 @@ inside_kept nodes (forms.Assignment target value) = kept_nothing _
 inside_kept nodes (forms.Unary operator operand) = kept_nothing _
 inside_kept nodes (forms.Binary operands operator left right) = kept_nothing _
 inside_kept nodes (forms.Call procedure given) = kept_nothing _
-inside_kept nodes (forms.Function Low operand) = same_twice nodes (form_at nodes operand (forms.Function Low operand))
+inside_kept nodes (forms.Function Low operand) =
+    same_twice nodes (form_at nodes operand (forms.Function Low operand))
 inside_kept nodes (forms.Function High operand) = kept_same _
-inside_kept nodes (forms.Function Double operand) = same_twice nodes (form_at nodes operand (forms.Function Double operand))
+inside_kept nodes (forms.Function Double operand) =
+    same_twice nodes (form_at nodes operand (forms.Function Double operand))
 inside_kept nodes (forms.Shift function value count) = kept_nothing _
 inside_kept nodes (forms.Input port) = kept_nothing _
 
@@ -66,5 +70,6 @@ pub byte_inside_kept :
     → IsKeptBy (keeps_of_byte nodes outer) (keeps_of nodes Byte place form)
 byte_inside_kept nodes outer form place same =
     known_kept nodes (keeps_of_byte nodes outer) place form
-    (subst (λ (one : ExpressionForm). IsKeptBy (in_memory nodes (memory_of_inner nodes (same_low_byte nodes one))) (keeps_of_form nodes Byte form))
+    (subst (λ (one : ExpressionForm). IsKeptBy
+    (in_memory nodes (memory_of_inner nodes (same_low_byte nodes one))) (keeps_of_form nodes Byte form))
     (sym same) (inside_kept nodes form))

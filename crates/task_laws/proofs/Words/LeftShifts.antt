@@ -37,7 +37,8 @@ pub zero_does :
     (then_do (value context.later context.activation.around tree s) (λ x t. Gave (f x) t))
     (Arrives context.activation top base to (WordIsGiven context last number Address r memory))
 unfolding zero_steps
-zero_does {context = context} f number from s r memory sound none operand kept less room height (PartThere {middle = middle} part (WordThere there rest)) going =
+zero_does {context = context} f number from s r memory sound none operand kept less room height
+    (PartThere {middle = middle} part (WordThere there rest)) going =
     effects_then from s r memory part operand.is operand.types less room height going
     (λ x t now ended same fewer going_on given.
     let cleared : Registers = record now { h = 0; l = 0 } in
@@ -68,36 +69,46 @@ pub left_does :
     → StepsStand context (PartDoes context) facts from (shifted_left_steps other count pushed) last to
     → GoesOn context facts top base s.memory s.frame r memory
     → Does context.activation.around.program.script s.budget 0 (at_place from r memory s.events)
-    (then_do (value context.later context.activation.around tree s) (λ x t. Gave (shifted Address ShiftLeft x count) t))
+    (then_do (value context.later context.activation.around tree s)
+    (λ x t. Gave (shifted Address ShiftLeft x count) t))
     (Arrives context.activation top base to (WordIsGiven context last number Address r memory))
 unfolding shifted_left_steps
-left_does {context = context} {pushed = pushed} {top = top} {need = need} {to = to} {base = base} {facts = facts} {last = last} {other = other} {tree = tree} count number from s r memory sound operand kept less room height stand going =
+left_does {context = context} {pushed = pushed} {top = top} {need = need} {to = to} {base = base}
+    {facts = facts} {last = last} {other = other} {tree = tree} count number from s r memory sound operand
+    kept less room height stand going =
     by_word (nat_le 16 count) refl stand
   where
     none_kept : 8 ≤ count → keeps context.site number ≡ keeps_none
     none_kept most =
-        kept ∙ ap (λ (test : Bool). if test then keeps_at (nodes_in context) other else keeps_none) (le-ltb count 8 most)
+        kept ∙ ap (λ (test : Bool). if test then keeps_at (nodes_in context) other else keeps_none)
+        (le-ltb count 8 most)
 
     by_byte : (test : Bool) → nat_le 8 count ≡ test
         → StepsStand context (PartDoes context) facts from
         (if test
-        then part_of (tasks.Byte other) pushed ∷ plain (copy H A ∷ set L 0 ∷ []) ++ repeat_steps (Dad Hl) (count - 8)
+        then part_of (tasks.Byte other) pushed ∷ plain (copy H A ∷ set L 0 ∷ [])
+        ++ repeat_steps (Dad Hl) (count - 8)
         else part_of (tasks.Word other) pushed ∷ repeat_steps (Dad Hl) count) last to
         → Does context.activation.around.program.script s.budget 0 (at_place from r memory s.events)
-        (then_do (value context.later context.activation.around tree s) (λ x t. Gave (shifted Address ShiftLeft x count) t))
+        (then_do (value context.later context.activation.around tree s)
+        (λ x t. Gave (shifted Address ShiftLeft x count) t))
         (Arrives context.activation top base to (WordIsGiven context last number Address r memory))
     by_byte false is (PartThere {found = found} {middle = middle} part rest) =
         word_then from s r memory part operand.is operand.types less room height going
         (λ x t now ended same fewer going_on given.
         let doubled : List Instr = replicate count (Dad Hl) in
-        let beside = doubled_is count x now (word_below x now.h now.l given.h going_on.ready.registers.h) (record { h = given.h; l = given.l }) in
+        let beside =
+        doubled_is count x now (word_below x now.h now.l given.h going_on.ready.registers.h)
+        (record { h = given.h; l = given.l }) in
         registers_end doubled now sound (repeated_on (Dad Hl) count tt)
-        (subst (λ (steps : List Step). StepsStand context (PartDoes context) found middle steps last to) (repeated (Dad Hl) count) rest)
+        (subst (λ (steps : List Step). StepsStand context (PartDoes context) found middle steps last to)
+        (repeated (Dad Hl) count) rest)
         going_on
         (λ going_last.
         word_given t (product_is_word x (2 ^ count)) (record { h = beside.h; l = beside.l })
         (kept_as context number other r (effect doubled now)
-        (kept ∙ ap (λ (test : Bool). if test then keeps_at (nodes_in context) other else keeps_none) (lt-ltb count 8 (leb-false 8 count is)))
+        (kept ∙ ap (λ (test : Bool). if test then keeps_at (nodes_in context) other else keeps_none)
+        (lt-ltb count 8 (leb-false 8 count is)))
         (kept_beside (effect doubled now) given beside.a beside.d beside.e)) going_last))
     by_byte true is (PartThere part rest) =
         byte_then from s r memory part operand.is operand.types less room height going
@@ -107,10 +118,12 @@ left_does {context = context} {pushed = pushed} {top = top} {need = need} {to = 
         let beside = doubled_is (count - 8) (256 * (x % 256)) begun (low_word_small x)
         (record { h = high_of_shifted now.a x given.a; l = low_of_shifted x }) in
         let most = leb-true 8 count is in
-        registers_then (copy H A ∷ set L 0 ∷ []) (repeat_steps (Dad Hl) (count - 8)) now sound (tt, (tt, tt)) rest going_on
+        registers_then (copy H A ∷ set L 0 ∷ []) (repeat_steps (Dad Hl) (count - 8)) now sound
+        (tt, (tt, tt)) rest going_on
         (λ after after_found stand_on going_still.
         registers_end doubled begun sound (repeated_on (Dad Hl) (count - 8) tt)
-        (subst (λ (steps : List Step). StepsStand context (PartDoes context) after_found after steps last to) (repeated (Dad Hl) (count - 8)) stand_on)
+        (subst (λ (steps : List Step). StepsStand context (PartDoes context) after_found after steps last to)
+        (repeated (Dad Hl) (count - 8)) stand_on)
         going_still
         (λ going_last.
         word_given t (product_is_word x (2 ^ count))
@@ -124,13 +137,16 @@ left_does {context = context} {pushed = pushed} {top = top} {need = need} {to = 
         → StepsStand context (PartDoes context) facts from
         (if test then zero_steps other pushed
         else if nat_le 8 count
-        then part_of (tasks.Byte other) pushed ∷ plain (copy H A ∷ set L 0 ∷ []) ++ repeat_steps (Dad Hl) (count - 8)
+        then part_of (tasks.Byte other) pushed ∷ plain (copy H A ∷ set L 0 ∷ [])
+        ++ repeat_steps (Dad Hl) (count - 8)
         else part_of (tasks.Word other) pushed ∷ repeat_steps (Dad Hl) count) last to
         → Does context.activation.around.program.script s.budget 0 (at_place from r memory s.events)
-        (then_do (value context.later context.activation.around tree s) (λ x t. Gave (shifted Address ShiftLeft x count) t))
+        (then_do (value context.later context.activation.around tree s)
+        (λ x t. Gave (shifted Address ShiftLeft x count) t))
         (Arrives context.activation top base to (WordIsGiven context last number Address r memory))
     by_word true is given =
         let most = leb-true 16 count is in
-        zero_does (λ x. (x * 2 ^ count) % 65536) number from s r memory sound (λ x t same. left_far_number x count most) operand
+        zero_does (λ x. (x * 2 ^ count) % 65536) number from s r memory sound
+        (λ x t same. left_far_number x count most) operand
         (none_kept (omega (arith, most))) less room height given going
     by_word false is given = by_byte (nat_le 8 count) refl given

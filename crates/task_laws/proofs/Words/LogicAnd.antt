@@ -34,14 +34,18 @@ pub and_does :
     → s.budget < context.number
     → HasRoom context.activation top pushed need
     → 2 * (1 + max (height_of first) (height_of second)) ≤ need
-    → StepsStand context (PartDoes context) facts from (logic_steps (knowing context.site facts) And operands pushed) last to
+    → StepsStand context (PartDoes context) facts from
+    (logic_steps (knowing context.site facts) And operands pushed) last to
     → GoesOn context facts top base s.memory s.frame r memory
     → LogicGiven context And from s r memory first second last number top base to
 unfolding logic_steps computed_logic_steps paired_steps is_of_bytes
-and_does {context = context} {pushed = pushed} {top = top} {need = need} {to = to} {base = base} {facts = facts} {last = last} {first = first} {second = second} operands number from s r memory sound asked highs words none less room height stand going =
+and_does {context = context} {pushed = pushed} {top = top} {need = need} {to = to} {base = base}
+    {facts = facts} {last = last} {first = first} {second = second} operands number from s r memory sound
+    asked highs words none less room height stand going =
     by_right (number_of (knowing context.site facts) operands.right) refl stand
   where
-    by_simple : (found : Option (ExpressionNumber × Simple)) → with_simple (knowing context.site facts) operands ≡ found
+    by_simple : (found : Option (ExpressionNumber × Simple))
+        → with_simple (knowing context.site facts) operands ≡ found
         → is_of_bytes (knowing context.site facts) And operands ≡ false
         → StepsStand context (PartDoes context) facts from (elim found [
           | Some chosen ↦ logic_with_simple_steps And chosen.0 chosen.1 pushed
@@ -50,8 +54,10 @@ and_does {context = context} {pushed = pushed} {top = top} {need = need} {to = t
         → LogicGiven context And from s r memory first second last number top base to
     by_simple (Some chosen) here no_bytes stand =
         with_simple_does And operands chosen number from s r memory sound asked.places tt
-        (no_byte_left (fits_byte (knowing context.site facts) operands.left) (fits_byte (knowing context.site facts) operands.right) no_bytes)
-        (no_byte_right (fits_byte (knowing context.site facts) operands.left) (fits_byte (knowing context.site facts) operands.right) no_bytes)
+        (no_byte_left (fits_byte (knowing context.site facts) operands.left)
+        (fits_byte (knowing context.site facts) operands.right) no_bytes)
+        (no_byte_right (fits_byte (knowing context.site facts) operands.left)
+        (fits_byte (knowing context.site facts) operands.right) no_bytes)
         words here none less room height stand going
     by_simple None here no_bytes stand =
         paired_does (byte_instructions And And) (bits And) number None from s r memory sound
@@ -61,7 +67,8 @@ and_does {context = context} {pushed = pushed} {top = top} {need = need} {to = t
         (two_high (height_of first) (height_of second) need height)
         (subst (λ steps. StepsStand context (PartDoes context) facts from
         (pair_steps (knowing context.site facts) operands.left operands.right false pushed ++ steps) last to)
-        (pairs_same And And (pair_order (knowing context.site facts) operands.left operands.right false)) stand)
+        (pairs_same And And (pair_order (knowing context.site facts) operands.left operands.right false))
+        stand)
         going
 
     by_bytes : (test : Bool) → is_of_bytes (knowing context.site facts) And operands ≡ test
@@ -75,7 +82,8 @@ and_does {context = context} {pushed = pushed} {top = top} {need = need} {to = t
         ]) last to
         → LogicGiven context And from s r memory first second last number top base to
     by_bytes true here right_none left_none stand =
-        of_bytes_does operands number from s r memory sound asked words here right_none left_none none less room height stand going
+        of_bytes_does operands number from s r memory sound asked words here right_none left_none none less
+        room height stand going
     by_bytes false here right_none left_none stand =
         by_simple (with_simple (knowing context.site facts) operands) refl here stand
 
@@ -87,7 +95,8 @@ and_does {context = context} {pushed = pushed} {top = top} {need = need} {to = t
         ]) last to
         → LogicGiven context And from s r memory first second last number top base to
     by_left (Some n) here right_none stand =
-        subst (λ outcome. Does context.activation.around.program.script s.budget 0 (at_place from r memory s.events) outcome
+        subst (λ outcome. Does context.activation.around.program.script s.budget 0
+        (at_place from r memory s.events) outcome
         (Arrives context.activation top base to (WordIsGiven context last number Address r memory)))
         (sym (first_known second facts (Number n) (λ x y u. Gave (bits And x y) u) s sound words.one
         (number_known context facts operands.left n here)
@@ -95,7 +104,8 @@ and_does {context = context} {pushed = pushed} {top = top} {need = need} {to = t
         (λ y u. Gave (bits And n y) u) (λ y u. Gave (bits And y n) u)
         (λ y u. ap (λ m. Gave m u) (bits_turned And n y))))
         (and_number_does number sound none words.two n from s r memory highs words.two_is
-        (address_is_word n (type_of first) words.one_is (number_small facts n sound words.one.is words.one.types here))
+        (address_is_word n (type_of first) words.one_is
+        (number_small facts n sound words.one.is words.one.types here))
         less room (less_high (height_of first) (height_of second) need height) stand going)
     by_left None here right_none stand =
         by_bytes (is_of_bytes (knowing context.site facts) And operands) refl right_none here stand
@@ -110,11 +120,13 @@ and_does {context = context} {pushed = pushed} {top = top} {need = need} {to = t
         ]) last to
         → LogicGiven context And from s r memory first second last number top base to
     by_right (Some n) here stand =
-        subst (λ outcome. Does context.activation.around.program.script s.budget 0 (at_place from r memory s.events) outcome
+        subst (λ outcome. Does context.activation.around.program.script s.budget 0
+        (at_place from r memory s.events) outcome
         (Arrives context.activation top base to (WordIsGiven context last number Address r memory)))
         (sym (second_known first facts (Number n) (λ x y u. Gave (bits And x y) u) s sound words.two
         (number_known context facts operands.right n here)))
         (and_number_does number sound none words.one n from s r memory highs words.one_is
-        (address_is_word n (type_of second) words.two_is (number_small facts n sound words.two.is words.two.types here))
+        (address_is_word n (type_of second) words.two_is
+        (number_small facts n sound words.two.is words.two.types here))
         less room (one_high (height_of first) (height_of second) need height) stand going)
     by_right None here stand = by_left (number_of (knowing context.site facts) operands.left) refl here stand

@@ -26,27 +26,31 @@ bits_turned Or x y = or_comm x y
 bits_turned ExclusiveOr x y = xor_comm x y
 bits_turned operation x y = refl
 
-pub logic_makes : (operation : Operation) → IsLogic operation → Makes (byte_instructions operation operation) (bits operation)
+pub logic_makes : (operation : Operation) → IsLogic operation
+    → Makes (byte_instructions operation operation) (bits operation)
 logic_makes And is = and_makes
 logic_makes Or is = or_makes
 logic_makes ExclusiveOr is = xor_makes
 logic_makes operation is = absurd is
 
-with_number_is : (site : Site) (operation : Operation) (of : ExpressionNumber) (n pushed : ℕ) → IsEither operation
+with_number_is : (site : Site) (operation : Operation) (of : ExpressionNumber) (n pushed : ℕ)
+    → IsEither operation
     → logic_with_number_steps site operation of n pushed ≡ both_halves_steps operation of n pushed
 unfolding logic_with_number_steps
 with_number_is site Or of n pushed is = refl
 with_number_is site ExclusiveOr of n pushed is = refl
 with_number_is site operation of n pushed is = absurd is
 
-no_bytes : (site : Site) (operation : Operation) (operands : Operands) → IsEither operation → is_of_bytes site operation operands ≡ false
+no_bytes : (site : Site) (operation : Operation) (operands : Operands) → IsEither operation
+    → is_of_bytes site operation operands ≡ false
 unfolding is_of_bytes
 no_bytes site Or operands is = refl
 no_bytes site ExclusiveOr operands is = refl
 no_bytes site operation operands is = absurd is
 
 abbrev pub LogicGiven :
-    Context → Operation → (from : ℕ) → SourceState → Registers → (memory : List ℕ) → (first second : TypedExpression)
+    Context → Operation → (from : ℕ) → SourceState → Registers → (memory : List ℕ)
+    → (first second : TypedExpression)
     → (last : Facts) → (number : ExpressionNumber) → (top : ℕ) → (base : List ℕ) → (to : ℕ) → Type 0
 LogicGiven context operation from s r memory first second last number top base to =
     Does context.activation.around.program.script s.budget 0 (at_place from r memory s.events)
@@ -57,7 +61,8 @@ LogicGiven context operation from s r memory first second last number top base t
 
 pub either_does :
     {context : Context} {pushed top need to : ℕ} {base : List ℕ} {facts last : Facts}
-    {first second : TypedExpression} (operation : Operation) (operands : Operands) (number : ExpressionNumber) (from : ℕ)
+    {first second : TypedExpression} (operation : Operation) (operands : Operands)
+    (number : ExpressionNumber) (from : ℕ)
     (s : SourceState) (r : Registers) (memory : List ℕ) (sound : IsSound context)
     → IsEither operation
     → TwoWords context operands first second
@@ -65,17 +70,22 @@ pub either_does :
     → s.budget < context.number
     → HasRoom context.activation top pushed need
     → 2 * (1 + max (height_of first) (height_of second)) ≤ need
-    → StepsStand context (PartDoes context) facts from (logic_steps (knowing context.site facts) operation operands pushed) last to
+    → StepsStand context (PartDoes context) facts from
+    (logic_steps (knowing context.site facts) operation operands pushed) last to
     → GoesOn context facts top base s.memory s.frame r memory
     → ((chosen : ExpressionNumber × Simple) → with_simple (knowing context.site facts) operands ≡ Some chosen
-    → StepsStand context (PartDoes context) facts from (logic_with_simple_steps operation chosen.0 chosen.1 pushed) last to
+    → StepsStand context (PartDoes context) facts from
+    (logic_with_simple_steps operation chosen.0 chosen.1 pushed) last to
     → LogicGiven context operation from s r memory first second last number top base to)
     → LogicGiven context operation from s r memory first second last number top base to
 unfolding logic_steps computed_logic_steps paired_steps
-either_does {context = context} {pushed = pushed} {top = top} {need = need} {to = to} {base = base} {facts = facts} {last = last} {first = first} {second = second} operation operands number from s r memory sound is words none less room height stand going simple =
+either_does {context = context} {pushed = pushed} {top = top} {need = need} {to = to} {base = base}
+    {facts = facts} {last = last} {first = first} {second = second} operation operands number from s r memory
+    sound is words none less room height stand going simple =
     by_right (number_of (knowing context.site facts) operands.right) refl stand
   where
-    by_simple : (found : Option (ExpressionNumber × Simple)) → with_simple (knowing context.site facts) operands ≡ found
+    by_simple : (found : Option (ExpressionNumber × Simple))
+        → with_simple (knowing context.site facts) operands ≡ found
         → StepsStand context (PartDoes context) facts from (elim found [
           | Some chosen ↦ logic_with_simple_steps operation chosen.0 chosen.1 pushed
           | None ↦ paired_steps (knowing context.site facts) operands operation operation pushed
@@ -90,7 +100,8 @@ either_does {context = context} {pushed = pushed} {top = top} {need = need} {to 
         (two_high (height_of first) (height_of second) need height)
         (subst (λ steps. StepsStand context (PartDoes context) facts from
         (pair_steps (knowing context.site facts) operands.left operands.right false pushed ++ steps) last to)
-        (pairs_same operation operation (pair_order (knowing context.site facts) operands.left operands.right false)) stand)
+        (pairs_same operation operation (pair_order (knowing context.site facts) operands.left
+        operands.right false)) stand)
         going
 
     by_left : (found : Option ℕ) → number_of (knowing context.site facts) operands.left ≡ found
@@ -100,7 +111,8 @@ either_does {context = context} {pushed = pushed} {top = top} {need = need} {to 
         ]) last to
         → LogicGiven context operation from s r memory first second last number top base to
     by_left (Some n) here stand =
-        subst (λ outcome. Does context.activation.around.program.script s.budget 0 (at_place from r memory s.events) outcome
+        subst (λ outcome. Does context.activation.around.program.script s.budget 0
+        (at_place from r memory s.events) outcome
         (Arrives context.activation top base to (WordIsGiven context last number Address r memory)))
         (sym (first_known second facts (Number n) (λ x y u. Gave (bits operation x y) u) s sound words.one
         (number_known context facts operands.left n here)
@@ -108,14 +120,17 @@ either_does {context = context} {pushed = pushed} {top = top} {need = need} {to 
         (λ y u. Gave (bits operation n y) u) (λ y u. Gave (bits operation y n) u)
         (λ y u. ap (λ m. Gave m u) (bits_turned operation n y))))
         (halves_do operation n number from s r memory sound (either_logic operation is)
-        (address_is_word n (type_of first) words.one_is (number_small facts n sound words.one.is words.one.types here))
+        (address_is_word n (type_of first) words.one_is
+        (number_small facts n sound words.one.is words.one.types here))
         words.two none less room (less_high (height_of first) (height_of second) need height)
         (subst (λ steps. StepsStand context (PartDoes context) facts from steps last to)
         (with_number_is (knowing context.site facts) operation operands.right n pushed is) stand) going)
     by_left None here stand =
         by_simple (with_simple (knowing context.site facts) operands) refl
         (subst (λ (test : Bool). StepsStand context (PartDoes context) facts from
-        (if test then Rattle.exprgen8080.specs.internal.ByteOperators.byte_operation_steps (knowing context.site facts) operation operands pushed ++ Rattle.steps8080.specs.Step.extension_steps
+        (if test then Rattle.exprgen8080.specs.internal.ByteOperators.byte_operation_steps
+        (knowing context.site facts) operation operands pushed
+        ++ Rattle.steps8080.specs.Step.extension_steps
         else elim (with_simple (knowing context.site facts) operands) [
           | Some chosen ↦ logic_with_simple_steps operation chosen.0 chosen.1 pushed
           | None ↦ paired_steps (knowing context.site facts) operands operation operation pushed
@@ -131,12 +146,14 @@ either_does {context = context} {pushed = pushed} {top = top} {need = need} {to 
         ]) last to
         → LogicGiven context operation from s r memory first second last number top base to
     by_right (Some n) here stand =
-        subst (λ outcome. Does context.activation.around.program.script s.budget 0 (at_place from r memory s.events) outcome
+        subst (λ outcome. Does context.activation.around.program.script s.budget 0
+        (at_place from r memory s.events) outcome
         (Arrives context.activation top base to (WordIsGiven context last number Address r memory)))
         (sym (second_known first facts (Number n) (λ x y u. Gave (bits operation x y) u) s sound words.two
         (number_known context facts operands.right n here)))
         (halves_do operation n number from s r memory sound (either_logic operation is)
-        (address_is_word n (type_of second) words.two_is (number_small facts n sound words.two.is words.two.types here))
+        (address_is_word n (type_of second) words.two_is
+        (number_small facts n sound words.two.is words.two.types here))
         words.one none less room (one_high (height_of first) (height_of second) need height)
         (subst (λ steps. StepsStand context (PartDoes context) facts from steps last to)
         (with_number_is (knowing context.site facts) operation operands.left n pushed is) stand) going)

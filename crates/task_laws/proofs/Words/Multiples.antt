@@ -17,7 +17,8 @@ pub record WordBeside (n : ℕ) (r now : Registers) : Type 0 where
   pub d : now.d ≡ r.d
   pub e : now.e ≡ r.e
 
-pub effect_on : (one other : List Instr) (r : Registers) → effect (one ++ other) r ≡ effect other (effect one r)
+pub effect_on : (one other : List Instr) (r : Registers)
+    → effect (one ++ other) r ≡ effect other (effect one r)
 effect_on [] other r = refl
 effect_on (i ∷ one) other r = effect_on one other (does_to i r)
 
@@ -25,7 +26,8 @@ pub plain_on : (one other : List Instr) → plain (one ++ other) ≡ plain one +
 plain_on [] other = refl
 plain_on (i ∷ one) other = ap (λ (steps : List Step). Plain i ∷ steps) (plain_on one other)
 
-pub both_on : (one other : List Instr) → AreOnRegisters one → AreOnRegisters other → AreOnRegisters (one ++ other)
+pub both_on : (one other : List Instr) → AreOnRegisters one → AreOnRegisters other
+    → AreOnRegisters (one ++ other)
 both_on [] other first second = second
 both_on (i ∷ one) other first second = (first.0, both_on one other first.1 second)
 
@@ -69,11 +71,14 @@ once_low l x one small = omega (arith, one, small)
 pub doubled_is : (count x : ℕ) (r : Registers) → x < 65536 → HasWord x r
     → WordBeside ((x * 2 ^ count) % 65536) r (effect (replicate count (Dad Hl)) r)
 doubled_is count x r small has =
-    subst (λ (n : ℕ). WordBeside ((x * 2 ^ n) % 65536) r (effect (replicate count (Dad Hl)) r)) (none_before count)
+    subst (λ (n : ℕ). WordBeside ((x * 2 ^ n) % 65536) r (effect (replicate count (Dad Hl)) r))
+    (none_before count)
     (repeats (λ turns now. WordBeside ((x * 2 ^ turns) % 65536) r now) (Dad Hl) count 0 r
     (λ turns now holds. record {
-      h = doubled_high now.h now.l x (2 ^ turns) holds.h holds.l ∙ ap (λ p. ((x * p) % 65536) / 256) (sym (pow-suc 2 turns));
-      l = doubled_low now.h now.l x (2 ^ turns) holds.h holds.l ∙ ap (λ p. ((x * p) % 65536) % 256) (sym (pow-suc 2 turns));
+      h = doubled_high now.h now.l x (2 ^ turns) holds.h holds.l
+          ∙ ap (λ p. ((x * p) % 65536) / 256) (sym (pow-suc 2 turns));
+      l = doubled_low now.h now.l x (2 ^ turns) holds.h holds.l
+          ∙ ap (λ p. ((x * p) % 65536) % 256) (sym (pow-suc 2 turns));
       a = holds.a;
       d = holds.d;
       e = holds.e;
@@ -84,7 +89,8 @@ doubled_is count x r small has =
     none_before n = omega arith
 
 -- a number that is found to be a power of 2
-pub power_is : (count power number found : ℕ) → power_from count power number ≡ Some found → number ≡ 2 ^ found
+pub power_is : (count power number found : ℕ) → power_from count power number ≡ Some found
+    → number ≡ 2 ^ found
 power_is zero power number found same = let bad : None ≡ Some found = same in cc
 power_is (suc others) power number found same =
     by (number == 2 ^ power) refl same (λ rest. power_is others (power + 1) number found rest)
@@ -115,7 +121,8 @@ bit_same twice once_more true false = refl
 bit_same twice once_more true true = refl
 
 pub chain_same : (bits number : ℕ) (twice once_more : Instr) (below : Bool)
-    → chain_from bits number twice once_more below ≡ plain (chain_instructions bits number twice once_more below)
+    → chain_from bits number twice once_more below
+    ≡ plain (chain_instructions bits number twice once_more below)
 unfolding chain_from
 chain_same zero number twice once_more below = refl
 chain_same (suc bit) number twice once_more below =
@@ -132,7 +139,8 @@ bit_on twice once_more false set one other = tt
 bit_on twice once_more true false one other = (one, tt)
 bit_on twice once_more true true one other = (one, (other, tt))
 
-pub chain_on : (bits number : ℕ) (twice once_more : Instr) (below : Bool) → IsOnRegisters twice → IsOnRegisters once_more
+pub chain_on : (bits number : ℕ) (twice once_more : Instr) (below : Bool) → IsOnRegisters twice
+    → IsOnRegisters once_more
     → AreOnRegisters (chain_instructions bits number twice once_more below)
 chain_on zero number twice once_more below one other = tt
 chain_on (suc bit) number twice once_more below one other =
@@ -208,7 +216,9 @@ gone_on true false x half q r now same is gone =
     let has = gone.beside in
     record {
       nothing = λ bad. absurd (false≢true (sym bad));
-      beside = subst (λ (n : ℕ). WordBeside ((x * n) % 65536) r (effect (Dad Hl ∷ []) now)) (sym (bit_clear q half same is))
+      beside =
+          subst (λ (n : ℕ). WordBeside ((x * n) % 65536) r (effect (Dad Hl ∷ []) now))
+          (sym (bit_clear q half same is))
           (record {
             h = twice_high now.h now.l x half has.h has.l;
             l = twice_low now.h now.l x half has.h has.l;
@@ -231,7 +241,9 @@ gone_on true true x half q r now same is gone =
     } in
     record {
       nothing = λ bad. absurd (false≢true (sym bad));
-      beside = subst (λ (n : ℕ). WordBeside ((x * n) % 65536) r (effect (Dad Bc ∷ []) twice)) (sym (bit_set q half same is))
+      beside =
+          subst (λ (n : ℕ). WordBeside ((x * n) % 65536) r (effect (Dad Bc ∷ []) twice))
+          (sym (bit_set q half same is))
           (record {
             h = more_high twice.h twice.l now.b now.c x (2 * half) twice_is.h twice_is.l gone.b gone.c;
             l = more_low twice.h twice.l now.b now.c x (2 * half) twice_is.h twice_is.l gone.b gone.c;
@@ -257,7 +269,8 @@ chain_is :
     (bits number x : ℕ) (below : Bool) (r now : Registers)
     → bits ≤ 16
     → Gone below x (number / 2 ^ bits) r now
-    → (last : Bool) × Gone last x (number / 2 ^ 0) r (effect (chain_instructions bits number (Dad Hl) (Dad Bc) below) now)
+    → (last : Bool) × Gone last x (number / 2 ^ 0) r
+    (effect (chain_instructions bits number (Dad Hl) (Dad Bc) below) now)
 chain_is zero number x below r now few gone = (below, gone)
 chain_is (suc bit) number x below r now few gone =
     let set : Bool = has_bit number bit in
@@ -269,7 +282,9 @@ chain_is (suc bit) number x below r now few gone =
     (last.0, subst (λ (after : Registers). Gone last.0 x (number / 2 ^ 0) r after) (sym (effect_on first rest now)) last.1)
 
 -- the result of straight-line code that keeps A and DE
-abbrev Reaches : {A : Type 0} → (Outcome A) → (A → SourceState → State → Type 0) → Context → (budget more : ℕ) → (top : ℕ) → (base source : List ℕ) → (frame : List (List ℕ)) → (memory : List ℕ) → (events : List Event) → (last : Facts) → (to n : ℕ) → Registers → Type 0
+abbrev Reaches : {A : Type 0} → (Outcome A) → (A → SourceState → State → Type 0) → Context → (budget more : ℕ)
+    → (top : ℕ) → (base source : List ℕ) → (frame : List (List ℕ)) → (memory : List ℕ) → (events : List Event)
+    → (last : Facts) → (to n : ℕ) → Registers → Type 0
 Reaches outcome Good context budget more top base source frame memory events last to n r =
     (now : Registers) → WordBeside n r now
     → GoesOn context last top base source frame now memory
@@ -291,7 +306,8 @@ copied : (x : ℕ) (r : Registers) → x < 65536 → HasWord x r
     → Gone false x 0 r (effect (copy B H ∷ copy C L ∷ []) r)
 copied x r small has = record {
   nothing = λ _. refl;
-  beside = record { h = once_high r.h x has.h small; l = once_low r.l x has.l small; a = refl; d = refl; e = refl };
+  beside =
+      record { h = once_high r.h x has.h small; l = once_low r.l x has.l small; a = refl; d = refl; e = refl };
   b = has.h;
   c = has.l;
 }
@@ -308,10 +324,14 @@ small_goes :
     → HasWord x r
     → StepsStand context PartIs facts from (small_multiple_steps number) last to
     → GoesOn context facts top base source frame r memory
-    → Reaches outcome Good context budget more top base source frame memory events last to ((x * number) % 65536) r
+    → Reaches outcome Good context budget more top base source frame memory events last to
+    ((x * number) % 65536) r
     → Does context.activation.around.program.script budget more (at_place from r memory events) outcome Good
 unfolding power_of_two
-small_goes {budget = budget} {more = more} {outcome = outcome} {Good = Good} {context = context} {PartIs = PartIs} {last = last} {to = to} {top = top} {base = base} {source = source} {memory = memory} {frame = frame} {events = events} {facts = facts} {from = from} number x r sound some fits small has stand going rest =
+small_goes {budget = budget} {more = more} {outcome = outcome} {Good = Good} {context = context}
+    {PartIs = PartIs} {last = last} {to = to} {top = top} {base = base} {source = source} {memory = memory}
+    {frame = frame} {events = events} {facts = facts} {from = from} number x r sound some fits small
+    has stand going rest =
     by_power (power_of_two number) refl stand
   where
     by_power : (found : Option ℕ) → power_of_two number ≡ found
@@ -319,10 +339,12 @@ small_goes {budget = budget} {more = more} {outcome = outcome} {Good = Good} {co
           | Some power ↦ repeat_steps (Dad Hl) power
           | None ↦ plain (copy B H ∷ copy C L ∷ []) ++ chain_steps number (Dad Hl) (Dad Bc)
         ]) last to
-        → Does context.activation.around.program.script budget more (at_place from r memory events) outcome Good
+        → Does context.activation.around.program.script budget more
+        (at_place from r memory events) outcome Good
     by_power (Some power) is stand =
         registers_end (replicate power (Dad Hl)) r sound (repeated_on (Dad Hl) power tt)
-        (subst (λ (steps : List Step). StepsStand context PartIs facts from steps last to) (repeated (Dad Hl) power) stand)
+        (subst (λ (steps : List Step). StepsStand context PartIs facts from steps last to)
+        (repeated (Dad Hl) power) stand)
         going
         (λ going_last.
         rest (effect (replicate power (Dad Hl)) r)
@@ -333,9 +355,11 @@ small_goes {budget = budget} {more = more} {outcome = outcome} {Good = Good} {co
         let instructions : List Instr = copy B H ∷ copy C L ∷ chain in
         let begun : Registers = effect (copy B H ∷ copy C L ∷ []) r in
         let ends = chain_is 16 number x false r begun (omega arith)
-        (subst (λ (n : ℕ). Gone false x n r begun) (sym (first_quotient number fits)) (copied x r small has)) in
+        (subst (λ (n : ℕ). Gone false x n r begun) (sym (first_quotient number fits))
+        (copied x r small has)) in
         registers_end instructions r sound (tt, (tt, chain_on 16 number (Dad Hl) (Dad Bc) false tt tt))
-        (subst (λ (steps : List Step). StepsStand context PartIs facts from (Plain (copy B H) ∷ Plain (copy C L) ∷ steps) last to)
+        (subst (λ (steps : List Step). StepsStand context PartIs facts from
+        (Plain (copy B H) ∷ Plain (copy C L) ∷ steps) last to)
         (chain_same 16 number (Dad Hl) (Dad Bc) false) stand)
         going
         (λ going_last.
@@ -343,7 +367,8 @@ small_goes {budget = budget} {more = more} {outcome = outcome} {Good = Good} {co
         (last_factor ends.0 x number r (effect chain begun) some
         (subst (λ (n : ℕ). Gone ends.0 x n r (effect chain begun)) (last_quotient number) ends.1)) going_last)
 
-shifted_word : (x : ℕ) (r : Registers) → HasWord x r → HasWord (256 * (x % 256)) (effect (copy H L ∷ set L 0 ∷ []) r)
+shifted_word : (x : ℕ) (r : Registers) → HasWord x r
+    → HasWord (256 * (x % 256)) (effect (copy H L ∷ set L 0 ∷ []) r)
 shifted_word x r has = record { h = high_of_shifted r.l x has.l; l = low_of_shifted x }
 
 by_two : (h l k : ℕ) → (256 * l * k) % 65536 ≡ ((256 * h + l) * (256 * k)) % 65536
@@ -387,28 +412,36 @@ pub multiple_goes :
     → HasWord x r
     → StepsStand context PartIs facts from (multiple_steps number) last to
     → GoesOn context facts top base source frame r memory
-    → Reaches outcome Good context budget more top base source frame memory events last to ((x * number) % 65536) r
+    → Reaches outcome Good context budget more top base source frame memory events last to
+    ((x * number) % 65536) r
     → Does context.activation.around.program.script budget more (at_place from r memory events) outcome Good
-multiple_goes {budget = budget} {more = more} {outcome = outcome} {Good = Good} {context = context} {PartIs = PartIs} {last = last} {to = to} {top = top} {base = base} {source = source} {memory = memory} {frame = frame} {events = events} {facts = facts} {from = from} number x r sound some fits small has stand going rest =
+multiple_goes {budget = budget} {more = more} {outcome = outcome} {Good = Good} {context = context}
+    {PartIs = PartIs} {last = last} {to = to} {top = top} {base = base} {source = source} {memory = memory}
+    {frame = frame} {events = events} {facts = facts} {from = from} number x r sound some fits small
+    has stand going rest =
     by_low (number % 256 == 0) refl stand
   where
     by_low : (test : Bool) → (number % 256 == 0) ≡ test
         → StepsStand context PartIs facts from
         (if test then plain (copy H L ∷ set L 0 ∷ []) ++ small_multiple_steps (number / 256)
         else small_multiple_steps number) last to
-        → Does context.activation.around.program.script budget more (at_place from r memory events) outcome Good
+        → Does context.activation.around.program.script budget more
+        (at_place from r memory events) outcome Good
     by_low false is stand = small_goes number x r sound some fits small has stand going rest
     by_low true is stand =
         let none : number % 256 ≡ 0 = eqb-true (number % 256) 0 is in
         let begun : Registers = effect (copy H L ∷ set L 0 ∷ []) r in
-        registers_then (copy H L ∷ set L 0 ∷ []) (small_multiple_steps (number / 256)) r sound (tt, (tt, tt)) stand going
+        registers_then (copy H L ∷ set L 0 ∷ []) (small_multiple_steps (number / 256)) r sound
+        (tt, (tt, tt)) stand going
         (λ middle found stand_on going_on.
-        small_goes (number / 256) (256 * (x % 256)) begun sound (quotient_some number none some) (omega (arith, fits))
+        small_goes (number / 256) (256 * (x % 256)) begun sound (quotient_some number none some)
+        (omega (arith, fits))
         (low_word_small x) (shifted_word x r has) stand_on going_on
         (λ now beside going_last.
         rest now
         (beside_same ((256 * (x % 256) * (number / 256)) % 65536) ((x * number) % 65536) r begun now
-        (by_high_byte x (number / 256) ∙ ap (λ n. (x * n) % 65536) (whole_number number none)) refl refl refl beside)
+        (by_high_byte x (number / 256) ∙ ap (λ n. (x * n) % 65536) (whole_number number none))
+        refl refl refl beside)
         going_last))
 
 nothing_left : (x : ℕ) → 0 ≡ (x * 0) % 65536
@@ -421,12 +454,14 @@ pub products_do :
     → stride < 65536
     → StepsStand context (PartDoes context) facts from (product_steps index stride pushed) last to
     → ProductDoes context facts index stride pushed from last to
-products_do context sound facts last index stride pushed from to fits stand bound tree is types address top base s r memory less room ready known nothing =
+products_do context sound facts last index stride pushed from to fits stand bound tree is types address top
+    base s r memory less room ready known nothing =
     without_rest (value context.later context.activation.around tree s) (by_zero (stride == 0) refl stand)
   where
     without_rest : (outcome : Outcome ℕ)
         → Does context.activation.around.program.script s.budget 0 (at_place from r memory s.events)
-        (then_do outcome (λ n t. Gave n t)) (Arrives context.activation top base to (ProductIsGiven context last index stride r memory))
+        (then_do outcome (λ n t. Gave n t))
+        (Arrives context.activation top base to (ProductIsGiven context last index stride r memory))
         → Does context.activation.around.program.script s.budget 0 (at_place from r memory s.events)
         outcome (Arrives context.activation top base to (ProductIsGiven context last index stride r memory))
     without_rest (Gave n t) does = does
@@ -440,10 +475,13 @@ products_do context sound facts last index stride pushed from to fits stand boun
         (then_do (value context.later context.activation.around tree s) (λ n t. Gave n t))
         (Arrives context.activation top base to (ProductIsGiven context last index stride r memory))
     by_zero false test (PartThere part rest) =
-        word_then from s r memory part is types less room (omega arith) (record { ready = ready; known = known })
+        word_then from s r memory part is types less room (omega arith)
+        (record { ready = ready; known = known })
         (λ x t now ended same fewer going_on given.
-        multiple_goes stride x now sound (λ zero_now. absurd (true≢false (sym (eq-eqb stride 0 zero_now) ∙ test))) fits
-        (word_below x now.h now.l given.h going_on.ready.registers.h) (record { h = given.h; l = given.l }) rest going_on
+        multiple_goes stride x now sound
+        (λ zero_now. absurd (true≢false (sym (eq-eqb stride 0 zero_now) ∙ test))) fits
+        (word_below x now.h now.l given.h going_on.ready.registers.h)
+        (record { h = given.h; l = given.l }) rest going_on
         (λ after beside going_last.
         does_without_step (record {
           r = after;
@@ -459,7 +497,8 @@ products_do context sound facts last index stride pushed from to fits stand boun
           };
         })))
     by_zero true test (PartThere {middle = middle} part (WordThere there rest)) =
-        effects_then from s r memory part is types less room (omega arith) (record { ready = ready; known = known })
+        effects_then from s r memory part is types less room (omega arith)
+        (record { ready = ready; known = known })
         (λ x t now ended same fewer going_on given.
         let cleared : Registers = record now { h = 0; l = 0 } in
         let bytes = going_on.ready.registers in

@@ -28,12 +28,14 @@ Makes instructions f =
 pub pair_below : (order : PairOrder) (x y : ℕ) (r : Registers) → HoldBytes r → HasPair order x y r
     → (x < 65536) × (y < 65536)
 pair_below LeftInHl x y r bytes has = (word_below x r.h r.l has.h bytes.h, word_below y r.d r.e has.d bytes.d)
-pair_below RightInHl x y r bytes has = (word_below x r.d r.e has.d bytes.d, word_below y r.h r.l has.h bytes.h)
+pair_below RightInHl x y r bytes has =
+    (word_below x r.d r.e has.d bytes.d, word_below y r.h r.l has.h bytes.h)
 
 pub paired_does :
     {context : Context} {pushed top need to : ℕ} {base : List ℕ} {facts last : Facts}
     {left right : ExpressionNumber} {first second : TypedExpression} (instructions : PairOrder → List Instr)
-    (f : ℕ → ℕ → ℕ) (number : ExpressionNumber) (wish : Option PairOrder) (from : ℕ) (s : SourceState) (r : Registers)
+    (f : ℕ → ℕ → ℕ) (number : ExpressionNumber) (wish : Option PairOrder) (from : ℕ)
+    (s : SourceState) (r : Registers)
     (memory : List ℕ) (sound : IsSound context)
     → ((order : PairOrder) → AreOnRegisters (instructions order))
     → Makes instructions f
@@ -54,9 +56,12 @@ pub paired_does :
     (λ x t. then_do (Rattle.meaning.specs.Meaning.value context.later context.activation.around second t)
     (λ y u. Gave (f x y) u)))
     (Arrives context.activation top base to (WordIsGiven context last number Address r memory))
-paired_does {context = context} {to = to} {facts = facts} {last = last} {left = left} {right = right} instructions f number wish from s r memory sound on makes small one two none less room high higher stand going =
+paired_does {context = context} {to = to} {facts = facts} {last = last} {left = left} {right = right}
+    instructions f number wish from s r memory sound on makes small one two none less room high
+    higher stand going =
     let order : PairOrder = pair_order_by (knowing context.site facts) left right wish in
-    pair_then context sound wish (plain (instructions order)) from s r memory one two less room high higher stand going
+    pair_then context sound wish (plain (instructions order)) from s r memory one two less room
+    high higher stand going
     (λ x y t now ended middle found fewer rest going_on has.
     let below = pair_below order x y now going_on.ready.registers has in
     registers_then (instructions order) [] now sound (on order)
@@ -88,7 +93,8 @@ byte_instructions on_low on_high LeftInHl =
 byte_instructions on_low on_high RightInHl =
     copy A E ∷ with_register on_low L ∷ copy L A ∷ copy A D ∷ with_register on_high H ∷ copy H A ∷ []
 
-difference_high : (h l d e x y : ℕ) → h ≡ x / 256 → l ≡ x % 256 → d ≡ y / 256 → e ≡ y % 256 → x < 65536 → y < 65536
+difference_high : (h l d e x y : ℕ) → h ≡ x / 256 → l ≡ x % 256 → d ≡ y / 256 → e ≡ y % 256
+    → x < 65536 → y < 65536
     → (h + (255 - d) + bit (not (nat_lt (l + (255 - e) + 1) 256))) % 256 ≡ ((x + (65536 - y)) % 65536) / 256
 difference_high h l d e x y one two three four small_x small_y =
     rw one (rw two (rw three (rw four (high_difference x y small_x small_y))))
@@ -97,7 +103,8 @@ difference_low : (l e x y : ℕ) → l ≡ x % 256 → e ≡ y % 256 → y < 655
     → (l + (255 - e) + 1) % 256 ≡ ((x + (65536 - y)) % 65536) % 256
 difference_low l e x y two four small_y = rw two (rw four (low_difference x y small_y))
 
-pub difference_makes : Makes (byte_instructions Subtract SubtractWithBorrow) (λ x y. (x + (65536 - y)) % 65536)
+pub difference_makes : Makes (byte_instructions Subtract SubtractWithBorrow)
+    (λ x y. (x + (65536 - y)) % 65536)
 difference_makes LeftInHl x y r one two has = record {
   h = difference_high r.h r.l r.d r.e x y has.h has.l has.d has.e one two;
   l = difference_low r.l r.e x y has.l has.e two;

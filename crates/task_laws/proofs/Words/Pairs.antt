@@ -81,12 +81,14 @@ module _ (context : Context) (sound : IsSound context) where
       → s.budget < context.number
       → HasRoom context.activation top pushed need
       → 2 * height_of tree ≤ need
-      → StepsStand context (PartDoes context) facts from (with_known_steps first place pushed ++ others) last to
+      → StepsStand context (PartDoes context) facts from
+      (with_known_steps first place pushed ++ others) last to
       → GoesOn context facts top base s.memory s.frame r memory
       → Continues more top base s.budget others last to HasBoth go Good
       → Does context.activation.around.program.script s.budget more (at_place from r memory s.events)
       (then_do (meant tree s) (λ n t. go n (place_at context.activation.layout place) t)) Good
-  known_then {more = more} {go = go} {Good = Good} others place from s r memory operand small less room high (PartThere {middle = middle} part (WordThere there rest)) going continue =
+  known_then {more = more} {go = go} {Good = Good} others place from s r memory operand small less room high
+      (PartThere {middle = middle} part (WordThere there rest)) going continue =
       word_then from s r memory part operand.is operand.types less room high going
       (λ n t now ended same fewer going_on given.
       let word : ℕ = place_at context.activation.layout place in
@@ -121,22 +123,27 @@ module _ (context : Context) (sound : IsSound context) where
       → HasRoom context.activation top pushed need
       → 2 * height_of one ≤ need
       → 2 * height_of two ≤ need
-      → StepsStand context (PartDoes context) facts from (with_exchange_steps first second pushed ++ others) last to
+      → StepsStand context (PartDoes context) facts from
+      (with_exchange_steps first second pushed ++ others) last to
       → GoesOn context facts top base s.memory s.frame r memory
       → Continues more top base s.budget others last to (λ m n r. HasBoth n m r) go Good
       → Does context.activation.around.program.script s.budget more (at_place from r memory s.events)
       (then_do (meant one s) (λ m t. then_do (meant two t) (λ n u. go m n u))) Good
-  exchange_then {pushed = pushed} {go = go} {second = second} others from s r memory one two kept less room high higher (PartThere part rest) going continue =
+  exchange_then {pushed = pushed} {go = go} {second = second} others from s r memory one two kept less room
+      high higher (PartThere part rest) going continue =
       word_then from s r memory part one.is one.types less room high going
       (λ m t now ended same fewer going_on given.
-      registers_then (Xchg ∷ []) (part_of (tasks.Word second) pushed ∷ others) now sound (tt, tt) rest going_on
+      registers_then (Xchg ∷ []) (part_of (tasks.Word second) pushed ∷ others) now sound
+      (tt, tt) rest going_on
       (λ middle found stand swapped.
       let then_part = part_first stand in
       let swapped_registers : Registers = effect (Xchg ∷ []) now in
-      word_then middle t swapped_registers ended then_part.does two.is two.types (omega (arith, less, fewer)) room higher
+      word_then middle t swapped_registers ended then_part.does two.is two.types
+      (omega (arith, less, fewer)) room higher
       swapped
       (λ n u then_registers then_ended also fewer_still going_still then_given.
-      continue m n u then_registers then_ended then_part.middle then_part.found (omega (arith, fewer, fewer_still))
+      continue m n u then_registers then_ended then_part.middle then_part.found
+      (omega (arith, fewer, fewer_still))
       then_part.rest going_still
       (record {
         h = then_given.h;
@@ -159,20 +166,25 @@ module _ (context : Context) (sound : IsSound context) where
       → HasRoom context.activation top pushed need
       → 2 * height_of one ≤ need
       → 2 * height_of two ≤ need
-      → StepsStand context (PartDoes context) facts from (with_byte_steps first second pushed ++ others) last to
+      → StepsStand context (PartDoes context) facts from
+      (with_byte_steps first second pushed ++ others) last to
       → GoesOn context facts top base s.memory s.frame r memory
       → Continues more top base s.budget others last to HasBoth go Good
       → Does context.activation.around.program.script s.budget more (at_place from r memory s.events)
       (then_do (meant one s) (λ m t. then_do (meant two t) (λ n u. go m n u))) Good
-  byte_beside_then {pushed = pushed} {facts = facts} {go = go} {second = second} others from s r memory one two free fits less room high higher (PartThere {middle = middle} part rest) going continue =
+  byte_beside_then {pushed = pushed} {facts = facts} {go = go} {second = second} others from s r memory one
+      two free fits less room high higher (PartThere {middle = middle} part rest) going continue =
       word_then from s r memory part one.is one.types less room high going
       (λ m t now ended same fewer going_on given.
       let then_part = part_first rest in
-      byte_then middle t now ended then_part.does two.is two.types (omega (arith, less, fewer)) room higher going_on
+      byte_then middle t now ended then_part.does two.is two.types (omega (arith, less, fewer))
+      room higher going_on
       (λ n u then_registers then_ended also fewer_still going_still then_given.
-      let small : n < 256 = fits_means context sound facts t two.is two.types fits (ready_fits context t going_on.ready) also in
+      let small : n < 256 =
+      fits_means context sound facts t two.is two.types fits (ready_fits context t going_on.ready) also in
       let only = then_given.free free in
-      registers_then (copy E A ∷ set D 0 ∷ []) others then_registers sound (tt, (tt, tt)) then_part.rest going_still
+      registers_then (copy E A ∷ set D 0 ∷ []) others then_registers sound (tt, (tt, tt))
+      then_part.rest going_still
       (λ last_middle last_found stand going_last.
       continue m n u (effect (copy E A ∷ set D 0 ∷ []) then_registers) then_ended last_middle last_found
       (omega (arith, fewer, fewer_still)) stand going_last
@@ -195,25 +207,32 @@ module _ (context : Context) (sound : IsSound context) where
       → HasRoom context.activation top pushed need
       → 2 * height_of one ≤ need
       → 2 + 2 * height_of two ≤ need
-      → StepsStand context (PartDoes context) facts from (with_stack_steps first second pushed ++ others) last to
+      → StepsStand context (PartDoes context) facts from
+      (with_stack_steps first second pushed ++ others) last to
       → GoesOn context facts top base s.memory s.frame r memory
       → Continues more top base s.budget others last to (λ m n r. HasBoth n m r) go Good
       → Does context.activation.around.program.script s.budget more (at_place from r memory s.events)
       (then_do (meant one s) (λ m t. then_do (meant two t) (λ n u. go m n u))) Good
-  stack_then {pushed = pushed} {top = top} {need = need} {go = go} {second = second} {two = second_tree} others from s r memory one two less room high higher (PartThere part (PlainThere push_there (PartThere then_part (PlainThere pop_there rest)))) going continue =
+  stack_then {pushed = pushed} {top = top} {need = need} {go = go} {second = second} {two = second_tree}
+      others from s r memory one two less room high higher
+      (PartThere part (PlainThere push_there (PartThere then_part (PlainThere pop_there rest)))) going
+      continue =
       let some = some_height second_tree in
       let enough : 2 ≤ need = omega (arith, higher) in
       word_then from s r memory part one.is one.types less room high going
       (λ m t now ended same fewer going_on given.
       push_goes StackHl now sound push_there going_on enough room
       (λ pushed_on.
-      word_then _ t (record now { sp = wrap (top - 2) }) _ then_part two.is two.types (omega (arith, less, fewer))
-      (more_pushed (2 * height_of second_tree) sound.lies (omega (arith, some)) higher room) (omega arith) pushed_on
+      word_then _ t (record now { sp = wrap (top - 2) }) _ then_part two.is two.types
+      (omega (arith, less, fewer))
+      (more_pushed (2 * height_of second_tree) sound.lies (omega (arith, some)) higher room)
+      (omega arith) pushed_on
       (λ n u then_registers then_ended also fewer_still going_still then_given.
       let bytes = going_on.ready.registers in
       let h_small = bytes.h in
       let l_small = bytes.l in
-      pop_goes StackDe then_registers sound pop_there enough room going_on.ready (omega (arith, h_small, l_small)) going_still
+      pop_goes StackDe then_registers sound pop_there enough room going_on.ready
+      (omega (arith, h_small, l_small)) going_still
       (λ going_last.
       continue m n u _ then_ended _ _ (omega (arith, fewer, fewer_still)) rest going_last
       (record {
@@ -253,11 +272,13 @@ module _ (context : Context) (sound : IsSound context) where
 
     left_keeps_allowed : choices.left_keeps ≡ true → Allowed LeftKeeps
     left_keeps_allowed is =
-        and_parts (may_exchange (knowing context.site facts) left right) (keeps (knowing context.site facts) left).de is
+        and_parts (may_exchange (knowing context.site facts) left right)
+        (keeps (knowing context.site facts) left).de is
 
     left_free_allowed : choices.left_is_free ≡ true → Allowed LeftFree
     left_free_allowed is =
-        and_parts (may_exchange (knowing context.site facts) left right) (is_free_byte (knowing context.site facts) left) is
+        and_parts (may_exchange (knowing context.site facts) left right)
+        (is_free_byte (knowing context.site facts) left) is
 
     any_allowed : Allowed (any_order choices)
     any_allowed =
@@ -275,7 +296,8 @@ module _ (context : Context) (sound : IsSound context) where
         (λ _. chosen Allowed (choices.left_is_in_hl && choices.right_keeps) RightKeeps _
         (λ is. (and_parts choices.left_is_in_hl choices.right_keeps is).1)
         (λ _. chosen Allowed choices.left_keeps LeftKeeps _ (λ is. left_keeps_allowed is)
-        (λ _. chosen Allowed choices.right_is_free RightFree (any_order choices) (λ is. is) (λ _. any_allowed))))
+        (λ _. chosen Allowed choices.right_is_free RightFree (any_order choices) (λ is. is)
+        (λ _. any_allowed))))
 
     right_allowed : Allowed (right_in_hl choices)
     right_allowed =
@@ -284,9 +306,11 @@ module _ (context : Context) (sound : IsSound context) where
         (λ _. chosen Allowed (choices.right_is_in_hl && choices.left_keeps) LeftKeeps _
         (λ is. left_keeps_allowed (and_parts choices.right_is_in_hl choices.left_keeps is).1)
         (λ _. chosen Allowed choices.right_keeps RightKeeps _ (λ is. is)
-        (λ _. chosen Allowed choices.left_is_free LeftFree (any_order choices) (λ is. left_free_allowed is) (λ _. any_allowed))))
+        (λ _. chosen Allowed choices.left_is_free LeftFree (any_order choices) (λ is. left_free_allowed is)
+        (λ _. any_allowed))))
 
-    form_allowed : (wish : Option PairOrder) → Allowed (pair_form (knowing context.site facts) left right wish)
+    form_allowed : (wish : Option PairOrder)
+        → Allowed (pair_form (knowing context.site facts) left right wish)
     form_allowed wish = by_right (known (knowing context.site facts) right) refl
       where
         by_wish : (asked : Option PairOrder)
@@ -332,11 +356,13 @@ module _ (context : Context) (sound : IsSound context) where
         by_right (Some place) is = is
         by_right None is = by_left (known (knowing context.site facts) left) refl
 
-  pub keeps_same : (facts : Facts) (of : ExpressionNumber) → keeps (knowing context.site facts) of ≡ keeps context.site of
+  pub keeps_same : (facts : Facts) (of : ExpressionNumber)
+      → keeps (knowing context.site facts) of ≡ keeps context.site of
   unfolding keeps expression
   keeps_same facts of = refl
 
-  pub free_same : (facts : Facts) (of : ExpressionNumber) → is_free (knowing context.site facts) of ≡ is_free context.site of
+  pub free_same : (facts : Facts) (of : ExpressionNumber)
+      → is_free (knowing context.site facts) of ≡ is_free context.site of
   unfolding is_free expression
   free_same facts of = refl
 
@@ -362,33 +388,54 @@ module _ (context : Context) (sound : IsSound context) where
       → Continues more top base s.budget others last to (HasPair (order_of form)) go Good
       → Does context.activation.around.program.script s.budget more (at_place from r memory s.events)
       (then_do (meant first s) (λ x t. then_do (meant second t) (λ y u. go x y u))) Good
-  form_then {more = more} {facts = facts} {go = go} {Good = Good} {first = first} {second = second} (RightKnown place) others from s r memory one two allowed less room high higher stand going continue =
-      subst (λ outcome. Does context.activation.around.program.script s.budget more (at_place from r memory s.events) outcome Good)
-      (sym (same_rest (meant first s) (λ x t. then_do (meant second t) (λ y u. go x y u)) (λ x t. go x (place_at context.activation.layout place) t)
-      (λ x t. ap (λ outcome. then_do outcome (λ y u. go x y u)) (known_means facts place sound two.is two.types allowed t))))
+  form_then {more = more} {facts = facts} {go = go} {Good = Good} {first = first} {second = second}
+      (RightKnown place) others from s r memory one two allowed less room high higher stand going continue =
+      subst (λ outcome. Does context.activation.around.program.script s.budget more
+      (at_place from r memory s.events) outcome Good)
+      (sym (same_rest (meant first s) (λ x t. then_do (meant second t) (λ y u. go x y u))
+      (λ x t. go x (place_at context.activation.layout place) t)
+      (λ x t. ap (λ outcome. then_do outcome (λ y u. go x y u))
+      (known_means facts place sound two.is two.types allowed t))))
       (known_then others place from s r memory one
-      (word_fits (place_at context.activation.layout place) (type_of second) (known_small facts place sound two.is two.types allowed))
+      (word_fits (place_at context.activation.layout place) (type_of second)
+      (known_small facts place sound two.is two.types allowed))
       less room high stand going continue)
-  form_then {more = more} {facts = facts} {go = go} {Good = Good} {first = first} {second = second} (LeftKnown place) others from s r memory one two allowed less room high higher stand going continue =
-      subst (λ outcome. Does context.activation.around.program.script s.budget more (at_place from r memory s.events) outcome Good)
-      (sym (ap (λ outcome. then_do outcome (λ x t. then_do (meant second t) (λ y u. go x y u))) (known_means facts place sound one.is one.types allowed s)))
+  form_then {more = more} {facts = facts} {go = go} {Good = Good} {first = first} {second = second}
+      (LeftKnown place) others from s r memory one two allowed less room high higher stand going continue =
+      subst (λ outcome. Does context.activation.around.program.script s.budget more
+      (at_place from r memory s.events) outcome Good)
+      (sym (ap (λ outcome. then_do outcome (λ x t. then_do (meant second t) (λ y u. go x y u)))
+      (known_means facts place sound one.is one.types allowed s)))
       (known_then {go = λ y x u. go x y u} others place from s r memory two
-      (word_fits (place_at context.activation.layout place) (type_of first) (known_small facts place sound one.is one.types allowed))
+      (word_fits (place_at context.activation.layout place) (type_of first)
+      (known_small facts place sound one.is one.types allowed))
       less room (omega (arith, higher)) stand going
       (λ y x t now ended middle found. continue x y t now ended middle found))
-  form_then {facts = facts} {right = right} RightKeeps others from s r memory one two allowed less room high higher stand going continue =
-      exchange_then others from s r memory one two (kept_de facts right allowed) less room high (omega (arith, higher)) stand going continue
-  form_then {facts = facts} {go = go} {left = left} {first = first} {second = second} LeftKeeps others from s r memory one two allowed less room high higher stand going continue =
+  form_then {facts = facts} {right = right} RightKeeps others from s r memory one two allowed less room high
+      higher stand going continue =
+      exchange_then others from s r memory one two (kept_de facts right allowed) less room high
+      (omega (arith, higher)) stand going continue
+  form_then {facts = facts} {go = go} {left = left} {first = first} {second = second} LeftKeeps others from s
+      r memory one two allowed less room high higher stand going continue =
       does_exchanged facts go s sound one.is two.is one.types allowed.0
-      (exchange_then {go = λ y x u. go x y u} others from s r memory two one (kept_de facts left allowed.1) less room (omega (arith, higher)) high stand going
+      (exchange_then {go = λ y x u. go x y u} others from s r memory two one (kept_de facts left allowed.1)
+      less room (omega (arith, higher)) high stand going
       (λ y x t now ended middle found. continue x y t now ended middle found))
-  form_then {facts = facts} {right = right} RightFree others from s r memory one two allowed less room high higher stand going continue =
-      let is = and_parts (fits_byte (knowing context.site facts) right) (is_free (knowing context.site facts) right) allowed in
-      byte_beside_then others from s r memory one two (sym (free_same facts right) ∙ is.1) is.0 less room high (omega (arith, higher)) stand going continue
-  form_then {facts = facts} {go = go} {left = left} {first = first} {second = second} LeftFree others from s r memory one two allowed less room high higher stand going continue =
-      let is = and_parts (fits_byte (knowing context.site facts) left) (is_free (knowing context.site facts) left) allowed.1 in
+  form_then {facts = facts} {right = right} RightFree others from s r memory one two allowed less room high
+      higher stand going continue =
+      let is =
+      and_parts (fits_byte (knowing context.site facts) right)
+      (is_free (knowing context.site facts) right) allowed in
+      byte_beside_then others from s r memory one two (sym (free_same facts right) ∙ is.1) is.0 less room high
+      (omega (arith, higher)) stand going continue
+  form_then {facts = facts} {go = go} {left = left} {first = first} {second = second} LeftFree others from s r
+      memory one two allowed less room high higher stand going continue =
+      let is =
+      and_parts (fits_byte (knowing context.site facts) left)
+      (is_free (knowing context.site facts) left) allowed.1 in
       does_exchanged facts go s sound one.is two.is one.types allowed.0
-      (byte_beside_then {go = λ y x u. go x y u} others from s r memory two one (sym (free_same facts left) ∙ is.1) is.0 less room (omega (arith, higher)) high stand going
+      (byte_beside_then {go = λ y x u. go x y u} others from s r memory two one
+      (sym (free_same facts left) ∙ is.1) is.0 less room (omega (arith, higher)) high stand going
       (λ y x t now ended middle found. continue x y t now ended middle found))
   form_then Pushed others from s r memory one two allowed less room high higher stand going continue =
       stack_then others from s r memory one two less room high higher stand going continue
@@ -409,14 +456,18 @@ module _ (context : Context) (sound : IsSound context) where
   wished_then None RightInHl others continue = continue
   wished_then (Some LeftInHl) LeftInHl others continue = continue
   wished_then (Some RightInHl) RightInHl others continue = continue
-  wished_then {go = go} (Some LeftInHl) RightInHl others continue = λ x y t now ended middle found less stand going has.
+  wished_then {go = go} (Some LeftInHl) RightInHl others continue =
+      λ x y t now ended middle found less stand going has.
       registers_then (Xchg ∷ []) others now sound (tt, tt) stand going
       (λ after after_found rest swapped.
-      continue x y t (effect (Xchg ∷ []) now) ended after after_found less rest swapped (swapped_pair x y now RightInHl has))
-  wished_then {go = go} (Some RightInHl) LeftInHl others continue = λ x y t now ended middle found less stand going has.
+      continue x y t (effect (Xchg ∷ []) now) ended after after_found less rest swapped
+      (swapped_pair x y now RightInHl has))
+  wished_then {go = go} (Some RightInHl) LeftInHl others continue =
+      λ x y t now ended middle found less stand going has.
       registers_then (Xchg ∷ []) others now sound (tt, tt) stand going
       (λ after after_found rest swapped.
-      continue x y t (effect (Xchg ∷ []) now) ended after after_found less rest swapped (swapped_pair x y now LeftInHl has))
+      continue x y t (effect (Xchg ∷ []) now) ended after after_found less rest swapped
+      (swapped_pair x y now LeftInHl has))
 
   order_same : (site : Site) (left right : ExpressionNumber) (wish : Option PairOrder)
       → wished_order wish (order_of (pair_form site left right wish)) ≡ pair_order_by site left right wish
@@ -427,7 +478,8 @@ module _ (context : Context) (sound : IsSound context) where
   pub pair_then :
       {B : Type 0} {more pushed top need to : ℕ} {base : List ℕ} {facts last : Facts}
       {go : ℕ → ℕ → SourceState → Outcome B} {Good : B → SourceState → State → Type 0}
-      {left right : ExpressionNumber} {first second : TypedExpression} (wish : Option PairOrder) (others : List Step)
+      {left right : ExpressionNumber} {first second : TypedExpression} (wish : Option PairOrder)
+      (others : List Step)
       (from : ℕ) (s : SourceState) (r : Registers) (memory : List ℕ)
       → IsOperand context left first
       → IsOperand context right second
@@ -442,9 +494,12 @@ module _ (context : Context) (sound : IsSound context) where
       (HasPair (pair_order_by (knowing context.site facts) left right wish)) go Good
       → Does context.activation.around.program.script s.budget more (at_place from r memory s.events)
       (then_do (meant first s) (λ x t. then_do (meant second t) (λ y u. go x y u))) Good
-  pair_then {more = more} {pushed = pushed} {top = top} {to = to} {base = base} {facts = facts} {last = last} {go = go} {Good = Good} {left = left} {right = right} wish others from s r memory one two less room high higher stand going continue =
+  pair_then {more = more} {pushed = pushed} {top = top} {to = to} {base = base} {facts = facts} {last = last}
+      {go = go} {Good = Good} {left = left} {right = right} wish others from s r memory one two less room high
+      higher stand going continue =
       let form : PairForm = pair_form (knowing context.site facts) left right wish in
-      form_then form (wished_steps wish (order_of form) ++ others) from s r memory one two (form_allowed facts left right wish) less room high higher
+      form_then form (wished_steps wish (order_of form) ++ others) from s r memory one two
+      (form_allowed facts left right wish) less room high higher
       (subst (λ steps. StepsStand context (PartDoes context) facts from steps last to)
       (append_assoc (form_steps form left right pushed) (wished_steps wish (order_of form)) others) stand)
       going

@@ -32,7 +32,8 @@ no_shift a count none = sym (ap (λ n. a / 2 ^ n) none ∙ whole a)
 
 -- code that makes a byte in A, and then that with zeros added in HL
 coded_then :
-    {context : Context} {top pushed need from to : ℕ} {base : List ℕ} {facts last : Facts} {steps : List Step} {f : ℕ → ℕ}
+    {context : Context} {top pushed need from to : ℕ} {base : List ℕ} {facts last : Facts}
+    {steps : List Step} {f : ℕ → ℕ}
     (code : CodeOfA steps f) (number : ExpressionNumber) (n : ℕ) (t : SourceState) (r now : Registers)
     (memory ended : List ℕ) (sound : IsSound context)
     → keeps context.site number ≡ keeps_none
@@ -42,12 +43,14 @@ coded_then :
     → Stage context top pushed need base t facts now ended
     → Does (script_of context) t.budget 0 (at_place from now ended t.events) (Gave n t)
     (Arrives context.activation top base to (WordIsGiven context last number Address r memory))
-coded_then {context = context} {from = from} {to = to} {facts = facts} {last = last} code number n t r now memory ended sound none small is stand stage =
+coded_then {context = context} {from = from} {to = to} {facts = facts} {last = last} code number n t r now
+    memory ended sound none small is stand stage =
     let extension : List Instr = copy L A ∷ set H 0 ∷ [] in
     at_last_instructions (code.instructions ++ extension) sound
     (both_straight code.instructions extension code.on (tt, (tt, tt)))
     (subst (λ (list : List Step). StepsStand context (PartDoes context) facts from list last to)
-    (ap (λ (list : List Step). list ++ extension_steps) code.same ∙ sym (plain_on code.instructions extension)) stand) stage
+    (ap (λ (list : List Step). list ++ extension_steps) code.same
+    ∙ sym (plain_on code.instructions extension)) stand) stage
     (λ final.
     word_given t (byte_is_word n small)
     (subst (λ (after : Registers). HasWord n after) (sym (effect_on code.instructions extension now))
@@ -65,26 +68,33 @@ quarter_instructions =
     ∷ copy A H ∷ AccumulateImmediate And 0xfc
     ∷ Rrc ∷ Rrc ∷ copy H A ∷ []
 
-half_makes : (x : ℕ) (now : Registers) → x < 65536 → HasWord x now → HasWord (x / 2) (effect half_instructions now)
+half_makes : (x : ℕ) (now : Registers) → x < 65536 → HasWord x now
+    → HasWord (x / 2) (effect half_instructions now)
 half_makes x now small has =
     let after : Registers = effect half_instructions now in
     let h_small = half_is_byte now.h x has.h small in
     let l_small = low_is_byte now.l x has.l in
-    let is = has_word (x / 2) after.h after.l (half_small now.h false h_small) (half_small now.l (now.h % 2 == 1) l_small)
+    let is =
+    has_word (x / 2) after.h after.l (half_small now.h false h_small)
+    (half_small now.l (now.h % 2 == 1) l_small)
     (halves now.h now.l false refl ∙ ap (λ n. n / 2) (word_from_halves x now.h now.l has.h has.l)) in
     record { h = is.0; l = is.1 }
 
-quarter_makes : (x : ℕ) (now : Registers) → x < 65536 → HasWord x now → HasWord (x / 4) (effect quarter_instructions now)
+quarter_makes : (x : ℕ) (now : Registers) → x < 65536 → HasWord x now
+    → HasWord (x / 4) (effect quarter_instructions now)
 quarter_makes x now small has =
     let after : Registers = effect quarter_instructions now in
     let h_small = half_is_byte now.h x has.h small in
     let l_small = low_is_byte now.l x has.l in
-    let is = has_word (x / 4) after.h after.l (quarter_high_small now.h h_small) (quarter_low_small now.h now.l h_small l_small)
+    let is =
+    has_word (x / 4) after.h after.l (quarter_high_small now.h h_small)
+    (quarter_low_small now.h now.l h_small l_small)
     (quarters now.h now.l h_small l_small ∙ ap (λ n. n / 4) (word_from_halves x now.h now.l has.h has.l)) in
     record { h = is.0; l = is.1 }
 
 less_shifted : (x count limit : ℕ) → x < limit → x / 2 ^ count < limit
-less_shifted x count limit small = let less : x / 2 ^ count ≤ x = quotient_less x (2 ^ count) in omega (arith, less, small)
+less_shifted x count limit small =
+    let less : x / 2 ^ count ≤ x = quotient_less x (2 ^ count) in omega (arith, less, small)
 
 low_count : (count : ℕ) → count < 8 → count % 256 ≡ count
 low_count count few = omega (arith, few)
@@ -96,16 +106,20 @@ few_more : (count : ℕ) → count < 16 → 8 ≤ count → count - 8 < 8
 few_more count few most = omega (arith, few, most)
 
 module _
-    {context : Context} {pushed top need to : ℕ} {base : List ℕ} {facts last : Facts} {other : ExpressionNumber}
-    {tree : TypedExpression} (count : ℕ) (number : ExpressionNumber) (from : ℕ) (s : SourceState) (r : Registers)
-    (memory : List ℕ) (sound : IsSound context) (operand : IsOperand context other tree) (address : type_of tree ≡ Address)
+    {context : Context} {pushed top need to : ℕ} {base : List ℕ} {facts last : Facts}
+    {other : ExpressionNumber}
+    {tree : TypedExpression} (count : ℕ) (number : ExpressionNumber) (from : ℕ)
+    (s : SourceState) (r : Registers)
+    (memory : List ℕ) (sound : IsSound context) (operand : IsOperand context other tree)
+    (address : type_of tree ≡ Address)
     (none : keeps context.site number ≡ keeps_none) (less : s.budget < context.number)
     (room : HasRoom context.activation top pushed need) (height : 2 * height_of tree ≤ need)
     (going : GoesOn context facts top base s.memory s.frame r memory) where
   -- by a number below 8
   little_does :
       count < 8
-      → StepsStand context (PartDoes context) facts from (shifted_right_little_steps other count pushed) last to
+      → StepsStand context (PartDoes context) facts from
+      (shifted_right_little_steps other count pushed) last to
       → Does (script_of context) s.budget 0 (at_place from r memory s.events)
       (then_do (value_in context tree s) (λ x t. Gave (x / 2 ^ count) t))
       (Arrives context.activation top base to (WordIsGiven context last number Address r memory))
@@ -117,13 +131,15 @@ module _
           → AreOnRegisters instructions
           → ((x : ℕ) (now : Registers) → x < 65536 → HasWord x now → HasWord (f x) (effect instructions now))
           → ((x : ℕ) → x / 2 ^ count ≡ f x)
-          → StepsStand context (PartDoes context) facts from (part_of (tasks.Word other) pushed ∷ plain instructions) last to
+          → StepsStand context (PartDoes context) facts from
+          (part_of (tasks.Word other) pushed ∷ plain instructions) last to
           → Does (script_of context) s.budget 0 (at_place from r memory s.events)
           (then_do (value_in context tree s) (λ x t. Gave (x / 2 ^ count) t))
           (Arrives context.activation top base to (WordIsGiven context last number Address r memory))
       straight instructions f on makes is stand =
           straight_does instructions (λ x. x / 2 ^ count) number from s r memory sound on
-          (λ x now small has. subst (λ (n : ℕ). HasWord n (effect instructions now)) (sym (is x)) (makes x now small has))
+          (λ x now small has. subst (λ (n : ℕ). HasWord n (effect instructions now)) (sym (is x))
+          (makes x now small has))
           (λ x small. less_shifted x count 65536 small) operand none less room height stand going
 
       by : (zero_test one two : Bool) → (count == 0) ≡ zero_test → (count == 1) ≡ one → (count == 2) ≡ two
@@ -137,7 +153,8 @@ module _
           (then_do (value_in context tree s) (λ x t. Gave (x / 2 ^ count) t))
           (Arrives context.activation top base to (WordIsGiven context last number Address r memory))
       by true one two zero_is one_is two_is given =
-          straight [] (λ x. x) tt (λ x now small has. has) (λ x. sym (no_shift x count (eqb-true count 0 zero_is))) given
+          straight [] (λ x. x) tt (λ x now small has. has)
+          (λ x. sym (no_shift x count (eqb-true count 0 zero_is))) given
       by false true two zero_is one_is two_is given =
           straight half_instructions (λ x. x / 2) (tt, (tt, (tt, (tt, (tt, (tt, (tt, tt))))))) half_makes
           (λ x. ap (λ n. x / 2 ^ n) (eqb-true count 1 one_is)) given
@@ -148,16 +165,19 @@ module _
       by false false false zero_is one_is two_is (PartThere part rest) =
           word_then from s r memory part operand.is operand.types less room height going
           (λ x t now ended same fewer going_on given.
-          registers_then (set A (count % 256) ∷ []) (CallRoutine routines.ShiftRightAddress ∷ []) now sound (tt, tt) rest going_on
+          registers_then (set A (count % 256) ∷ []) (CallRoutine routines.ShiftRightAddress ∷ []) now sound
+          (tt, tt) rest going_on
           (λ middle found stand_on going_last.
           let some = some_height tree in
-          shift_then ShiftRight x count number t r _ memory ended sound tt room (omega (arith, some, height)) none
+          shift_then ShiftRight x count number t r _ memory ended sound tt room
+          (omega (arith, some, height)) none
           (record { h = given.h; l = given.l }) (low_count count few) stand_on going_last))
 
   -- of a value below 256
   byte_shift_does :
       fits_byte (knowing context.site facts) other ≡ true
-      → StepsStand context (PartDoes context) facts from (byte_shifted_right_steps other count pushed ++ extension_steps) last to
+      → StepsStand context (PartDoes context) facts from
+      (byte_shifted_right_steps other count pushed ++ extension_steps) last to
       → Does (script_of context) s.budget 0 (at_place from r memory s.events)
       (then_do (value_in context tree s) (λ x t. Gave (x / 2 ^ count) t))
       (Arrives context.activation top base to (WordIsGiven context last number Address r memory))
@@ -168,7 +188,9 @@ module _
       stage = record { below = less; room = room; ready = going.ready; known = going.known }
 
       below : (x : ℕ) (t : SourceState) → value_in context tree s ≡ Gave x t → x < 256
-      below x t same = fits_means context sound facts s operand.is operand.types fits (ready_fits context s going.ready) same
+      below x t same =
+          fits_means context sound facts s operand.is operand.types fits
+          (ready_fits context s going.ready) same
 
       by : (most : Bool) → nat_le 8 count ≡ most
           → StepsStand context (PartDoes context) facts from
@@ -182,12 +204,14 @@ module _
           (λ x t now ended same next.
           at_instructions (clear_a ∷ []) extension_steps sound (tt, tt) stand next
           (λ middle found rest after.
-          extended_then number sound none (x / 2 ^ count) t r _ memory ended (less_shifted x count 256 (below x t same))
+          extended_then number sound none (x / 2 ^ count) t r _ memory ended
+          (less_shifted x count 256 (below x t same))
           (xor_self now.a ∙ sym (none_right count x (leb-true 8 count is) (below x t same))) rest after))
       by false is (PartThere part stand) =
           at_byte _ _ _ part operand.is operand.types height stage
           (λ x t now ended same given next.
-          coded_then (shifted_code count (leb-false 8 count is)) number (x / 2 ^ count) t r now memory ended sound none
+          coded_then (shifted_code count (leb-false 8 count is)) number (x / 2 ^ count) t r now
+          memory ended sound none
           (less_shifted x count 256 (below x t same))
           (ap (λ n. n / 2 ^ count) (equals_byte now.a x given.a (below x t same))) stand next)
 
@@ -197,57 +221,71 @@ module _
       → 8 ≤ count
       → count < 16
       → StepsStand context (PartDoes context) facts from
-      (high_byte_steps (knowing context.site facts) other pushed ++ right_shift_steps (count - 8) ++ extension_steps) last to
+      (high_byte_steps (knowing context.site facts) other pushed ++ right_shift_steps (count - 8)
+      ++ extension_steps) last to
       → Does (script_of context) s.budget 0 (at_place from r memory s.events)
       (then_do (value_in context tree s) (λ x t. Gave (x / 2 ^ count) t))
       (Arrives context.activation top base to (WordIsGiven context last number Address r memory))
   high_shift_does highs most few stand =
-      let parts = steps_split (high_byte_steps (knowing context.site facts) other pushed) (right_shift_steps (count - 8) ++ extension_steps)
+      let parts =
+      steps_split (high_byte_steps (knowing context.site facts) other pushed)
+      (right_shift_steps (count - 8) ++ extension_steps)
       (subst (λ (steps : List Step). StepsStand context (PartDoes context) facts from steps last to)
-      (append_assoc (high_byte_steps (knowing context.site facts) other pushed) (right_shift_steps (count - 8)) extension_steps) stand) in
+      (append_assoc (high_byte_steps (knowing context.site facts) other pushed)
+      (right_shift_steps (count - 8)) extension_steps) stand) in
       at_carried from parts.middle parts.found
-      (highs facts parts.found other pushed from parts.middle operand.bound tree operand.is operand.types parts.first)
+      (highs facts parts.found other pushed from parts.middle operand.bound tree operand.is
+      operand.types parts.first)
       height tt
       (λ x now ended (given : HighIsGiven context parts.found r memory x now ended). given.known)
       (record { below = less; room = room; ready = going.ready; known = going.known })
       (λ x t now ended same given next.
       let is = ap (λ n. n / 2 ^ (count - 8)) given.a ∙ by_eight x count (count - 8) (eight_back count most) in
       let a_small = next.ready.registers.a in
-      coded_then (shifted_code (count - 8) (few_more count few most)) number (x / 2 ^ count) t r now memory ended sound none
+      coded_then (shifted_code (count - 8) (few_more count few most)) number (x / 2 ^ count) t r now
+      memory ended sound none
       (subst (λ (n : ℕ). n < 256) is (less_shifted now.a (count - 8) 256 a_small)) is parts.second next)
 
   -- a shift to the right by a number
   pub right_does :
       HighHalvesGiven context
-      → StepsStand context (PartDoes context) facts from (word_shifted_right_steps (knowing context.site facts) other count pushed) last to
+      → StepsStand context (PartDoes context) facts from
+      (word_shifted_right_steps (knowing context.site facts) other count pushed) last to
       → Does (script_of context) s.budget 0 (at_place from r memory s.events)
       (then_do (value_in context tree s) (λ x t. Gave (x / 2 ^ count) t))
       (Arrives context.activation top base to (WordIsGiven context last number Address r memory))
   unfolding word_shifted_right_steps
   right_does highs stand =
-      by_none (count == 0) (nat_le 16 count) (fits_byte (knowing context.site facts) other) (nat_le 8 count) refl refl refl refl stand
+      by_none (count == 0) (nat_le 16 count) (fits_byte (knowing context.site facts) other) (nat_le 8 count)
+      refl refl refl refl stand
     where
       by_none : (zero_test most fits more : Bool)
-          → (count == 0) ≡ zero_test → nat_le 16 count ≡ most → fits_byte (knowing context.site facts) other ≡ fits → nat_le 8 count ≡ more
+          → (count == 0) ≡ zero_test → nat_le 16 count ≡ most
+          → fits_byte (knowing context.site facts) other ≡ fits → nat_le 8 count ≡ more
           → StepsStand context (PartDoes context) facts from
           (if zero_test then part_of (tasks.Word other) pushed ∷ []
           else if most then zero_steps other pushed
           else if fits then byte_shifted_right_steps other count pushed ++ extension_steps
           else if more
-          then high_byte_steps (knowing context.site facts) other pushed ++ right_shift_steps (count - 8) ++ extension_steps
+          then high_byte_steps (knowing context.site facts) other pushed
+          ++ right_shift_steps (count - 8) ++ extension_steps
           else shifted_right_little_steps other count pushed) last to
           → Does (script_of context) s.budget 0 (at_place from r memory s.events)
           (then_do (value_in context tree s) (λ x t. Gave (x / 2 ^ count) t))
           (Arrives context.activation top base to (WordIsGiven context last number Address r memory))
       by_none true most fits more zero_is most_is fits_is more_is given =
           straight_does [] (λ x. x / 2 ^ count) number from s r memory sound tt
-          (λ x now small has. subst (λ (n : ℕ). HasWord n now) (no_shift x count (eqb-true count 0 zero_is)) has)
+          (λ x now small has. subst (λ (n : ℕ). HasWord n now)
+          (no_shift x count (eqb-true count 0 zero_is)) has)
           (λ x small. less_shifted x count 65536 small) operand none less room height given going
       by_none false true fits more zero_is most_is fits_is more_is given =
           zero_does (λ x. x / 2 ^ count) number from s r memory sound
           (λ x t same. none_left x count (leb-true 16 count most_is)
-          (address_is_word x (type_of tree) address (value_fits s sound operand.is operand.types (ready_fits context s going.ready) same))) operand none less room height given going
+          (address_is_word x (type_of tree) address
+          (value_fits s sound operand.is operand.types (ready_fits context s going.ready) same))) operand
+          none less room height given going
       by_none false false true more zero_is most_is fits_is more_is given = byte_shift_does fits_is given
       by_none false false false true zero_is most_is fits_is more_is given =
           high_shift_does highs (leb-true 8 count more_is) (leb-false 16 count most_is) given
-      by_none false false false false zero_is most_is fits_is more_is given = little_does (leb-false 8 count more_is) given
+      by_none false false false false zero_is most_is fits_is more_is given =
+          little_does (leb-false 8 count more_is) given

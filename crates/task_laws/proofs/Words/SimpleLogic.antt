@@ -30,7 +30,8 @@ nothing_more operation h is small = absurd is
 high_stays : (operation : Operation) (h x y : ℕ) → IsEither operation → h ≡ x / 256 → x < 65536 → y < 256
     → h ≡ bits operation x y / 256
 high_stays operation h x y is same small byte =
-    same ∙ sym (nothing_more operation (x / 256) is (high_is_byte x small)) ∙ ap (bits operation (x / 256)) (no_high_byte y byte)
+    same ∙ sym (nothing_more operation (x / 256) is (high_is_byte x small))
+    ∙ ap (bits operation (x / 256)) (no_high_byte y byte)
     ∙ bits_high operation x y (either_logic operation is)
 
 low_made : (operation : Operation) (a l x y : ℕ) → IsEither operation → a ≡ y → l ≡ x % 256 → y < 256
@@ -40,7 +41,8 @@ low_made operation a l x y is same low byte =
     ∙ bits_turned operation (y % 256) (x % 256) ∙ bits_low operation x y (either_logic operation is)
 
 byte_makes :
-    (operation : Operation) (x y : ℕ) (now : Registers) → IsEither operation → x < 65536 → y < 256 → HasWord x now → now.a ≡ y
+    (operation : Operation) (x y : ℕ) (now : Registers) → IsEither operation → x < 65536 → y < 256
+    → HasWord x now → now.a ≡ y
     → HasWord (bits operation x y) (effect (with_register operation L ∷ copy L A ∷ []) now)
 byte_makes Or x y now is one two has a =
     record { h = high_stays Or now.h x y tt has.h one two; l = low_made Or now.a now.l x y tt a has.l two }
@@ -50,8 +52,10 @@ byte_makes operation x y now is one two has a = absurd is
 
 -- one operand in HL, and then a simple one
 simple_then :
-    {context : Context} {pushed top need to : ℕ} {base : List ℕ} {facts last : Facts} {one other : ExpressionNumber}
-    {first second : TypedExpression} {chosen : Simple} (operation : Operation) (number : ExpressionNumber) (from : ℕ)
+    {context : Context} {pushed top need to : ℕ} {base : List ℕ} {facts last : Facts}
+    {one other : ExpressionNumber}
+    {first second : TypedExpression} {chosen : Simple} (operation : Operation)
+    (number : ExpressionNumber) (from : ℕ)
     (s : SourceState) (r : Registers) (memory : List ℕ) (sound : IsSound context)
     → WordsAtPlaces context
     → IsLogic operation
@@ -66,25 +70,33 @@ simple_then :
     → HasRoom context.activation top pushed need
     → 2 * height_of first ≤ need
     → 2 * height_of second ≤ need
-    → StepsStand context (PartDoes context) facts from (logic_with_simple_steps operation one chosen pushed) last to
+    → StepsStand context (PartDoes context) facts from
+    (logic_with_simple_steps operation one chosen pushed) last to
     → GoesOn context facts top base s.memory s.frame r memory
     → LogicGiven context operation from s r memory first second last number top base to
 unfolding logic_with_simple_steps logic_with_byte_steps
-simple_then {context = context} {need = need} {facts = facts} {other = other} {first = first} {second = second} operation number from s r memory sound places logic either (IsFreeByte fits free) one two one_is two_is none less room high higher (PartThere part (PartThere byte_part rest)) going =
+simple_then {context = context} {need = need} {facts = facts} {other = other} {first = first}
+    {second = second} operation number from s r memory sound places logic either (IsFreeByte fits free) one
+    two one_is two_is none less room high higher (PartThere part (PartThere byte_part rest)) going =
     word_then from s r memory part one.is one.types less room high going
     (λ x t now ended same fewer going_on given.
     byte_then _ t now ended byte_part two.is two.types (omega (arith, less, fewer)) room higher going_on
     (λ y u after after_memory also fewer_still going_still byte.
     let only = byte.free (sym (free_same context sound facts other) ∙ free) in
     let x_small = address_is_word x (type_of first) one_is given.small in
-    let y_small : y < 256 = fits_means context sound facts t two.is two.types fits (ready_fits context t going_on.ready) also in
+    let y_small : y < 256 =
+    fits_means context sound facts t two.is two.types fits (ready_fits context t going_on.ready) also in
     registers_then (with_register operation L ∷ copy L A ∷ []) [] after sound (tt, (tt, tt)) rest going_still
     (λ end end_found ends going_last.
-    word_ends u ends (bits_small operation x y logic x_small (address_is_word y (type_of second) two_is byte.small))
+    word_ends u ends
+    (bits_small operation x y logic x_small (address_is_word y (type_of second) two_is byte.small))
     (byte_makes operation x y after (either fits) x_small y_small
     (record { h = only.h ∙ given.h; l = only.l ∙ given.l }) (byte.a ∙ sym (byte_is_low y y_small)))
     (kept_none context number r _ none) going_last)))
-simple_then {context = context} {top = top} {need = need} {to = to} {base = base} {facts = facts} {last = last} {other = other} {first = first} {second = second} operation number from s r memory sound places logic either (IsDirectWord {place = place} direct) one two one_is two_is none less room high higher (PartThere {middle = middle} part rest) going =
+simple_then {context = context} {top = top} {need = need} {to = to} {base = base} {facts = facts}
+    {last = last} {other = other} {first = first} {second = second} operation number from s r memory sound
+    places logic either (IsDirectWord {place = place} direct) one two one_is two_is none less room high higher
+    (PartThere {middle = middle} part rest) going =
     word_then from s r memory part one.is one.types less room high going
     (λ x t now ended same fewer going_on given.
     read_then (value_in context second t) (λ y u. Gave (bits operation x y) u)
@@ -93,17 +105,20 @@ simple_then {context = context} {top = top} {need = need} {to = to} {base = base
     let x_small = address_is_word x (type_of first) one_is given.small in
     let y_small = address_is_word read.found (type_of second) two_is
     (value_fits t sound two.is two.types (ready_fits context t going_on.ready) read.is) in
-    subst (λ (n : ℕ). Does context.activation.around.program.script t.budget 0 (at_place middle now ended t.events) (Gave n t)
+    subst (λ (n : ℕ). Does context.activation.around.program.script t.budget 0
+    (at_place middle now ended t.events) (Gave n t)
     (Arrives context.activation top base to (WordIsGiven context last number Address r memory)))
     (bits_turned operation read.found x)
     (with_word_then operation operation (bits operation) number sound (logic_makes operation logic) none
-    place read.found x t r now memory ended y_small x_small (bits_small operation read.found x logic y_small x_small)
+    place read.found x t r now memory ended y_small x_small
+    (bits_small operation read.found x logic y_small x_small)
     read.low read.high read.low_steady read.high_steady (record { h = given.h; l = given.l }) rest
     (record { below = omega (arith, less, fewer); room = room; ready = going_on.ready; known = going_on.known }))))
 
 -- the operand that is evaluated first, and the other one, which is simple
 pub data IsChosen (site : Site) (operands : Operands) : ExpressionNumber × Simple → Type 0 where
-  RightIsSimple : {operand : Simple} → IsSimple site operands.right operand → IsChosen site operands (operands.left, operand)
+  RightIsSimple : {operand : Simple} → IsSimple site operands.right operand
+      → IsChosen site operands (operands.left, operand)
   LeftIsSimple : {operand : Simple} → may_exchange site operands.left operands.right ≡ true
       → IsSimple site operands.left operand → IsChosen site operands (operands.right, operand)
 
@@ -138,10 +153,12 @@ operand_fits site of = by (fits_byte site of) (is_free site of) (direct_word sit
     by false free (Some place) one two three = IsDirectWord three
     by false free None one two three = tt
 
-exchanged_fits : (site : Site) (operands : Operands) → ExchangedFits site operands (exchanged_operand site operands)
+exchanged_fits : (site : Site) (operands : Operands)
+    → ExchangedFits site operands (exchanged_operand site operands)
 unfolding exchanged_operand
 exchanged_fits site operands =
-    by (may_exchange site operands.left operands.right) refl (simple_operand site operands.left) (operand_fits site operands.left)
+    by (may_exchange site operands.left operands.right) refl (simple_operand site operands.left)
+    (operand_fits site operands.left)
   where
     by : (may : Bool) → may_exchange site operands.left operands.right ≡ may
         → (found : Option Simple) → OperandFits site operands.left found
@@ -173,8 +190,10 @@ chosen_fits site operands =
 -- AND, OR or XOR with one simple operand
 pub with_simple_does :
     {context : Context} {pushed top need to : ℕ} {base : List ℕ} {facts last : Facts}
-    {first second : TypedExpression} (operation : Operation) (operands : Operands) (chosen : ExpressionNumber × Simple)
-    (number : ExpressionNumber) (from : ℕ) (s : SourceState) (r : Registers) (memory : List ℕ) (sound : IsSound context)
+    {first second : TypedExpression} (operation : Operation) (operands : Operands)
+    (chosen : ExpressionNumber × Simple)
+    (number : ExpressionNumber) (from : ℕ) (s : SourceState) (r : Registers) (memory : List ℕ)
+    (sound : IsSound context)
     → WordsAtPlaces context
     → IsLogic operation
     → (fits_byte (knowing context.site facts) operands.left ≡ true → IsEither operation)
@@ -185,28 +204,38 @@ pub with_simple_does :
     → s.budget < context.number
     → HasRoom context.activation top pushed need
     → 2 * (1 + max (height_of first) (height_of second)) ≤ need
-    → StepsStand context (PartDoes context) facts from (logic_with_simple_steps operation chosen.0 chosen.1 pushed) last to
+    → StepsStand context (PartDoes context) facts from
+    (logic_with_simple_steps operation chosen.0 chosen.1 pushed) last to
     → GoesOn context facts top base s.memory s.frame r memory
     → LogicGiven context operation from s r memory first second last number top base to
-with_simple_does {context = context} {pushed = pushed} {top = top} {need = need} {to = to} {base = base} {facts = facts} {last = last} {first = first} {second = second} operation operands chosen number from s r memory sound places logic left_either right_either words is none less room height stand going =
-    by (subst (λ found. ChosenFits (knowing context.site facts) operands found) is (chosen_fits (knowing context.site facts) operands)) stand
+with_simple_does {context = context} {pushed = pushed} {top = top} {need = need} {to = to} {base = base}
+    {facts = facts} {last = last} {first = first} {second = second} operation operands chosen number from s r
+    memory sound places logic left_either right_either words is none less room height stand going =
+    by (subst (λ found. ChosenFits (knowing context.site facts) operands found) is
+    (chosen_fits (knowing context.site facts) operands)) stand
   where
     by : {of : ExpressionNumber × Simple} → IsChosen (knowing context.site facts) operands of
-        → StepsStand context (PartDoes context) facts from (logic_with_simple_steps operation of.0 of.1 pushed) last to
+        → StepsStand context (PartDoes context) facts from
+        (logic_with_simple_steps operation of.0 of.1 pushed) last to
         → LogicGiven context operation from s r memory first second last number top base to
     by (RightIsSimple simple_is) stand =
-        simple_then operation number from s r memory sound places logic right_either simple_is words.one words.two words.one_is words.two_is
+        simple_then operation number from s r memory sound places logic right_either simple_is words.one
+        words.two words.one_is words.two_is
         none less room (one_high (height_of first) (height_of second) need height)
         (less_high (height_of first) (height_of second) need height) stand going
     by (LeftIsSimple may simple_is) stand =
-        does_exchanged facts (λ x y u. Gave (bits operation x y) u) s sound words.one.is words.two.is words.one.types may
-        (subst (λ outcome. Does context.activation.around.program.script s.budget 0 (at_place from r memory s.events) outcome
+        does_exchanged facts (λ x y u. Gave (bits operation x y) u) s sound words.one.is
+        words.two.is words.one.types may
+        (subst (λ outcome. Does context.activation.around.program.script s.budget 0
+        (at_place from r memory s.events) outcome
         (Arrives context.activation top base to (WordIsGiven context last number Address r memory)))
         (same_rest (value_in context second s)
         (λ y t. then_do (value_in context first t) (λ x u. Gave (bits operation y x) u))
         (λ y t. then_do (value_in context first t) (λ x u. Gave (bits operation x y) u))
-        (λ y t. same_rest (value_in context first t) (λ x u. Gave (bits operation y x) u) (λ x u. Gave (bits operation x y) u)
+        (λ y t. same_rest (value_in context first t) (λ x u. Gave (bits operation y x) u)
+        (λ x u. Gave (bits operation x y) u)
         (λ x u. ap (λ m. Gave m u) (bits_turned operation y x))))
-        (simple_then operation number from s r memory sound places logic left_either simple_is words.two words.one words.two_is words.one_is
+        (simple_then operation number from s r memory sound places logic left_either simple_is words.two
+        words.one words.two_is words.one_is
         none less room (less_high (height_of first) (height_of second) need height)
         (one_high (height_of first) (height_of second) need height) stand going))

@@ -57,12 +57,15 @@ pub numbered_product_does :
     → Does context.activation.around.program.script s.budget 0 (at_place from r memory s.events)
     (then_do (value context.later context.activation.around tree s) (λ x t. Gave ((x * n) % 65536) t))
     (Arrives context.activation top base to (WordIsGiven context last number Address r memory))
-numbered_product_does {context = context} {pushed = pushed} {to = to} {facts = facts} {last = last} {other = other} n number from s r memory sound small operand address kept less room height stand going =
-    product_then from s r memory (products_do context sound facts last other n pushed from to small stand) operand.is operand.types address less room
+numbered_product_does {context = context} {pushed = pushed} {to = to} {facts = facts} {last = last}
+    {other = other} n number from s r memory sound small operand address kept less room height stand going =
+    product_then from s r memory (products_do context sound facts last other n pushed from to small stand)
+    operand.is operand.types address less room
     height going
     (λ x t now ended fewer going_on given.
     let bytes = going_on.ready.registers in
-    word_given t (product_is_word x n) (word_given_by ((x * n) % 65536) now.h now.l bytes.h bytes.l given.hl now refl refl)
+    word_given t (product_is_word x n)
+    (word_given_by ((x * n) % 65536) now.h now.l bytes.h bytes.l given.hl now refl refl)
     (kept_as context number other r now kept (record { a = given.a; d = given.d; e = given.e })) going_on)
 
 turned_product : (a b : ℕ) → (a * b) % 65536 ≡ (b * a) % 65536
@@ -73,34 +76,42 @@ module _ (nodes : Nodes) (left right : ExpressionNumber) where
   by_numbers one other =
       if is_some one then keeps_at nodes left else if is_some other then keeps_at nodes right else keeps_none
 
-  product_right : (n : ℕ) → number_at nodes right ≡ Some n → keeps_of_binary nodes operators.Multiply left right ≡ keeps_at nodes left
+  product_right : (n : ℕ) → number_at nodes right ≡ Some n
+      → keeps_of_binary nodes operators.Multiply left right ≡ keeps_at nodes left
   product_right n is = ap (λ found. by_numbers found (number_at nodes left)) is
 
   product_left : (n : ℕ) → number_at nodes right ≡ None → number_at nodes left ≡ Some n
       → keeps_of_binary nodes operators.Multiply left right ≡ keeps_at nodes right
-  product_left n none is = ap (λ found. by_numbers found (number_at nodes left)) none ∙ ap (λ found. by_numbers None found) is
+  product_left n none is =
+      ap (λ found. by_numbers found (number_at nodes left)) none ∙ ap (λ found. by_numbers None found) is
 
   product_none : number_at nodes right ≡ None → number_at nodes left ≡ None
       → keeps_of_binary nodes operators.Multiply left right ≡ keeps_none
-  product_none none also = ap (λ found. by_numbers found (number_at nodes left)) none ∙ ap (λ found. by_numbers None found) also
+  product_none none also =
+      ap (λ found. by_numbers found (number_at nodes left)) none ∙ ap (λ found. by_numbers None found) also
 
-  difference_right : (n : ℕ) → number_at nodes right ≡ Some n → keeps_of_binary nodes operators.Subtract left right ≡ keeps_at nodes left
+  difference_right : (n : ℕ) → number_at nodes right ≡ Some n
+      → keeps_of_binary nodes operators.Subtract left right ≡ keeps_at nodes left
   difference_right n is = ap (λ found. if is_some found then keeps_at nodes left else keeps_none) is
 
-  difference_none : number_at nodes right ≡ None → keeps_of_binary nodes operators.Subtract left right ≡ keeps_none
+  difference_none : number_at nodes right ≡ None
+      → keeps_of_binary nodes operators.Subtract left right ≡ keeps_none
   difference_none none = ap (λ found. if is_some found then keeps_at nodes left else keeps_none) none
 
 -- a product
 pub product_does :
     {context : Context} {pushed top need to : ℕ} {base : List ℕ} {facts last : Facts}
-    {first second : TypedExpression} (operands : Operands) (number : ExpressionNumber) (from : ℕ) (s : SourceState)
+    {first second : TypedExpression} (operands : Operands) (number : ExpressionNumber)
+    (from : ℕ) (s : SourceState)
     (r : Registers) (memory : List ℕ) (sound : IsSound context)
     → TwoWords context operands first second
-    → keeps context.site number ≡ keeps_of_binary (nodes_in context) operators.Multiply operands.left operands.right
+    → keeps context.site number ≡ keeps_of_binary (nodes_in context) operators.Multiply
+    operands.left operands.right
     → s.budget < context.number
     → HasRoom context.activation top pushed need
     → 2 * (1 + max (height_of first) (height_of second)) ≤ need
-    → StepsStand context (PartDoes context) facts from (product_word_steps (knowing context.site facts) operands pushed) last to
+    → StepsStand context (PartDoes context) facts from
+    (product_word_steps (knowing context.site facts) operands pushed) last to
     → GoesOn context facts top base s.memory s.frame r memory
     → Does context.activation.around.program.script s.budget 0 (at_place from r memory s.events)
     (then_do (value context.later context.activation.around first s)
@@ -108,7 +119,9 @@ pub product_does :
     (λ y u. Gave ((x * y) % 65536) u)))
     (Arrives context.activation top base to (WordIsGiven context last number Address r memory))
 unfolding product_word_steps computed_product_steps
-product_does {context = context} {pushed = pushed} {top = top} {need = need} {to = to} {base = base} {facts = facts} {last = last} {first = first} {second = second} operands number from s r memory sound words kept less room height stand going =
+product_does {context = context} {pushed = pushed} {top = top} {need = need} {to = to} {base = base}
+    {facts = facts} {last = last} {first = first} {second = second} operands number from s r memory sound
+    words kept less room height stand going =
     by_right (number_of (knowing context.site facts) operands.right) refl stand
   where
     by_left : (found : Option ℕ) → number_of (knowing context.site facts) operands.left ≡ found
@@ -127,7 +140,8 @@ product_does {context = context} {pushed = pushed} {top = top} {need = need} {to
         (λ y u. Gave ((x * y) % 65536) u)))
         (Arrives context.activation top base to (WordIsGiven context last number Address r memory))
     by_left (Some n) is none stand =
-        subst (λ outcome. Does context.activation.around.program.script s.budget 0 (at_place from r memory s.events) outcome
+        subst (λ outcome. Does context.activation.around.program.script s.budget 0
+        (at_place from r memory s.events) outcome
         (Arrives context.activation top base to (WordIsGiven context last number Address r memory)))
         (sym (first_known second facts (Number n) (λ x y u. Gave ((x * y) % 65536) u) s sound words.one
         (number_known context facts operands.left n is)
@@ -135,15 +149,18 @@ product_does {context = context} {pushed = pushed} {top = top} {need = need} {to
         (λ y u. Gave ((n * y) % 65536) u) (λ y u. Gave ((y * n) % 65536) u)
         (λ y u. ap (λ m. Gave m u) (turned_product n y))))
         (numbered_product_does n number from s r memory sound
-        (address_is_word n (type_of first) words.one_is (number_small facts n sound words.one.is words.one.types is))
+        (address_is_word n (type_of first) words.one_is
+        (number_small facts n sound words.one.is words.one.types is))
         words.two words.two_is
         (kept ∙ product_left (nodes_in context) operands.left operands.right n
-        (is_number_at context facts operands.right None none) (is_number_at context facts operands.left (Some n) is))
+        (is_number_at context facts operands.right None none)
+        (is_number_at context facts operands.left (Some n) is))
         less room (less_high (height_of first) (height_of second) need height) stand going)
     by_left None is none stand =
         multiply_does number _ from s r memory sound words.one words.two
         (kept ∙ product_none (nodes_in context) operands.left operands.right
-        (is_number_at context facts operands.right None none) (is_number_at context facts operands.left None is))
+        (is_number_at context facts operands.right None none)
+        (is_number_at context facts operands.left None is))
         less room (one_high (height_of first) (height_of second) need height)
         (two_high (height_of first) (height_of second) need height) stand going
 
@@ -165,12 +182,14 @@ product_does {context = context} {pushed = pushed} {top = top} {need = need} {to
         (λ y u. Gave ((x * y) % 65536) u)))
         (Arrives context.activation top base to (WordIsGiven context last number Address r memory))
     by_right (Some n) is stand =
-        subst (λ outcome. Does context.activation.around.program.script s.budget 0 (at_place from r memory s.events) outcome
+        subst (λ outcome. Does context.activation.around.program.script s.budget 0
+        (at_place from r memory s.events) outcome
         (Arrives context.activation top base to (WordIsGiven context last number Address r memory)))
         (sym (second_known first facts (Number n) (λ x y u. Gave ((x * y) % 65536) u) s sound words.two
         (number_known context facts operands.right n is)))
         (numbered_product_does n number from s r memory sound
-        (address_is_word n (type_of second) words.two_is (number_small facts n sound words.two.is words.two.types is))
+        (address_is_word n (type_of second) words.two_is
+        (number_small facts n sound words.two.is words.two.types is))
         words.one words.one_is
         (kept ∙ product_right (nodes_in context) operands.left operands.right n
         (is_number_at context facts operands.right (Some n) is))
@@ -189,7 +208,8 @@ unfolding with_pair_steps
 pairs_same on_low on_high LeftInHl = refl
 pairs_same on_low on_high RightInHl = refl
 
-pub bytes_on : (on_low on_high : Operation) (order : PairOrder) → AreOnRegisters (byte_instructions on_low on_high order)
+pub bytes_on : (on_low on_high : Operation) (order : PairOrder)
+    → AreOnRegisters (byte_instructions on_low on_high order)
 bytes_on on_low on_high LeftInHl = (tt, (tt, (tt, (tt, (tt, (tt, tt))))))
 bytes_on on_low on_high RightInHl = (tt, (tt, (tt, (tt, (tt, (tt, tt))))))
 
@@ -227,15 +247,18 @@ DifferenceGiven context from s r memory first second last number top base to =
 -- a difference
 pub difference_does :
     {context : Context} {pushed top need to : ℕ} {base : List ℕ} {facts last : Facts}
-    {first second : TypedExpression} (operands : Operands) (number : ExpressionNumber) (from : ℕ) (s : SourceState)
+    {first second : TypedExpression} (operands : Operands) (number : ExpressionNumber)
+    (from : ℕ) (s : SourceState)
     (r : Registers) (memory : List ℕ) (sound : IsSound context)
     → LeftWordDoes context
     → TwoWords context operands first second
-    → keeps context.site number ≡ keeps_of_binary (nodes_in context) operators.Subtract operands.left operands.right
+    → keeps context.site number ≡ keeps_of_binary (nodes_in context) operators.Subtract
+    operands.left operands.right
     → s.budget < context.number
     → HasRoom context.activation top pushed need
     → 2 * (1 + max (height_of first) (height_of second)) ≤ need
-    → StepsStand context (PartDoes context) facts from (difference_steps (knowing context.site facts) operands pushed) last to
+    → StepsStand context (PartDoes context) facts from
+    (difference_steps (knowing context.site facts) operands pushed) last to
     → GoesOn context facts top base s.memory s.frame r memory
     → Does context.activation.around.program.script s.budget 0 (at_place from r memory s.events)
     (then_do (value context.later context.activation.around first s)
@@ -243,29 +266,40 @@ pub difference_does :
     (λ y u. Gave ((x + (65536 - y)) % 65536) u)))
     (Arrives context.activation top base to (WordIsGiven context last number Address r memory))
 unfolding difference_steps paired_steps
-difference_does {context = context} {pushed = pushed} {top = top} {need = need} {to = to} {base = base} {facts = facts} {last = last} {first = first} {second = second} operands number from s r memory sound left_words words kept less room height stand going =
+difference_does {context = context} {pushed = pushed} {top = top} {need = need} {to = to} {base = base}
+    {facts = facts} {last = last} {first = first} {second = second} operands number from s r memory sound
+    left_words words kept less room height stand going =
     by_right (number_of (knowing context.site facts) operands.right) refl stand
   where
     by_word : (found : Option Place) → left_word (knowing context.site facts) operands ≡ found
         → number_of (knowing context.site facts) operands.right ≡ None
         → StepsStand context (PartDoes context) facts from (elim found [
-          | Some place ↦ part_of (tasks.Word operands.right) pushed ∷ with_word_steps place Subtract SubtractWithBorrow
+          | Some place ↦ part_of (tasks.Word operands.right) pushed
+              ∷ with_word_steps place Subtract SubtractWithBorrow
           | None ↦ paired_steps (knowing context.site facts) operands Subtract SubtractWithBorrow pushed
         ]) last to
         → DifferenceGiven context from s r memory first second last number top base to
     by_word (Some place) is none stand =
-        left_words facts last operands number place pushed top need from to base s r memory first second words is
-        (kept ∙ difference_none (nodes_in context) operands.left operands.right (is_number_at context facts operands.right None none))
+        left_words facts last operands number place pushed top need from to base s r memory
+        first second words is
+        (kept ∙ difference_none (nodes_in context) operands.left operands.right
+        (is_number_at context facts operands.right None none))
         less room height stand going
     by_word None is none stand =
-        paired_does (byte_instructions Subtract SubtractWithBorrow) (λ x y. (x + (65536 - y)) % 65536) number None from s r memory sound
-        (bytes_on Subtract SubtractWithBorrow) difference_makes (λ x y one two. difference_small x y) words.one words.two
-        (kept ∙ difference_none (nodes_in context) operands.left operands.right (is_number_at context facts operands.right None none))
+        paired_does (byte_instructions Subtract SubtractWithBorrow) (λ x y. (x + (65536 - y)) % 65536) number
+        None from s r memory sound
+        (bytes_on Subtract SubtractWithBorrow) difference_makes
+        (λ x y one two. difference_small x y) words.one words.two
+        (kept ∙ difference_none (nodes_in context) operands.left operands.right
+        (is_number_at context facts operands.right None none))
         less room (one_high (height_of first) (height_of second) need height)
         (two_high (height_of first) (height_of second) need height)
         (subst (λ steps. StepsStand context (PartDoes context) facts from
-        (Rattle.operands8080.specs.internal.Pairs.pair_steps (knowing context.site facts) operands.left operands.right false pushed ++ steps) last to)
-        (pairs_same Subtract SubtractWithBorrow (Rattle.operands8080.specs.internal.Pairs.pair_order (knowing context.site facts) operands.left operands.right false)) stand)
+        (Rattle.operands8080.specs.internal.Pairs.pair_steps (knowing context.site facts) operands.left
+        operands.right false pushed ++ steps) last to)
+        (pairs_same Subtract SubtractWithBorrow
+        (Rattle.operands8080.specs.internal.Pairs.pair_order (knowing context.site facts) operands.left
+        operands.right false)) stand)
         going
 
     by_left : (found : Option ℕ) → number_of (knowing context.site facts) operands.left ≡ found
@@ -273,20 +307,25 @@ difference_does {context = context} {pushed = pushed} {top = top} {need = need} 
         → StepsStand context (PartDoes context) facts from (elim found [
           | Some n ↦ part_of (tasks.Word operands.right) pushed ∷ taken_from_number_steps n
           | None ↦ elim (left_word (knowing context.site facts) operands) [
-            | Some place ↦ part_of (tasks.Word operands.right) pushed ∷ with_word_steps place Subtract SubtractWithBorrow
+            | Some place ↦ part_of (tasks.Word operands.right) pushed
+                ∷ with_word_steps place Subtract SubtractWithBorrow
             | None ↦ paired_steps (knowing context.site facts) operands Subtract SubtractWithBorrow pushed
           ]
         ]) last to
         → DifferenceGiven context from s r memory first second last number top base to
     by_left (Some n) is none stand =
-        subst (λ outcome. Does context.activation.around.program.script s.budget 0 (at_place from r memory s.events) outcome
+        subst (λ outcome. Does context.activation.around.program.script s.budget 0
+        (at_place from r memory s.events) outcome
         (Arrives context.activation top base to (WordIsGiven context last number Address r memory)))
-        (sym (first_known second facts (Number n) (λ x y u. Gave ((x + (65536 - y)) % 65536) u) s sound words.one
+        (sym (first_known second facts (Number n)
+        (λ x y u. Gave ((x + (65536 - y)) % 65536) u) s sound words.one
         (number_known context facts operands.left n is)))
         (taken_does n number from s r memory sound
-        (address_is_word n (type_of first) words.one_is (number_small facts n sound words.one.is words.one.types is))
+        (address_is_word n (type_of first) words.one_is
+        (number_small facts n sound words.one.is words.one.types is))
         words.two
-        (kept ∙ difference_none (nodes_in context) operands.left operands.right (is_number_at context facts operands.right None none))
+        (kept ∙ difference_none (nodes_in context) operands.left operands.right
+        (is_number_at context facts operands.right None none))
         less room (less_high (height_of first) (height_of second) need height) stand going)
     by_left None is none stand = by_word (left_word (knowing context.site facts) operands) refl none stand
 
@@ -296,17 +335,22 @@ difference_does {context = context} {pushed = pushed} {top = top} {need = need} 
           | None ↦ elim (number_of (knowing context.site facts) operands.left) [
             | Some n ↦ part_of (tasks.Word operands.right) pushed ∷ taken_from_number_steps n
             | None ↦ elim (left_word (knowing context.site facts) operands) [
-              | Some place ↦ part_of (tasks.Word operands.right) pushed ∷ with_word_steps place Subtract SubtractWithBorrow
+              | Some place ↦ part_of (tasks.Word operands.right) pushed
+                  ∷ with_word_steps place Subtract SubtractWithBorrow
               | None ↦ paired_steps (knowing context.site facts) operands Subtract SubtractWithBorrow pushed
             ]
           ]
         ]) last to
         → DifferenceGiven context from s r memory first second last number top base to
     by_right (Some n) is stand =
-        let small = address_is_word n (type_of second) words.two_is (number_small facts n sound words.two.is words.two.types is) in
-        subst (λ outcome. Does context.activation.around.program.script s.budget 0 (at_place from r memory s.events) outcome
+        let small =
+        address_is_word n (type_of second) words.two_is
+        (number_small facts n sound words.two.is words.two.types is) in
+        subst (λ outcome. Does context.activation.around.program.script s.budget 0
+        (at_place from r memory s.events) outcome
         (Arrives context.activation top base to (WordIsGiven context last number Address r memory)))
-        (sym (second_known first facts (Number n) (λ x y u. Gave ((x + (65536 - y)) % 65536) u) s sound words.two
+        (sym (second_known first facts (Number n)
+        (λ x y u. Gave ((x + (65536 - y)) % 65536) u) s sound words.two
         (number_known context facts operands.right n is)
         ∙ same_rest (value context.later context.activation.around first s)
         (λ x t. Gave ((x + (65536 - n)) % 65536) t) (λ x t. Gave ((x + (65536 - n) % 65536) % 65536) t)

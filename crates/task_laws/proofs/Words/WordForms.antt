@@ -13,7 +13,8 @@ use Rattle.task_laws.proofs.Numbers.{no_high_byte}
 pub straight_does :
     {context : Context} {pushed top need to : ℕ} {base : List ℕ} {facts last : Facts}
     {other : ExpressionNumber} {tree : TypedExpression} (instructions : List Instr) (f : ℕ → ℕ)
-    (number : ExpressionNumber) (from : ℕ) (s : SourceState) (r : Registers) (memory : List ℕ) (sound : IsSound context)
+    (number : ExpressionNumber) (from : ℕ) (s : SourceState) (r : Registers) (memory : List ℕ)
+    (sound : IsSound context)
     → AreOnRegisters instructions
     → ((x : ℕ) (now : Registers) → x < 65536 → HasWord x now → HasWord (f x) (effect instructions now))
     → ((x : ℕ) → x < 65536 → f x < 65536)
@@ -22,12 +23,14 @@ pub straight_does :
     → s.budget < context.number
     → HasRoom context.activation top pushed need
     → 2 * height_of tree ≤ need
-    → StepsStand context (PartDoes context) facts from (part_of (tasks.Word other) pushed ∷ plain instructions) last to
+    → StepsStand context (PartDoes context) facts from
+    (part_of (tasks.Word other) pushed ∷ plain instructions) last to
     → GoesOn context facts top base s.memory s.frame r memory
     → Does context.activation.around.program.script s.budget 0 (at_place from r memory s.events)
     (then_do (value context.later context.activation.around tree s) (λ x t. Gave (f x) t))
     (Arrives context.activation top base to (WordIsGiven context last number Address r memory))
-straight_does {context = context} {to = to} {last = last} instructions f number from s r memory sound on makes small operand none less room height (PartThere {found = found} {middle = middle} part rest) going =
+straight_does {context = context} {to = to} {last = last} instructions f number from s r memory sound on makes
+    small operand none less room height (PartThere {found = found} {middle = middle} part rest) going =
     word_then from s r memory part operand.is operand.types less room height going
     (λ x t now ended same fewer going_on given.
     let below = word_below x now.h now.l given.h going_on.ready.registers.h in
@@ -49,13 +52,16 @@ not_low l x same small = omega (arith, same, small)
 abbrev pub not_instructions : List Instr
 not_instructions = copy A L ∷ Cma ∷ copy L A ∷ copy A H ∷ Cma ∷ copy H A ∷ []
 
-not_makes : (x : ℕ) (now : Registers) → x < 65536 → HasWord x now → HasWord (result_of_one Address Not x) (effect not_instructions now)
+not_makes : (x : ℕ) (now : Registers) → x < 65536 → HasWord x now
+    → HasWord (result_of_one Address Not x) (effect not_instructions now)
 not_makes x now small has = record { h = not_high now.h x has.h small; l = not_low now.l x has.l small }
 
 taken_high : (n a h l x : ℕ) → a ≡ n % 256 → h ≡ x / 256 → l ≡ x % 256 → n < 65536 → x < 65536
-    → (n / 256 + (255 - h) + bit (not (nat_lt (a + (255 - l) + 1) 256))) % 256 ≡ ((n + (65536 - x)) % 65536) / 256
+    → (n / 256 + (255 - h) + bit (not (nat_lt (a + (255 - l) + 1) 256))) % 256
+    ≡ ((n + (65536 - x)) % 65536) / 256
 taken_high n a h l x zero one two fits small =
-    rw zero (rw one (rw two (high_of_difference n x (nat_lt (n % 256 + (255 - x % 256) + 1) 256) refl fits small)))
+    rw zero (rw one (rw two (high_of_difference n x
+    (nat_lt (n % 256 + (255 - x % 256) + 1) 256) refl fits small)))
 
 taken_low : (n a l x : ℕ) → a ≡ n % 256 → l ≡ x % 256 → x < 65536
     → (a + (255 - l) + 1) % 256 ≡ ((n + (65536 - x)) % 65536) % 256
@@ -63,7 +69,8 @@ taken_low n a l x zero two small = omega (arith, zero, two, small)
 
 abbrev clear_instructions : (n : ℕ) → List Instr
 clear_instructions n =
-    clear_a ∷ with_register Subtract L ∷ copy L A ∷ set A (high n) ∷ with_register SubtractWithBorrow H ∷ copy H A ∷ []
+    clear_a ∷ with_register Subtract L ∷ copy L A ∷ set A (high n)
+    ∷ with_register SubtractWithBorrow H ∷ copy H A ∷ []
 
 abbrev set_instructions : (n : ℕ) → List Instr
 set_instructions n =
@@ -91,20 +98,25 @@ difference_small x y = omega arith
 pub taken_does :
     {context : Context} {pushed top need to : ℕ} {base : List ℕ} {facts last : Facts}
     {other : ExpressionNumber} {tree : TypedExpression} (n : ℕ)
-    (number : ExpressionNumber) (from : ℕ) (s : SourceState) (r : Registers) (memory : List ℕ) (sound : IsSound context)
+    (number : ExpressionNumber) (from : ℕ) (s : SourceState) (r : Registers) (memory : List ℕ)
+    (sound : IsSound context)
     → n < 65536
     → IsOperand context other tree
     → keeps context.site number ≡ keeps_none
     → s.budget < context.number
     → HasRoom context.activation top pushed need
     → 2 * height_of tree ≤ need
-    → StepsStand context (PartDoes context) facts from (part_of (tasks.Word other) pushed ∷ taken_from_number_steps n) last to
+    → StepsStand context (PartDoes context) facts from
+    (part_of (tasks.Word other) pushed ∷ taken_from_number_steps n) last to
     → GoesOn context facts top base s.memory s.frame r memory
     → Does context.activation.around.program.script s.budget 0 (at_place from r memory s.events)
-    (then_do (value context.later context.activation.around tree s) (λ x t. Gave ((n + (65536 - x)) % 65536) t))
+    (then_do (value context.later context.activation.around tree s)
+    (λ x t. Gave ((n + (65536 - x)) % 65536) t))
     (Arrives context.activation top base to (WordIsGiven context last number Address r memory))
 unfolding taken_from_number_steps
-taken_does {context = context} {pushed = pushed} {top = top} {to = to} {base = base} {facts = facts} {last = last} {other = other} {tree = tree} n number from s r memory sound fits operand none less room height stand going =
+taken_does {context = context} {pushed = pushed} {top = top} {to = to} {base = base} {facts = facts}
+    {last = last} {other = other} {tree = tree} n number from s r memory sound fits operand none less room
+    height stand going =
     by_low (low n == 0) refl stand
   where
     by_low : (test : Bool) → (low n == 0) ≡ test
@@ -114,11 +126,13 @@ taken_does {context = context} {pushed = pushed} {top = top} {to = to} {base = b
         with_register Subtract L ∷ copy L A
         ∷ set A (high n) ∷ with_register SubtractWithBorrow H ∷ copy H A ∷ [])) last to
         → Does context.activation.around.program.script s.budget 0 (at_place from r memory s.events)
-        (then_do (value context.later context.activation.around tree s) (λ x t. Gave ((n + (65536 - x)) % 65536) t))
+        (then_do (value context.later context.activation.around tree s)
+        (λ x t. Gave ((n + (65536 - x)) % 65536) t))
         (Arrives context.activation top base to (WordIsGiven context last number Address r memory))
     by_low true is stand =
         straight_does (clear_instructions n) (λ x. (n + (65536 - x)) % 65536) number from s r memory sound
-        (tt, (tt, (tt, (tt, (tt, (tt, tt)))))) (λ x now small has. clear_makes n x now (eqb-true (low n) 0 is) fits small has)
+        (tt, (tt, (tt, (tt, (tt, (tt, tt))))))
+        (λ x now small has. clear_makes n x now (eqb-true (low n) 0 is) fits small has)
         (λ x small. difference_small n x) operand none less room height stand going
     by_low false is stand =
         straight_does (set_instructions n) (λ x. (n + (65536 - x)) % 65536) number from s r memory sound
@@ -127,12 +141,14 @@ taken_does {context = context} {pushed = pushed} {top = top} {to = to} {base = b
 
 abbrev negate_instructions : List Instr
 negate_instructions =
-    clear_a ∷ with_register Subtract L ∷ copy L A ∷ set A 0 ∷ with_register SubtractWithBorrow H ∷ copy H A ∷ []
+    clear_a ∷ with_register Subtract L ∷ copy L A ∷ set A 0
+    ∷ with_register SubtractWithBorrow H ∷ copy H A ∷ []
 
 negated_is : (x : ℕ) → (0 + (65536 - x)) % 65536 ≡ (65536 - x) % 65536
 negated_is x = omega arith
 
-negate_makes : (x : ℕ) (now : Registers) → x < 65536 → HasWord x now → HasWord (result_of_one Address Negate x) (effect negate_instructions now)
+negate_makes : (x : ℕ) (now : Registers) → x < 65536 → HasWord x now
+    → HasWord (result_of_one Address Negate x) (effect negate_instructions now)
 negate_makes x now small has =
     let made : HasWord ((0 + (65536 - x)) % 65536) (effect (clear_instructions 0) now)
     = clear_makes 0 x now refl (omega arith) small has in
@@ -146,29 +162,35 @@ one_small Negate x = omega arith
 pub unary_does :
     {context : Context} {pushed top need to : ℕ} {base : List ℕ} {facts last : Facts}
     {other : ExpressionNumber} {tree : TypedExpression} (operator : UnaryOperator)
-    (number : ExpressionNumber) (from : ℕ) (s : SourceState) (r : Registers) (memory : List ℕ) (sound : IsSound context)
+    (number : ExpressionNumber) (from : ℕ) (s : SourceState) (r : Registers) (memory : List ℕ)
+    (sound : IsSound context)
     → IsOperand context other tree
     → keeps context.site number ≡ keeps_none
     → s.budget < context.number
     → HasRoom context.activation top pushed need
     → 2 * height_of tree ≤ need
-    → StepsStand context (PartDoes context) facts from (part_of (tasks.Word other) pushed ∷ word_unary_steps operator) last to
+    → StepsStand context (PartDoes context) facts from
+    (part_of (tasks.Word other) pushed ∷ word_unary_steps operator) last to
     → GoesOn context facts top base s.memory s.frame r memory
     → Does context.activation.around.program.script s.budget 0 (at_place from r memory s.events)
-    (then_do (value context.later context.activation.around tree s) (λ x t. Gave (result_of_one Address operator x) t))
+    (then_do (value context.later context.activation.around tree s)
+    (λ x t. Gave (result_of_one Address operator x) t))
     (Arrives context.activation top base to (WordIsGiven context last number Address r memory))
 unfolding word_unary_steps
 unary_does Not number from s r memory sound operand none less room height stand going =
     straight_does not_instructions (result_of_one Address Not) number from s r memory sound
-    (tt, (tt, (tt, (tt, (tt, (tt, tt)))))) not_makes (λ x small. one_small Not x) operand none less room height stand going
+    (tt, (tt, (tt, (tt, (tt, (tt, tt)))))) not_makes (λ x small. one_small Not x) operand none less
+    room height stand going
 unary_does Negate number from s r memory sound operand none less room height stand going =
     straight_does negate_instructions (result_of_one Address Negate) number from s r memory sound
-    (tt, (tt, (tt, (tt, (tt, (tt, tt)))))) negate_makes (λ x small. one_small Negate x) operand none less room height stand going
+    (tt, (tt, (tt, (tt, (tt, (tt, tt)))))) negate_makes (λ x small. one_small Negate x) operand none less
+    room height stand going
 
 -- a BYTE with zeros added
 pub extended_does :
     {context : Context} {pushed top need to : ℕ} {base : List ℕ} {facts last : Facts}
-    {tree : TypedExpression} (number : ExpressionNumber) (from : ℕ) (s : SourceState) (r : Registers) (memory : List ℕ)
+    {tree : TypedExpression} (number : ExpressionNumber) (from : ℕ) (s : SourceState)
+    (r : Registers) (memory : List ℕ)
     (sound : IsSound context)
     → IsOperand context number tree
     → type_of tree ≡ Byte
@@ -176,12 +198,14 @@ pub extended_does :
     → s.budget < context.number
     → HasRoom context.activation top pushed need
     → 2 * height_of tree ≤ need
-    → StepsStand context (PartDoes context) facts from (part_of (tasks.Byte number) pushed ∷ extension_steps) last to
+    → StepsStand context (PartDoes context) facts from
+    (part_of (tasks.Byte number) pushed ∷ extension_steps) last to
     → GoesOn context facts top base s.memory s.frame r memory
     → Does context.activation.around.program.script s.budget 0 (at_place from r memory s.events)
     (then_do (value context.later context.activation.around tree s) (λ x t. Gave x t))
     (Arrives context.activation top base to (WordIsGiven context last number Byte r memory))
-extended_does {context = context} {tree = tree} number from s r memory sound operand byte none less room height (PartThere part rest) going =
+extended_does {context = context} {tree = tree} number from s r memory sound operand byte none less room
+    height (PartThere part rest) going =
     byte_then from s r memory part operand.is operand.types less room height going
     (λ x t now ended same fewer going_on given.
     let small : x < 256 = subst (λ (scalar : ScalarType). x < values_of scalar) byte given.small in

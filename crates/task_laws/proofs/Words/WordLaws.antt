@@ -12,6 +12,7 @@ high_halves_given context sound facts last number pushed from to bound tree is t
 pub words_do :
     (context : Context) → IsSound context
     → (facts last : Facts) (number : ExpressionNumber) (pushed from to : ℕ)
-    → StepsStand context (PartDoes context) facts from (word_steps (knowing context.site facts) number pushed) last to
+    → StepsStand context (PartDoes context) facts from
+    (word_steps (knowing context.site facts) number pushed) last to
     → WordDoes context facts number pushed from last to
 words_do context sound = word_does context sound (bytes_asked context sound) (high_halves_given context sound)

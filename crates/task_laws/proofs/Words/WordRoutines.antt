@@ -25,14 +25,16 @@ product_of : (x y h l d e hh ll : ℕ)
 product_of x y h l d e hh ll computes one two =
     sym (ap given_number computes) ∙ ap (λ n. (n * word d e) % 65536) one ∙ ap (λ n. (x * n) % 65536) two
 
-pub word_given_by : (n h l : ℕ) → h < 256 → l < 256 → word h l ≡ n → (r : Registers) → r.h ≡ h → r.l ≡ l → HasWord n r
+pub word_given_by : (n h l : ℕ) → h < 256 → l < 256 → word h l ≡ n → (r : Registers) → r.h ≡ h
+    → r.l ≡ l → HasWord n r
 word_given_by n h l one two same r hh ll =
     let is = has_word n h l one two same in record { h = hh ∙ is.0; l = ll ∙ is.1 }
 
 -- a product, with its operands in either order
 pub multiplied : (order : PairOrder) (x y : ℕ) (before after : Registers)
     → HasPair order x y before
-    → result_of Address Multiply (word before.h before.l) (word before.d before.e) ≡ Some (word after.h after.l)
+    → result_of Address Multiply (word before.h before.l) (word before.d before.e)
+    ≡ Some (word after.h after.l)
     → word after.h after.l ≡ (x * y) % 65536
 multiplied LeftInHl x y before after has computes =
     product_of x y before.h before.l before.d before.e after.h after.l computes
@@ -45,7 +47,8 @@ multiplied RightInHl x y before after has computes =
 pub multiply_does :
     {context : Context} {pushed top need to : ℕ} {base : List ℕ} {facts last : Facts}
     {left right : ExpressionNumber} {first second : TypedExpression} (number : ExpressionNumber)
-    (wish : Option PairOrder) (from : ℕ) (s : SourceState) (r : Registers) (memory : List ℕ) (sound : IsSound context)
+    (wish : Option PairOrder) (from : ℕ) (s : SourceState) (r : Registers) (memory : List ℕ)
+    (sound : IsSound context)
     → IsOperand context left first
     → IsOperand context right second
     → keeps context.site number ≡ keeps_none
@@ -54,22 +57,27 @@ pub multiply_does :
     → 2 * height_of first ≤ need
     → 2 + 2 * height_of second ≤ need
     → StepsStand context (PartDoes context) facts from
-    (pair_in_order_steps (knowing context.site facts) left right wish pushed ++ (CallRoutine routines.Multiply ∷ [])) last to
+    (pair_in_order_steps (knowing context.site facts) left right wish pushed
+    ++ (CallRoutine routines.Multiply ∷ [])) last to
     → GoesOn context facts top base s.memory s.frame r memory
     → Does context.activation.around.program.script s.budget 0 (at_place from r memory s.events)
     (then_do (value context.later context.activation.around first s)
     (λ x t. then_do (value context.later context.activation.around second t)
     (λ y u. Gave ((x * y) % 65536) u)))
     (Arrives context.activation top base to (WordIsGiven context last number Address r memory))
-multiply_does {context = context} {facts = facts} {left = left} {right = right} number wish from s r memory sound one two none less room high higher stand going =
-    let order : PairOrder = Rattle.operands8080.specs.internal.Pairs.pair_order_by (knowing context.site facts) left right wish in
-    pair_then context sound wish (CallRoutine routines.Multiply ∷ []) from s r memory one two less room high higher stand going
+multiply_does {context = context} {facts = facts} {left = left} {right = right} number wish from s r memory
+    sound one two none less room high higher stand going =
+    let order : PairOrder =
+    Rattle.operands8080.specs.internal.Pairs.pair_order_by (knowing context.site facts) left right wish in
+    pair_then context sound wish (CallRoutine routines.Multiply ∷ []) from s r memory one two less room
+    high higher stand going
     (λ x y t now ended middle found fewer rest going_on has.
     routine_then routines.Multiply [] now sound tt room (omega (arith, higher)) rest going_on
     (λ after last_memory ends going_last computes leaves.
     let bytes = going_last.ready.registers in
     word_ends t ends (product_is_word x y)
-    (word_given_by ((x * y) % 65536) after.h after.l bytes.h bytes.l (multiplied order x y now after has computes) after refl refl)
+    (word_given_by ((x * y) % 65536) after.h after.l bytes.h bytes.l
+    (multiplied order x y now after has computes) after refl refl)
     (kept_none context number r after none) going_last))
 
 -- of a division by 0 nothing is asked
@@ -79,9 +87,11 @@ pub divided_does :
     (y f : ℕ)
     → (((y == 0) ≡ false) → Does script budget 0 from (Gave f u) Good)
     → Does script budget 0 from (computed (if y == 0 then None else Some f) u) Good
-divided_does {script = script} {budget = budget} {from = from} {u = u} {Good = Good} y f does = by (y == 0) refl
+divided_does {script = script} {budget = budget} {from = from} {u = u} {Good = Good} y f does =
+    by (y == 0) refl
   where
-    by : (test : Bool) → (y == 0) ≡ test → Does script budget 0 from (computed (if test then None else Some f) u) Good
+    by : (test : Bool) → (y == 0) ≡ test
+        → Does script budget 0 from (computed (if test then None else Some f) u) Good
     by true is = record { told = tt }
     by false is = does is
 
@@ -112,15 +122,18 @@ pub quotient_does :
     → 2 * height_of first ≤ need
     → 2 + 2 * height_of second ≤ need
     → StepsStand context (PartDoes context) facts from
-    (pair_steps (knowing context.site facts) left right true pushed ++ (CallRoutine routines.Divide ∷ [])) last to
+    (pair_steps (knowing context.site facts) left right true pushed ++ (CallRoutine routines.Divide ∷ []))
+    last to
     → GoesOn context facts top base s.memory s.frame r memory
     → Does context.activation.around.program.script s.budget 0 (at_place from r memory s.events)
     (then_do (value context.later context.activation.around first s)
     (λ x t. then_do (value context.later context.activation.around second t)
     (λ y u. computed (result_of Address Divide x y) u)))
     (Arrives context.activation top base to (WordIsGiven context last number Address r memory))
-quotient_does {context = context} number from s r memory sound one two none less room high higher stand going =
-    pair_then context sound (Some LeftInHl) (CallRoutine routines.Divide ∷ []) from s r memory one two less room high higher stand going
+quotient_does {context = context} number from s r memory sound one two none less room high
+    higher stand going =
+    pair_then context sound (Some LeftInHl) (CallRoutine routines.Divide ∷ []) from s r memory one two less
+    room high higher stand going
     (λ x y t now ended middle found fewer rest going_on has.
     let small = word_of_left x now y has going_on.ready.registers in
     divided_does y (x / y)
@@ -149,15 +162,18 @@ pub remainder_does :
     → 2 * height_of first ≤ need
     → 2 + 2 * height_of second ≤ need
     → StepsStand context (PartDoes context) facts from
-    (pair_steps (knowing context.site facts) left right true pushed ++ (CallRoutine routines.Divide ∷ Plain Xchg ∷ [])) last to
+    (pair_steps (knowing context.site facts) left right true pushed
+    ++ (CallRoutine routines.Divide ∷ Plain Xchg ∷ [])) last to
     → GoesOn context facts top base s.memory s.frame r memory
     → Does context.activation.around.program.script s.budget 0 (at_place from r memory s.events)
     (then_do (value context.later context.activation.around first s)
     (λ x t. then_do (value context.later context.activation.around second t)
     (λ y u. computed (result_of Address Modulo x y) u)))
     (Arrives context.activation top base to (WordIsGiven context last number Address r memory))
-remainder_does {context = context} number from s r memory sound one two none less room high higher stand going =
-    pair_then context sound (Some LeftInHl) (CallRoutine routines.Divide ∷ Plain Xchg ∷ []) from s r memory one two less room high higher stand going
+remainder_does {context = context} number from s r memory sound one two none less room high
+    higher stand going =
+    pair_then context sound (Some LeftInHl) (CallRoutine routines.Divide ∷ Plain Xchg ∷ []) from s r memory
+    one two less room high higher stand going
     (λ x y t now ended middle found fewer rest going_on has.
     let small = word_of_left x now y has going_on.ready.registers in
     divided_does y (x % y)
@@ -199,20 +215,24 @@ pub shift_then :
     (Gave (shifted Address function n k) t)
     (Arrives context.activation top base to (WordIsGiven context last number Address r memory))
 unfolding word_routine
-shift_then {context = context} ShiftLeft n k number t r now memory ended sound in_type room two none has count stand going =
+shift_then {context = context} ShiftLeft n k number t r now memory ended sound in_type room two none
+    has count stand going =
     routine_then routines.ShiftLeftAddress [] now sound tt room two stand going
     (λ after last_memory ends going_last computes leaves.
     let bytes = going_last.ready.registers in
-    word_ends t ends (shift_small ShiftLeft n k in_type (word_below n now.h now.l has.h going.ready.registers.h))
+    word_ends t ends
+    (shift_small ShiftLeft n k in_type (word_below n now.h now.l has.h going.ready.registers.h))
     (word_given_by (shifted Address ShiftLeft n k) after.h after.l bytes.h bytes.l
     (computes ∙ ap (λ m. shifted Address ShiftLeft m now.a) (word_from_halves n now.h now.l has.h has.l)
     ∙ ap (λ m. shifted Address ShiftLeft n m) count) after refl refl)
     (kept_none context number r after none) going_last)
-shift_then {context = context} ShiftRight n k number t r now memory ended sound in_type room two none has count stand going =
+shift_then {context = context} ShiftRight n k number t r now memory ended sound in_type room two none
+    has count stand going =
     routine_then routines.ShiftRightAddress [] now sound tt room two stand going
     (λ after last_memory ends going_last computes leaves.
     let bytes = going_last.ready.registers in
-    word_ends t ends (shift_small ShiftRight n k in_type (word_below n now.h now.l has.h going.ready.registers.h))
+    word_ends t ends
+    (shift_small ShiftRight n k in_type (word_below n now.h now.l has.h going.ready.registers.h))
     (word_given_by (shifted Address ShiftRight n k) after.h after.l bytes.h bytes.l
     (computes ∙ ap (λ m. shifted Address ShiftRight m now.a) (word_from_halves n now.h now.l has.h has.l)
     ∙ ap (λ m. shifted Address ShiftRight n m) count) after refl refl)
@@ -236,7 +256,8 @@ pub computed_shift_does :
     → HasRoom context.activation top pushed need
     → 2 * height_of first ≤ need
     → 2 + 2 * height_of second ≤ need
-    → StepsStand context (PartDoes context) facts from (computed_count_steps (knowing context.site facts) moved pushed) last to
+    → StepsStand context (PartDoes context) facts from
+    (computed_count_steps (knowing context.site facts) moved pushed) last to
     → GoesOn context facts top base s.memory s.frame r memory
     → Does context.activation.around.program.script s.budget 0 (at_place from r memory s.events)
     (then_do (value context.later context.activation.around first s)
@@ -244,14 +265,17 @@ pub computed_shift_does :
     (λ k u. Gave (shifted Address moved.function n k) u)))
     (Arrives context.activation top base to (WordIsGiven context last number Address r memory))
 unfolding computed_count_steps count_beside_word_steps
-computed_shift_does {context = context} {pushed = pushed} {top = top} {need = need} {to = to} {base = base} {facts = facts} {last = last} {first = first} {second = second} moved number from s r memory sound in_type one two byte none less room high higher stand going =
+computed_shift_does {context = context} {pushed = pushed} {top = top} {need = need} {to = to} {base = base}
+    {facts = facts} {last = last} {first = first} {second = second} moved number from s r memory sound in_type
+    one two byte none less room high higher stand going =
     by_free (is_free (knowing context.site facts) moved.count) refl stand
   where
     by_free : (free : Bool) → is_free (knowing context.site facts) moved.count ≡ free
         → StepsStand context (PartDoes context) facts from
         (part_of (tasks.Word moved.value) pushed
         ∷ (if free then part_of (tasks.Byte moved.count) pushed ∷ []
-        else Plain (Push StackHl) ∷ part_of (tasks.Byte moved.count) ((pushed + 2) % 65536) ∷ Plain (Pop StackHl) ∷ [])
+        else Plain (Push StackHl) ∷ part_of (tasks.Byte moved.count) ((pushed + 2) % 65536)
+        ∷ Plain (Pop StackHl) ∷ [])
         ++ (CallRoutine (word_routine moved.function) ∷ [])) last to
         → Does context.activation.around.program.script s.budget 0 (at_place from r memory s.events)
         (then_do (value context.later context.activation.around first s)
@@ -261,27 +285,34 @@ computed_shift_does {context = context} {pushed = pushed} {top = top} {need = ne
     by_free true is (PartThere part (PartThere {middle = at_count} count_part rest)) =
         word_then from s r memory part one.is one.types less room high going
         (λ n t now ended same fewer going_on given.
-        byte_then _ t now ended count_part two.is two.types (omega (arith, less, fewer)) room (omega (arith, higher)) going_on
+        byte_then _ t now ended count_part two.is two.types (omega (arith, less, fewer)) room
+        (omega (arith, higher)) going_on
         (λ k u after after_memory also fewer_still going_still count_given.
         let only = count_given.free (sym (free_same context sound facts moved.count) ∙ is) in
         let small : k < 256 = subst (λ (scalar : ScalarType). k < values_of scalar) byte count_given.small in
-        shift_then moved.function n k number u r after memory after_memory sound in_type room (omega (arith, higher)) none
-        (record { h = only.h ∙ given.h; l = only.l ∙ given.l }) (equals_byte after.a k count_given.a small) rest going_still))
-    by_free false is (PartThere part (PlainThere push_there (PartThere count_part (PlainThere pop_there rest)))) =
+        shift_then moved.function n k number u r after memory after_memory sound in_type room
+        (omega (arith, higher)) none
+        (record { h = only.h ∙ given.h; l = only.l ∙ given.l })
+        (equals_byte after.a k count_given.a small) rest going_still))
+    by_free false is
+        (PartThere part (PlainThere push_there (PartThere count_part (PlainThere pop_there rest)))) =
         let some = some_height second in
         let enough : 2 ≤ need = omega (arith, higher) in
         word_then from s r memory part one.is one.types less room high going
         (λ n t now ended same fewer going_on given.
         push_goes StackHl now sound push_there going_on enough room
         (λ pushed_on.
-        byte_then _ t (record now { sp = wrap (top - 2) }) _ count_part two.is two.types (omega (arith, less, fewer))
-        (more_pushed (2 * height_of second) sound.lies (omega (arith, some)) higher room) (omega arith) pushed_on
+        byte_then _ t (record now { sp = wrap (top - 2) }) _ count_part two.is two.types
+        (omega (arith, less, fewer))
+        (more_pushed (2 * height_of second) sound.lies (omega (arith, some)) higher room)
+        (omega arith) pushed_on
         (λ k u after after_memory also fewer_still going_still count_given.
         let bytes = going_on.ready.registers in
         let h_small = bytes.h in
         let l_small = bytes.l in
         let small : k < 256 = subst (λ (scalar : ScalarType). k < values_of scalar) byte count_given.small in
-        pop_goes StackHl after sound pop_there enough room going_on.ready (omega (arith, h_small, l_small)) going_still
+        pop_goes StackHl after sound pop_there enough room going_on.ready
+        (omega (arith, h_small, l_small)) going_still
         (λ going_last.
         shift_then moved.function n k number u r _ memory after_memory sound in_type room enough none
         (record { h = high_of_joined now.h now.l n given.h given.l; l = low_of_joined now.h now.l n given.h given.l })

@@ -12,7 +12,8 @@ use Rattle.task_laws.proofs.Words.WordArithmetic.{has_word}
 use Rattle.task_laws.proofs.Machine.SiteNodes.{known_is, known_means}
 
 -- the registers that a node keeps are those at the site
-pub keeps_at_site : (context : Context) (of : ExpressionNumber) → keeps context.site of ≡ keeps_at (nodes_in context) of
+pub keeps_at_site : (context : Context) (of : ExpressionNumber)
+    → keeps context.site of ≡ keeps_at (nodes_in context) of
 unfolding keeps expression
 keeps_at_site context of = by (Rattle.std.specs.Prelude.slice_get (nodes_in context).expressions of.index)
   where
@@ -41,7 +42,9 @@ kept_as context number other r now same kept =
 
 -- registers beside HL that are the same as those that were kept
 pub kept_beside :
-    {context : Context} {after : Facts} {scalar : Rattle.trees.specs.declared.declaration.ScalarType.ScalarType} {number : ExpressionNumber} {r now : Registers} {memory ended : List ℕ}
+    {context : Context} {after : Facts}
+    {scalar : Rattle.trees.specs.declared.declaration.ScalarType.ScalarType} {number : ExpressionNumber}
+    {r now : Registers} {memory ended : List ℕ}
     {n : ℕ} (last : Registers)
     → WordIsGiven context after number scalar r memory n now ended
     → last.a ≡ now.a → last.d ≡ now.d → last.e ≡ now.e
@@ -69,13 +72,15 @@ pub added_does :
     → s.budget < context.number
     → HasRoom context.activation top pushed need
     → 2 * height_of tree ≤ need
-    → StepsStand context (PartDoes context) facts from (part_of (tasks.Word other) pushed ∷ addition_steps place) last to
+    → StepsStand context (PartDoes context) facts from
+    (part_of (tasks.Word other) pushed ∷ addition_steps place) last to
     → GoesOn context facts top base s.memory s.frame r memory
     → Does context.activation.around.program.script s.budget 0 (at_place from r memory s.events)
     (then_do (value context.later context.activation.around tree s)
     (λ x t. Gave ((x + place_at context.activation.layout place) % 65536) t))
     (Arrives context.activation top base to (WordIsGiven context last number Address r memory))
-added_does {context = context} {other = other} place number from s r memory sound small operand kept less room height (PartThere part rest) going =
+added_does {context = context} {other = other} place number from s r memory sound small operand kept less room
+    height (PartThere part rest) going =
     word_then from s r memory part operand.is operand.types less room height going
     (λ x t now ended same fewer going_on given.
     addition_goes place now sound small rest going_on
@@ -95,7 +100,8 @@ is_known context facts of found same = sym (known_is (knowing context.site facts
 
 -- the second is known
 pub second_known :
-    {context : Context} {right : ExpressionNumber} {second : TypedExpression} (first : TypedExpression) (facts : Facts)
+    {context : Context} {right : ExpressionNumber} {second : TypedExpression}
+    (first : TypedExpression) (facts : Facts)
     (place : Place) (go : ℕ → ℕ → SourceState → Outcome ℕ) (s : SourceState)
     → IsSound context
     → IsOperand context right second
@@ -108,11 +114,13 @@ second_known {context = context} {second = second} first facts place go s sound 
     same_rest (value context.later context.activation.around first s)
     (λ x t. then_do (value context.later context.activation.around second t) (λ y u. go x y u))
     (λ x t. go x (place_at context.activation.layout place) t)
-    (λ x t. ap (λ outcome. then_do outcome (λ y u. go x y u)) (known_means facts place sound two.is two.types here t))
+    (λ x t. ap (λ outcome. then_do outcome (λ y u. go x y u))
+    (known_means facts place sound two.is two.types here t))
 
 -- the first is known
 pub first_known :
-    {context : Context} {left : ExpressionNumber} {first : TypedExpression} (second : TypedExpression) (facts : Facts)
+    {context : Context} {left : ExpressionNumber} {first : TypedExpression}
+    (second : TypedExpression) (facts : Facts)
     (place : Place) (go : ℕ → ℕ → SourceState → Outcome ℕ) (s : SourceState)
     → IsSound context
     → IsOperand context left first
@@ -122,7 +130,8 @@ pub first_known :
     ≡ then_do (value context.later context.activation.around second s)
     (λ y u. go (place_at context.activation.layout place) y u)
 first_known {context = context} second facts place go s sound one here =
-    ap (λ outcome. then_do outcome (λ x t. then_do (value context.later context.activation.around second t) (λ y u. go x y u)))
+    ap (λ outcome. then_do outcome (λ x t. then_do
+    (value context.later context.activation.around second t) (λ y u. go x y u)))
     (known_means facts place sound one.is one.types here s)
 
 keeps_right : (nodes : Rattle.treecode.specs.Nodes.Nodes) (left right : ExpressionNumber) (place : Place)
@@ -170,14 +179,17 @@ less_high a b need h = omega (arith, h)
 -- a sum
 pub sum_does :
     {context : Context} {pushed top need to : ℕ} {base : List ℕ} {facts last : Facts}
-    {first second : TypedExpression} (operands : Operands) (number : ExpressionNumber) (from : ℕ) (s : SourceState)
+    {first second : TypedExpression} (operands : Operands) (number : ExpressionNumber)
+    (from : ℕ) (s : SourceState)
     (r : Registers) (memory : List ℕ) (sound : IsSound context)
     → TwoWords context operands first second
-    → keeps context.site number ≡ keeps_of_binary (nodes_in context) operators.Add operands.left operands.right
+    → keeps context.site number ≡ keeps_of_binary (nodes_in context) operators.Add
+    operands.left operands.right
     → s.budget < context.number
     → HasRoom context.activation top pushed need
     → 2 * (1 + max (height_of first) (height_of second)) ≤ need
-    → StepsStand context (PartDoes context) facts from (sum_steps (knowing context.site facts) operands pushed) last to
+    → StepsStand context (PartDoes context) facts from
+    (sum_steps (knowing context.site facts) operands pushed) last to
     → GoesOn context facts top base s.memory s.frame r memory
     → Does context.activation.around.program.script s.budget 0 (at_place from r memory s.events)
     (then_do (value context.later context.activation.around first s)
@@ -185,7 +197,9 @@ pub sum_does :
     (λ y u. Gave ((x + y) % 65536) u)))
     (Arrives context.activation top base to (WordIsGiven context last number Address r memory))
 unfolding sum_steps
-sum_does {context = context} {pushed = pushed} {top = top} {need = need} {to = to} {base = base} {facts = facts} {last = last} {first = first} {second = second} operands number from s r memory sound words kept less room height stand going =
+sum_does {context = context} {pushed = pushed} {top = top} {need = need} {to = to} {base = base}
+    {facts = facts} {last = last} {first = first} {second = second} operands number from s r memory sound
+    words kept less room height stand going =
     by_right (known (knowing context.site facts) operands.right) refl stand
   where
     by_left : (found : Option Place) → known (knowing context.site facts) operands.left ≡ found
@@ -193,8 +207,10 @@ sum_does {context = context} {pushed = pushed} {top = top} {need = need} {to = t
         → StepsStand context (PartDoes context) facts from (elim found [
           | Some place ↦ part_of (tasks.Word operands.right) pushed ∷ addition_steps place
           | None ↦
-              Rattle.operands8080.specs.internal.Pairs.pair_steps (knowing context.site facts) operands.left operands.right false pushed
-              ++ (Plain (Rattle.isa8080.specs.declared.instr.Instr.TheVariants.Dad Rattle.isa8080.specs.declared.instr.Pair.TheVariants.De) ∷ [])
+              Rattle.operands8080.specs.internal.Pairs.pair_steps (knowing context.site facts) operands.left
+              operands.right false pushed
+              ++ (Plain (Rattle.isa8080.specs.declared.instr.Instr.TheVariants.Dad
+              Rattle.isa8080.specs.declared.instr.Pair.TheVariants.De) ∷ [])
         ]) last to
         → Does context.activation.around.program.script s.budget 0 (at_place from r memory s.events)
         (then_do (value context.later context.activation.around first s)
@@ -202,7 +218,8 @@ sum_does {context = context} {pushed = pushed} {top = top} {need = need} {to = t
         (λ y u. Gave ((x + y) % 65536) u)))
         (Arrives context.activation top base to (WordIsGiven context last number Address r memory))
     by_left (Some place) is none stand =
-        subst (λ outcome. Does context.activation.around.program.script s.budget 0 (at_place from r memory s.events) outcome
+        subst (λ outcome. Does context.activation.around.program.script s.budget 0
+        (at_place from r memory s.events) outcome
         (Arrives context.activation top base to (WordIsGiven context last number Address r memory)))
         (sym (first_known second facts place (λ x y u. Gave ((x + y) % 65536) u) s sound words.one is
         ∙ same_rest (value context.later context.activation.around second s)
@@ -210,13 +227,16 @@ sum_does {context = context} {pushed = pushed} {top = top} {need = need} {to = t
         (λ y u. Gave ((y + place_at context.activation.layout place) % 65536) u)
         (λ y u. ap (λ n. Gave n u) (sum_turned y (place_at context.activation.layout place)))))
         (added_does place number from s r memory sound
-        (word_fits (place_at context.activation.layout place) (type_of first) (known_small facts place sound words.one.is words.one.types is))
+        (word_fits (place_at context.activation.layout place) (type_of first)
+        (known_small facts place sound words.one.is words.one.types is))
         words.two
         (kept ∙ keeps_left (nodes_in context) operands.left operands.right place
-        (is_known context facts operands.right None none) (is_known context facts operands.left (Some place) is))
+        (is_known context facts operands.right None none)
+        (is_known context facts operands.left (Some place) is))
         less room (less_high (height_of first) (height_of second) need height) stand going)
     by_left None is none stand =
-        paired_does sum_instructions (λ x y. (x + y) % 65536) number None from s r memory sound (λ order. (tt, tt)) sum_makes
+        paired_does sum_instructions (λ x y. (x + y) % 65536) number None from s r memory sound
+        (λ order. (tt, tt)) sum_makes
         (λ x y one two. wrapped_small x y) words.one words.two
         (kept ∙ keeps_neither (nodes_in context) operands.left operands.right
         (is_known context facts operands.right None none) (is_known context facts operands.left None is))
@@ -229,8 +249,10 @@ sum_does {context = context} {pushed = pushed} {top = top} {need = need} {to = t
           | None ↦ elim (known (knowing context.site facts) operands.left) [
             | Some place ↦ part_of (tasks.Word operands.right) pushed ∷ addition_steps place
             | None ↦
-                Rattle.operands8080.specs.internal.Pairs.pair_steps (knowing context.site facts) operands.left operands.right false pushed
-                ++ (Plain (Rattle.isa8080.specs.declared.instr.Instr.TheVariants.Dad Rattle.isa8080.specs.declared.instr.Pair.TheVariants.De) ∷ [])
+                Rattle.operands8080.specs.internal.Pairs.pair_steps (knowing context.site facts) operands.left
+                operands.right false pushed
+                ++ (Plain (Rattle.isa8080.specs.declared.instr.Instr.TheVariants.Dad
+                Rattle.isa8080.specs.declared.instr.Pair.TheVariants.De) ∷ [])
           ]
         ]) last to
         → Does context.activation.around.program.script s.budget 0 (at_place from r memory s.events)
@@ -239,11 +261,13 @@ sum_does {context = context} {pushed = pushed} {top = top} {need = need} {to = t
         (λ y u. Gave ((x + y) % 65536) u)))
         (Arrives context.activation top base to (WordIsGiven context last number Address r memory))
     by_right (Some place) is stand =
-        subst (λ outcome. Does context.activation.around.program.script s.budget 0 (at_place from r memory s.events) outcome
+        subst (λ outcome. Does context.activation.around.program.script s.budget 0
+        (at_place from r memory s.events) outcome
         (Arrives context.activation top base to (WordIsGiven context last number Address r memory)))
         (sym (second_known first facts place (λ x y u. Gave ((x + y) % 65536) u) s sound words.two is))
         (added_does place number from s r memory sound
-        (word_fits (place_at context.activation.layout place) (type_of second) (known_small facts place sound words.two.is words.two.types is))
+        (word_fits (place_at context.activation.layout place) (type_of second)
+        (known_small facts place sound words.two.is words.two.types is))
         words.one
         (kept ∙ keeps_right (nodes_in context) operands.left operands.right place
         (is_known context facts operands.right (Some place) is))

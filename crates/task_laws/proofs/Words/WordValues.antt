@@ -21,7 +21,8 @@ use Rattle.task_laws.proofs.Words.CarriedWords.{IsCarriedOut}
 
 -- the end of code, with a property in another form
 pub ends_with :
-    {A : Type 0} {script : List (List ℕ)} {activation : Activation} {budget top to : ℕ} {base : List ℕ} {from : State}
+    {A : Type 0} {script : List (List ℕ)} {activation : Activation} {budget top to : ℕ}
+    {base : List ℕ} {from : State}
     {Holds Other : A → Registers → List ℕ → Type 0} (outcome : Outcome A)
     → Does script budget 0 from outcome (Arrives activation top base to Holds)
     → ((found : A) (now : Registers) (ended : List ℕ) → Holds found now ended → Other found now ended)
@@ -39,16 +40,19 @@ ends_with outcome does turn =
 
 -- a word in memory
 pub value_carried :
-    {context : Context} {facts last : Facts} {number : ExpressionNumber} {reference : Reference} {part : TypedReference}
+    {context : Context} {facts last : Facts} {number : ExpressionNumber} {reference : Reference}
+    {part : TypedReference}
     {bound pushed from to : ℕ}
     → IsSound context
     → IsReference (nodes_in context) context.storage bound reference part
     → TypesHold context.typed context.within (ValueNode scalars.Address part)
     → keeps context.site number ≡ keeps_of_form (nodes_in context) scalars.Address (forms.Value reference)
-    → StepsStand context (PartDoes context) facts from (word_in_memory_steps (knowing context.site facts) reference pushed) last to
+    → StepsStand context (PartDoes context) facts from
+    (word_in_memory_steps (knowing context.site facts) reference pushed) last to
     → IsCarriedOut context facts number (ValueNode scalars.Address part) scalars.Address pushed from last to
 unfolding keeps_of_address
-value_carried {context = context} {facts = facts} {last = last} {number = number} {reference = reference} {part = part} sound is types kept stand = λ top need base s r memory less room height going.
+value_carried {context = context} {facts = facts} {last = last} {number = number} {reference = reference}
+    {part = part} sound is types kept stand = λ top need base s r memory less room height going.
     ends_with _
     (word_in_memory_law sound stand is types.0 types.1 top base s r memory less
     (room_for (2 * height_of_reference part) height room) going.ready going.known tt)
@@ -58,7 +62,8 @@ value_carried {context = context} {facts = facts} {last = last} {number = number
       small = loaded.small;
       known = loaded.known;
       a = λ kept_a.
-          let some : is_some (place_of_reference (nodes_in context) reference) ≡ true = sym (ap (λ of. of.a) kept) ∙ kept_a in
+          let some : is_some (place_of_reference (nodes_in context) reference) ≡ true =
+          sym (ap (λ of. of.a) kept) ∙ kept_a in
           let static = static_location context facts reference some in
           loaded.a (Static static.0) static.1 refl;
       d = λ kept_de. loaded.d (sym (ap (λ of. of.de) kept) ∙ kept_de);
@@ -67,26 +72,33 @@ value_carried {context = context} {facts = facts} {last = last} {number = number
 
 -- a part with a location is in memory, at the address of its place
 based_location :
-    (context : Context) (object bytes : ℕ) (is_inside : Bool) (found : TypedObject) (place : Place) (s u : SourceState)
+    (context : Context) (object bytes : ℕ) (is_inside : Bool) (found : TypedObject)
+    (place : Place) (s u : SourceState)
     → IsSound context
     → slice_get context.typed.objects object ≡ Some found
     → HasLocation found.home
-    → based_place (home_of context.activation.around object) context.activation.around object bytes is_inside s ≡ Gave place u
+    → based_place (home_of context.activation.around object) context.activation.around object bytes
+    is_inside s ≡ Gave place u
     → address_in_memory place ≡ address_on_machine context.activation place
 based_location context object bytes is_inside found place s u sound is has same =
     by_kind found.home has
     (sym (ap (λ (kind : TypedHome). based_place kind context.activation.around object bytes is_inside s)
     (home_there context object found sound is)) ∙ same)
   where
-    in_memory : (address : ℕ) → InMemory address ≡ place → address_in_memory place ≡ address_on_machine context.activation place
+    in_memory : (address : ℕ) → InMemory address ≡ place
+        → address_in_memory place ≡ address_on_machine context.activation place
     in_memory address is_there =
-        subst (λ (place : Place). address_in_memory place ≡ address_on_machine context.activation place) is_there refl
+        subst (λ (place : Place). address_in_memory place ≡ address_on_machine context.activation place)
+        is_there refl
 
     by_kind : (kind : TypedHome) → HasLocation kind
         → based_place kind context.activation.around object bytes is_inside s ≡ Gave place u
         → address_in_memory place ≡ address_on_machine context.activation place
     by_kind (BasedOn base) has same =
-        let given = gave_first (read_scalar context.activation.around.program scalars.Address (place_of context.activation.around base) s)
+        let given =
+        gave_first
+        (read_scalar context.activation.around.program scalars.Address
+        (place_of context.activation.around base) s)
         (λ start t. Gave (InMemory ((start + bytes) % MEMORY_SIZE)) t) place u same in
         in_memory ((given.first + bytes) % MEMORY_SIZE) (same_given given.next)
     by_kind (InFrame procedure) has same = absurd has
@@ -126,7 +138,8 @@ location_is_referred context (PartOf object subscript member offset member_subsc
         (λ (object_found : TypedObject). IsSeen context.typed context.within object_found.home
         × HasLocation object_found.home
         × IsPartOf object_found (PartOf object subscript member offset member_subscript))
-        → IsSomeAnd found (λ (object_found : TypedObject). IsSeen context.typed context.within object_found.home)
+        → IsSomeAnd found
+        (λ (object_found : TypedObject). IsSeen context.typed context.within object_found.home)
     by_found (Some found) is = is.0
     by_found None is = absurd is
 
@@ -135,7 +148,8 @@ below_memory n h l one two same = omega (arith, one, two, same)
 
 -- a location
 pub location_carried :
-    {context : Context} {facts last : Facts} {number : ExpressionNumber} {reference : Reference} {part : TypedReference}
+    {context : Context} {facts last : Facts} {number : ExpressionNumber} {reference : Reference}
+    {part : TypedReference}
     {bound pushed from to : ℕ}
     → IsSound context
     → IsReference (nodes_in context) context.storage bound reference part
@@ -144,7 +158,10 @@ pub location_carried :
     → StepsStand context (PartDoes context) facts from (part_of (tasks.Address reference) pushed ∷ []) last to
     → IsCarriedOut context facts number (LocationNode part) scalars.Address pushed from last to
 unfolding keeps_of_address
-location_carried {context = context} {last = last} {number = number} {reference = reference} {part = part} {bound = bound} {to = to} sound is types kept (PartThere {found = found_facts} {middle = middle} does rest) = λ top need base s r memory less room height going.
+location_carried {context = context} {last = last} {number = number} {reference = reference} {part = part}
+    {bound = bound} {to = to} sound is types kept
+    (PartThere {found = found_facts} {middle = middle} does rest) =
+    λ top need base s r memory less room height going.
     then_does_where
     (does bound part is (location_is_referred context part types.0) types.1 top base s r memory less
     (room_for (2 * height_of_reference part) height room) going.ready going.known tt)
@@ -152,9 +169,11 @@ location_carried {context = context} {last = last} {number = number} {reference 
     let now : Registers = given.r in
     let bytes = given.ready.registers in
     let address : ℕ = address_in_memory place in
-    let hl : word now.h now.l ≡ address = (given.holds).hl ∙ sym (location_is context part place s t sound types.0 same) in
+    let hl : word now.h now.l ≡ address =
+    (given.holds).hl ∙ sym (location_is context part place s t sound types.0 same) in
     subst (λ (state : State). Does context.activation.around.program.script t.budget 0 state (Gave address t)
-    (Arrives context.activation top base to (WordIsGiven context last number scalars.Address r memory))) (sym given.is_at)
+    (Arrives context.activation top base to (WordIsGiven context last number scalars.Address r memory)))
+    (sym given.is_at)
     (word_ends t rest (below_memory address now.h now.l bytes.h bytes.l hl)
     (word_given_by address now.h now.l bytes.h bytes.l hl now refl refl)
     (record {
@@ -178,7 +197,8 @@ target_holds context scalar (StoredIn from to reference) types = types.0
 target_holds context scalar (SentTo from port) types = types.0
 
 pub embedded_carried :
-    {context : Context} {facts last : Facts} {number inner : ExpressionNumber} {target : Target} {place : TypedTarget}
+    {context : Context} {facts last : Facts} {number inner : ExpressionNumber} {target : Target}
+    {place : TypedTarget}
     {inside : TypedExpression} {bound pushed from to : ℕ}
     → IsSound context
     → IsTarget (nodes_in context) context.storage bound target place
@@ -189,7 +209,9 @@ pub embedded_carried :
     → StepsStand context (PartDoes context) facts from (embedded_steps target inner true pushed) last to
     → IsCarriedOut context facts number (AssignmentNode place inside) scalars.Address pushed from last to
 unfolding embedded_steps value_task
-embedded_carried {context = context} {facts = facts} {last = last} {number = number} {inner = inner} {target = target} {place = place} {inside = inside} {bound = bound} {pushed = pushed} {from = from} {to = to} sound is_target node types is_address none stand =
+embedded_carried {context = context} {facts = facts} {last = last} {number = number} {inner = inner}
+    {target = target} {place = place} {inside = inside} {bound = bound} {pushed = pushed} {from = from}
+    {to = to} sound is_target node types is_address none stand =
     by (source target) (source_is context is_target ∙ is_address) stand
   where
     inside_is : type_of inside ≡ scalars.Address
@@ -200,19 +222,23 @@ embedded_carried {context = context} {facts = facts} {last = last} {number = num
         (part_of (value_task scalar inner) pushed ∷ part_of (tasks.Store target true) pushed ∷ []) last to
         → IsCarriedOut context facts number (AssignmentNode place inside) scalars.Address pushed from last to
     by scalars.Byte same stand = bytes_differ same
-    by scalars.Address same (PartThere does (PartThere stores ends)) = λ top need base s r memory less room height going.
-        at_word _ _ _ does node types.0 (omega (arith, height)) (record { below = less; room = room; ready = going.ready; known = going.known })
+    by scalars.Address same (PartThere does (PartThere stores ends)) =
+        λ top need base s r memory less room height going.
+        at_word _ _ _ does node types.0 (omega (arith, height))
+        (record { below = less; room = room; ready = going.ready; known = going.known })
         (λ v u now memory_now is given next.
         at_carried {top = top} {need = need} {base = base} _ _ _
         (λ top_there base_there u_there r_there memory_there below_there room_there ready_there known_there in_hl.
         does_less (stored context.later context.activation.around place v u_there)
-        (stores bound v (type_of inside) place is_target types.1 given.small top_there base_there u_there r_there memory_there below_there room_there ready_there known_there in_hl))
+        (stores bound v (type_of inside) place is_target types.1 given.small top_there base_there u_there
+        r_there memory_there below_there room_there ready_there known_there in_hl))
         (omega (arith, height))
         (subst (λ scalar. InRegister scalar v now) (sym inside_is) (given.h, given.l))
         (λ found late memory_late (kept : IsStoredThere context _ (type_of inside) true v now memory_now found late memory_late). kept.known) next
         (λ found t late memory_late stored_is kept final_stage. at_end ends final_stage
         (λ final.
-        let hl : (late.h ≡ v / 256) × (late.l ≡ v % 256) = subst (λ scalar. InRegister scalar v late) inside_is (kept.wanted refl) in
+        let hl : (late.h ≡ v / 256) × (late.l ≡ v % 256) =
+        subst (λ scalar. InRegister scalar v late) inside_is (kept.wanted refl) in
         word_given t (subst (λ (scalar : ScalarType). v < values_of scalar) inside_is given.small)
         (record { h = hl.0; l = hl.1 }) (kept_none context number r late none)
         (record { ready = final.ready; known = final.known }))))
@@ -225,14 +251,20 @@ pub call_carried :
     → AreArguments (nodes_in context) context.storage bound range.first range.count trees
     → TypesHold context.typed context.within (CallNode procedure scalars.Address trees)
     → keeps context.site number ≡ keeps_none
-    → StepsStand context (PartDoes context) facts from (call_steps (knowing context.site facts) procedure range pushed) last to
-    → IsCarriedOut context facts number (CallNode procedure scalars.Address trees) scalars.Address pushed from last to
-call_carried {context = context} {facts = facts} {last = last} {number = number} {trees = trees} {bound = bound} procedure range sound are types none stand = λ top need base s r memory less room height going.
+    → StepsStand context (PartDoes context) facts from
+    (call_steps (knowing context.site facts) procedure range pushed) last to
+    → IsCarriedOut context facts number (CallNode procedure scalars.Address trees)
+    scalars.Address pushed from last to
+call_carried {context = context} {facts = facts} {last = last} {number = number} {trees = trees}
+    {bound = bound} procedure range sound are types none stand =
+    λ top need base s r memory less room height going.
     gives_then _
-    (call_does procedure range sound stand bound (Some scalars.Address) trees are types.0 types.1 top base s r memory less
+    (call_does procedure range sound stand bound (Some scalars.Address) trees are types.0 types.1 top
+    base s r memory less
     (room_for _ height room) going.ready going.known tt)
     (λ found t end arrives spent.
-    let given : ResultIsGiven context last (Some scalars.Address) r memory found arrives.r arrives.memory = arrives.holds in
+    let given : ResultIsGiven context last (Some scalars.Address) r memory found arrives.r arrives.memory =
+    arrives.holds in
     let kept = kept_none context number r arrives.r none in
     does_without_step (record {
       r = arrives.r;

@@ -30,7 +30,8 @@ extents_fit block item (Some (Count number)) =
     gives_after (require (not (names_parameter block item.subject)) ParameterNotScalar number.place) λ plain.
     gives_ok refl
 extents_fit block item (Some Implied) =
-    gives_after (require (not (names_parameter block item.subject)) ParameterNotScalar (place_of_item item)) λ plain.
+    gives_after (require (not (names_parameter block item.subject)) ParameterNotScalar (place_of_item item))
+    λ plain.
     gives_after (require (not (is_group item.subject)) ImpliedForGroup (place_of_item item)) λ single.
     gives_after (require (is_some item.value_list) ImpliedWithoutValues (place_of_item item)) λ listed.
     gives_ok refl
@@ -41,7 +42,8 @@ as_listed place used each values =
     gives_after (require (nat_lt 0 used) ImpliedWithoutValues place) λ some.
     gives_ok refl
 
-contents_fit : (known : Known) (place : Place) (object_type : ObjectType) (dimension : Option Dimension) (extents : Extents)
+contents_fit : (known : Known) (place : Place) (object_type : ObjectType)
+    (dimension : Option Dimension) (extents : Extents)
     (values : List RestrictedTree)
     → FitsExtents dimension extents
     → Gives (λ (found : Contents). FitsDimension dimension found.dimension)
@@ -49,22 +51,26 @@ contents_fit : (known : Known) (place : Place) (object_type : ObjectType) (dimen
 contents_fit known place object_type None extents values is =
     subst
     (λ (one : Extents).
-    Gives (λ (found : Contents). found.dimension ≡ None) (contents known place object_type one values)) (sym is)
+    Gives (λ (found : Contents). found.dimension ≡ None)
+    (contents known place object_type one values)) (sym is)
     (gives_after (fill known values (scalars_of_element object_type)) λ filled. gives_ok refl)
 contents_fit known place object_type (Some (Count number)) extents values is =
     subst
     (λ (one : Extents).
-    Gives (λ (found : Contents). found.dimension ≡ Some number.value) (contents known place object_type one values))
+    Gives (λ (found : Contents). found.dimension ≡ Some number.value)
+    (contents known place object_type one values))
     (sym is)
     (gives_after (fill known values (scalars_of_elements number.value object_type)) λ filled. gives_ok refl)
 contents_fit known place object_type (Some Implied) extents values is =
     subst
     (λ (one : Extents).
-    Gives (λ (found : Contents). is_some found.dimension ≡ true) (contents known place object_type one values)) (sym is)
+    Gives (λ (found : Contents). is_some found.dimension ≡ true)
+    (contents known place object_type one values)) (sym is)
     (gives_after (fill known values (scalars_of_elements (enough_elements values) object_type)) λ filled.
     as_listed place _ _ filled.values)
 
-typed_contents_fit : (known : Known) (block : Block) (item : ItemTree) (object_type : ObjectType) (extents : Extents)
+typed_contents_fit : (known : Known) (block : Block) (item : ItemTree)
+    (object_type : ObjectType) (extents : Extents)
     (list : Option ValueListTree)
     → FitsExtents item.dimension extents
     → Gives (λ (found : Contents). FitsDimension item.dimension found.dimension)
@@ -73,7 +79,8 @@ typed_contents_fit known block item object_type extents None is =
     contents_fit known (place_of_item item) object_type item.dimension extents [] is
 typed_contents_fit known block item object_type extents (Some list) is =
     gives_after
-    (require (is_plain block item && is_none item.at) MisplacedValues (place_of_storage list.storage)) λ plain.
+    (require (is_plain block item && is_none item.at) MisplacedValues (place_of_storage list.storage))
+    λ plain.
     contents_fit known (place_of_item item) object_type item.dimension extents list.values is
 
 -- a type
@@ -84,12 +91,14 @@ dimension_is None = gives_ok refl
 dimension_is (Some number) = gives_after (require _ ZeroDimension number.place) λ some. gives_ok refl
 
 members_are : (before : List TypedMember) (members : List Member)
-    → Gives (λ (typed : List TypedMember). typed ≡ before ++ map member_of members) (typed_members before members)
+    → Gives (λ (typed : List TypedMember). typed ≡ before ++ map member_of members)
+    (typed_members before members)
 members_are before [] = gives_ok (sym (append-nil before))
 members_are before (member ∷ others) =
     let it : Option ℕ → TypedMember =
     λ dimension. record { name = member.name.name; dimension = dimension; scalar = member.scalar } in
-    gives_after (require (not (has_member before member.name.name)) DeclaredTwice (place_of member.name)) λ once.
+    gives_after (require (not (has_member before member.name.name)) DeclaredTwice (place_of member.name))
+    λ once.
     in_turn (dimension_is member.dimension) λ dimension is.
     then_more (members_are (before ++ it dimension ∷ []) others) λ typed same.
     same ∙ append_assoc before (it dimension ∷ []) (map member_of others)
@@ -99,7 +108,8 @@ type_is : (block : Block) (item : ItemTree) (tree : ItemTypeTree)
     → Gives (λ (object_type : ObjectType). object_type ≡ type_of_item tree) (typed_type block item tree)
 type_is block item (ScalarItem scalar) = gives_ok refl
 type_is block item (StructureItem members) =
-    gives_after (require (not (names_parameter block item.subject)) ParameterNotScalar (place_of_item item)) λ plain.
+    gives_after (require (not (names_parameter block item.subject)) ParameterNotScalar (place_of_item item))
+    λ plain.
     in_turn (members_are [] members) λ typed same.
     gives_ok (ap StructureObject same)
 
@@ -115,7 +125,8 @@ at_is known block item (Some at) =
 -- where it lives
 usual : (owner : Owner) (values : List InitialValue) → word_of_home (home_in owner values) ≡ SaysNothing
 usual TheModule values = refl
-usual (OfProcedure number heading) values = by (is_external_linkage heading.linkage) (is_some heading.reentrant)
+usual (OfProcedure number heading) values =
+    by (is_external_linkage heading.linkage) (is_some heading.reentrant)
   where
     by : (external reentrant : Bool)
         → word_of_home (if external then Nowhere else (if reentrant then InFrame number else InData values))
@@ -136,7 +147,8 @@ lives owner None false (Some at) has_data values = refl
 lives owner None false None true values = refl
 lives owner None false None false values = usual owner values
 
-home_is : (owner : Owner) (item : ItemTree) (base : Option ℕ) (at : Option AtAddress) (values : List InitialValue)
+home_is : (owner : Owner) (item : ItemTree) (base : Option ℕ) (at : Option AtAddress)
+    (values : List InitialValue)
     → is_some base ≡ is_some (base_of item.subject)
     → is_some at ≡ is_some item.at
     → word_of_home (home_of owner item base at values) ≡ word_of_item item

@@ -42,30 +42,37 @@ list_walks : (trees : StatementTrees) (entries : List Entry)
 list_walks trees entries typed_from progress holds each =
     let first : Here = into_list (labels_of trees) progress.known.here in
     in_turn
-    (each progress.known.here.labels (with_here first progress) (into_list-fits (labels_of trees) holds)) λ done is.
+    (each progress.known.here.labels (with_here first progress) (into_list-fits (labels_of trees) holds))
+    λ done is.
     gives_ok (out_of_list-fits is.0, adds_here first (out_of_list done.1.known.here) is.1)
 
 mutual
   kind_walks : (block : Block) (tree : StatementKindTree) (progress : Progress) → Holds progress
       → WalksOn progress (entries_in_kind tree) (kind block tree progress)
-  kind_walks block (trees.NullStatement place) progress holds = gives_ok (holds, adds_none progress progress refl refl)
+  kind_walks block (trees.NullStatement place) progress holds =
+      gives_ok (holds, adds_none progress progress refl refl)
   kind_walks block (trees.AssignmentStatement targets source) progress holds =
       from_same holds (assignment_same targets source progress)
   kind_walks block (trees.CallStatement place name values) progress holds =
-      from_same holds (call_same name (record { trees = values; typed = arguments progress.known values }) progress)
+      from_same holds
+      (call_same name (record { trees = values; typed = arguments progress.known values }) progress)
   kind_walks block (trees.ReturnStatement place result) progress holds =
       from_same holds (return_same place block.owner result progress)
-  kind_walks block (trees.HaltStatement place) progress holds = gives_ok (holds, adds_none progress progress refl refl)
-  kind_walks block (trees.GotoStatement place label) progress holds = from_same holds (goto_same label progress)
+  kind_walks block (trees.HaltStatement place) progress holds =
+      gives_ok (holds, adds_none progress progress refl refl)
+  kind_walks block (trees.GotoStatement place label) progress holds =
+      from_same holds (goto_same label progress)
   kind_walks block (trees.IfStatement place condition body otherwise) progress holds =
       in_turn (from_same holds (value_same condition progress)) λ tested one.
       in_turn (alone_walks block body tested.1 one.0) λ chosen two.
       in_turn (else_walks block otherwise chosen.1 two.0) λ other three.
       gives_ok (three.0, adds_then one.1 (adds_then two.1 three.1))
   kind_walks block (trees.DoStatement place declared body) progress holds =
-      in_turn (declarations_walk (inner_block block) declared (entered progress) (into_block-fits holds)) λ opened one.
+      in_turn (declarations_walk (inner_block block) declared (entered progress) (into_block-fits holds))
+      λ opened one.
       in_turn
-      (list_walks body (entries_in_statements body) (λ label. statements (inner_block block) body label) opened one.0
+      (list_walks body (entries_in_statements body)
+      (λ label. statements (inner_block block) body label) opened one.0
       (λ label inside h. statements_walk (inner_block block) body label inside h)) λ done two.
       gives_ok (
         out_of_block-fits two.0,
@@ -111,7 +118,8 @@ mutual
       in_turn (cases_walk block others done.1 one.0) λ rest two.
       gives_ok (two.0, adds_then one.1 two.1)
 
-  statements_walk : (block : Block) (trees : StatementTrees) (label : ℕ) (progress : Progress) → Holds progress
+  statements_walk : (block : Block) (trees : StatementTrees) (label : ℕ) (progress : Progress)
+      → Holds progress
       → WalksOn progress (entries_in_statements trees) (statements block trees label progress)
   statements_walk block trees.NoStatements label progress holds =
       gives_ok (holds, adds_none progress progress refl refl)
@@ -124,13 +132,15 @@ mutual
   declaration_walks : (block : Block) (tree : DeclarationTree) (progress : Progress) → Holds progress
       → Gives (λ after. Walks progress (entries_in_declaration tree) after) (declaration block tree progress)
   declaration_walks block (DeclareTree elements) progress holds =
-      then_more (both (declare_elements-walk block elements progress holds) (elements_add block elements progress))
+      then_more
+      (both (declare_elements-walk block elements progress holds) (elements_add block elements progress))
       λ after is.
       (is.0.holds, is.1)
   declaration_walks block (ProcedureTree heading declared body end_name) progress holds =
       let own : Block = own_block heading progress in
       in_turn
-      (both (open_procedure-opens block heading declared progress holds) (opens_procedure block heading declared progress))
+      (both (open_procedure-opens block heading declared progress holds)
+      (opens_procedure block heading declared progress))
       λ opened heads.
       in_turn (declarations_walk own declared opened heads.0.holds) λ within one.
       in_turn (objects_are within.known.here heading.parameters) λ places named.
@@ -147,7 +157,8 @@ mutual
 
   declarations_walk : (block : Block) (trees : DeclarationTrees) (progress : Progress) → Holds progress
       → Gives (λ after. Walks progress (entries_in trees) after) (declarations block trees progress)
-  declarations_walk block NoDeclarations progress holds = gives_ok (holds, adds_none progress progress refl refl)
+  declarations_walk block NoDeclarations progress holds =
+      gives_ok (holds, adds_none progress progress refl refl)
   declarations_walk block (MoreDeclarations first others) progress holds =
       in_turn (declaration_walks block first progress holds) λ between one.
       then_more (declarations_walk block others between one.0) λ after two.
@@ -161,7 +172,8 @@ module_declares tree body progress adds = record {
   name = refl;
   objects =
       subst
-      (λ (objects : List TypedObject). AllZip IsDeclared (filter_map declared_object (entries_of tree)) objects)
+      (λ (objects : List TypedObject). AllZip IsDeclared
+      (filter_map declared_object (entries_of tree)) objects)
       (sym adds.objects_added) adds.objects_are;
   procedures =
       subst
@@ -173,7 +185,8 @@ module_declares tree body progress adds = record {
 typing_declares : (tree : ModuleTree) → Gives (Declares tree) (typing_of tree)
 unfolding typing_of
 typing_declares tree =
-    in_turn (declarations_walk module_block tree.declarations at_the_beginning at_the_start-fits) λ declared one.
+    in_turn (declarations_walk module_block tree.declarations at_the_beginning at_the_start-fits)
+    λ declared one.
     in_turn
     (list_walks tree.statements (entries_in_statements tree.statements)
     (λ label. statements module_block tree.statements label) declared one.0

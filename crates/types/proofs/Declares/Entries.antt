@@ -8,7 +8,8 @@ use Rattle.typing.proofs.Tables.{Fits, out_of_body-fits}
 use Rattle.typing.proofs.Types.TypesOfDeclarations.{heading_procedure}
 use Rattle.types.proofs.Declares.DeclaredItems.{IsTypedAs, item_is}
 
-zip_append : {A B : Type 0} (R : A → B → Type 0) (one : List A) (first : List B) (other : List A) (last : List B)
+zip_append : {A B : Type 0} (R : A → B → Type 0) (one : List A) (first : List B)
+    (other : List A) (last : List B)
     → AllZip R one first → AllZip R other last → AllZip R (one ++ other) (first ++ last)
 zip_append R [] [] other last fits more = more
 zip_append R [] (item ∷ first) other last fits more = absurd fits
@@ -16,8 +17,8 @@ zip_append R (here ∷ one) [] other last fits more = absurd fits
 zip_append R (here ∷ one) (item ∷ first) other last fits more =
     (fits.0, zip_append R one first other last fits.1 more)
 
--- These entries are added to the tables from one place of a text to another. A table of objects that holds those at the
--- second place holds the parameters of the procedures.
+-- These entries are added to the tables from one place of a text to another. A table of objects that holds
+-- those at the second place holds the parameters of the procedures.
 pub record Adds (before after : Progress) (entries : List Entry) : Type 0 where
   pub objects : List TypedObject
   pub procedures : List TypedProcedure
@@ -62,7 +63,8 @@ adds_then {before} {between} {after} {first} {second} one other =
       objects_are = subst
           (λ (all : List (ItemTree × Identifier)). AllZip IsDeclared all (one.objects ++ other.objects))
           (sym (filter_map-append declared_object first second))
-          (zip_append IsDeclared (filter_map declared_object first) one.objects (filter_map declared_object second)
+          (zip_append IsDeclared (filter_map declared_object first) one.objects
+          (filter_map declared_object second)
           other.objects one.objects_are other.objects_are);
       procedures_are = λ table keeps.
           subst
@@ -117,7 +119,8 @@ object_is block item typed name is = record {
   is_public = ap is_public_linkage is.linkage;
 }
 
-objects_add : (block : Block) (item : ItemTree) (typed : TypedItem) (names : List Identifier) (progress : Progress)
+objects_add : (block : Block) (item : ItemTree) (typed : TypedItem) (names : List Identifier)
+    (progress : Progress)
     → IsTypedAs item typed
     → Gives (ObjectsAdd item names progress) (with_objects block typed names progress)
 objects_add block item typed [] progress is = gives_ok (record {
@@ -130,7 +133,8 @@ objects_add block item typed (name ∷ others) progress is =
     let object : TypedObject = object_named block typed name.name in
     gives_after (require (nat_le (with_typed_object typed.linkage object progress).frame FRAME_LIMIT) TooLarge
     (place_of name)) λ small.
-    then_more (objects_add block item typed others (with_typed_object typed.linkage object progress) is) λ after rest.
+    then_more (objects_add block item typed others (with_typed_object typed.linkage object progress) is)
+    λ after rest.
     record {
       objects = object ∷ rest.objects;
       added = rest.added ∙ append_assoc progress.known.objects (object ∷ []) rest.objects;
@@ -161,15 +165,19 @@ item_adds block item progress =
     })
 
 element_adds : (block : Block) (element : ElementTree) (progress : Progress)
-    → Gives (λ after. Adds progress after (entries_in_element element)) (declare_element block element progress)
+    → Gives (λ after. Adds progress after (entries_in_element element))
+    (declare_element block element progress)
 element_adds block (LiterallyElement name text) progress =
-    gives_after (require (not (is_declared_again progress.known.here name.name)) DeclaredTwice (place_of name)) λ once.
+    gives_after
+    (require (not (is_declared_again progress.known.here name.name)) DeclaredTwice (place_of name))
+    λ once.
     gives_after (require (not (is_external block.owner)) ExternalContents (place_of name)) λ placed.
     gives_ok (adds_none progress _ refl refl)
 element_adds block (ItemElement item) progress = item_adds block item progress
 
 pub elements_add : (block : Block) (elements : List ElementTree) (progress : Progress)
-    → Gives (λ after. Adds progress after (entries_in_elements elements)) (declare_elements block elements progress)
+    → Gives (λ after. Adds progress after (entries_in_elements elements))
+    (declare_elements block elements progress)
 elements_add block [] progress = gives_ok (adds_none progress progress refl refl)
 elements_add block (element ∷ others) progress =
     in_turn (element_adds block element progress) λ between one.
@@ -214,7 +222,8 @@ parameters_named objects table procedures block (parameter ∷ others) (place �
     (parameters_named objects table procedures block others places fit keeps named.1)
 
 -- a procedure: what its heading and what stands in it declare
-pub procedure_adds : (heading : HeadingTree) (declared : DeclarationTrees) (places : List ℕ) (body : TypedList)
+pub procedure_adds : (heading : HeadingTree) (declared : DeclarationTrees)
+    (places : List ℕ) (body : TypedList)
     (before opened within after : Progress) (first second : List Entry)
     → Opened heading declared before opened
     → Adds opened within first
@@ -223,7 +232,8 @@ pub procedure_adds : (heading : HeadingTree) (declared : DeclarationTrees) (plac
     → AreNamed within.known.here.body.block heading.parameters places
     → Adds before (close_procedure heading declared (length before.known.procedures) places body after)
     (ProcedureEntry heading ∷ first ++ second)
-procedure_adds heading declared places body before opened within after first second heads one other holds named =
+procedure_adds heading declared places body before opened within after first second heads
+    one other holds named =
     let inside : Adds opened after (first ++ second) = adds_then one other in
     let start : TypedProcedure = heading_procedure heading declared in
     let last : TypedProcedure =
@@ -237,7 +247,8 @@ procedure_adds heading declared places body before opened within after first sec
     record {
       objects = inside.objects;
       procedures = last ∷ inside.procedures;
-      objects_added = inside.objects_added ∙ ap (λ (all : List TypedObject). all ++ inside.objects) heads.objects;
+      objects_added =
+          inside.objects_added ∙ ap (λ (all : List TypedObject). all ++ inside.objects) heads.objects;
       procedures_added =
           ap (λ (all : List TypedProcedure). slice_set all (length procedures) last)
           (is ∙ append_assoc procedures (start ∷ []) inside.procedures)
@@ -270,6 +281,7 @@ closed_holds heading declared places body before opened after heads inside holds
     procedure_with heading (parameter_types declared heading.parameters) places after.frame body in
     let is : after.known.procedures ≡ (before.known.procedures ++ start ∷ []) ++ inside.procedures =
     inside.procedures_added ∙ ap (λ (all : List TypedProcedure). all ++ inside.procedures) heads.procedures in
-    subst (λ (names : List (List ℕ)). Fits (object_names after.known.objects) names (out_of_body after.known.here))
+    subst (λ (names : List (List ℕ)). Fits (object_names after.known.objects) names
+    (out_of_body after.known.here))
     (sym (same_names before.known.procedures start last inside.procedures after.known.procedures refl is))
     (out_of_body-fits holds)

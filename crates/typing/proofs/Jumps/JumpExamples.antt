@@ -1,5 +1,5 @@
--- Worked values: bodies whose jumps are sound, and some whose jumps are not; a module whose labels differ, and one
--- with two labels of one number.
+-- Worked values: bodies whose jumps are sound, and some whose jumps are not; a module whose labels differ,
+-- and one with two labels of one number.
 use Rattle.typing.proofs.Prelude.{◌≢◌, ℕ, zero, suc, false, List, [], ◌∷◌, None, refl, sym, subst, arith, Any, All-from_recursion, All-nil, AllPairs-cons, Byte, FromDigits, Private, NumberNode, TypedStatement, LabelStatement, TypedExpression, TypedStatements, TypedList, ListOf, TypedModule, IsAmongLabels, labels_of_list, BodyIsSound, JumpsAreSound}
 use Rattle.typed_trees.specs.TypedTrees.{NullStatement, GotoStatement, IfStatement, DoStatement, WhileStatement, CaseStatement, NoElse, ElseStatement, NoStatements, MoreStatements}
 
@@ -97,7 +97,8 @@ one_in_another_is = record {
   procedures = All-nil _;
   main = record {
     closed = (tt, (tt, ((tt, (tt, (to_it, tt))), (tt, (tt, tt)))));
-    stands = ((refl, refl, (refl, refl, refl)), (tt, (tt, (((refl, refl, refl), (tt, (tt, (tt, tt)))), (tt, (tt, tt))))));
+    stands =
+        ((refl, refl, (refl, refl, refl)), (tt, (tt, (((refl, refl, refl), (tt, (tt, (tt, tt)))), (tt, (tt, tt))))));
   };
   labels = AllPairs-cons Differ 0 (2 ∷ 1 ∷ []) (All-from_recursion (λ (other : ℕ). 0 ≢ other) (2 ∷ 1 ∷ [])
       (λ e. omega (arith, e), (λ e. omega (arith, e), tt)))
@@ -112,7 +113,8 @@ one_in_another_is = record {
 -- L: DO; M: GOTO M; END;, where both labels have one number: each list is sound, and the module is not
 abbrev twice : TypedList
 twice = ListOf 0 (0 ∷ []) (lines (
-    LabelStatement 0 ∷ DoStatement (ListOf 0 (0 ∷ []) (lines (LabelStatement 0 ∷ GotoStatement 0 ∷ []))) ∷ []))
+    LabelStatement 0 ∷ DoStatement (ListOf 0 (0 ∷ []) (lines (LabelStatement 0 ∷ GotoStatement 0 ∷ [])))
+    ∷ []))
 
 twice_is_not : JumpsAreSound (of_statements twice) → ⊥
 twice_is_not is = is.labels 0 1 0 (omega arith) (omega arith) refl

@@ -1,5 +1,5 @@
--- In a typed module each GOTO goes to a label of a list around it, labels stand where their places say, and no two
--- labels have the same number.
+-- In a typed module each GOTO goes to a label of a list around it, labels stand where their places say, and
+-- no two labels have the same number.
 use Rattle.typing.proofs.Prelude.{◌≡◌, ℕ, ◌+◌, List, [], ◌∷◌, length, drop, Ok, refl, ap, subst, IfOk, All-nil, Identifier, StatementTree, LabelledStatement, StatementKindTree, NullStatement, AssignmentStatement, CallStatement, ReturnStatement, HaltStatement, GotoStatement, IfStatement, DoStatement, WhileStatement, IterateStatement, CaseStatement, ElseTree, NoElse, ElseStatement, StatementTrees, NoStatements, MoreStatements, DeclarationTree, DeclareTree, ProcedureTree, DeclarationTrees, NoDeclarations, MoreDeclarations, ModuleTree, Body, Names, numbered_from, into_list, body_after_block, with_procedure, labels_of, TypedStatements, TypedList, TypedModule, LabelsOf, JumpsStayInElse, JumpsStayInStatements, JumpsStayInList, LabelsStand, ListsStandInElse, ListsStandInStatements, ListsStandInCases, ListStands, BodyIsSound, JumpsAreSound, Checked, arguments, Block, Progress, with_here, value, iteration, labels_before, declare_labels, without_label, places_from, list_of, open_procedure, own_block, parameter_objects, check_body, close_procedure, inner_block, entered, left, kind, labelled, alone, else_part, cases, statements, declaration, declarations, module_block, at_the_beginning, typing_of}
 use Rattle.typing.proofs.Steps.{then_checks, then_any}
 use Rattle.typing.proofs.Jumps.KnownLabels.{AreAround, none_around, around_entered}
@@ -8,7 +8,8 @@ use Rattle.typing.proofs.PartsWithoutStatements.{AreSound, IsAt, IsDone, value_i
 use Rattle.typing.proofs.Declarations.{declare_labels_is, declare_elements_is, open_procedure_is, close_procedure_is}
 
 -- the statements of a list from one on, whose next label has this number
-record AreDone (around : List LabelsOf) (lists : List Names) (outer : List Body) (trees : StatementTrees) (label : ℕ)
+record AreDone (around : List LabelsOf) (lists : List Names) (outer : List Body)
+    (trees : StatementTrees) (label : ℕ)
     (typed : TypedStatements × Progress) : Type 0 where
   jumps : JumpsStayInStatements around typed.0
   stand : ListsStandInStatements typed.0
@@ -16,7 +17,8 @@ record AreDone (around : List LabelsOf) (lists : List Names) (outer : List Body)
   after : IsAt lists outer typed.1.known
 
 -- a list
-record ListIsDone (around : List LabelsOf) (lists : List Names) (outer : List Body) (typed : TypedList × Progress) :
+record ListIsDone (around : List LabelsOf) (lists : List Names) (outer : List Body)
+    (typed : TypedList × Progress) :
     Type 0 where
   jumps : JumpsStayInList around typed.0
   stands : ListStands typed.0
@@ -36,7 +38,8 @@ list_is {around = around} {lists = lists} trees typed_from progress are at each 
     let inside : Progress = with_here (into_list (labels_of trees) progress.known.here) progress in
     then_checks _ _ (typed_from first inside) _
     (each _ _ first inside
-    (around_entered first (length (places_from 0 trees)) (labels_of trees) around lists (list_count 0 trees) are)
+    (around_entered first (length (places_from 0 trees)) (labels_of trees) around lists
+    (list_count 0 trees) are)
     (record {
       here = record {
         lists_are = ap (λ (tables : List Names). table ∷ tables) at.here.lists_are;
@@ -77,19 +80,22 @@ mutual
       (tree : StatementKindTree) (progress : Progress)
       → AreAround around lists → IsAt lists outer progress.known
       → IfOk (kind block tree progress) (IsDone around lists outer)
-  kind_is block (NullStatement place) progress are at = (record { jumps = tt; stands = tt; is_no_label = tt }, at)
+  kind_is block (NullStatement place) progress are at =
+      (record { jumps = tt; stands = tt; is_no_label = tt }, at)
   kind_is {around = around} block (AssignmentStatement targets source) progress are at =
       assignment_is around targets source progress at
   kind_is {around = around} block (CallStatement place name trees) progress are at =
       call_is around name (record { trees = trees; typed = arguments progress.known trees }) progress at
   kind_is {around = around} block (ReturnStatement place result) progress are at =
       return_is around place block.owner result progress at
-  kind_is block (HaltStatement place) progress are at = (record { jumps = tt; stands = tt; is_no_label = tt }, at)
+  kind_is block (HaltStatement place) progress are at =
+      (record { jumps = tt; stands = tt; is_no_label = tt }, at)
   kind_is block (GotoStatement place label) progress are at = goto_is label progress are at
   kind_is block (IfStatement place condition body otherwise) progress are at =
       then_checks _ _ (value condition progress) _ (value_is condition progress at) (λ tested at_body.
       then_checks _ _ (alone block body tested.1) _ (alone_is block body tested.1 are at_body) (λ chosen one.
-      then_checks _ _ (else_part block otherwise chosen.1) _ (else_part_is block otherwise chosen.1 are one.1) (λ other two. (
+      then_checks _ _ (else_part block otherwise chosen.1) _
+      (else_part_is block otherwise chosen.1 are one.1) (λ other two. (
         record {
           jumps = (one.0.jumps, two.0);
           stands = (one.0.is_no_label, one.0.stands, two.1);
@@ -106,7 +112,8 @@ mutual
       })) (λ opened at_body.
       then_checks _ _ (list_of body (λ label. statements (inner_block block) body label) opened) _
       (list_is body (λ label. statements (inner_block block) body label) opened are at_body
-      (λ inside tables label start known at_start. statements_is (inner_block block) body label start known at_start))
+      (λ inside tables label start known at_start. statements_is (inner_block block) body label
+      start known at_start))
       (λ typed done.
       (record { jumps = done.jumps; stands = done.stands; is_no_label = tt }, left_is typed.1 done.after)))
   kind_is block (WhileStatement place condition body) progress are at =
@@ -153,7 +160,8 @@ mutual
       (trees : StatementTrees) (progress : Progress)
       → AreAround around lists → IsAt lists outer progress.known
       → IfOk (cases block trees progress)
-      (λ typed. JumpsStayInStatements around typed.0 × ListsStandInCases typed.0 × IsAt lists outer typed.1.known)
+      (λ typed. JumpsStayInStatements around typed.0 × ListsStandInCases typed.0
+      × IsAt lists outer typed.1.known)
   cases_is block NoStatements progress are at = (tt, tt, at)
   cases_is block (MoreStatements first others) progress are at =
       then_checks _ _ (alone block first progress) _ (alone_is block first progress are at) (λ typed one.
@@ -168,10 +176,12 @@ mutual
       record { jumps = tt; stand = tt; labels = λ place. refl; after = at }
   statements_is {around = around} block (MoreStatements first others) label progress are at =
       let names : List Identifier = labels_before first in
-      then_checks _ _ (declare_labels names progress.known.here) _ (declare_labels_is names progress.known.here at.here)
+      then_checks _ _ (declare_labels names progress.known.here) _
+      (declare_labels_is names progress.known.here at.here)
       (λ here is.
       then_checks _ _ (labelled block first (with_here here progress)) _
-      (labelled_is block first (with_here here progress) are (record { here = is; procedures = at.procedures }))
+      (labelled_is block first (with_here here progress) are
+      (record { here = is; procedures = at.procedures }))
       (λ typed one.
       then_checks _ _ (statements block others (label + length names) typed.1) _
       (statements_is block others (label + length names) typed.1 are one.1) (λ rest more.
@@ -189,12 +199,15 @@ mutual
       → IsAt lists outer progress.known
       → IfOk (declaration block tree progress) (λ after. IsAt lists outer after.known)
   declaration_is block (DeclareTree elements) progress at = declare_elements_is block elements progress at
-  declaration_is {lists = lists} {outer = outer} block (ProcedureTree heading declared body end_name) progress at =
+  declaration_is {lists = lists} {outer = outer} block
+      (ProcedureTree heading declared body end_name) progress at =
       let own : Block = own_block heading progress in
       let around : Body = (with_procedure heading.name.name progress.known.here).body in
-      then_checks _ _ (open_procedure block heading declared progress) _ (open_procedure_is block heading declared progress at)
+      then_checks _ _ (open_procedure block heading declared progress) _
+      (open_procedure_is block heading declared progress at)
       (λ opened at_opened.
-      then_checks _ _ (declarations own declared opened) _ (declarations_is own declared opened at_opened) (λ within at_body.
+      then_checks _ _ (declarations own declared opened) _
+      (declarations_is own declared opened at_opened) (λ within at_body.
       then_any _ (parameter_objects within.known.here heading.parameters) _ (λ parameters.
       then_any _ (check_body heading body) _ (λ may_stand.
       then_checks _ _ (list_of body (λ label. statements own body label) within) _
@@ -204,7 +217,8 @@ mutual
       subst (λ (tables : List Names). IsAt tables outer
       (close_procedure heading declared (length progress.known.procedures) parameters typed.0 typed.1).known)
       at.here.lists_are
-      (close_procedure_is [] around heading declared (length progress.known.procedures) parameters typed.0 typed.1
+      (close_procedure_is [] around heading declared (length progress.known.procedures)
+      parameters typed.0 typed.1
       (record { closed = done.jumps; stands = done.stands }) done.after))))))
 
   declarations_is : {lists : List Names} {outer : List Body} (block : Block) (trees : DeclarationTrees)
@@ -213,7 +227,8 @@ mutual
       → IfOk (declarations block trees progress) (λ after. IsAt lists outer after.known)
   declarations_is block NoDeclarations progress at = at
   declarations_is block (MoreDeclarations first others) progress at =
-      then_checks _ _ (declaration block first progress) _ (declaration_is block first progress at) (λ after at_rest.
+      then_checks _ _ (declaration block first progress) _
+      (declaration_is block first progress at) (λ after at_rest.
       declarations_is block others after at_rest)
 
 typing_is : (tree : ModuleTree)
@@ -222,18 +237,24 @@ unfolding typing_of
 typing_is tree =
     then_checks _ _ (declarations module_block tree.declarations at_the_beginning) _
     (declarations_is module_block tree.declarations at_the_beginning
-    (record { here = record { lists_are = refl; outer_are = refl }; procedures = All-nil _ })) (λ declared at_body.
-    then_checks _ _ (list_of tree.statements (λ label. statements module_block tree.statements label) declared) _
-    (list_is tree.statements (λ label. statements module_block tree.statements label) declared (none_around []) at_body
-    (λ inside tables label start known at_start. statements_is module_block tree.statements label start known at_start))
+    (record { here = record { lists_are = refl; outer_are = refl }; procedures = All-nil _ }))
+    (λ declared at_body.
+    then_checks _ _
+    (list_of tree.statements (λ label. statements module_block tree.statements label) declared) _
+    (list_is tree.statements (λ label. statements module_block tree.statements label) declared
+    (none_around []) at_body
+    (λ inside tables label start known at_start. statements_is module_block tree.statements label
+    start known at_start))
     (λ typed done.
     (done.after.procedures, record { closed = done.jumps; stands = done.stands })))
 
--- In every typed module each GOTO goes to a label of a list around it in the same body, the labels of each list
--- stand where its places say, and no two labels have the same number.
-pub jumps_are_sound : (tree : ModuleTree) (found : TypedModule) → typing_of tree ≡ Ok found → JumpsAreSound found
+-- In every typed module each GOTO goes to a label of a list around it in the same body, the labels of each
+-- list stand where its places say, and no two labels have the same number.
+pub jumps_are_sound : (tree : ModuleTree) (found : TypedModule) → typing_of tree ≡ Ok found
+    → JumpsAreSound found
 jumps_are_sound tree found is =
     let are : AreSound found.procedures × BodyIsSound found.main.body =
-    subst (λ (given : Checked TypedModule). IfOk given (λ typed. AreSound typed.procedures × BodyIsSound typed.main.body))
+    subst (λ (given : Checked TypedModule). IfOk given
+    (λ typed. AreSound typed.procedures × BodyIsSound typed.main.body))
     is (typing_is tree) in
     record { procedures = are.0; main = are.1; labels = labels_differ tree found is }

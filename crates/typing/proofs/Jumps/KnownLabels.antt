@@ -27,7 +27,8 @@ around_more labels around (Object number) is = tt
 around_more labels around (Procedure number) is = tt
 around_more labels around Definition is = tt
 
-of_either : {A : Type 0} (P : A → Type 0) (test : Bool) (one other : A) → P one → P other → P (cond test one other)
+of_either : {A : Type 0} (P : A → Type 0) (test : Bool) (one other : A) → P one → P other
+    → P (cond test one other)
 of_either P true one other holds others = holds
 of_either P false one other holds others = others
 
@@ -68,7 +69,8 @@ either P None second in_first in_second = in_second
 either P (Some entity) second in_first in_second = in_first
 
 -- into a list with so many labels, which are numbered from one on
-pub around_entered : (number count : ℕ) (labels : List Identifier) (around : List LabelsOf) (lists : List Names)
+pub around_entered : (number count : ℕ) (labels : List Identifier) (around : List LabelsOf)
+    (lists : List Names)
     → count ≡ length labels → AreAround around lists
     → AreAround (record { first = number; count = count } ∷ around) (numbered_from number labels [] ∷ lists)
 around_entered number count labels around lists counted are =

@@ -21,19 +21,21 @@ labels_stand [] label place next_label next_place places statement others one tw
     stand_after label place places statement others is_none
     (subst (λ (number : ℕ). LabelsStand number (place + 1) places others) (one ∙ omega arith)
     (subst (λ (number : ℕ). LabelsStand next_label number places others) (two ∙ omega arith) stand))
-labels_stand (first ∷ labels) label place next_label next_place places statement others one two is_none stand = (
-  refl,
-  refl,
-  labels_stand labels (label + 1) (place + 1) next_label next_place places statement others
-      (omega arith) (omega arith) is_none stand,
-)
+labels_stand (first ∷ labels) label place next_label next_place places statement others one
+    two is_none stand = (
+      refl,
+      refl,
+      labels_stand labels (label + 1) (place + 1) next_label next_place places statement others
+          (omega arith) (omega arith) is_none stand,
+    )
 
 -- a list has as many places as labels
 places_count : (place : ℕ) (labels : List Identifier) → length (places_of place labels) ≡ length labels
 places_count place [] = refl
 places_count place (label ∷ labels) = ap (λ (n : ℕ). suc n) (places_count (place + 1) labels)
 
-pub list_count : (place : ℕ) (trees : StatementTrees) → length (places_from place trees) ≡ length (labels_of trees)
+pub list_count : (place : ℕ) (trees : StatementTrees)
+    → length (places_from place trees) ≡ length (labels_of trees)
 list_count place NoStatements = refl
 list_count place (MoreStatements (LabelledStatement labels kind) others) =
     let next : ℕ = place + length labels + 1 in
@@ -43,8 +45,10 @@ list_count place (MoreStatements (LabelledStatement labels kind) others) =
     ∙ sym (length-append labels (labels_of others))))
 
 -- what holds of each statement holds with labels before
-pub jumps_after_labels : (around : List LabelsOf) (label : ℕ) (labels : List Identifier) (statements : TypedStatements)
-    → JumpsStayInStatements around statements → JumpsStayInStatements around (after_labels label labels statements)
+pub jumps_after_labels : (around : List LabelsOf) (label : ℕ) (labels : List Identifier)
+    (statements : TypedStatements)
+    → JumpsStayInStatements around statements
+    → JumpsStayInStatements around (after_labels label labels statements)
 jumps_after_labels around label [] typed stay = stay
 jumps_after_labels around label (first ∷ labels) typed stay =
     (tt, jumps_after_labels around (label + 1) labels typed stay)
@@ -89,7 +93,8 @@ times_append n [] others = omega arith
 times_append n (label ∷ first) others = omega (arith, times_append n first others)
 
 -- numbers of which none is there twice differ
-others_differ : (n : ℕ) (others : List ℕ) → times n others ≡ 0 → AllByRecursion (λ (other : ℕ). n ≢ other) others
+others_differ : (n : ℕ) (others : List ℕ) → times n others ≡ 0
+    → AllByRecursion (λ (other : ℕ). n ≢ other) others
 others_differ n [] none = tt
 others_differ n (other ∷ others) none = (
   λ same.
@@ -112,8 +117,8 @@ module _ (n : ℕ) where
   abbrev in_procedures : List TypedProcedure → ℕ
   in_procedures procedures = times n (flat_map labels_in_procedure procedures)
 
-  -- From one place to another, each number that is counted in the labels that are made is one that the counter of
-  -- labels has passed.
+  -- From one place to another, each number that is counted in the labels that are made is one that the
+  -- counter of labels has passed.
   abbrev Adds : Known → List ℕ → Known → Type 0
   Adds before labels after =
       times n labels + in_procedures after.procedures + below before.here.labels n
@@ -143,9 +148,11 @@ module _ (n : ℕ) where
 
   both_add : (before between after : Known) (one other : List ℕ)
       → Adds before one between → Adds between other after → Adds before (one ++ other) after
-  both_add before between after one other first second = omega (arith, first, second, times_append n one other)
+  both_add before between after one other first second =
+      omega (arith, first, second, times_append n one other)
 
-  same_adds : (before after : Known) → after.procedures ≡ before.procedures → after.here.labels ≡ before.here.labels
+  same_adds : (before after : Known) → after.procedures ≡ before.procedures
+      → after.here.labels ≡ before.here.labels
       → Adds before [] after
   same_adds before after procedures labels =
       let same_procedures : in_procedures after.procedures ≡ in_procedures before.procedures =
@@ -164,14 +171,17 @@ module _ (n : ℕ) where
       → IfOk (assignment targets source progress) (AddsStatement progress)
   assignment_adds targets source progress =
       then_any _ (destinations progress.known targets progress.constants) _ (λ places.
-      then_checks _ _ (value source (with_constants places.1 progress)) _ (value_adds source (with_constants places.1 progress))
+      then_checks _ _ (value source (with_constants places.1 progress)) _
+      (value_adds source (with_constants places.1 progress))
       (λ typed adds. adds))
 
-  moved_has_none : (place : Place) (values : TypedArguments) → IfOk (moved place values) (λ typed. labels_in typed ≡ [])
+  moved_has_none : (place : Place) (values : TypedArguments)
+      → IfOk (moved place values) (λ typed. labels_in typed ≡ [])
   moved_has_none place (MoreArguments count (MoreArguments source (MoreArguments destination NoTyped))) = refl
   moved_has_none place values = tt
 
-  call_bound_has_none : (known : Known) (binding : Binding) (name : Identifier) (given : Given) (constants : Constants)
+  call_bound_has_none : (known : Known) (binding : Binding) (name : Identifier) (given : Given)
+      (constants : Constants)
       → IfOk (call_bound known binding name given constants) (λ typed. labels_in typed.0 ≡ [])
   call_bound_has_none known (Declared (Procedure number)) name given constants =
       then_any _ (procedure_of known name number) _ (λ procedure.
@@ -180,7 +190,8 @@ module _ (n : ℕ) where
   call_bound_has_none known (BuiltInName Move) name given constants =
       then_any _ (require (count_of_given given == 3) ArgumentCount (place_of name)) _ (λ are_three.
       then_any _ (given.typed constants) _ (λ typed.
-      then_checks _ _ (moved (place_of name) typed.0) _ (moved_has_none (place_of name) typed.0) (λ moving none. none)))
+      then_checks _ _ (moved (place_of name) typed.0) _ (moved_has_none (place_of name) typed.0)
+      (λ moving none. none)))
   call_bound_has_none known binding name given constants = tt
 
   call_adds : (name : Identifier) (given : Given) (progress : Progress)
@@ -191,7 +202,8 @@ module _ (n : ℕ) where
       (call_bound_has_none progress.known binding name given progress.constants)
       (λ typed none. without (labels_in typed.0) progress.known none))
 
-  return_with_adds : (place : Place) (result : Option ScalarType) (tree : Option ExpressionTree) (progress : Progress)
+  return_with_adds : (place : Place) (result : Option ScalarType) (tree : Option ExpressionTree)
+      (progress : Progress)
       → IfOk (return_with place result tree progress) (AddsStatement progress)
   return_with_adds place None None progress = stays progress.known
   return_with_adds place (Some scalar) (Some tree) progress =
@@ -201,9 +213,11 @@ module _ (n : ℕ) where
   return_adds : (place : Place) (owner : Owner) (tree : Option ExpressionTree) (progress : Progress)
       → IfOk (return_from place owner tree progress) (AddsStatement progress)
   return_adds place TheModule tree progress = tt
-  return_adds place (OfProcedure number heading) tree progress = return_with_adds place heading.result tree progress
+  return_adds place (OfProcedure number heading) tree progress =
+      return_with_adds place heading.result tree progress
 
-  goto_has_none : (place : Place) (binding : Binding) → IfOk (goto_bound place binding) (λ typed. labels_in typed ≡ [])
+  goto_has_none : (place : Place) (binding : Binding)
+      → IfOk (goto_bound place binding) (λ typed. labels_in typed ≡ [])
   goto_has_none place (Declared (Label label)) = refl
   goto_has_none place binding = tt
 
@@ -216,7 +230,8 @@ module _ (n : ℕ) where
   step_adds : (tree : Option ExpressionTree) (progress : Progress)
       → IfOk (step tree progress) (λ typed. AddsNone progress typed.1)
   step_adds None progress = stays progress.known
-  step_adds (Some tree) progress = then_checks _ _ (value tree progress) _ (value_adds tree progress) (λ typed adds. adds)
+  step_adds (Some tree) progress =
+      then_checks _ _ (value tree progress) _ (value_adds tree progress) (λ typed adds. adds)
 
   iteration_adds : (tree : IterationTree) (progress : Progress)
       → IfOk (iteration tree progress) (λ typed. AddsNone progress typed.1)
@@ -248,13 +263,15 @@ module _ (n : ℕ) where
   declare_names_keeps block [] here = refl
   declare_names_keeps block (name ∷ others) here =
       then_any _ (require (not (is_declared_again here name.name)) DeclaredTwice (place_of name)) _ (λ is_new.
-      then_any _ (require (not (is_external block.owner) || declares_parameter block name.name) ExternalContents
+      then_any _
+      (require (not (is_external block.owner) || declares_parameter block name.name) ExternalContents
       (place_of name)) _ (λ may_stand.
       declare_names_keeps block others (with_object name.name here)))
 
   -- objects that are declared
   with_objects_keeps : (block : Block) (item : TypedItem) (names : List Identifier) (progress : Progress)
-      → IfOk (with_objects block item names progress) (λ after. after.known.procedures ≡ progress.known.procedures)
+      → IfOk (with_objects block item names progress)
+      (λ after. after.known.procedures ≡ progress.known.procedures)
   with_objects_keeps block item [] progress = refl
   with_objects_keeps block item (name ∷ others) progress =
       let after : Progress = with_typed_object item.linkage (object_named block item name.name) progress in
@@ -275,36 +292,43 @@ module _ (n : ℕ) where
   declare_definition_adds : (block : Block) (name : Identifier) (progress : Progress)
       → IfOk (declare_definition block name progress) (AddsNone progress)
   declare_definition_adds block name progress =
-      then_any _ (require (not (is_declared_again progress.known.here name.name)) DeclaredTwice (place_of name)) _
+      then_any _
+      (require (not (is_declared_again progress.known.here name.name)) DeclaredTwice (place_of name)) _
       (λ is_new.
       then_any _ (require (not (is_external block.owner)) ExternalContents (place_of name)) _ (λ may_stand.
       stays progress.known))
 
   declare_element_adds : (block : Block) (element : ElementTree) (progress : Progress)
       → IfOk (declare_element block element progress) (AddsNone progress)
-  declare_element_adds block (LiterallyElement name text) progress = declare_definition_adds block name progress
+  declare_element_adds block (LiterallyElement name text) progress =
+      declare_definition_adds block name progress
   declare_element_adds block (ItemElement item) progress = declare_item_adds block item progress
 
   declare_elements_add : (block : Block) (elements : List ElementTree) (progress : Progress)
       → IfOk (declare_elements block elements progress) (AddsNone progress)
   declare_elements_add block [] progress = stays progress.known
   declare_elements_add block (element ∷ others) progress =
-      then_checks _ _ (declare_element block element progress) _ (declare_element_adds block element progress) (λ between one.
-      goes_on progress between (declare_elements block others between) one (declare_elements_add block others between))
+      then_checks _ _ (declare_element block element progress) _
+      (declare_element_adds block element progress) (λ between one.
+      goes_on progress between (declare_elements block others between) one
+      (declare_elements_add block others between))
 
   -- into a procedure, whose body is still to come, and out of it
-  one_more : (procedures : List TypedProcedure) (procedure : TypedProcedure) → labels_in_procedure procedure ≡ []
+  one_more : (procedures : List TypedProcedure) (procedure : TypedProcedure)
+      → labels_in_procedure procedure ≡ []
       → in_procedures (procedures ++ procedure ∷ []) ≡ in_procedures procedures
   one_more procedures procedure none =
       ap (times n) (flat_map-append labels_in_procedure procedures (procedure ∷ [])
       ∙ ap (λ (labels : List ℕ). flat_map labels_in_procedure procedures ++ (labels ++ [])) none
       ∙ append-nil (flat_map labels_in_procedure procedures))
 
-  open_procedure_adds : (block : Block) (heading : HeadingTree) (declared : DeclarationTrees) (progress : Progress)
+  open_procedure_adds : (block : Block) (heading : HeadingTree) (declared : DeclarationTrees)
+      (progress : Progress)
       → IfOk (open_procedure block heading declared progress) (AddsNone progress)
   open_procedure_adds block heading declared progress =
       let named : Here = with_procedure heading.name.name progress.known.here in
-      let new : TypedProcedure = procedure_with heading (parameter_types declared heading.parameters) [] 0 empty_list in
+      let new : TypedProcedure =
+      procedure_with heading (parameter_types declared heading.parameters) [] 0 empty_list in
       then_any _ (require (not (is_declared_again progress.known.here heading.name.name)) DeclaredTwice
       (place_of heading.name)) _ (λ is_new.
       then_any _ (require (not (is_reentrant block.owner || is_external block.owner)) NestedProcedure
@@ -332,7 +356,8 @@ module _ (n : ℕ) where
       omega (
         arith,
         put_in others number procedure,
-        times_append n (labels_in_procedure first) (flat_map labels_in_procedure (slice_set others number procedure)),
+        times_append n (labels_in_procedure first)
+            (flat_map labels_in_procedure (slice_set others number procedure)),
         times_append n (labels_in_procedure first) (flat_map labels_in_procedure others),
       )
 
@@ -349,7 +374,8 @@ module _ (n : ℕ) where
       procedure_with heading (parameter_types declared heading.parameters) parameters progress.frame typed in
       let same : below (after_body progress.known.here.outer_bodies progress.known.here).labels n
       ≡ below progress.known.here.labels n =
-      ap (λ (limit : ℕ). below limit n) (labels_after_body progress.known.here.outer_bodies progress.known.here) in
+      ap (λ (limit : ℕ). below limit n)
+      (labels_after_body progress.known.here.outer_bodies progress.known.here) in
       omega (arith, adds, same, put_in progress.known.procedures number new)
 
   -- the statements of a list from one on, whose next label has this number
@@ -360,7 +386,8 @@ module _ (n : ℕ) where
       ≤ in_procedures before.known.procedures + below typed.1.known.here.labels n
       + below (label + length (labels_of trees)) n
 
-  with_labels : (labels : List Identifier) (label next : ℕ) (typed : TypedStatements) → next ≡ label + length labels
+  with_labels : (labels : List Identifier) (label next : ℕ) (typed : TypedStatements)
+      → next ≡ label + length labels
       → times n (labels_in_statements (after_labels label labels typed)) + below label n
       ≤ times n (labels_in_statements typed) + below next n
   with_labels [] label next typed is =
@@ -392,9 +419,12 @@ module _ (n : ℕ) where
     kind_adds block (IfStatement place condition body otherwise) progress =
         then_checks _ _ (value condition progress) _ (value_adds condition progress) (λ tested first.
         then_checks _ _ (alone block body tested.1) _ (alone_adds block body tested.1) (λ chosen one.
-        then_checks _ _ (else_part block otherwise chosen.1) _ (else_part_adds block otherwise chosen.1) (λ other two.
-        then_adds progress.known tested.1.known other.1.known (labels_in chosen.0 ++ labels_in_else other.0) first
-        (both_add tested.1.known chosen.1.known other.1.known (labels_in chosen.0) (labels_in_else other.0) one two))))
+        then_checks _ _ (else_part block otherwise chosen.1) _
+        (else_part_adds block otherwise chosen.1) (λ other two.
+        then_adds progress.known tested.1.known other.1.known
+        (labels_in chosen.0 ++ labels_in_else other.0) first
+        (both_add tested.1.known chosen.1.known other.1.known (labels_in chosen.0)
+        (labels_in_else other.0) one two))))
     kind_adds block (DoStatement place declared body) progress =
         then_checks _ _ (declarations (inner_block block) declared (entered progress)) _
         (declarations_add (inner_block block) declared (entered progress)) (λ opened first.
@@ -442,7 +472,8 @@ module _ (n : ℕ) where
     cases_add block (MoreStatements first others) progress =
         then_checks _ _ (alone block first progress) _ (alone_adds block first progress) (λ typed one.
         then_checks _ _ (cases block others typed.1) _ (cases_add block others typed.1) (λ rest more.
-        both_add progress.known typed.1.known rest.1.known (labels_in typed.0) (labels_in_statements rest.0) one more))
+        both_add progress.known typed.1.known rest.1.known (labels_in typed.0)
+        (labels_in_statements rest.0) one more))
 
     statements_add : (block : Block) (trees : StatementTrees) (label : ℕ) (progress : Progress)
         → IfOk (statements block trees label progress) (FromLabel trees label progress)
@@ -451,13 +482,16 @@ module _ (n : ℕ) where
         omega (arith, same)
     statements_add block (MoreStatements (LabelledStatement names done) others) label progress =
         let next : ℕ = label + length names in
-        let same : below (label + length (names ++ labels_of others)) n ≡ below (next + length (labels_of others)) n =
+        let same : below (label + length (names ++ labels_of others)) n
+        ≡ below (next + length (labels_of others)) n =
         ap (λ (limit : ℕ). below limit n) (omega (arith, length-append names (labels_of others))) in
-        then_checks _ _ (declare_labels names progress.known.here) _ (declare_labels_keeps names progress.known.here)
+        then_checks _ _ (declare_labels names progress.known.here) _
+        (declare_labels_keeps names progress.known.here)
         (λ here keeps.
         then_checks _ _ (labelled block (LabelledStatement names done) (with_here here progress)) _
         (labelled_adds block (LabelledStatement names done) (with_here here progress)) (λ typed one.
-        then_checks _ _ (statements block others next typed.1) _ (statements_add block others next typed.1) (λ rest more.
+        then_checks _ _ (statements block others next typed.1) _
+        (statements_add block others next typed.1) (λ rest more.
         let kept : below here.labels n ≡ below progress.known.here.labels n =
         ap (λ (limit : ℕ). below limit n) keeps in
         omega (
@@ -475,30 +509,36 @@ module _ (n : ℕ) where
     declaration_adds block (DeclareTree elements) progress = declare_elements_add block elements progress
     declaration_adds block (ProcedureTree heading declared body end_name) progress =
         let own : Block = own_block heading progress in
-        then_checks _ _ (open_procedure block heading declared progress) _ (open_procedure_adds block heading declared progress)
+        then_checks _ _ (open_procedure block heading declared progress) _
+        (open_procedure_adds block heading declared progress)
         (λ opened first.
-        then_checks _ _ (declarations own declared opened) _ (declarations_add own declared opened) (λ within second.
+        then_checks _ _ (declarations own declared opened) _
+        (declarations_add own declared opened) (λ within second.
         then_any _ (parameter_objects within.known.here heading.parameters) _ (λ parameters.
         then_any _ (check_body heading body) _ (λ may_stand.
         then_checks _ _ (list_of body (λ label. statements own body label) within) _
         (list_adds body (λ label. statements own body label) within
         (λ label start. statements_add own body label start)) (λ typed third.
-        close_procedure_adds progress.known heading declared (length progress.known.procedures) parameters typed.0 typed.1
+        close_procedure_adds progress.known heading declared (length progress.known.procedures)
+        parameters typed.0 typed.1
         (omega (arith, first, second, third)))))))
 
     declarations_add : (block : Block) (trees : DeclarationTrees) (progress : Progress)
         → IfOk (declarations block trees progress) (AddsNone progress)
     declarations_add block NoDeclarations progress = stays progress.known
     declarations_add block (MoreDeclarations first others) progress =
-        then_checks _ _ (declaration block first progress) _ (declaration_adds block first progress) (λ between one.
-        goes_on progress between (declarations block others between) one (declarations_add block others between))
+        then_checks _ _ (declaration block first progress) _
+        (declaration_adds block first progress) (λ between one.
+        goes_on progress between (declarations block others between) one
+        (declarations_add block others between))
 
   at_most_once : (tree : ModuleTree) → IfOk (typing_of tree) (λ typed. times n (labels_in_module typed) ≤ 1)
   unfolding typing_of
   at_most_once tree =
       then_checks _ _ (declarations module_block tree.declarations at_the_beginning) _
       (declarations_add module_block tree.declarations at_the_beginning) (λ declared first.
-      then_checks _ _ (list_of tree.statements (λ label. statements module_block tree.statements label) declared) _
+      then_checks _ _
+      (list_of tree.statements (λ label. statements module_block tree.statements label) declared) _
       (list_adds tree.statements (λ label. statements module_block tree.statements label) declared
       (λ label start. statements_add module_block tree.statements label start)) (λ typed second.
       omega (

@@ -17,7 +17,8 @@ pub record Blamed (event : Event) (refusal : Fault) : Type 0 where
 
 abbrev pub AreBlamed : List Event → Fault → Type 0
 AreBlamed [] refusal = ⊥
-AreBlamed (event ∷ others) refusal = Blamed event refusal ⊎ ((fault_of event ≡ None) × AreBlamed others refusal)
+AreBlamed (event ∷ others) refusal =
+    Blamed event refusal ⊎ ((fault_of event ≡ None) × AreBlamed others refusal)
 
 -- or it is a fault that the name of a member may have
 abbrev pub IsWrong : List Event → List Fault → Fault → Type 0
@@ -26,7 +27,8 @@ IsWrong events members refusal = AreBlamed events refusal ⊎ Contains members r
 pub no_first : (events : List Event) → NoFault events → first_fault events ≡ None
 no_first [] none = refl
 no_first (event ∷ others) (here, later) =
-    ap (λ (found : Option name_fault.Fault). option_or found (first_fault others)) here ∙ no_first others later
+    ap (λ (found : Option name_fault.Fault). option_or found (first_fault others)) here
+    ∙ no_first others later
 
 -- the first fault of events that have one
 pub record FirstIs (events : List Event) (refusal : Fault) : Type 0 where
@@ -45,7 +47,8 @@ first_blamed (event ∷ others) refusal (inr (none, later)) =
     let rest = first_blamed others refusal later in
     record {
       fault = rest.fault;
-      first = ap (λ (found : Option name_fault.Fault). option_or found (first_fault others)) none ∙ rest.first;
+      first = ap (λ (found : Option name_fault.Fault). option_or found (first_fault others)) none
+          ∙ rest.first;
       same = rest.same;
     }
 
@@ -76,7 +79,8 @@ events_join events others members more = record {
   second = λ one refusal wrong. by_second one refusal wrong;
 }
   where
-    by_first : (refusal : Fault) → IsWrong events members refusal → IsWrong (events ++ others) (members ++ more) refusal
+    by_first : (refusal : Fault) → IsWrong events members refusal
+        → IsWrong (events ++ others) (members ++ more) refusal
     by_first refusal (inl blamed) = inl (blamed_first events others refusal blamed)
     by_first refusal (inr member) = inr (Contains-append_left members more refusal member)
 
@@ -100,7 +104,8 @@ Finds {A} here names members result =
 known_append : (here : Here) (names others : List Identifier)
     → AreKnown here names → AreKnown here others → AreKnown here (names ++ others)
 known_append here [] others known later = later
-known_append here (name ∷ names) others (first, rest) later = (first, known_append here names others rest later)
+known_append here (name ∷ names) others (first, rest) later =
+    (first, known_append here names others rest later)
 
 unknown_first : (here : Here) (names others : List Identifier) (refusal : Fault)
     → AreBlamed (uses_at here names) refusal → AreBlamed (uses_at here (names ++ others)) refusal
@@ -110,14 +115,16 @@ unknown_first here (name ∷ names) others refusal (inr (none, later)) =
     inr (none, unknown_first here names others refusal later)
 
 unknown_later : (here : Here) (names others : List Identifier) (refusal : Fault)
-    → AreKnown here names → AreBlamed (uses_at here others) refusal → AreBlamed (uses_at here (names ++ others)) refusal
+    → AreKnown here names → AreBlamed (uses_at here others) refusal
+    → AreBlamed (uses_at here (names ++ others)) refusal
 unknown_later here [] others refusal known later = later
 unknown_later here (name ∷ names) others refusal (first, rest) later =
     inr (first, unknown_later here names others refusal rest later)
 
 pub names_join : (here : Here) (names others : List Identifier) (members more : List Fault)
     → Joins (AreKnown here names) (AreKnown here others) (AreKnown here (names ++ others))
-    (IsUnknown here names members) (IsUnknown here others more) (IsUnknown here (names ++ others) (members ++ more))
+    (IsUnknown here names members) (IsUnknown here others more)
+    (IsUnknown here (names ++ others) (members ++ more))
 names_join here names others members more = record {
   both = λ one other. known_append here names others one other;
   first = λ refusal wrong. by_first refusal wrong;
@@ -149,7 +156,9 @@ bound-finds known name = by (binding_of known.here name.name) refl
           let same : record { cause = UnknownName; place = place_of name } ≡ refusal = cc in
           inl (inl (record {
             fault = name_faults.Unknown (place_of name);
-            is = subst (λ (option : Option Binding). fault_of (Use name option) ≡ Some (name_faults.Unknown (place_of name)))
+            is = subst
+                (λ (option : Option Binding). fault_of (Use name option)
+                ≡ Some (name_faults.Unknown (place_of name)))
                 (sym is) refl;
             same = same;
           }));
@@ -172,12 +181,13 @@ pub walks_then : {A B : Type 0} {first second : Here → Seen} {before : Here} {
     → ((a : A) → Walks second (here_of a) more there_of (next a))
     → Walks (in_turn first second) before (members ++ more) there_of (result >>= next)
 unfolding in_turn
-walks_then {A} {B} {first} {second} {before} {members} {more} {here_of} {there_of} {result} {next} one other = record {
-  meets = meets_then
-      (events_join (first before).events (second (first before).here).events members more)
-      one.meets
-      (λ a is. (subst (λ (here : Here). Walks second here more there_of (next a)) is (other a)).meets);
-}
+walks_then {A} {B} {first} {second} {before} {members} {more} {here_of} {there_of} {result} {next} one other =
+    record {
+      meets = meets_then
+          (events_join (first before).events (second (first before).here).events members more)
+          one.meets
+          (λ a is. (subst (λ (here : Here). Walks second here more there_of (next a)) is (other a)).meets);
+    }
 
 -- what is given goes on at the same place
 pub walks_on : {A B : Type 0} {see : Here → Seen} {before : Here} {members : List Fault}
@@ -197,7 +207,8 @@ pub walks_ok : {A B : Type 0} {see : Here → Seen} {before : Here} {members : L
 walks_ok f same walks = walks_on walks λ a. meets_ok tt (same a)
 
 -- after a check that no name is found by
-pub after_walks : {A B : Type 0} {see : Here → Seen} {before : Here} {members : List Fault} {there_of : B → Here}
+pub after_walks : {A B : Type 0} {see : Here → Seen} {before : Here} {members : List Fault}
+    {there_of : B → Here}
     {P : A → Type 0} {result : Checked A} {next : A → Checked B}
     → Meets (Unit {0}) Never P result
     → ((a : A) → P a → Walks see before members there_of (next a))
@@ -205,7 +216,8 @@ pub after_walks : {A B : Type 0} {see : Here → Seen} {before : Here} {members 
 after_walks other then_is = record { meets = after_other other λ a is. (then_is a is).meets }
 
 -- into a part of a text, and out of it
-pub walks_in : {A : Type 0} {second : Here → Seen} {members : List Fault} {there_of : A → Here} {result : Checked A}
+pub walks_in : {A : Type 0} {second : Here → Seen} {members : List Fault} {there_of : A → Here}
+    {result : Checked A}
     (move : Here → Here) (before : Here)
     → Walks second (move before) members there_of result
     → Walks (in_turn (moves move) second) before members there_of result
@@ -241,7 +253,8 @@ walks_as {A} {see} other {before} {members} {here_of} {result} events here walks
       (λ (there : Here). Meets (NoFault (other before).events) (IsWrong (other before).events members)
       (λ (a : A). here_of a ≡ there) result) here
       (subst
-      (λ (all : List Event). Meets (NoFault all) (IsWrong all members) (λ (a : A). here_of a ≡ (see before).here) result)
+      (λ (all : List Event). Meets (NoFault all) (IsWrong all members)
+      (λ (a : A). here_of a ≡ (see before).here) result)
       events walks.meets);
 }
 
@@ -269,7 +282,8 @@ walks_assoc first second third {before = before} walks =
 
 -- the parts of one list after those of another
 pub see_all_append : {T : Type 0} (see : T → Here → Seen) (some others : List T) (here : Here)
-    → ((in_turn (see_all see some) (see_all see others) here).events ≡ (see_all see (some ++ others) here).events)
+    → ((in_turn (see_all see some) (see_all see others) here).events
+    ≡ (see_all see (some ++ others) here).events)
     × ((in_turn (see_all see some) (see_all see others) here).here ≡ (see_all see (some ++ others) here).here)
 unfolding in_turn nothing
 see_all_append see [] others here = (refl, refl)
@@ -284,7 +298,8 @@ see_all_append see (first ∷ some) others here =
 
 -- a name that is declared: not again, or it is to blame
 pub declared-once : (name : Identifier) (again : Bool)
-    → Meets (NoFault (Declaration name again ∷ [])) (IsWrong (Declaration name again ∷ []) []) (λ (a : Unit {0}). Unit {0})
+    → Meets (NoFault (Declaration name again ∷ [])) (IsWrong (Declaration name again ∷ []) [])
+    (λ (a : Unit {0}). Unit {0})
     (require (not again) DeclaredTwice (place_of name))
 declared-once name false = meets_ok (refl, tt) tt
 declared-once name true = record {
@@ -294,7 +309,8 @@ declared-once name true = record {
       inl (inl (record { fault = name_faults.DeclaredTwice (place_of name); is = refl; same = same }));
 }
 
-pub declared-walks : {A B : Type 0} (is_again : Here → List ℕ → Bool) (with_it : List ℕ → Here → Here) (name : Identifier)
+pub declared-walks : {A B : Type 0} (is_again : Here → List ℕ → Bool)
+    (with_it : List ℕ → Here → Here) (name : Identifier)
     (here : Here) {result : Checked A} {next : A → Checked B} {second : Here → Seen} {members : List Fault}
     {there_of : B → Here}
     → Meets (NoFault (Declaration name (is_again here name.name) ∷ []))
@@ -304,11 +320,13 @@ pub declared-walks : {A B : Type 0} (is_again : Here → List ℕ → Bool) (wit
 unfolding in_turn declares
 declared-walks is_again with_it name here {second = second} {members = members} once walks = record {
   meets = meets_then
-      (events_join (Declaration name (is_again here name.name) ∷ []) (second (with_it name.name here)).events [] members)
+      (events_join (Declaration name (is_again here name.name) ∷ [])
+      (second (with_it name.name here)).events [] members)
       once λ a _. (walks a).meets;
 }
 
-pub declared-alone : {A B : Type 0} (is_again : Here → List ℕ → Bool) (with_it : List ℕ → Here → Here) (name : Identifier)
+pub declared-alone : {A B : Type 0} (is_again : Here → List ℕ → Bool)
+    (with_it : List ℕ → Here → Here) (name : Identifier)
     (here : Here) {result : Checked A} {next : A → Checked B} {there_of : B → Here}
     → Meets (NoFault (Declaration name (is_again here name.name) ∷ []))
     (IsWrong (Declaration name (is_again here name.name) ∷ []) []) (λ (a : A). Unit {0}) result

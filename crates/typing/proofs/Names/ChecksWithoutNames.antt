@@ -26,17 +26,21 @@ number-other constant =
 
 -- objects and procedures
 pub object-other : (known : Known) (name : Identifier) (number : ℕ) → IsOther (object_of known name number)
-object-other known name number = other_found (slice_get known.objects number) NoVariable (place_of name) not_of_names
+object-other known name number =
+    other_found (slice_get known.objects number) NoVariable (place_of name) not_of_names
 
-pub procedure-other : (known : Known) (name : Identifier) (number : ℕ) → IsOther (procedure_of known name number)
-procedure-other known name number = other_found (slice_get known.procedures number) CallOfNoProcedure (place_of name) not_of_names
+pub procedure-other : (known : Known) (name : Identifier) (number : ℕ)
+    → IsOther (procedure_of known name number)
+procedure-other known name number =
+    other_found (slice_get known.procedures number) CallOfNoProcedure (place_of name) not_of_names
 
 pub writable-other : (object : TypedObject) (name : Identifier) → IsOther (is_writable object name)
 writable-other object name =
     other_required (not (is_constant object.home)) ConstantWritten (place_of name) not_of_names
 
 -- functions
-pub measure-other : (measure : Measure) (measured : Measured) (place : Place) → IsOther (measure_of measure measured place)
+pub measure-other : (measure : Measure) (measured : Measured) (place : Place)
+    → IsOther (measure_of measure measured place)
 measure-other measures.Length measured place = other_found measured.dimension NotMeasurable place not_of_names
 measure-other measures.Last measured place =
     after_other (other_found measured.dimension NotMeasurable place not_of_names) λ count _.
@@ -58,7 +62,8 @@ moved-other place (MoreTyped count (MoreTyped source (MoreTyped destination NoTy
 moved-other place values = meets_fault ArgumentCount place not_of_names
 
 -- restricted expressions and lists
-address-other : (reach : Reach) (home : Home) (number : ℕ) (place : Place) → IsOther (with_address reach home number place)
+address-other : (reach : Reach) (home : Home) (number : ℕ) (place : Place)
+    → IsOther (with_address reach home number place)
 address-other reach (InFrame procedure) number place = meets_fault NoLocation place not_of_names
 address-other reach (BasedOn base) number place = meets_fault NoFixedAddress place not_of_names
 address-other ThisModule Elsewhere number place = meets_fault NoFixedAddress place not_of_names
@@ -71,7 +76,8 @@ pub static-other : (reach : Reach) (known : Known) (binding : Binding) (name : I
 static-other reach known (Declared (Object number)) name =
     after_other (object-other known name number) λ object _.
     address-other reach object.home number (place_of name)
-static-other reach known (Declared (Procedure number)) name = meets_fault NoLocation (place_of name) not_of_names
+static-other reach known (Declared (Procedure number)) name =
+    meets_fault NoLocation (place_of name) not_of_names
 static-other reach known binding name = meets_fault NoVariable (place_of name) not_of_names
 
 pub scalar-other : (place : Place) (scalars : List ScalarType) (value : RestrictedValue)
@@ -97,10 +103,12 @@ string-other string [] = characters-other string.place string.characters []
 string-other string (Byte ∷ left) = characters-other string.place string.characters (Byte ∷ left)
 string-other string (Address ∷ left) =
     after_other
-    (other_found (number_of_characters string.characters) StringNotNumber string.place not_of_names) λ number _.
+    (other_found (number_of_characters string.characters) StringNotNumber string.place not_of_names)
+    λ number _.
     meets_ok tt tt
 
-pub as_listed-other : (place : Place) (used each : ℕ) (values : List InitialValue) → IsOther (contents_as_listed place used each values)
+pub as_listed-other : (place : Place) (used each : ℕ) (values : List InitialValue)
+    → IsOther (contents_as_listed place used each values)
 as_listed-other place used each values =
     after_other (other_required (nat_lt 0 used) ImpliedWithoutValues place not_of_names) λ _ _.
     meets_ok tt tt
@@ -116,12 +124,19 @@ extents-other block item None = meets_ok tt tt
 extents-other block item (Some (Count number)) =
     after_other (other_required (nat_le 1 number.value) ZeroDimension number.place not_of_names) λ _ _.
     after_other
-    (other_required (not (names_parameter block item.subject)) ParameterNotScalar number.place not_of_names) λ _ _.
+    (other_required (not (names_parameter block item.subject)) ParameterNotScalar number.place not_of_names)
+    λ _ _.
     meets_ok tt tt
 extents-other block item (Some Implied) =
-    after_other (other_required (not (names_parameter block item.subject)) ParameterNotScalar (place_of_item item) not_of_names) λ _ _.
-    after_other (other_required (not (is_group item.subject)) ImpliedForGroup (place_of_item item) not_of_names) λ _ _.
-    after_other (other_required (is_some item.value_list) ImpliedWithoutValues (place_of_item item) not_of_names) λ _ _.
+    after_other
+    (other_required (not (names_parameter block item.subject)) ParameterNotScalar (place_of_item item)
+    not_of_names) λ _ _.
+    after_other
+    (other_required (not (is_group item.subject)) ImpliedForGroup (place_of_item item) not_of_names)
+    λ _ _.
+    after_other
+    (other_required (is_some item.value_list) ImpliedWithoutValues (place_of_item item) not_of_names)
+    λ _ _.
     meets_ok tt tt
 
 pub dimension-other : (dimension : Option Number) → IsOther (member_dimension dimension)
@@ -145,20 +160,24 @@ objects-other block item (name ∷ others) progress =
     (other_required
     (nat_le (with_typed_object item.linkage (object_named block item name.name) progress).frame FRAME_LIMIT)
     TooLarge (place_of name) not_of_names) λ _ _.
-    objects-other block item others (with_typed_object item.linkage (object_named block item name.name) progress)
+    objects-other block item others
+    (with_typed_object item.linkage (object_named block item name.name) progress)
 
 -- statements
 pub goto-other : (place : Place) (binding : Binding) → IsOther (goto_bound place binding)
 goto-other place (Declared (Label label)) = meets_ok tt tt
 goto-other place binding = meets_fault NoLabel place not_of_names
 
-pub counter-other : (known : Known) (binding : Binding) (name : Identifier) → IsOther (counter_bound known binding name)
+pub counter-other : (known : Known) (binding : Binding) (name : Identifier)
+    → IsOther (counter_bound known binding name)
 counter-other known (Declared (Object number)) name =
     after_other (object-other known name number) λ object _.
     after_other (writable-other object name) λ _ _.
     after_other
-    (other_required (is_none object.dimension && is_not_based object.home) NoCounter (place_of name) not_of_names) λ _ _.
-    after_other (other_found (scalar_of object.object_type) NoCounter (place_of name) not_of_names) λ scalar _.
+    (other_required (is_none object.dimension && is_not_based object.home) NoCounter (place_of name)
+    not_of_names) λ _ _.
+    after_other (other_found (scalar_of object.object_type) NoCounter (place_of name) not_of_names)
+    λ scalar _.
     meets_ok tt tt
 counter-other known binding name = meets_fault NoVariable (place_of name) not_of_names
 
@@ -168,16 +187,19 @@ visibility-other block None = meets_ok tt tt
 visibility-other block (Some linkage) =
     other_required (is_module_level block) MisplacedLinkage (place_of_linkage linkage) not_of_names
 
-pub reentrant-other : (linkage : Option Linkage) (place : Option Place) → IsOther (check_reentrant linkage place)
+pub reentrant-other : (linkage : Option Linkage) (place : Option Place)
+    → IsOther (check_reentrant linkage place)
 reentrant-other linkage None = meets_ok tt tt
 reentrant-other linkage (Some place) =
     other_required (not (is_external_linkage linkage)) ReentrantExternal place not_of_names
 
-parameter-other : (parameter : Identifier) (entity : Option Entity) → IsOther (parameter_object parameter entity)
+parameter-other : (parameter : Identifier) (entity : Option Entity)
+    → IsOther (parameter_object parameter entity)
 parameter-other parameter (Some (Object number)) = meets_ok tt tt
 parameter-other parameter entity = meets_fault ParameterNotDeclared (place_of parameter) not_of_names
 
-pub parameters-other : (here : Here) (parameters : List Identifier) → IsOther (parameter_objects here parameters)
+pub parameters-other : (here : Here) (parameters : List Identifier)
+    → IsOther (parameter_objects here parameters)
 parameters-other here [] = meets_ok tt tt
 parameters-other here (parameter ∷ others) =
     after_other (parameter-other parameter (lookup (bytes_eq parameter.name) here.body.block)) λ object _.
@@ -187,4 +209,5 @@ parameters-other here (parameter ∷ others) =
 pub body-other : (heading : HeadingTree) (body : StatementTrees) → IsOther (check_body heading body)
 body-other heading NoStatements = meets_ok tt tt
 body-other heading (MoreStatements first others) =
-    other_required (not (is_external_linkage heading.linkage)) ExternalContents (place_of_statement first) not_of_names
+    other_required (not (is_external_linkage heading.linkage)) ExternalContents
+    (place_of_statement first) not_of_names

@@ -1,4 +1,5 @@
--- The names in expressions are known where these are typed, and where they are not typed for a name, one is to blame.
+-- The names in expressions are known where these are typed, and where they are not typed for a name, one is
+-- to blame.
 use Rattle.typing.proofs.Prelude.{nat_le, ◌≡◌, ◌==◌, ℕ, List, [], ◌∷◌, ◌++◌, length, Option, None, Some, inl, inr, refl, sym, subst, append-nil, arith, Contains-append_right, Identifier, Place, NumberConstant, StringConstant, ExpressionTree, ConstantLeaf, ReferenceLeaf, LocationLeaf, ListLeaf, ParenthesizedNode, AssignmentNode, UnaryNode, BinaryNode, ReferenceTree, ReferenceTo, MemberTree, NoMember, MemberOf, ArgumentTrees, NoArguments, MoreArguments, Binding, Declared, BuiltInName, BuiltIn, Object, Procedure, Here, names_in_expression, names_in_reference, names_in_member, names_in_arguments, Measure, ShiftFunction, UnaryFunction, Subscript, ObjectType, TypedObject, TypedProcedure, Constants, member_named, size_of_element, UnknownName, SubscriptMismatch, MemberMismatch, ArgumentCount, ValueOfUntyped, NoVariable, NotMeasurable, PortNotConstant, PortTooLarge, NoLocation, Checked, ◌>>=◌, found, Known, Given, count_of_given, takes_subscripts, members_of, has_location, subscript_of, GivenMember, WithoutMember, WithMember, GivenReference, Extent, AnElement, AlsoTheWhole, place_of, bound, part_with_member, part_of, scalar_part, location_of_bound, location_of, port_of_character, port_of, without_member, destination_of_bound, destination_of, call_arguments, call_of, measured_object, measured_member, measurement, number_of_variable, unary_function, shift_function, input_value, built_in_value, value_of_bound, value_of, expression, given_reference, given_member, arguments, Fault, members_in_expression, members_in_reference, members_in_member, members_in_arguments, unknown_member}
 use Rattle.names.specs.declared.entity.BuiltIn.TheVariants as built_ins
 use Rattle.typed_trees.specs.declared.parts.Measure.TheVariants as measures
@@ -39,14 +40,16 @@ abbrev pub members_after : GivenReference → List Fault
 members_after given = members_in_arguments given.arguments.trees ++ members_of_member given.member
 
 -- a member whose name is unknown
-member-finds : {A B : Type 0} (here : Here) (names : List Identifier) (members : List Fault) (name : Identifier) (option : Option A)
+member-finds : {A B : Type 0} (here : Here) (names : List Identifier) (members : List Fault)
+    (name : Identifier) (option : Option A)
     {next : A → Checked B}
     → ((a : A) → Finds here names members (next a))
     → Finds here names (unknown_member name ∷ members) (found option UnknownName (place_of name) >>= next)
 member-finds here names members name (Some a) then_is =
     meets_as (λ known. known) (λ refusal wrong. more refusal wrong) (then_is a)
   where
-    more : (refusal : Fault) → IsUnknown here names members refusal → IsUnknown here names (unknown_member name ∷ members) refusal
+    more : (refusal : Fault) → IsUnknown here names members refusal
+        → IsUnknown here names (unknown_member name ∷ members) refusal
     more refusal (inl blamed) = inl blamed
     more refusal (inr member) = inr (Contains-append_right (unknown_member name ∷ []) members refusal member)
 member-finds here names members name None then_is = record {
@@ -78,18 +81,21 @@ port_of-finds here place (MoreArguments (ConstantLeaf (StringConstant string)) N
 port_of-finds here place trees = meets_fault PortNotConstant place not_of_names
 
 -- parts of objects
-part_with_member-finds : (here : Here) (number : ℕ) (object_type : ObjectType) (element : Subscript) (extent : Extent)
+part_with_member-finds : (here : Here) (number : ℕ) (object_type : ObjectType)
+    (element : Subscript) (extent : Extent)
     (member : GivenMember) (constants : Constants)
     → MemberFits here member
     → Finds here (names_of_member member) (members_of_member member)
     (part_with_member number object_type element extent member constants)
 part_with_member-finds here number object_type element extent WithoutMember constants fits = meets_ok tt tt
 part_with_member-finds here number object_type element extent (WithMember name given) constants fits =
-    after_other (other_found (members_of object_type) MemberMismatch (place_of name) not_of_names) λ members _.
+    after_other (other_found (members_of object_type) MemberMismatch (place_of name) not_of_names)
+    λ members _.
     member-finds here (names_in_arguments given.trees) (members_in_arguments given.trees) name
     (member_named members name.name) λ place.
     after_other
-    (other_required (takes_subscripts extent place.member.dimension (count_of_given given)) SubscriptMismatch (place_of name)
+    (other_required (takes_subscripts extent place.member.dimension (count_of_given given))
+    SubscriptMismatch (place_of name)
     not_of_names) λ _ _.
     before_other (fits constants) λ typed _.
     meets_ok tt tt
@@ -99,29 +105,35 @@ measured_member-finds : (here : Here) (number : ℕ) (object : TypedObject) (par
     → Finds here (names_in_member part) (members_in_member part) (measured_member number object part)
 measured_member-finds here number object NoMember = meets_ok tt tt
 measured_member-finds here number object (MemberOf name NoArguments) =
-    after_other (other_found (members_of object.object_type) MemberMismatch (place_of name) not_of_names) λ members _.
+    after_other (other_found (members_of object.object_type) MemberMismatch (place_of name) not_of_names)
+    λ members _.
     member-finds here [] [] name (member_named members name.name) λ place.
     meets_ok tt tt
 measured_member-finds here number object (MemberOf name (MoreArguments first others)) =
     meets_fault NotMeasurable (place_of name) not_of_names
 
 measured_object-finds : (known : Known) (binding : Binding) (name : Identifier) (part : MemberTree)
-    → Finds known.here (names_in_member part) (members_in_member part) (measured_object known binding name part)
+    → Finds known.here (names_in_member part) (members_in_member part)
+    (measured_object known binding name part)
 measured_object-finds known (Declared (Object number)) name part =
     after_other (object-other known name number) λ object _.
     measured_member-finds known.here number object part
 measured_object-finds known binding name part = meets_fault NoVariable (place_of name) not_of_names
 
 measurement-finds : (known : Known) (measure : Measure) (place : Place) (trees : ArgumentTrees)
-    → Finds known.here (names_in_arguments trees) (members_in_arguments trees) (measurement known measure place trees)
-measurement-finds known measure place (MoreArguments (ReferenceLeaf (ReferenceTo name NoArguments part)) NoArguments) =
+    → Finds known.here (names_in_arguments trees) (members_in_arguments trees)
+    (measurement known measure place trees)
+measurement-finds known measure place
+    (MoreArguments (ReferenceLeaf (ReferenceTo name NoArguments part)) NoArguments) =
     subst
     (λ (names : List Identifier). Finds known.here names (members_in_member part ++ [])
-    (measurement known measure place (MoreArguments (ReferenceLeaf (ReferenceTo name NoArguments part)) NoArguments)))
+    (measurement known measure place (MoreArguments
+    (ReferenceLeaf (ReferenceTo name NoArguments part)) NoArguments)))
     (sym (append-nil (name ∷ names_in_member part)))
     (subst
     (λ (members : List Fault). Finds known.here (name ∷ names_in_member part) members
-    (measurement known measure place (MoreArguments (ReferenceLeaf (ReferenceTo name NoArguments part)) NoArguments)))
+    (measurement known measure place (MoreArguments
+    (ReferenceLeaf (ReferenceTo name NoArguments part)) NoArguments)))
     (sym (append-nil (members_in_member part)))
     (meets_then (names_join known.here (name ∷ []) (names_in_member part) [] (members_in_member part))
     (bound-finds known name) λ binding _.
@@ -137,7 +149,8 @@ module _ (known : Known) (given : GivenReference) (fits : ReferenceFits known gi
 
   then_member : Joins (AreKnown known.here (names_in_arguments given.arguments.trees))
       (AreKnown known.here (names_of_member given.member)) (AreKnown known.here (names_after given))
-      (IsUnknown known.here (names_in_arguments given.arguments.trees) (members_in_arguments given.arguments.trees))
+      (IsUnknown known.here (names_in_arguments given.arguments.trees)
+      (members_in_arguments given.arguments.trees))
       (IsUnknown known.here (names_of_member given.member) (members_of_member given.member))
       (IsUnknown known.here (names_after given) (members_after given))
   then_member =
@@ -148,7 +161,8 @@ module _ (known : Known) (given : GivenReference) (fits : ReferenceFits known gi
       → FindsAfter (part_of number object extent given constants)
   part_of-finds number object extent constants =
       after_other
-      (other_required (takes_subscripts extent object.dimension (count_of_given given.arguments)) SubscriptMismatch
+      (other_required (takes_subscripts extent object.dimension (count_of_given given.arguments))
+      SubscriptMismatch
       (place_of given.name) not_of_names) λ _ _.
       meets_then then_member (fits.arguments constants) λ typed _.
       part_with_member-finds known.here number object.object_type
@@ -163,11 +177,13 @@ module _ (known : Known) (given : GivenReference) (fits : ReferenceFits known gi
       meets_ok tt tt
 
   call_arguments-finds : (procedure : TypedProcedure) (place : Place) (constants : Constants)
-      → Finds known.here (names_in_arguments given.arguments.trees) (members_in_arguments given.arguments.trees)
+      → Finds known.here (names_in_arguments given.arguments.trees)
+      (members_in_arguments given.arguments.trees)
       (call_arguments procedure place given.arguments constants)
   call_arguments-finds procedure place constants =
       after_other
-      (other_required (count_of_given given.arguments == length procedure.parameter_types) ArgumentCount place not_of_names)
+      (other_required (count_of_given given.arguments == length procedure.parameter_types)
+      ArgumentCount place not_of_names)
       λ _ _.
       before_other (fits.arguments constants) λ typed _.
       meets_ok tt tt
@@ -184,7 +200,8 @@ module _ (known : Known) (given : GivenReference) (fits : ReferenceFits known gi
       → FindsAfter (unary_function function given constants)
   unary_function-finds function constants =
       after_other
-      (other_required (count_of_given given.arguments == 1) ArgumentCount (place_of given.name) not_of_names) λ _ _.
+      (other_required (count_of_given given.arguments == 1) ArgumentCount (place_of given.name) not_of_names)
+      λ _ _.
       meets_then then_member (fits.arguments constants) λ typed _.
       before_other (without_member-finds known.here given.member) λ _ _.
       after_other (function-other function (place_of given.name) typed.0) λ node _.
@@ -194,7 +211,8 @@ module _ (known : Known) (given : GivenReference) (fits : ReferenceFits known gi
       → FindsAfter (shift_function function given constants)
   shift_function-finds function constants =
       after_other
-      (other_required (count_of_given given.arguments == 2) ArgumentCount (place_of given.name) not_of_names) λ _ _.
+      (other_required (count_of_given given.arguments == 2) ArgumentCount (place_of given.name) not_of_names)
+      λ _ _.
       meets_then then_member (fits.arguments constants) λ typed _.
       before_other (without_member-finds known.here given.member) λ _ _.
       after_other (shift-other function (place_of given.name) typed.0) λ node _.
@@ -209,14 +227,16 @@ module _ (known : Known) (given : GivenReference) (fits : ReferenceFits known gi
   number_of_variable-finds : (measure : Measure) (constants : Constants)
       → FindsAfter (number_of_variable known measure given constants)
   number_of_variable-finds measure constants =
-      meets_then then_member (measurement-finds known measure (place_of given.name) given.arguments.trees) λ node _.
+      meets_then then_member (measurement-finds known measure (place_of given.name) given.arguments.trees)
+      λ node _.
       before_other (without_member-finds known.here given.member) λ _ _.
       meets_ok tt tt
 
   built_in_value-finds : (built_in : BuiltIn) (constants : Constants)
       → FindsAfter (built_in_value known built_in given constants)
   built_in_value-finds built_ins.Input constants = input_value-finds constants
-  built_in_value-finds built_ins.Output constants = meets_fault ValueOfUntyped (place_of given.name) not_of_names
+  built_in_value-finds built_ins.Output constants =
+      meets_fault ValueOfUntyped (place_of given.name) not_of_names
   built_in_value-finds built_ins.Low constants = unary_function-finds functions.Low constants
   built_in_value-finds built_ins.High constants = unary_function-finds functions.High constants
   built_in_value-finds built_ins.Double constants = unary_function-finds functions.Double constants
@@ -227,7 +247,8 @@ module _ (known : Known) (given : GivenReference) (fits : ReferenceFits known gi
   built_in_value-finds built_ins.ShiftRight constants = shift_function-finds shifts.ShiftRight constants
   built_in_value-finds built_ins.RotateLeft constants = shift_function-finds shifts.RotateLeft constants
   built_in_value-finds built_ins.RotateRight constants = shift_function-finds shifts.RotateRight constants
-  built_in_value-finds built_ins.Move constants = meets_fault ValueOfUntyped (place_of given.name) not_of_names
+  built_in_value-finds built_ins.Move constants =
+      meets_fault ValueOfUntyped (place_of given.name) not_of_names
 
   value_of_bound-finds : (binding : Binding) (constants : Constants)
       → FindsAfter (value_of_bound known binding given constants)
@@ -245,7 +266,8 @@ module _ (known : Known) (given : GivenReference) (fits : ReferenceFits known gi
       → FindsAfter (location_of_bound known binding given constants)
   location_of_bound-finds (Declared (Object number)) constants =
       after_other (object-other known given.name number) λ object _.
-      after_other (other_required (has_location object.home) NoLocation (place_of given.name) not_of_names) λ _ _.
+      after_other (other_required (has_location object.home) NoLocation (place_of given.name) not_of_names)
+      λ _ _.
       before_other (part_of-finds number object AlsoTheWhole constants) λ part _.
       meets_ok tt tt
   location_of_bound-finds (Declared (Procedure number)) constants =
@@ -268,17 +290,20 @@ module _ (known : Known) (given : GivenReference) (fits : ReferenceFits known gi
   -- with its own name, which is bound first
   with_name : {A : Type 0} {next : Binding → Checked A}
       → ((binding : Binding) → FindsAfter (next binding))
-      → Finds known.here (given.name ∷ names_after given) (members_after given) (bound known given.name >>= next)
+      → Finds known.here (given.name ∷ names_after given) (members_after given)
+      (bound known given.name >>= next)
   with_name each =
       meets_then (names_join known.here (given.name ∷ []) (names_after given) [] (members_after given))
       (bound-finds known given.name) λ binding _. each binding
 
   value_of-finds : (constants : Constants)
-      → Finds known.here (given.name ∷ names_after given) (members_after given) (value_of known given constants)
+      → Finds known.here (given.name ∷ names_after given) (members_after given)
+      (value_of known given constants)
   value_of-finds constants = with_name (λ binding. value_of_bound-finds binding constants)
 
   location_of-finds : (constants : Constants)
-      → Finds known.here (given.name ∷ names_after given) (members_after given) (location_of known given constants)
+      → Finds known.here (given.name ∷ names_after given) (members_after given)
+      (location_of known given constants)
   location_of-finds constants = with_name (λ binding. location_of_bound-finds binding constants)
 
   destination_of-finds : (constants : Constants)
@@ -299,18 +324,21 @@ members_given known (ReferenceTo name trees NoMember) = refl
 members_given known (ReferenceTo name trees (MemberOf member subscripts)) = refl
 
 as_names : {A : Type 0} (known : Known) (reference : ReferenceTree) (result : Checked A)
-    → Finds known.here ((given_reference known reference).name ∷ names_after (given_reference known reference))
+    → Finds known.here
+    ((given_reference known reference).name ∷ names_after (given_reference known reference))
     (members_after (given_reference known reference)) result
     → Finds known.here (names_in_reference reference) (members_in_reference reference) result
 as_names known reference result finds =
     subst (λ (members : List Fault). Finds known.here (names_in_reference reference) members result)
     (members_given known reference)
-    (subst (λ (names : List Identifier). Finds known.here names (members_after (given_reference known reference)) result)
+    (subst (λ (names : List Identifier). Finds known.here names
+    (members_after (given_reference known reference)) result)
     (names_given known reference) finds)
 
 mutual
   pub expression-finds : (known : Known) (tree : ExpressionTree) (constants : Constants)
-      → Finds known.here (names_in_expression tree) (members_in_expression tree) (expression known tree constants)
+      → Finds known.here (names_in_expression tree) (members_in_expression tree)
+      (expression known tree constants)
   expression-finds known (ConstantLeaf constant) constants =
       after_other (number-other constant) λ node _.
       meets_ok tt tt
@@ -324,7 +352,8 @@ mutual
   expression-finds known (ParenthesizedNode inner) constants = expression-finds known inner constants
   expression-finds known (AssignmentNode target value) constants =
       meets_then
-      (names_join known.here (names_in_reference target) (names_in_expression value) (members_in_reference target)
+      (names_join known.here (names_in_reference target) (names_in_expression value)
+      (members_in_reference target)
       (members_in_expression value))
       (as_names known target _
       (destination_of-finds known (given_reference known target) (reference-fits known target) constants))
@@ -336,7 +365,8 @@ mutual
       meets_ok tt tt
   expression-finds known (BinaryNode operator left right) constants =
       meets_then
-      (names_join known.here (names_in_expression left) (names_in_expression right) (members_in_expression left)
+      (names_join known.here (names_in_expression left) (names_in_expression right)
+      (members_in_expression left)
       (members_in_expression right))
       (expression-finds known left constants) λ one _.
       before_other (expression-finds known right one.1) λ other _.
@@ -352,11 +382,13 @@ mutual
   member-fits known (MemberOf name trees) = λ constants. arguments-find known trees constants
 
   pub arguments-find : (known : Known) (trees : ArgumentTrees) (constants : Constants)
-      → Finds known.here (names_in_arguments trees) (members_in_arguments trees) (arguments known trees constants)
+      → Finds known.here (names_in_arguments trees) (members_in_arguments trees)
+      (arguments known trees constants)
   arguments-find known NoArguments constants = meets_ok tt tt
   arguments-find known (MoreArguments first others) constants =
       meets_then
-      (names_join known.here (names_in_expression first) (names_in_arguments others) (members_in_expression first)
+      (names_join known.here (names_in_expression first) (names_in_arguments others)
+      (members_in_expression first)
       (members_in_arguments others))
       (expression-finds known first constants) λ typed _.
       before_other (arguments-find known others typed.1) λ rest _.
@@ -374,12 +406,14 @@ target-finds known reference constants =
 abbrev pub arguments_given : Known → ArgumentTrees → Given
 arguments_given known trees = record { trees = trees; typed = arguments known trees }
 
-pub call-finds : (known : Known) (procedure : TypedProcedure) (place : Place) (trees : ArgumentTrees) (constants : Constants)
+pub call-finds : (known : Known) (procedure : TypedProcedure) (place : Place) (trees : ArgumentTrees)
+    (constants : Constants)
     → Finds known.here (names_in_arguments trees) (members_in_arguments trees)
     (call_arguments procedure place (arguments_given known trees) constants)
 call-finds known procedure place trees constants =
     after_other
-    (other_required (count_of_given (arguments_given known trees) == length procedure.parameter_types) ArgumentCount place
+    (other_required (count_of_given (arguments_given known trees) == length procedure.parameter_types)
+    ArgumentCount place
     not_of_names) λ _ _.
     before_other (arguments-find known trees constants) λ typed _.
     meets_ok tt tt

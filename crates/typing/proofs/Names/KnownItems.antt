@@ -1,4 +1,5 @@
--- The names in items are known where these are typed, and where they are not typed for a name, one is to blame.
+-- The names in items are known where these are typed, and where they are not typed for a name, one is to
+-- blame.
 use Rattle.typing.proofs.Prelude.{◌≡◌, Bool, true, false, inl, inr, sym, subst, append-nil, append_assoc, arith, List, [], ◌∷◌, ◌++◌, Option, None, Some, not, ◌&&◌, is_none, flat_map, Contains-append_right, ScalarType, Identifier, Place, NumberConstant, StringConstant, OriginTree, ConstantOrigin, LocationOrigin, OffsetTree, RestrictedTree, SubjectTree, SingleSubject, GroupSubject, AtTree, ValueListTree, ItemTree, Here, names_in_restricted, names_in_subject, names_in_optional, names_in_item, ObjectType, Known, place_of, Block, Reach, ThisModule, OtherModulesToo, Extents, NoArray, Elements, AsListed, restricted_value, at_address, fill_value, fill, contents, enough_elements, place_of_origin, scalars_of_element, scalars_of_elements, names_parameter, is_base, base_of, typed_base, typed_type, is_plain, typed_at, typed_contents, typed_item, Member, ItemTypeTree, ScalarItem, StructureItem, TypedMember, has_member, DeclaredTwice, ParameterNotScalar, NoBase, MisplacedAt, MisplacedValues, BasedParameter, Fault, Checked, ◌>>=◌, require, place_of_item, place_of_storage, typed_members, members_in_type, twice_declared}
 use Rattle.typing.proofs.Names.Meeting.{Meets, meets_ok, meets_then, meets_as, after_other, before_other, other_required}
 use Rattle.typing.proofs.Names.ChecksWithoutNames.{not_of_names, constant-other, offsets-other, object-other, static-other, scalar-other, string-other, as_listed-other, bound-other, extents-other, dimension-other, linkage-other}
@@ -18,17 +19,22 @@ restricted_value-finds reach known (LocationOrigin name) offsets =
     after_other (offsets-other 0 offsets) λ offset _.
     meets_ok tt tt
 
-fill_value-finds : (known : Known) (scalars : List ScalarType) (origin : OriginTree) (offsets : List OffsetTree)
+fill_value-finds : (known : Known) (scalars : List ScalarType) (origin : OriginTree)
+    (offsets : List OffsetTree)
     → Finds known.here (names_in_restricted (record { origin = origin; offsets = offsets })) []
     (fill_value known scalars origin offsets)
 fill_value-finds known scalars (ConstantOrigin (StringConstant string)) [] =
     meets_as (λ _. tt) (λ refusal never. absurd never) (string-other string scalars)
 fill_value-finds known scalars (ConstantOrigin (StringConstant string)) (offset ∷ others) =
-    before_other (restricted_value-finds OtherModulesToo known (ConstantOrigin (StringConstant string)) (offset ∷ others))
+    before_other
+    (restricted_value-finds OtherModulesToo known
+    (ConstantOrigin (StringConstant string)) (offset ∷ others))
     λ value _.
     scalar-other (place_of_origin (ConstantOrigin (StringConstant string))) scalars value
 fill_value-finds known scalars (ConstantOrigin (NumberConstant number)) offsets =
-    before_other (restricted_value-finds OtherModulesToo known (ConstantOrigin (NumberConstant number)) offsets) λ value _.
+    before_other
+    (restricted_value-finds OtherModulesToo known (ConstantOrigin (NumberConstant number)) offsets)
+    λ value _.
     scalar-other (place_of_origin (ConstantOrigin (NumberConstant number))) scalars value
 fill_value-finds known scalars (LocationOrigin name) offsets =
     before_other (restricted_value-finds OtherModulesToo known (LocationOrigin name) offsets) λ value _.
@@ -44,8 +50,10 @@ fill-finds known (restricted ∷ others) scalars =
     before_other (fill-finds known others first.left) λ rest _.
     meets_ok tt tt
 
-contents-finds : (known : Known) (place : Place) (object_type : ObjectType) (extents : Extents) (values : List RestrictedTree)
-    → Finds known.here (flat_map names_in_restricted values) [] (contents known place object_type extents values)
+contents-finds : (known : Known) (place : Place) (object_type : ObjectType) (extents : Extents)
+    (values : List RestrictedTree)
+    → Finds known.here (flat_map names_in_restricted values) []
+    (contents known place object_type extents values)
 contents-finds known place object_type NoArray values =
     before_other (fill-finds known values (scalars_of_element object_type)) λ filled _.
     meets_ok tt tt
@@ -53,7 +61,8 @@ contents-finds known place object_type (Elements count) values =
     before_other (fill-finds known values (scalars_of_elements count object_type)) λ filled _.
     meets_ok tt tt
 contents-finds known place object_type AsListed values =
-    before_other (fill-finds known values (scalars_of_elements (enough_elements values) object_type)) λ filled _.
+    before_other (fill-finds known values (scalars_of_elements (enough_elements values) object_type))
+    λ filled _.
     as_listed-other place _ _ filled.values
 
 -- BASED, AT, and the list of INITIAL or DATA
@@ -62,7 +71,8 @@ base-finds : (known : Known) (block : Block) (subject : SubjectTree)
 base-finds known block (SingleSubject name None) = meets_ok tt tt
 base-finds known block (SingleSubject name (Some base)) =
     after_other
-    (other_required (not (names_parameter block (SingleSubject name (Some base)))) BasedParameter (place_of base)
+    (other_required (not (names_parameter block (SingleSubject name (Some base))))
+    BasedParameter (place_of base)
     not_of_names) λ _ _.
     before_other (bound-finds known base) λ binding _.
     after_other (bound-other binding (place_of base)) λ number _.
@@ -75,7 +85,8 @@ abbrev names_at : Option AtTree → List Identifier
 names_at at = names_in_optional (λ (at : AtTree). names_in_restricted at.address) at
 
 abbrev names_in_list : Option ValueListTree → List Identifier
-names_in_list list = names_in_optional (λ (list : ValueListTree). flat_map names_in_restricted list.values) list
+names_in_list list =
+    names_in_optional (λ (list : ValueListTree). flat_map names_in_restricted list.values) list
 
 address-finds : (known : Known) (restricted : RestrictedTree)
     → Finds known.here (names_in_restricted restricted) [] (at_address known restricted)
@@ -94,7 +105,8 @@ at-finds known block item (Some at) =
 list-finds : (known : Known) (block : Block) (item : ItemTree) (object_type : ObjectType) (extents : Extents)
     (list : Option ValueListTree)
     → Finds known.here (names_in_list list) [] (typed_contents known block item object_type extents list)
-list-finds known block item object_type extents None = contents-finds known (place_of_item item) object_type extents []
+list-finds known block item object_type extents None =
+    contents-finds known (place_of_item item) object_type extents []
 list-finds known block item object_type extents (Some list) =
     after_other
     (other_required (is_plain block item && is_none item.at) MisplacedValues (place_of_storage list.storage)
@@ -136,7 +148,8 @@ type-finds : (here : Here) (block : Block) (item : ItemTree) (type : ItemTypeTre
 type-finds here block item (ScalarItem scalar) = meets_ok tt tt
 type-finds here block item (StructureItem members) =
     after_other
-    (other_required (not (names_parameter block item.subject)) ParameterNotScalar (place_of_item item) not_of_names) λ _ _.
+    (other_required (not (names_parameter block item.subject)) ParameterNotScalar (place_of_item item)
+    not_of_names) λ _ _.
     before_other (members-find here [] members) λ typed _.
     meets_ok tt tt
 

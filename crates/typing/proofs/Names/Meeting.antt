@@ -1,8 +1,10 @@
--- A check beside what it is to find: where it gives something, no name is wrong, and where it is refused for a name, one is.
+-- A check beside what it is to find: where it gives something, no name is wrong, and where it is refused for
+-- a name, one is.
 use Rattle.typing.proofs.Prelude.{◌≡◌, Bool, true, false, Option, Some, None, Ok, Err, refl, sym, subst, Cause, Fault, Checked, ◌>>=◌, refuse, require, found, IsOfNames, Place}
 
 -- where a check gives something this holds, and of that; a refusal of names is such a one
-pub record Meets {A : Type 0} (Right : Type 0) (Wrong : Fault → Type 0) (P : A → Type 0) (result : Checked A) : Type 0 where
+pub record Meets {A : Type 0} (Right : Type 0) (Wrong : Fault → Type 0) (P : A → Type 0)
+    (result : Checked A) : Type 0 where
   pub given : (a : A) → result ≡ Ok a → Right × P a
   pub refused : (refusal : Fault) → result ≡ Err refusal → IsOfNames refusal.cause → Wrong refusal
 
@@ -21,7 +23,8 @@ meets_ok {P = P} {a = a} right is = record {
   refused = λ refusal e names. absurd cc;
 }
 
-pub meets_fault : {A : Type 0} {Right : Type 0} {Wrong : Fault → Type 0} {P : A → Type 0} (cause : Cause) (place : Place)
+pub meets_fault : {A : Type 0} {Right : Type 0} {Wrong : Fault → Type 0} {P : A → Type 0}
+    (cause : Cause) (place : Place)
     → (IsOfNames cause → ⊥) → Meets Right Wrong P (refuse {A = A} cause place)
 meets_fault {Wrong = Wrong} cause place other = record {
   given = λ a e. absurd cc;
@@ -42,10 +45,11 @@ pub meets_then : {A B : Type 0} {One Other Right : Type 0} {WrongOne WrongOther 
     → Meets One WrongOne P result
     → ((a : A) → P a → Meets Other WrongOther Q (next a))
     → Meets Right Wrong Q (result >>= next)
-meets_then {A} {B} {One} {Other} {Right} {WrongOne} {WrongOther} {Wrong} {P} {Q} {result} {next} joins is then_is = record {
-  given = λ b e. given_by result is b e;
-  refused = λ refusal e names. refused_by result is refusal e names;
-}
+meets_then {A} {B} {One} {Other} {Right} {WrongOne} {WrongOther} {Wrong} {P} {Q} {result} {next} joins
+    is then_is = record {
+      given = λ b e. given_by result is b e;
+      refused = λ refusal e names. refused_by result is refusal e names;
+    }
   where
     given_by : (r : Checked A) → Meets One WrongOne P r → (b : B) → (r >>= next) ≡ Ok b → Right × Q b
     given_by (Ok a) first b e =
@@ -61,7 +65,9 @@ meets_then {A} {B} {One} {Other} {Right} {WrongOne} {WrongOther} {Wrong} {P} {Q}
         joins.second here.0 refusal ((then_is a here.1).refused refusal e names)
     refused_by (Err fault) first refusal e names =
         let same : fault ≡ refusal = cc in
-        joins.first refusal (subst WrongOne same (first.refused fault refl (subst (λ (f : Fault). IsOfNames f.cause) (sym same) names)))
+        joins.first refusal
+        (subst WrongOne same (first.refused fault refl
+        (subst (λ (f : Fault). IsOfNames f.cause) (sym same) names)))
 
 -- after a check that no name is found by, and before one
 pub after_other : {A B : Type 0} {Right : Type 0} {Wrong : Fault → Type 0} {P : A → Type 0} {Q : B → Type 0}
@@ -85,7 +91,8 @@ before_other is then_is =
     is then_is
 
 -- what holds of all that is given
-pub meets_more : {A : Type 0} {Right : Type 0} {Wrong : Fault → Type 0} {P Q : A → Type 0} {result : Checked A}
+pub meets_more : {A : Type 0} {Right : Type 0} {Wrong : Fault → Type 0} {P Q : A → Type 0}
+    {result : Checked A}
     → Meets Right Wrong P result
     → ((a : A) → P a → Q a)
     → Meets Right Wrong Q result

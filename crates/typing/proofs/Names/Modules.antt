@@ -1,5 +1,5 @@
--- The typing of a module goes through its text as its binding does: where it is given no name has a fault, and where it is
--- refused for one that is none of a member, that is the first fault.
+-- The typing of a module goes through its text as its binding does: where it is given no name has a fault,
+-- and where it is refused for one that is none of a member, that is the first fault.
 use Rattle.typing.proofs.Prelude.{◌≡◌, ℕ, ◌+◌, List, [], ◌∷◌, ◌++◌, Option, None, Some, Ok, Err, length, take, drop, refl, sym, ap, subst, ◌∙◌, append_assoc, inl, inr, ◌⊎◌, Contains, not, ◌||◌, nat_le, flat_map, take-append-drop, Identifier, ItemTree, ElementTree, LiterallyElement, ItemElement, HeadingTree, StatementTree, LabelledStatement, StatementKindTree, ElseTree, StatementTrees, DeclarationTree, DeclareTree, ProcedureTree, DeclarationTrees, NoDeclarations, MoreDeclarations, ModuleTree, Here, at_the_start, into_block, out_of_block, into_body, out_of_body, into_list, out_of_list, with_object, with_procedure, with_definition, with_parameter, with_label, is_declared_again, is_parameter_again, is_label_again, Event, Seen, in_turn, see_all, uses_at, see_item, see_element, see_kind, see_statements, see_alone, see_else, see_cases, see_declaration, see_declarations, in_list, moves, declares_object, declares_procedure, declares_label, labels_of, events_of, declared_by, names_in_item, IsFirstFault, TypedStatements, TypedModule, OBJECT_LIMIT, PARAMETER_LIMIT, NestedProcedure, ExternalContents, TooManyParameters, MisplacedLabel, TooLarge, Checked, place_of, Block, Progress, is_external, is_reentrant, declares_its_parameter, declare_names, declare_item, declare_element, declare_elements, size_of_item, place_of_item, with_here, declare_labels, list_of, declare_parameters, no_more_parameters, open_procedure, own_block, inner_block, entered, kind, alone, else_part, cases, statements, declaration, declarations, module_block, at_the_beginning, typing_of, Fault, ◌>>=◌, members_in_kind, members_in_statement, members_in_else, members_in_statements, members_in_element, members_in_type, members_in_declaration, members_in_declarations, members_in_module, IsFaultOfNames, IsOfNames, IsRefusedBeside, NamesAreBound, as_refusal}
 use Rattle.trees.specs.Trees as trees
 use Rattle.names.specs.Events.{declares_parameter}
@@ -26,7 +26,8 @@ labels-walk (label ∷ others) here =
     labels-walk others (with_label label.name here)
 
 parameters-walk : (parameters : List Identifier) (here : Here)
-    → Walks (see_all declares_parameter parameters) here [] (λ (after : Here). after) (declare_parameters parameters here)
+    → Walks (see_all declares_parameter parameters) here [] (λ (after : Here). after)
+    (declare_parameters parameters here)
 parameters-walk [] here = walks_nothing here refl
 parameters-walk (parameter ∷ others) here =
     declared-walks is_parameter_again with_parameter parameter here (declared-once parameter _) λ _.
@@ -44,7 +45,8 @@ names-walk block (name ∷ others) here =
 
 -- a DECLARE
 item-walks : (block : Block) (item : ItemTree) (progress : Progress)
-    → Walks (see_item (declared_by item.subject) (names_in_item item)) (here_in progress) (members_in_type item.item_type)
+    → Walks (see_item (declared_by item.subject) (names_in_item item)) (here_in progress)
+    (members_in_type item.item_type)
     here_in (declare_item block item progress)
 unfolding see_item
 item-walks block item progress = record {
@@ -54,7 +56,8 @@ item-walks block item progress = record {
       (names-walk block (declared_by item.subject) (here_in progress)).meets λ here is.
       before_other (item-finds progress.known block item) λ typed _.
       after_other
-      (other_required (nat_le (size_of_item typed) OBJECT_LIMIT) TooLarge (place_of_item item) not_of_names) λ _ _.
+      (other_required (nat_le (size_of_item typed) OBJECT_LIMIT) TooLarge (place_of_item item) not_of_names)
+      λ _ _.
       after_other (objects-other block typed (declared_by item.subject) progress) λ declared _.
       meets_ok tt is;
 }
@@ -64,7 +67,8 @@ element-walks : (block : Block) (element : ElementTree) (progress : Progress)
     (declare_element block element progress)
 element-walks block (LiterallyElement name text) progress =
     declared-alone is_declared_again with_definition name (here_in progress) (declared-once name _) λ _.
-    after_other (other_required (not (is_external block.owner)) ExternalContents (place_of name) not_of_names) λ _ _.
+    after_other (other_required (not (is_external block.owner)) ExternalContents (place_of name) not_of_names)
+    λ _ _.
     meets_ok tt refl
 element-walks block (ItemElement item) progress = item-walks block item progress
 
@@ -78,12 +82,14 @@ elements-walk block (element ∷ others) progress =
 
 -- the parameters of a heading, of which there are not too many
 no_more-walks : (parameters : List Identifier) (here : Here)
-    → Walks (see_all declares_parameter parameters) here [] (λ (a : Unit {0}). here) (no_more_parameters parameters)
+    → Walks (see_all declares_parameter parameters) here [] (λ (a : Unit {0}). here)
+    (no_more_parameters parameters)
 no_more-walks [] here = walks_nothing here refl
 no_more-walks (parameter ∷ others) here =
     record { meets = meets_fault TooManyParameters (place_of parameter) not_of_names }
 
-all-walk : {A : Type 0} {there_of : A → Here} (parameters : List Identifier) (here : Here) {next : Here → Checked A}
+all-walk : {A : Type 0} {there_of : A → Here} (parameters : List Identifier) (here : Here)
+    {next : Here → Checked A}
     → ((after : Here) → Meets (Unit {0}) Never (λ (a : A). there_of a ≡ after) (next after))
     → Walks (see_all declares_parameter parameters) here [] there_of
     (declare_parameters (take PARAMETER_LIMIT parameters) here
@@ -102,12 +108,15 @@ all-walk {A} {there_of} parameters here {next} rest =
 
 heading-walks : (block : Block) (heading : HeadingTree) (declared : DeclarationTrees) (progress : Progress)
     → Walks
-    (in_turn (declares_procedure heading.name) (in_turn (moves into_body) (see_all declares_parameter heading.parameters)))
+    (in_turn (declares_procedure heading.name)
+    (in_turn (moves into_body) (see_all declares_parameter heading.parameters)))
     (here_in progress) [] here_in (open_procedure block heading declared progress)
 heading-walks block heading declared progress =
-    declared-walks is_declared_again with_procedure heading.name (here_in progress) (declared-once heading.name _) λ _.
+    declared-walks is_declared_again with_procedure heading.name (here_in progress)
+    (declared-once heading.name _) λ _.
     after_walks
-    (other_required (not (is_reentrant block.owner || is_external block.owner)) NestedProcedure (place_of heading.name)
+    (other_required (not (is_reentrant block.owner || is_external block.owner)) NestedProcedure
+    (place_of heading.name)
     not_of_names) λ _ _.
     walks_in into_body (with_procedure heading.name.name (here_in progress))
     (all-walk heading.parameters (into_body (with_procedure heading.name.name (here_in progress))) λ after.
@@ -119,7 +128,8 @@ heading-walks block heading declared progress =
 list-walks : (list : StatementTrees) (typed_from : ℕ → Progress → Checked (TypedStatements × Progress))
     (progress : Progress)
     → ((label : ℕ) (inside : Progress)
-    → Walks (see_statements list) (here_in inside) (members_in_statements list) here_after (typed_from label inside))
+    → Walks (see_statements list) (here_in inside) (members_in_statements list) here_after
+    (typed_from label inside))
     → Walks (in_list list (see_statements list)) (here_in progress) (members_in_statements list) here_after
     (list_of list typed_from progress)
 list-walks list typed_from progress each =
@@ -148,20 +158,25 @@ procedure_alike declare enter parameters declared body leave before =
     let four : Here = (declared three).here in
     let five : Here = (body four).here in
     record {
-      events = parts_in_turn (declare before).events (enter one).events (parameters two).events (declared three).events
+      events =
+          parts_in_turn (declare before).events (enter one).events (parameters two).events
+          (declared three).events
           (body four).events (leave five).events;
       comes = refl;
     }
 
 procedure_walks : {A : Type 0} (declare enter parameters declared body leave : Here → Seen) {before : Here}
     {members : List Fault} {here_of : A → Here} {result : Checked A}
-    → Walks (in_turn (in_turn declare (in_turn enter parameters)) (in_turn declared (in_turn body leave))) before
+    → Walks (in_turn (in_turn declare (in_turn enter parameters)) (in_turn declared (in_turn body leave)))
+    before
     members here_of result
-    → Walks (in_turn declare (in_turn enter (in_turn (in_turn parameters (in_turn declared body)) leave))) before
+    → Walks (in_turn declare (in_turn enter (in_turn (in_turn parameters (in_turn declared body)) leave)))
+    before
     members here_of result
 procedure_walks declare enter parameters declared body leave {before = before} walks =
     let alike = procedure_alike declare enter parameters declared body leave before in
-    walks_as (in_turn declare (in_turn enter (in_turn (in_turn parameters (in_turn declared body)) leave))) alike.events
+    walks_as (in_turn declare (in_turn enter (in_turn (in_turn parameters (in_turn declared body)) leave)))
+    alike.events
     alike.comes walks
 
 mutual
@@ -202,19 +217,22 @@ mutual
       walks_ok _ (λ done. refl) (cases-walk block body chosen.1)
 
   alone-walks : (block : Block) (tree : StatementTree) (progress : Progress)
-      → Walks (see_alone tree) (here_in progress) (members_in_statement tree) here_after (alone block tree progress)
+      → Walks (see_alone tree) (here_in progress) (members_in_statement tree) here_after
+      (alone block tree progress)
   alone-walks block (LabelledStatement [] tree) progress = kind-walks block tree progress
   alone-walks block (LabelledStatement (label ∷ labels) tree) progress =
       record { meets = meets_fault MisplacedLabel (place_of label) not_of_names }
 
   else-walks : (block : Block) (tree : ElseTree) (progress : Progress)
-      → Walks (see_else tree) (here_in progress) (members_in_else tree) here_after (else_part block tree progress)
+      → Walks (see_else tree) (here_in progress) (members_in_else tree) here_after
+      (else_part block tree progress)
   else-walks block trees.NoElse progress = walks_nothing (here_in progress) refl
   else-walks block (trees.ElseStatement body) progress =
       walks_ok _ (λ done. refl) (alone-walks block body progress)
 
   cases-walk : (block : Block) (list : StatementTrees) (progress : Progress)
-      → Walks (see_cases list) (here_in progress) (members_in_statements list) here_after (cases block list progress)
+      → Walks (see_cases list) (here_in progress) (members_in_statements list) here_after
+      (cases block list progress)
   cases-walk block trees.NoStatements progress = walks_nothing (here_in progress) refl
   cases-walk block (trees.MoreStatements first others) progress =
       walks_then (alone-walks block first progress) λ done.
@@ -235,7 +253,8 @@ mutual
       (declaration block tree progress)
   declaration-walks block (DeclareTree elements) progress = elements-walk block elements progress
   declaration-walks block (ProcedureTree heading declared body end_name) progress =
-      procedure_walks (declares_procedure heading.name) (moves into_body) (see_all declares_parameter heading.parameters)
+      procedure_walks (declares_procedure heading.name) (moves into_body)
+      (see_all declares_parameter heading.parameters)
       (see_declarations declared) (in_list body (see_statements body)) (moves out_of_body)
       (walks_then (heading-walks block heading declared progress) λ opened.
       walks_then (declarations-walk (own_block heading progress) declared opened) λ within.
@@ -255,7 +274,8 @@ mutual
 
 -- all of a module
 module-meets : (tree : ModuleTree)
-    → Meets (NoFault (events_of tree)) (IsWrong (events_of tree) (members_in_module tree)) (λ (a : TypedModule). Unit {0}) (typing_of tree)
+    → Meets (NoFault (events_of tree)) (IsWrong (events_of tree) (members_in_module tree))
+    (λ (a : TypedModule). Unit {0}) (typing_of tree)
 unfolding typing_of in_turn
 module-meets tree =
     let declared : Here → Seen = see_declarations tree.declarations in
@@ -273,13 +293,15 @@ module-meets tree =
     meets_ok tt tt
 
 -- a module with a typing has no fault of names, so its names are bound
-pub typed_is_bound : (tree : ModuleTree) (found : TypedModule) → typing_of tree ≡ Ok found → NamesAreBound tree
+pub typed_is_bound : (tree : ModuleTree) (found : TypedModule) → typing_of tree ≡ Ok found
+    → NamesAreBound tree
 typed_is_bound tree found is =
     record { faultless = no_first (events_of tree) ((module-meets tree).given found is).0; bound = refl }
 
--- a typing that is refused for a name is refused for the first fault of the binding, or for one that the name of a
--- member may have
-pub refused_for_a_name : (tree : ModuleTree) (refusal : Fault) → typing_of tree ≡ Err refusal → IsOfNames refusal.cause
+-- a typing that is refused for a name is refused for the first fault of the binding, or for one that the name
+-- of a member may have
+pub refused_for_a_name : (tree : ModuleTree) (refusal : Fault) → typing_of tree ≡ Err refusal
+    → IsOfNames refusal.cause
     → IsFaultOfNames tree refusal ⊎ Contains (members_in_module tree) refusal
 refused_for_a_name tree refusal is names = by ((module-meets tree).refused refusal is names)
   where

@@ -6,13 +6,15 @@ use Rattle.typing.proofs.Names.Bound.{AreKnown, IsUnknown, Walks, names_join, bo
 use Rattle.typing.proofs.Names.Expressions.{expression-finds, arguments-find, target-finds, arguments_given, call-finds}
 
 -- names are used, and the text is as far as it was
-abbrev pub Uses : {A : Type 0} → (before : Progress) → (names : List Identifier) (members : List Fault) → Checked (A × Progress) → Type 0
+abbrev pub Uses : {A : Type 0} → (before : Progress) → (names : List Identifier) (members : List Fault)
+    → Checked (A × Progress) → Type 0
 Uses {A} before names members result =
     Meets (AreKnown before.known.here names) (IsUnknown before.known.here names members)
     (λ (done : A × Progress). done.1.known.here ≡ before.known.here) result
 
 -- these are the uses of a part of a text
-pub uses_walk : {A : Type 0} (before : Progress) (names : List Identifier) (members : List Fault) (result : Checked (A × Progress))
+pub uses_walk : {A : Type 0} (before : Progress) (names : List Identifier) (members : List Fault)
+    (result : Checked (A × Progress))
     → Uses before names members result
     → Walks (uses_of names) before.known.here members (λ (done : A × Progress). done.1.known.here) result
 unfolding uses_of
@@ -39,12 +41,14 @@ uses_at_last {A} before progress names members {result} same uses =
 -- an assignment
 destinations-find : (known : Known) (targets : List ReferenceTree) (constants : Constants)
     → Meets (AreKnown known.here (flat_map names_in_reference targets))
-    (IsUnknown known.here (flat_map names_in_reference targets) (flat_map members_in_reference targets)) (λ _. Unit {0})
+    (IsUnknown known.here (flat_map names_in_reference targets) (flat_map members_in_reference targets))
+    (λ _. Unit {0})
     (destinations known targets constants)
 destinations-find known [] constants = meets_ok tt tt
 destinations-find known (first ∷ others) constants =
     meets_then
-    (names_join known.here (names_in_reference first) (flat_map names_in_reference others) (members_in_reference first)
+    (names_join known.here (names_in_reference first) (flat_map names_in_reference others)
+    (members_in_reference first)
     (flat_map members_in_reference others))
     (target-finds known first constants) λ destination _.
     before_other (destinations-find known others destination.1) λ rest _.
@@ -52,7 +56,8 @@ destinations-find known (first ∷ others) constants =
 
 pub assignment-uses : (targets : List ReferenceTree) (source : ExpressionTree) (progress : Progress)
     → Uses progress (flat_map names_in_reference targets ++ names_in_expression source)
-    (flat_map members_in_reference targets ++ members_in_expression source) (assignment targets source progress)
+    (flat_map members_in_reference targets ++ members_in_expression source)
+    (assignment targets source progress)
 assignment-uses targets source progress =
     meets_then
     (names_join progress.known.here (flat_map names_in_reference targets) (names_in_expression source)
@@ -62,7 +67,8 @@ assignment-uses targets source progress =
     meets_ok tt same
 
 -- a CALL
-call_bound-finds : (known : Known) (binding : Binding) (name : Identifier) (trees : ArgumentTrees) (constants : Constants)
+call_bound-finds : (known : Known) (binding : Binding) (name : Identifier) (trees : ArgumentTrees)
+    (constants : Constants)
     → Meets (AreKnown known.here (names_in_arguments trees))
     (IsUnknown known.here (names_in_arguments trees) (members_in_arguments trees)) (λ _. Unit {0})
     (call_bound known binding name (arguments_given known trees) constants)
@@ -73,11 +79,13 @@ call_bound-finds known (Declared (Procedure number)) name trees constants =
     meets_ok tt tt
 call_bound-finds known (BuiltInName Move) name trees constants =
     after_other
-    (other_required (count_of_given (arguments_given known trees) == 3) ArgumentCount (place_of name) not_of_names) λ _ _.
+    (other_required (count_of_given (arguments_given known trees) == 3) ArgumentCount (place_of name)
+    not_of_names) λ _ _.
     before_other (arguments-find known trees constants) λ typed _.
     after_other (moved-other (place_of name) typed.0) λ moving _.
     meets_ok tt tt
-call_bound-finds known binding name trees constants = meets_fault CallOfNoProcedure (place_of name) not_of_names
+call_bound-finds known binding name trees constants =
+    meets_fault CallOfNoProcedure (place_of name) not_of_names
 
 pub call-uses : (name : Identifier) (trees : ArgumentTrees) (progress : Progress)
     → Uses progress (name ∷ names_in_arguments trees) (members_in_arguments trees)
@@ -90,7 +98,8 @@ call-uses name trees progress =
     meets_ok tt refl
 
 -- RETURN
-return_with-uses : (place : Place) (result : Option ScalarType) (tree : Option ExpressionTree) (progress : Progress)
+return_with-uses : (place : Place) (result : Option ScalarType) (tree : Option ExpressionTree)
+    (progress : Progress)
     → Uses progress (names_in_optional names_in_expression tree) (option_map_or members_in_expression tree [])
     (return_with place result tree progress)
 return_with-uses place None None progress = meets_ok tt refl
@@ -137,14 +146,18 @@ iteration-uses tree progress =
     let others : List Fault = members_in_expression tree.last in
     let more : List Fault = option_map_or members_in_expression tree.step [] in
     subst
-    (λ (names : List Identifier). Uses progress (tree.variable ∷ names) (members_in_iteration tree) (iteration tree progress))
+    (λ (names : List Identifier). Uses progress (tree.variable ∷ names) (members_in_iteration tree)
+    (iteration tree progress))
     (sym (append_assoc first last by))
-    (subst (λ (all : List Fault). Uses progress (tree.variable ∷ (first ++ (last ++ by))) all (iteration tree progress))
+    (subst (λ (all : List Fault). Uses progress (tree.variable ∷ (first ++ (last ++ by))) all
+    (iteration tree progress))
     (sym (append_assoc members others more))
-    (meets_then (names_join here (tree.variable ∷ []) (first ++ (last ++ by)) [] (members ++ (others ++ more)))
+    (meets_then (names_join here (tree.variable ∷ []) (first ++ (last ++ by)) []
+    (members ++ (others ++ more)))
     (bound-finds progress.known tree.variable) λ binding _.
     after_other (counter-other progress.known binding tree.variable) λ counter _.
-    meets_then (names_join here first (last ++ by) members (others ++ more)) (value-uses tree.first progress) λ one same.
+    meets_then (names_join here first (last ++ by) members (others ++ more)) (value-uses tree.first progress)
+    λ one same.
     meets_then (names_join here last by others more)
     (uses_at_last progress one.1 last others same (value-uses tree.last one.1)) λ two still.
     before_other (uses_at_last progress two.1 by more still (step-uses tree.step two.1)) λ three kept.

@@ -35,11 +35,13 @@ block_begins number heading objects block empty below = record {
       absurd (none-some (Object place)
       (sym (ap (lookup (bytes_eq name)) empty) ∙ found));
   kept = λ place object found parameter.
-      let less = at_place (IsBelow number) objects place object below found number parameter in absurd (omega (arith, less));
+      let less = at_place (IsBelow number) objects place object below found number parameter in
+      absurd (omega (arith, less));
   unseen = λ name found. refl;
 }
 
-pub own_begins : (heading : HeadingTree) (declared : DeclarationTrees) (block : Block) (progress opened : Progress)
+pub own_begins : (heading : HeadingTree) (declared : DeclarationTrees) (block : Block)
+    (progress opened : Progress)
     → Standing block.owner progress
     → Opened heading declared progress opened
     → Owned (own_block heading progress) nothing opened.known.objects opened.known.here.body.block
@@ -48,20 +50,23 @@ own_begins heading declared block progress opened stands opens =
     opens.block
     (subst (AllByRecursion (IsBelow (length progress.known.procedures))) (sym opens.objects) stands.below)
 
-pub own_stands : (heading : HeadingTree) (declared : DeclarationTrees) (block : Block) (progress opened : Progress)
+pub own_stands : (heading : HeadingTree) (declared : DeclarationTrees) (block : Block)
+    (progress opened : Progress)
     → Standing block.owner progress
     → Opened heading declared progress opened
     → Standing (OfProcedure (length progress.known.procedures) heading) opened
 own_stands heading declared block progress opened stands opens =
     let number : ℕ = length progress.known.procedures in
     let more : length opened.known.procedures ≡ number + 1 =
-    ap length opens.procedures ∙ length-append progress.known.procedures (heading_procedure heading declared ∷ []) in
+    ap length opens.procedures ∙ length-append progress.known.procedures
+    (heading_procedure heading declared ∷ []) in
     let counted = stands.count in
     record {
       count = opens.count ∙ counted ∙ sym (ap length opens.objects);
       below = subst (AllByRecursion (IsBelow (length opened.known.procedures))) (sym opens.objects)
           (all_more (IsBelow number) (IsBelow (length opened.known.procedures)) progress.known.objects
-          (λ object is each parameter. further number (length opened.known.procedures) each more (is each parameter))
+          (λ object is each parameter. further number (length opened.known.procedures) each more
+          (is each parameter))
           stands.below);
       own = omega (arith, more);
     }
@@ -99,9 +104,11 @@ module _
     abbrev Closed : Progress
     Closed = close_procedure heading declared (length progress.known.procedures) places body done
 
-    own_below : (number : ℕ) → May (own_block heading progress) number → number < length opened.known.procedures
+    own_below : (number : ℕ) → May (own_block heading progress) number
+        → number < length opened.known.procedures
     own_below number may =
-        may_below (own_block heading progress) opened (own_stands heading declared block progress opened stands opens)
+        may_below (own_block heading progress) opened
+        (own_stands heading declared block progress opened stands opens)
         number may
 
     inside : Grown (May (own_block heading progress)) opened done
@@ -109,14 +116,17 @@ module _
 
     opened_count : length opened.known.procedures ≡ Number + 1
     opened_count =
-        ap length opens.procedures ∙ length-append progress.known.procedures (heading_procedure heading declared ∷ [])
+        ap length opens.procedures ∙ length-append progress.known.procedures
+        (heading_procedure heading declared ∷ [])
 
-    within_count : length opened.known.procedures + length (goes.0).procedures ≡ length within.known.procedures
+    within_count : length opened.known.procedures + length (goes.0).procedures
+        ≡ length within.known.procedures
     within_count =
         sym (ap length (goes.0).adds ∙ length-append opened.known.procedures (goes.0).procedures)
 
     -- the table at its end
-    table_is : slice_set done.known.procedures Number Last ≡ progress.known.procedures ++ Last ∷ inside.procedures
+    table_is : slice_set done.known.procedures Number Last
+        ≡ progress.known.procedures ++ Last ∷ inside.procedures
     table_is =
         closed_table progress.known.procedures (heading_procedure heading declared) Last inside.procedures
         done.known.procedures
@@ -135,7 +145,8 @@ module _
         → AllByRecursion (IsApart Number (Number + suc (length inside.procedures))) rest
         → HasParameters tables Number Last
     first_fits tables rest same apart =
-        has_parameters Number heading (scan_of declared) within.known.objects within.known.here.body.block goes.1 tables
+        has_parameters Number heading (scan_of declared) within.known.objects
+        within.known.here.body.block goes.1 tables
         (grown.objects ++ rest)
         (same ∙ ap (λ (all : List TypedObject). all ++ rest) grown.grows
         ∙ append_assoc within.known.objects grown.objects rest)
@@ -150,7 +161,8 @@ module _
         (omega (arith, within_count, opened_count)) (is Number parameter)) grown.new)
         (all_more (IsApart Number (Number + suc (length inside.procedures)))
         (λ (object : TypedObject). IsParameterOf Number object → ⊥) rest
-        (λ object is parameter. outside (Number + suc (length inside.procedures)) (omega arith) (is Number parameter))
+        (λ object is parameter. outside (Number + suc (length inside.procedures)) (omega arith)
+        (is Number parameter))
         apart))
       where
         later : (low high : ℕ) → Number < low → ((low ≤ Number) × (Number < high)) ⊎ NoMore Number → ⊥
@@ -166,13 +178,16 @@ module _
         → AllByRecursion (IsApart Number (Number + suc (length inside.procedures))) rest
         → AllByRecursion (Numbered tables) (enumerate_from (Number + 1) inside.procedures)
     others_fit tables rest same apart =
-        subst (λ (at : ℕ). AllByRecursion (Numbered tables) (enumerate_from at inside.procedures)) opened_count
+        subst (λ (at : ℕ). AllByRecursion (Numbered tables) (enumerate_from at inside.procedures))
+        opened_count
         (inside.fit tables rest same
         (all_more (IsApart Number (Number + suc (length inside.procedures)))
-        (IsApart (length opened.known.procedures) (length opened.known.procedures + length inside.procedures)) rest
+        (IsApart (length opened.known.procedures) (length opened.known.procedures + length inside.procedures))
+        rest
         (λ object is number parameter.
         narrower (length opened.known.procedures)
-        (length opened.known.procedures + length inside.procedures) (Number + suc (length inside.procedures)) number
+        (length opened.known.procedures + length inside.procedures)
+        (Number + suc (length inside.procedures)) number
         (omega (arith, opened_count)) (omega (arith, opened_count)) (is number parameter)) apart))
       where
         narrower : (low high limit number : ℕ) → Number ≤ low → high ≤ limit
@@ -224,12 +239,14 @@ module _
               (with_procedure heading.name.name progress.known.here).body.block
               (λ number place object its found parameter.
               not_its block.owner stands.own number its
-              (new_number number (at_place IsInside inside.objects place object inside.new found number parameter)).0)
+              (new_number number (at_place IsInside inside.objects place object inside.new found
+              number parameter)).0)
               (owned_other block.owner block.is_own scan progress.known.objects progress.known.here.body.block
               heading.name.name (Procedure progress.known.here.procedures) (λ place same. absurd cc)
               (not_again progress.known.here heading.name.name opens.new) owned))),
         )
       where
-        not_its : (owner : Owner) → OwnerStands owner Number → (number : ℕ) → owns owner number → Number ≤ number → ⊥
+        not_its : (owner : Owner) → OwnerStands owner Number → (number : ℕ) → owns owner number
+            → Number ≤ number → ⊥
         not_its TheModule own number its past = absurd its
         not_its (OfProcedure at heading) own number its past = omega (arith, own, its, past)

@@ -1,4 +1,5 @@
--- DECLARE in a block: what its elements add to the tables and, where the block is that of a procedure, to its names.
+-- DECLARE in a block: what its elements add to the tables and, where the block is that of a procedure, to its
+-- names.
 use Rattle.typing.proofs.Prelude.{◌≡◌, ℕ, ◌+◌, ◌<◌, inr, Bool, true, false, ◌||◌, List, [], ◌∷◌, ◌++◌, length, Option, Some, None, Ok, nat_le, refl, ap, sym, subst, ◌∙◌, append-nil, arith, not, AllByRecursion, list_any, option_or, ScalarType, Identifier, ElementTree, ItemElement, ItemTree, LiterallyElement, Definition, is_declared_again, with_definition, declared_by, OBJECT_LIMIT, InFrame, TypedObject, DeclaredTwice, ExternalContents, TooLarge, require, Block, OfProcedure, Owner, Progress, TheModule, declares_parameter, is_external, TypedItem, declare_definition, declare_element, declare_elements, declare_item, declare_names, place_of_item, names_parameter, object_named, size_of_item, typed_item, with_objects, scalar_in_element, scalar_in_elements, scalar_of_type, Known, place_of, and_parts, or_right}
 use Rattle.typing.proofs.Types.FramesSummed.{HomeFits, typed_item_home}
 use Rattle.typing.proofs.Kept.{Gives, anything, gives_after, gives_ok, in_turn, required, then_more}
@@ -61,7 +62,8 @@ item_fits (OfProcedure number heading) true known item typed is =
           ((plain.0, plain.1), plain.2, parameter);
       other = λ parameter. parameter;
     })
-    (any_each (λ (name : Identifier). declares_parameter (block_of (OfProcedure number heading) true) name.name)
+    (any_each (λ (name : Identifier). declares_parameter
+    (block_of (OfProcedure number heading) true) name.name)
     (declared_by item.subject))
 
 -- a parameter in a frame is one of the block's own procedure
@@ -102,7 +104,8 @@ declare_item-goes block item progress scan stands owned =
     in_turn (anything (with_objects block typed names progress)) λ declared declared_as.
     let is = (with_objects-make block typed names progress).holds declared declared_as in
     let own =
-    (declare_names-own block typed scalar names progress.known.here scan progress.known.objects owned stands.count
+    (declare_names-own block typed scalar names progress.known.here scan
+    progress.known.objects owned stands.count
     (item_fits block.owner block.is_own progress.known item typed typed_as)).holds here named in
     let home = (typed_item_home progress.known block item).holds typed typed_as in
     gives_ok (
@@ -111,14 +114,16 @@ declare_item-goes block item progress scan stands owned =
         grows = is.objects;
         procedures = [];
         adds = is.procedures ∙ sym (append-nil progress.known.procedures);
-        new = made_new block typed (length progress.known.procedures) (length progress.known.procedures + 0) names home;
+        new = made_new block typed (length progress.known.procedures)
+            (length progress.known.procedures + 0) names home;
         around = own.2;
         count = λ _. own.1 ∙ ap (λ (all : List TypedObject). length all) (sym is.objects);
         fit = λ tables rest same apart. tt;
       },
       subst
           (λ (all : List TypedObject).
-          Owned block (λ name. option_or (scan name) (scalar_in_element (ItemElement item) name)) all here.body.block)
+          Owned block (λ name. option_or (scan name) (scalar_in_element (ItemElement item) name))
+          all here.body.block)
           (sym is.objects)
           (owned_scan block.owner block.is_own (scan_names scan scalar names)
           (λ name. option_or (scan name) (scalar_in_element (ItemElement item) name))
@@ -126,7 +131,8 @@ declare_item-goes block item progress scan stands owned =
           (λ name. scanned names scan scalar name) own.0),
     )
 
-pub both_more : (one two three : Option ScalarType) → option_or (option_or one two) three ≡ option_or one (option_or two three)
+pub both_more : (one two three : Option ScalarType)
+    → option_or (option_or one two) three ≡ option_or one (option_or two three)
 both_more None two three = refl
 both_more (Some scalar) two three = refl
 
@@ -135,17 +141,20 @@ declare_definition-goes : (block : Block) (name : Identifier) (progress : Progre
     → Owned block scan progress.known.objects progress.known.here.body.block
     → Gives (GoesOn block progress scan) (declare_definition block name progress)
 declare_definition-goes block name progress scan stands owned =
-    in_turn (required (not (is_declared_again progress.known.here name.name)) DeclaredTwice (place_of name)) λ _ once.
+    in_turn (required (not (is_declared_again progress.known.here name.name)) DeclaredTwice (place_of name))
+    λ _ once.
     gives_after (require (not (is_external block.owner)) ExternalContents (place_of name)) λ placed.
     gives_ok (
       grown_same progress (record progress {
         known = record progress.known { here = with_definition name.name progress.known.here };
       }) refl refl refl refl,
-      owned_other block.owner block.is_own scan progress.known.objects progress.known.here.body.block name.name Definition
+      owned_other block.owner block.is_own scan progress.known.objects progress.known.here.body.block
+          name.name Definition
           (λ place same. absurd cc) (not_again progress.known.here name.name once) owned,
     )
 
-pub owned_as : (block : Block) (one other : Scan) (before after : Progress) → ((name : List ℕ) → one name ≡ other name)
+pub owned_as : (block : Block) (one other : Scan) (before after : Progress)
+    → ((name : List ℕ) → one name ≡ other name)
     → GoesOn block before one after → GoesOn block before other after
 owned_as block one other before after same goes = (
   goes.0,
@@ -159,7 +168,8 @@ declare_element-goes : (block : Block) (element : ElementTree) (progress : Progr
     (declare_element block element progress)
 declare_element-goes block (LiterallyElement name text) progress scan stands owned =
     then_more (declare_definition-goes block name progress scan stands owned) λ after goes.
-    owned_as block scan (λ each. option_or (scan each) None) progress after (λ each. nothing_more (scan each)) goes
+    owned_as block scan (λ each. option_or (scan each) None) progress after
+    (λ each. nothing_more (scan each)) goes
 declare_element-goes block (ItemElement item) progress scan stands owned =
     declare_item-goes block item progress scan stands owned
 
@@ -179,7 +189,8 @@ pub declare_elements-go : (block : Block) (elements : List ElementTree) (progres
     (declare_elements block elements progress)
 declare_elements-go block [] progress scan stands owned =
     gives_ok
-    (owned_as block scan (λ each. option_or (scan each) None) progress progress (λ each. nothing_more (scan each))
+    (owned_as block scan (λ each. option_or (scan each) None) progress progress
+    (λ each. nothing_more (scan each))
     (grown_same progress progress refl refl refl refl, owned))
 declare_elements-go block (element ∷ others) progress scan stands owned =
     in_turn (declare_element-goes block element progress scan stands owned) λ between first.
@@ -187,10 +198,13 @@ declare_elements-go block (element ∷ others) progress scan stands owned =
     (declare_elements-go block others between (λ name. option_or (scan name) (scalar_in_element element name))
     (standing_after (may_below block progress stands) stands first.0) first.1) λ after second.
     owned_as block
-    (λ name. option_or (option_or (scan name) (scalar_in_element element name)) (scalar_in_elements others name))
-    (λ name. option_or (scan name) (option_or (scalar_in_element element name) (scalar_in_elements others name)))
+    (λ name. option_or (option_or (scan name) (scalar_in_element element name))
+    (scalar_in_elements others name))
+    (λ name. option_or (scan name) (option_or (scalar_in_element element name)
+    (scalar_in_elements others name)))
     progress after
     (λ name. both_more (scan name) (scalar_in_element element name) (scalar_in_elements others name))
     (goes_then block progress between after (λ name. option_or (scan name) (scalar_in_element element name))
-    (λ name. option_or (option_or (scan name) (scalar_in_element element name)) (scalar_in_elements others name))
+    (λ name. option_or (option_or (scan name) (scalar_in_element element name))
+    (scalar_in_elements others name))
     stands first second)

@@ -1,5 +1,6 @@
--- What typing a part of a text adds to the tables: objects, of which parameters in frames are those of procedures of the
--- part or of the one that the part declares them for, and procedures, whose parameters fit every table that goes on so.
+-- What typing a part of a text adds to the tables: objects, of which parameters in frames are those of
+-- procedures of the part or of the one that the part declares them for, and procedures, whose parameters fit
+-- every table that goes on so.
 use Rattle.typing.proofs.Prelude.{◌≡◌, ℕ, ◌+◌, ◌<◌, ◌≤◌, ◌⊎◌, inl, inr, true, List, [], ◌∷◌, ◌++◌, length, ap, sym, subst, ◌∙◌, append-nil, append_assoc, length-append, arith, AllByRecursion, enumerate_from, HasParameters, InFrame, TypedObject, TypedProcedure, TypedModule, OfProcedure, Owner, Progress, TheModule}
 
 -- a parameter in the frames of a procedure
@@ -36,7 +37,8 @@ pub record Grown (may : ℕ → Type 0) (before after : Progress) : Type 0 where
   pub procedures : List TypedProcedure
   pub adds : after.known.procedures ≡ before.known.procedures ++ procedures
   pub new : AllByRecursion
-      (IsNew may (length before.known.procedures) (length before.known.procedures + length procedures)) objects
+      (IsNew may (length before.known.procedures) (length before.known.procedures + length procedures))
+      objects
   pub around : after.known.here.outer_bodies ≡ before.known.here.outer_bodies
   pub count : before.known.here.objects ≡ length before.known.objects
       → after.known.here.objects ≡ length after.known.objects
@@ -92,7 +94,8 @@ grown_then {may} {before} {between} {after} below one other =
     let low : ℕ = length before.known.procedures in
     let middle : length between.known.procedures ≡ low + length one.procedures =
     ap length one.adds ∙ length-append before.known.procedures one.procedures in
-    let total : length (one.procedures ++ other.procedures) ≡ length one.procedures + length other.procedures =
+    let total : length (one.procedures ++ other.procedures)
+    ≡ length one.procedures + length other.procedures =
     length-append one.procedures other.procedures in
     record {
       objects = one.objects ++ other.objects;
@@ -229,13 +232,15 @@ pub grown_between : {may : ℕ → Type 0} {before after : Progress} (first last
     → Grown may first last
 grown_between {may} {before} {after} first last objects procedures around count
     later_objects later_procedures later_around later_count below grown =
-    let counted : length first.known.procedures ≡ length before.known.procedures = sym (ap length procedures) in
+    let counted : length first.known.procedures ≡ length before.known.procedures =
+    sym (ap length procedures) in
     grown_then
     (λ number is. subst (λ (limit : ℕ). number < limit) (sym counted) (below number is))
     (grown_same first before objects procedures around count)
     (grown_then below grown (grown_same after last later_objects later_procedures later_around later_count))
 
--- a place of a text: its objects are counted, frames are those of procedures so far, and so is its own procedure
+-- a place of a text: its objects are counted, frames are those of procedures so far, and so is its own
+-- procedure
 abbrev pub IsBelow : (count : ℕ) → TypedObject → Type 0
 IsBelow count object = (number : ℕ) → IsParameterOf number object → number < count
 
@@ -267,9 +272,12 @@ standing_after {owner} {may} {before} {after} below stands grown =
           (all_append (IsBelow (length after.known.procedures)) before.known.objects grown.objects
           (all_more (IsBelow low) (IsBelow (length after.known.procedures)) before.known.objects
           (λ object is number parameter.
-          further low (length after.known.procedures) number (omega (arith, high)) (is number parameter)) stands.below)
+          further low (length after.known.procedures) number (omega (arith, high))
+          (is number parameter)) stands.below)
           (all_more (IsNew may low (low + length grown.procedures)) (IsBelow (length after.known.procedures))
-          grown.objects (λ object is number parameter. by number (omega (arith, high)) (omega (arith, high)) (is number parameter))
+          grown.objects
+          (λ object is number parameter. by number (omega (arith, high)) (omega (arith, high))
+          (is number parameter))
           grown.new));
       own = owner_later owner low (length after.known.procedures) (omega (arith, high)) stands.own;
     }

@@ -20,7 +20,8 @@ not_inserted names name other new is =
     let inserted : insert_key bytes_eq names name ≡ names ++ (name ∷ []) =
     ap (λ (test : Bool). if test then names else names ++ (name ∷ [])) new in
     let split : (is_among names other || (bytes_eq other name || false)) ≡ false =
-    sym (ap (λ (all : List (List ℕ)). is_among all other) inserted ∙ among_both names (name ∷ []) other) ∙ is in
+    sym (ap (λ (all : List (List ℕ)). is_among all other) inserted ∙ among_both names (name ∷ []) other)
+    ∙ is in
     let both = or_parts (is_among names other) (bytes_eq other name || false) split in (
       λ same.
           let equal : bytes_eq other name ≡ true = (bytes_eq-Decides other name).1 (sym same) in
@@ -40,9 +41,11 @@ pub record Differing (parameters : List Identifier) (here after : Here) : Type 0
 
 pub parameters_differ : (parameters : List Identifier) (here : Here)
     → Gives (Differing parameters here) (declare_parameters parameters here)
-parameters_differ [] here = gives_ok (record { differ = tt; new = tt; block = refl; around = refl; count = refl })
+parameters_differ [] here =
+    gives_ok (record { differ = tt; new = tt; block = refl; around = refl; count = refl })
 parameters_differ (parameter ∷ others) here =
-    in_turn (required (not (is_parameter_again here parameter.name)) DeclaredTwice (place_of parameter)) λ _ once.
+    in_turn (required (not (is_parameter_again here parameter.name)) DeclaredTwice (place_of parameter))
+    λ _ once.
     then_more (parameters_differ others (with_parameter parameter.name here)) λ after is.
     let new : is_among here.body.declared parameter.name ≡ false =
     not-true (is_among here.body.declared parameter.name) once in
@@ -80,7 +83,8 @@ all_taken (suc n) (first ∷ all) is =
     (ap (λ others. first ∷ others) rest.0, omega (arith, few))
 
 -- at its heading a procedure is added at the end of the table, and its body begins
-pub record Opened (heading : HeadingTree) (declared : DeclarationTrees) (before after : Progress) : Type 0 where
+pub record Opened (heading : HeadingTree) (declared : DeclarationTrees)
+    (before after : Progress) : Type 0 where
   pub objects : after.known.objects ≡ before.known.objects
   pub procedures : after.known.procedures ≡ before.known.procedures ++ heading_procedure heading declared ∷ []
   pub block : after.known.here.body.block ≡ []
@@ -91,7 +95,8 @@ pub record Opened (heading : HeadingTree) (declared : DeclarationTrees) (before 
   pub few : length heading.parameters ≤ PARAMETER_LIMIT
   pub new : not (is_declared_again before.known.here heading.name.name) ≡ true
 
-pub opens_procedure : (block : Block) (heading : HeadingTree) (declared : DeclarationTrees) (progress : Progress)
+pub opens_procedure : (block : Block) (heading : HeadingTree) (declared : DeclarationTrees)
+    (progress : Progress)
     → Gives (Opened heading declared progress) (open_procedure block heading declared progress)
 opens_procedure block heading declared progress =
     in_turn (required (not (is_declared_again progress.known.here heading.name.name)) DeclaredTwice

@@ -1,5 +1,5 @@
--- The block of a procedure as far as it is declared: its parameters are objects of the types that the text says, and no
--- other object is a parameter in its frames.
+-- The block of a procedure as far as it is declared: its parameters are objects of the types that the text
+-- says, and no other object is a parameter in its frames.
 use Rattle.typing.proofs.Prelude.{◌≡◌, ℕ, zero, suc, ◌+◌, Bool, true, false, List, [], ◌∷◌, ◌++◌, length, map, Option, Some, None, if◌then◌else◌, unwrap_or, refl, ap, sym, subst, ◌∙◌, arith, slice_get, is_some, lookup, option_or, bytes_eq, none-some, bytes_eq-Decides, ScalarType, Identifier, HeadingTree, insert_entry, Entity, Object, Procedure, Label, Definition, Names, is_among, home_of_parameters, IsScalar, TypedObject, visibility_of}
 use Rattle.typing.proofs.Parameters.Grown.{IsParameterOf}
 
@@ -8,11 +8,13 @@ abbrev pub Scan : Type 0
 Scan = List ℕ → Option ScalarType
 
 abbrev pub is_parameter : HeadingTree → List ℕ → Bool
-is_parameter heading name = is_among (map (λ (parameter : Identifier). parameter.name) heading.parameters) name
+is_parameter heading name =
+    is_among (map (λ (parameter : Identifier). parameter.name) heading.parameters) name
 
 -- the object of a parameter
 pub record IsDescribed
-    (number : ℕ) (heading : HeadingTree) (scan : Scan) (objects : List TypedObject) (name : List ℕ) (place : ℕ) :
+    (number : ℕ) (heading : HeadingTree) (scan : Scan) (objects : List TypedObject)
+    (name : List ℕ) (place : ℕ) :
     Type 0 where
   pub object : TypedObject
   pub found : slice_get objects place ≡ Some object
@@ -20,17 +22,20 @@ pub record IsDescribed
   pub scalar : ScalarType
   pub type_is : scan name ≡ Some scalar
   pub is : IsScalar scalar object
-  pub home : object.home ≡ home_of_parameters number (is_some heading.reentrant) (visibility_of heading.linkage)
+  pub home : object.home ≡ home_of_parameters number (is_some heading.reentrant)
+      (visibility_of heading.linkage)
   pub parameter : object.is_parameter ≡ true
 
 pub record OwnBlock
-    (number : ℕ) (heading : HeadingTree) (scan : Scan) (objects : List TypedObject) (block : Names) : Type 0 where
+    (number : ℕ) (heading : HeadingTree) (scan : Scan) (objects : List TypedObject)
+    (block : Names) : Type 0 where
   pub named : (name : List ℕ) (place : ℕ) → lookup (bytes_eq name) block ≡ Some (Object place)
       → is_parameter heading name ≡ true
       → IsDescribed number heading scan objects name place
   pub kept : (place : ℕ) (object : TypedObject) → slice_get objects place ≡ Some object
       → IsParameterOf number object
-      → (lookup (bytes_eq object.name) block ≡ Some (Object place)) × (is_parameter heading object.name ≡ true)
+      → (lookup (bytes_eq object.name) block ≡ Some (Object place))
+      × (is_parameter heading object.name ≡ true)
   pub unseen : (name : List ℕ) → lookup (bytes_eq name) block ≡ None → scan name ≡ None
 
 pub found_new :
@@ -57,7 +62,8 @@ found_new (entry ∷ others) name entity wanted none same =
         let other : bytes_eq wanted entry.0 ≡ false =
         ap (λ (one : List ℕ). bytes_eq one entry.0) ((bytes_eq-Decides wanted name).0 same) ∙ e in
         ap (λ (test : Bool).
-        if test then Some entry.1 else lookup (bytes_eq wanted) (insert_entry bytes_eq others name entity)) other
+        if test then Some entry.1 else lookup (bytes_eq wanted)
+        (insert_entry bytes_eq others name entity)) other
         ∙ rest none same
 
 pub found_other :
@@ -71,7 +77,8 @@ found_other (entry ∷ others) name entity wanted differ =
   where
     by : (here : Bool)
         → bytes_eq name entry.0 ≡ here
-        → lookup (bytes_eq wanted) (insert_entry bytes_eq others name entity) ≡ lookup (bytes_eq wanted) others
+        → lookup (bytes_eq wanted) (insert_entry bytes_eq others name entity)
+        ≡ lookup (bytes_eq wanted) others
         → lookup (bytes_eq wanted)
         (if here then (entry.0, entity) ∷ others else entry ∷ insert_entry bytes_eq others name entity)
         ≡ (if bytes_eq wanted entry.0 then Some entry.1 else lookup (bytes_eq wanted) others)
@@ -113,7 +120,8 @@ kept_front [] after place item found = absurd (none-some item found)
 kept_front (first ∷ before) after zero item found = found
 kept_front (first ∷ before) after (suc place) item found = kept_front before after place item found
 
-last_item : {X : Type 0} (before : List X) (item : X) → slice_get (before ++ (item ∷ [])) (length before) ≡ Some item
+last_item : {X : Type 0} (before : List X) (item : X)
+    → slice_get (before ++ (item ∷ [])) (length before) ≡ Some item
 last_item [] item = refl
 last_item (first ∷ before) item = last_item before item
 
@@ -132,13 +140,15 @@ with_other number heading scan objects block name entity other none own = record
       absurd (other place
       (ap (λ (one : Option Entity). unwrap_or one entity)
       (sym (found_new block name entity wanted none same) ∙ found))))
-      (λ differ. own.named wanted place (sym (found_other block name entity wanted differ) ∙ found) parameter);
+      (λ differ. own.named wanted place (sym (found_other block name entity wanted differ) ∙ found)
+      parameter);
   kept = λ place object found parameter.
       let is = own.kept place object found parameter in
       same_or_not object.name name
       (λ same.
       absurd (none-some (Object place)
-      (sym (ap (λ (one : List ℕ). lookup (bytes_eq one) block) ((bytes_eq-Decides object.name name).0 same) ∙ none) ∙ is.0)))
+      (sym (ap (λ (one : List ℕ). lookup (bytes_eq one) block) ((bytes_eq-Decides object.name name).0 same)
+      ∙ none) ∙ is.0)))
       (λ differ. (found_other block name entity object.name differ ∙ is.0, is.1));
   unseen = λ wanted found.
       same_or_not wanted name
@@ -149,7 +159,8 @@ with_other number heading scan objects block name entity other none own = record
 -- objects that are no parameters in its frames
 pub with_rest :
     (number : ℕ) (heading : HeadingTree) (scan : Scan) (objects rest : List TypedObject) (block : Names)
-    → ((place : ℕ) (object : TypedObject) → slice_get rest place ≡ Some object → IsParameterOf number object → ⊥)
+    → ((place : ℕ) (object : TypedObject) → slice_get rest place ≡ Some object
+    → IsParameterOf number object → ⊥)
     → OwnBlock number heading scan objects block
     → OwnBlock number heading scan (objects ++ rest) block
 with_rest number heading scan objects rest block none own = record {
@@ -173,11 +184,13 @@ with_rest number heading scan objects rest block none own = record {
 
 -- the scan of a name and others
 abbrev pub with_type : Scan → List ℕ → ScalarType → Scan
-with_type scan name scalar wanted = option_or (scan wanted) (if bytes_eq wanted name then Some scalar else None)
+with_type scan name scalar wanted =
+    option_or (scan wanted) (if bytes_eq wanted name then Some scalar else None)
 
 -- what is told of a new object: where it is a parameter, it is as the text says
 pub record IsFitting
-    (number : ℕ) (heading : HeadingTree) (name : List ℕ) (scalar : ScalarType) (object : TypedObject) : Type 0 where
+    (number : ℕ) (heading : HeadingTree) (name : List ℕ) (scalar : ScalarType)
+    (object : TypedObject) : Type 0 where
   pub name_is : object.name ≡ name
   pub parameter : is_parameter heading name ≡ true
       → IsScalar scalar object
@@ -202,7 +215,8 @@ with_own number heading scan objects block name scalar object none fits own = re
       (ap (λ (one : Option Entity). unwrap_or one (Object (length objects)))
       (sym (found_new block name (Object (length objects)) wanted none same) ∙ found)) in
       let name_same : wanted ≡ name = (bytes_eq-Decides wanted name).0 same in
-      let is = fits.parameter (subst (λ (one : List ℕ). is_parameter heading one ≡ true) name_same parameter) in
+      let is =
+      fits.parameter (subst (λ (one : List ℕ). is_parameter heading one ≡ true) name_same parameter) in
       record {
         object = object;
         found = ap (slice_get (objects ++ (object ∷ []))) (sym place_is) ∙ last_item objects object;
@@ -218,7 +232,8 @@ with_own number heading scan objects block name scalar object none fits own = re
       })
       (λ differ.
       let is =
-      own.named wanted place (sym (found_other block name (Object (length objects)) wanted differ) ∙ found) parameter in
+      own.named wanted place (sym (found_other block name (Object (length objects)) wanted differ) ∙ found)
+      parameter in
       record {
         object = is.object;
         found = kept_front objects (object ∷ []) place is.object is.found;
@@ -237,7 +252,8 @@ with_own number heading scan objects block name scalar object none fits own = re
       same_or_not each.name name
       (λ same.
       absurd (none-some (Object place)
-      (sym (ap (λ (one : List ℕ). lookup (bytes_eq one) block) ((bytes_eq-Decides each.name name).0 same) ∙ none) ∙ is.0)))
+      (sym (ap (λ (one : List ℕ). lookup (bytes_eq one) block) ((bytes_eq-Decides each.name name).0 same)
+      ∙ none) ∙ is.0)))
       (λ differ. (found_other block name (Object (length objects)) each.name differ ∙ is.0, is.1)))
       (λ at same there.
       let one = only at object each there in
@@ -271,7 +287,8 @@ with_own number heading scan objects block name scalar object none fits own = re
         → number_in (Object place) 0 ≡ number_in other 0
     number_of one other place is same = ap (λ (entity : Entity). number_in entity 0) (sym is ∙ same)
 
-    only : (at : ℕ) (one other : TypedObject) → slice_get (one ∷ []) at ≡ Some other → (at ≡ 0) × (one ≡ other)
+    only : (at : ℕ) (one other : TypedObject) → slice_get (one ∷ []) at ≡ Some other
+        → (at ≡ 0) × (one ≡ other)
     only zero one other found = (refl, ap (λ (each : Option TypedObject). unwrap_or each one) found)
     only (suc at) one other found = absurd (none-some other found)
 

@@ -1,4 +1,5 @@
--- What a DECLARE adds: objects, of which those that are named as parameters are scalars of the types that the text says.
+-- What a DECLARE adds: objects, of which those that are named as parameters are scalars of the types that the
+-- text says.
 use Rattle.typing.proofs.Prelude.{◌≡◌, ℕ, Bool, true, false, ◌&&◌, ◌||◌, List, [], ◌∷◌, ◌++◌, length, map, Option, Some, None, if◌then◌else◌, nat_le, refl, ap, sym, subst, ◌∙◌, append-nil, append_assoc, length-append, arith, is_none, is_some, not, slice_get, AllByRecursion, lookup, option_or, bytes_eq, insert_entry, Dimension, Count, Implied, Linkage, ScalarType, Identifier, AtTree, HeadingTree, ItemTree, ItemTypeTree, ScalarItem, StructureItem, ValueListTree, Entity, Object, Here, Names, is_among, is_declared_again, with_object, AtAddress, home_of_parameters, Elsewhere, Home, InData, InFrame, Nowhere, ObjectType, ScalarObject, TypedObject, DeclaredTwice, ParameterNotScalar, MisplacedAt, BasedParameter, ExternalContents, ZeroDimension, require, Block, OfProcedure, Owner, TheModule, declares_parameter, is_external, is_external_linkage, Contents, Extents, NoArray, TypedItem, base_of, check_linkage, declare_names, extents_of, home_in, home_of, home_with_values, is_data, is_plain, place_of_item, names_parameter, object_named, typed_at, typed_base, typed_contents, typed_item, typed_type, scalar_of_type, visibility_of, Known, place_of, and_parts}
 use Rattle.trees.specs.declared.declaration.Linkage.TheVariants as linkages
 use Rattle.typing.proofs.Kept.{Gives, gives_after, gives_ok, in_turn, required, then_more}
@@ -53,7 +54,8 @@ pub owned_rest :
 owned_rest TheModule is_own scan objects rest block none own = tt
 owned_rest (OfProcedure number heading) false scan objects rest block none own = tt
 owned_rest (OfProcedure number heading) true scan objects rest block none own =
-    with_rest number heading scan objects rest block (λ place object found is. none number place object refl found is) own
+    with_rest number heading scan objects rest block
+    (λ place object found is. none number place object refl found is) own
 
 owned_own :
     (owner : Owner) (is_own : Bool) (scan : Scan) (objects : List TypedObject) (block : Names)
@@ -83,7 +85,8 @@ pub not_again : (here : Here) (name : List ℕ) → not (is_declared_again here 
     → lookup (bytes_eq name) here.body.block ≡ None
 not_again here name is = by (lookup (bytes_eq name) here.body.block) is
   where
-    by : (found : Option Entity) → not (is_some found || is_among here.body.labelled name) ≡ true → found ≡ None
+    by : (found : Option Entity) → not (is_some found || is_among here.body.labelled name) ≡ true
+        → found ≡ None
     by None is = refl
     by (Some entity) is = absurd (let bad : false ≡ true = is in cc)
 
@@ -104,18 +107,21 @@ scanned (name ∷ others) scan scalar wanted =
     (is_among (map (λ (name : Identifier). name.name) others) wanted)
   where
     by : (found : Option ScalarType) (here later : Bool)
-        → option_or (option_or found (if here then Some scalar else None)) (if later then Some scalar else None)
+        → option_or (option_or found (if here then Some scalar else None))
+        (if later then Some scalar else None)
         ≡ option_or found (if here || later then Some scalar else None)
     by None true later = refl
     by None false later = refl
     by (Some its) here later = refl
 
 pub declare_names-own :
-    (block : Block) (typed : TypedItem) (scalar : ScalarType) (names : List Identifier) (here : Here) (scan : Scan)
+    (block : Block) (typed : TypedItem) (scalar : ScalarType) (names : List Identifier)
+    (here : Here) (scan : Scan)
     (objects : List TypedObject)
     → Owned block scan objects here.body.block
     → here.objects ≡ length objects
-    → AllByRecursion (λ (name : Identifier). Fitting block name.name scalar (object_named block typed name.name)) names
+    → AllByRecursion
+    (λ (name : Identifier). Fitting block name.name scalar (object_named block typed name.name)) names
     → Gives
     (λ (after : Here).
     Owned block (scan_names scan scalar names) (objects ++ made block typed names) after.body.block
@@ -130,10 +136,12 @@ declare_names-own block typed scalar [] here scan objects own count fit =
     )
 declare_names-own block typed scalar (name ∷ others) here scan objects own count fit =
     let object : TypedObject = object_named block typed name.name in
-    let whole : (objects ++ (object ∷ [])) ++ made block typed others ≡ objects ++ made block typed (name ∷ others) =
+    let whole : (objects ++ (object ∷ [])) ++ made block typed others
+    ≡ objects ++ made block typed (name ∷ others) =
     append_assoc objects (object ∷ []) (made block typed others) in
     in_turn (required (not (is_declared_again here name.name)) DeclaredTwice (place_of name)) λ _ once.
-    gives_after (require (not (is_external block.owner) || declares_parameter block name.name) ExternalContents
+    gives_after
+    (require (not (is_external block.owner) || declares_parameter block name.name) ExternalContents
     (place_of name)) λ placed.
     let own_next : Owned block (with_type scan name.name scalar) (objects ++ (object ∷ []))
     (with_object name.name here).body.block =
@@ -145,7 +153,8 @@ declare_names-own block typed scalar (name ∷ others) here scan objects own cou
     (not_again here name.name once) fit.0 own) in
     let longer = length-append objects (object ∷ []) in
     then_more
-    (declare_names-own block typed scalar others (with_object name.name here) (with_type scan name.name scalar)
+    (declare_names-own block typed scalar others (with_object name.name here)
+    (with_type scan name.name scalar)
     (objects ++ (object ∷ [])) own_next (omega (arith, count, longer)) fit.1)
     λ after is. (
       subst
@@ -182,14 +191,17 @@ module _ (known : Known) (number : ℕ) (heading : HeadingTree) (item : ItemTree
       in_turn (required (not (names_parameter OwnOf item.subject)) ParameterNotScalar count.place) λ _ lacks.
       absurd (no_such (names_parameter OwnOf item.subject) lacks names)
   no_array names (Some Implied) =
-      in_turn (required (not (names_parameter OwnOf item.subject)) ParameterNotScalar (place_of_item item)) λ _ lacks.
+      in_turn (required (not (names_parameter OwnOf item.subject)) ParameterNotScalar (place_of_item item))
+      λ _ lacks.
       absurd (no_such (names_parameter OwnOf item.subject) lacks names)
 
   scalar_type : NamesOne → (tree : ItemTypeTree)
-      → Gives (λ (object_type : ObjectType). object_type ≡ ScalarObject (scalar_of_type tree)) (typed_type OwnOf item tree)
+      → Gives (λ (object_type : ObjectType). object_type ≡ ScalarObject (scalar_of_type tree))
+      (typed_type OwnOf item tree)
   scalar_type names (ScalarItem scalar) = gives_ok refl
   scalar_type names (StructureItem members) =
-      in_turn (required (not (names_parameter OwnOf item.subject)) ParameterNotScalar (place_of_item item)) λ _ lacks.
+      in_turn (required (not (names_parameter OwnOf item.subject)) ParameterNotScalar (place_of_item item))
+      λ _ lacks.
       absurd (no_such (names_parameter OwnOf item.subject) lacks names)
 
   no_linkage : (linkage : Option Linkage)
@@ -216,7 +228,8 @@ module _ (known : Known) (number : ℕ) (heading : HeadingTree) (item : ItemTree
       → (list : Option ValueListTree)
       → Gives (IsEmpty list) (typed_contents known OwnOf item object_type extents list)
   contents_none names object_type extents is None =
-      subst (λ (extents : Extents). Gives (IsEmpty None) (typed_contents known OwnOf item object_type extents None)) (sym is)
+      subst (λ (extents : Extents). Gives (IsEmpty None)
+      (typed_contents known OwnOf item object_type extents None)) (sym is)
       (gives_ok (refl, refl, refl))
   contents_none names object_type extents is (Some list) =
       in_turn (required (is_plain OwnOf item && is_none item.at) _ _) λ _ plain.
@@ -229,7 +242,8 @@ module _ (known : Known) (number : ℕ) (heading : HeadingTree) (item : ItemTree
   own_home = by heading.linkage (is_some heading.reentrant)
     where
       by : (linkage : Option Linkage) (in_frame : Bool)
-          → (if is_external_linkage linkage then Nowhere else (if in_frame then InFrame number else InData []))
+          → (if is_external_linkage linkage then Nowhere else (if in_frame then InFrame
+          number else InData []))
           ≡ home_of_parameters number in_frame (visibility_of linkage)
       by None true = refl
       by None false = refl
@@ -250,7 +264,8 @@ module _ (known : Known) (number : ℕ) (heading : HeadingTree) (item : ItemTree
       ∙ ap (λ (at : Option AtAddress). home_of (OfProcedure number heading) item None at filled.values) at_is
       ∙ ap (home_of (OfProcedure number heading) item None None) filled_is.2
       ∙ ap (λ (outside : Bool).
-      if outside then Elsewhere else home_with_values (OfProcedure number heading) (is_data item.value_list) []) linkage_is
+      if outside then Elsewhere else home_with_values (OfProcedure number heading)
+      (is_data item.value_list) []) linkage_is
       ∙ ap (λ (list : Option ValueListTree).
       home_with_values (OfProcedure number heading) (is_data list) []) filled_is.0
       ∙ own_home

@@ -55,7 +55,8 @@ number_in (Procedure place) other = other
 number_in (Label place) other = other
 number_in Definition other = other
 
-same_place : (found : Option Entity) (one other : ℕ) → found ≡ Some (Object one) → found ≡ Some (Object other) → one ≡ other
+same_place : (found : Option Entity) (one other : ℕ) → found ≡ Some (Object one)
+    → found ≡ Some (Object other) → one ≡ other
 same_place found one other is its =
     ap (λ (entity : Option Entity). number_in (unwrap_or entity Definition) 0) (sym is ∙ its)
 
@@ -76,7 +77,8 @@ first_one : (place one : ℕ) (places : List ℕ) → one ≡ place → IsOne pl
 first_one place one places is = (0, one, omega arith, refl, is)
 
 later_one : (place one : ℕ) (places : List ℕ) → IsOne place places → IsOne place (one ∷ places)
-later_one place one places found = (suc found.0, found.1, later found.0 (length places) found.2, found.3, found.4)
+later_one place one places found =
+    (suc found.0, found.1, later found.0 (length places) found.2, found.3, found.4)
   where
     later : (k n : ℕ) → k < n → suc k < suc n
     later k n less = omega (arith, less)
@@ -103,7 +105,8 @@ named_one block (parameter ∷ parameters) (one ∷ places) name place named amo
     by true e among rest =
         first_one place one places
         (same_place (lookup (bytes_eq name) block) one place
-        (ap (λ (each : List ℕ). lookup (bytes_eq each) block) ((bytes_eq-Decides name parameter.name).0 e) ∙ named.0) found)
+        (ap (λ (each : List ℕ). lookup (bytes_eq each) block) ((bytes_eq-Decides name parameter.name).0 e)
+        ∙ named.0) found)
     by false e among rest = later_one place one places (rest among found)
 
 module _

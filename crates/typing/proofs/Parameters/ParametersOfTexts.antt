@@ -43,7 +43,8 @@ call_same name given progress =
     gives_after (call_bound progress.known binding name given progress.constants) λ typed.
     gives_ok refl
 
-return_with_same : (place : Place) (result : Option ScalarType) (tree : Option ExpressionTree) (progress : Progress)
+return_with_same : (place : Place) (result : Option ScalarType) (tree : Option ExpressionTree)
+    (progress : Progress)
     → Gives (λ found. Same progress found.1) (return_with place result tree progress)
 return_with_same place None None progress = gives_ok refl
 return_with_same place (Some scalar) (Some tree) progress =
@@ -54,9 +55,11 @@ return_with_same place None (Some tree) progress = gives_fault
 pub return_same : (place : Place) (owner : Owner) (tree : Option ExpressionTree) (progress : Progress)
     → Gives (λ found. Same progress found.1) (return_from place owner tree progress)
 return_same place TheModule tree progress = gives_fault
-return_same place (OfProcedure number heading) tree progress = return_with_same place heading.result tree progress
+return_same place (OfProcedure number heading) tree progress =
+    return_with_same place heading.result tree progress
 
-pub goto_same : (label : Identifier) (progress : Progress) → Gives (λ found. Same progress found.1) (goto label progress)
+pub goto_same : (label : Identifier) (progress : Progress)
+    → Gives (λ found. Same progress found.1) (goto label progress)
 goto_same label progress =
     gives_after (goto_bound (place_of label) (jump_of progress.known.here label.name)) λ typed. gives_ok refl
 
@@ -84,7 +87,8 @@ from_same : {A : Type 0} {progress : Progress} {result : Checked (A × Progress)
     → Grows progress result
 from_same {A} {progress} {result} is = then_more is (λ found same. grown_known progress found.1 same)
 
-after_none : {before after : Progress} (owner : Owner) → Standing owner before → Grown NoMore before after → Standing owner after
+after_none : {before after : Progress} (owner : Owner) → Standing owner before → Grown NoMore before after
+    → Standing owner after
 after_none {before} {after} owner stands grown = standing_after (none_below before) stands grown
 
 labels_same : (labels : List Identifier) (here : Here)
@@ -101,7 +105,8 @@ none_owned : (owner : Owner) (scan : Scan) (objects : List TypedObject) (names :
 none_owned TheModule scan objects names = tt
 none_owned (OfProcedure number heading) scan objects names = tt
 
-entered_stands : (owner : Owner) (progress : Progress) → Standing owner progress → Standing owner (entered progress)
+entered_stands : (owner : Owner) (progress : Progress) → Standing owner progress
+    → Standing owner (entered progress)
 entered_stands owner progress stands = record { count = stands.count; below = stands.below; own = stands.own }
 
 here_stands : (owner : Owner) (here : Here) (progress : Progress) → here.objects ≡ progress.known.here.objects
@@ -120,7 +125,8 @@ list_grows owner trees typed_from progress stands each =
     (each progress.known.here.labels inside
     (here_stands owner (into_list (labels_of trees) progress.known.here) progress refl stands)) λ done grown.
     gives_ok
-    (grown_between progress (with_here (out_of_list done.1.known.here) done.1) refl refl refl refl refl refl refl refl
+    (grown_between progress (with_here (out_of_list done.1.known.here) done.1) refl refl refl
+    refl refl refl refl refl
     (none_below inside) grown)
 
 mutual
@@ -145,7 +151,8 @@ mutual
       in_turn
       (declarations_grow (inner_block block) declared (entered progress) nothing
       (entered_stands block.owner progress stands)
-      (none_owned block.owner nothing progress.known.objects (entered progress).known.here.body.block)) λ opened one.
+      (none_owned block.owner nothing progress.known.objects (entered progress).known.here.body.block))
+      λ opened one.
       let first : Grown NoMore (entered progress) opened =
       grown_more (λ number may. absurd (let bad : false ≡ true = may.0 in cc)) one.0 in
       in_turn
@@ -153,18 +160,21 @@ mutual
       (after_none block.owner (entered_stands block.owner progress stands) first)
       (λ label inside s. statements_grow (inner_block block) body label inside s)) λ done two.
       gives_ok
-      (grown_between progress (left done.1) refl refl refl refl refl refl refl refl (none_below (entered progress))
+      (grown_between progress (left done.1) refl refl refl refl refl refl refl refl
+      (none_below (entered progress))
       (grown_then (none_below (entered progress)) first two))
   kind_grows block (trees.WhileStatement place condition body) progress stands =
       in_turn (from_same (value_same condition progress)) λ tested one.
       in_turn
-      (list_grows block.owner body (λ label. statements block body label) tested.1 (after_none block.owner stands one)
+      (list_grows block.owner body (λ label. statements block body label) tested.1
+      (after_none block.owner stands one)
       (λ label inside s. statements_grow block body label inside s)) λ done two.
       gives_ok (grown_then (none_below progress) one two)
   kind_grows block (trees.IterateStatement place head body) progress stands =
       in_turn (from_same (iteration_same head progress)) λ counted one.
       in_turn
-      (list_grows block.owner body (λ label. statements block body label) counted.1 (after_none block.owner stands one)
+      (list_grows block.owner body (λ label. statements block body label) counted.1
+      (after_none block.owner stands one)
       (λ label inside s. statements_grow block body label inside s)) λ done two.
       gives_ok (grown_then (none_below progress) one two)
   kind_grows block (trees.CaseStatement place choice body) progress stands =
@@ -174,7 +184,8 @@ mutual
 
   labelled_grows : (block : Block) (tree : StatementTree) (progress : Progress)
       → Standing block.owner progress → Grows progress (labelled block tree progress)
-  labelled_grows block (trees.LabelledStatement labels done) progress stands = kind_grows block done progress stands
+  labelled_grows block (trees.LabelledStatement labels done) progress stands =
+      kind_grows block done progress stands
 
   alone_grows : (block : Block) (tree : StatementTree) (progress : Progress)
       → Standing block.owner progress → Grows progress (alone block tree progress)
@@ -197,7 +208,8 @@ mutual
 
   statements_grow : (block : Block) (trees : StatementTrees) (label : ℕ) (progress : Progress)
       → Standing block.owner progress → Grows progress (statements block trees label progress)
-  statements_grow block trees.NoStatements label progress stands = gives_ok (grown_known progress progress refl)
+  statements_grow block trees.NoStatements label progress stands =
+      gives_ok (grown_known progress progress refl)
   statements_grow block (trees.MoreStatements first others) label progress stands =
       in_turn (labels_same (labels_before first) progress.known.here) λ here same.
       let there : Standing block.owner (with_here here progress) =
@@ -206,7 +218,8 @@ mutual
       in_turn (statements_grow block others (label + length (labels_before first)) done.1
       (after_none block.owner there one)) λ rest two.
       gives_ok
-      (grown_then (none_below progress) (grown_same progress (with_here here progress) refl refl same.0 same.1)
+      (grown_then (none_below progress) (grown_same progress (with_here here progress)
+      refl refl same.0 same.1)
       (grown_then (none_below (with_here here progress)) one two))
 
   declaration_grows : (block : Block) (tree : DeclarationTree) (progress : Progress) (scan : Scan)
@@ -231,7 +244,8 @@ mutual
       (λ label inside s. statements_grow own body label inside s)) λ done grown.
       gives_ok
       (owned_as block scan (λ name. option_or (scan name) None) progress _ (λ name. nothing_more (scan name))
-      (closed_goes block heading declared scan progress opened within done.1 places done.0 stands owned heads goes named
+      (closed_goes block heading declared scan progress opened within done.1 places done.0 stands
+      owned heads goes named
       grown))
 
   declarations_grow : (block : Block) (trees : DeclarationTrees) (progress : Progress) (scan : Scan)
@@ -241,20 +255,26 @@ mutual
       (declarations block trees progress)
   declarations_grow block NoDeclarations progress scan stands owned =
       gives_ok
-      (owned_as block scan (λ name. option_or (scan name) None) progress progress (λ name. nothing_more (scan name))
+      (owned_as block scan (λ name. option_or (scan name) None) progress progress
+      (λ name. nothing_more (scan name))
       (grown_known progress progress refl, owned))
   declarations_grow block (MoreDeclarations first others) progress scan stands owned =
       in_turn (declaration_grows block first progress scan stands owned) λ between one.
       then_more
-      (declarations_grow block others between (λ name. option_or (scan name) (scalar_in_declaration first name))
+      (declarations_grow block others between
+      (λ name. option_or (scan name) (scalar_in_declaration first name))
       (standing_after (may_below block progress stands) stands one.0) one.1) λ after two.
       owned_as block
-      (λ name. option_or (option_or (scan name) (scalar_in_declaration first name)) (scalar_in_block others name))
-      (λ name. option_or (scan name) (option_or (scalar_in_declaration first name) (scalar_in_block others name)))
+      (λ name. option_or (option_or (scan name) (scalar_in_declaration first name))
+      (scalar_in_block others name))
+      (λ name. option_or (scan name) (option_or (scalar_in_declaration first name)
+      (scalar_in_block others name)))
       progress after
       (λ name. both_more (scan name) (scalar_in_declaration first name) (scalar_in_block others name))
-      (goes_then block progress between after (λ name. option_or (scan name) (scalar_in_declaration first name))
-      (λ name. option_or (option_or (scan name) (scalar_in_declaration first name)) (scalar_in_block others name))
+      (goes_then block progress between after
+      (λ name. option_or (scan name) (scalar_in_declaration first name))
+      (λ name. option_or (option_or (scan name) (scalar_in_declaration first name))
+      (scalar_in_block others name))
       stands one two)
 
 -- at the end of a text
@@ -278,7 +298,8 @@ fits : (tree : ModuleTree) → Gives ParametersFit (typing_of tree)
 unfolding typing_of
 fits tree =
     let at_start : Standing TheModule at_the_beginning = record { count = refl; below = tt; own = tt } in
-    in_turn (declarations_grow module_block tree.declarations at_the_beginning nothing at_start tt) λ declared one.
+    in_turn (declarations_grow module_block tree.declarations at_the_beginning nothing at_start tt)
+    λ declared one.
     let first : Grown NoMore at_the_beginning declared = grown_more (λ number may. may.1) one.0 in
     in_turn
     (list_grows TheModule tree.statements (λ label. statements module_block tree.statements label) declared
@@ -287,5 +308,6 @@ fits tree =
     gives_ok (module_fits tree.name.name done.0 done.1 (grown_then (none_below at_the_beginning) first two))
 
 -- Each procedure of a typed module has its parameters.
-pub parameters_fit : (tree : ModuleTree) (found : TypedModule) → typing_of tree ≡ Ok found → ParametersFit found
+pub parameters_fit : (tree : ModuleTree) (found : TypedModule) → typing_of tree ≡ Ok found
+    → ParametersFit found
 parameters_fit tree found is = (fits tree).holds found is

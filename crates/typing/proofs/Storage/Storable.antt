@@ -15,13 +15,15 @@ HasRoom object = bytes_filled object.home ≤ size_of_object object
 
 -- the objects and the constants of a text so far
 pub record AreStorable (objects : List TypedObject) (constants : Constants) : Type 0 where
-  pub objects_stand : filter_map object_in constants.items ≡ filter_map numbered_constant (enumerate_from 0 objects)
+  pub objects_stand : filter_map object_in constants.items
+      ≡ filter_map numbered_constant (enumerate_from 0 objects)
   pub lists_stand : filter_map list_in constants.items ≡ numbers_from 0 (length constants.lists)
   pub look_back : AllLookBack objects
   pub at_places : AllAtPlaces objects objects
   pub have_room : All HasRoom objects
 
-pub enumerate_more : {X : Type 0} (first : ℕ) (before : List X) (x : X) (last : ℕ) → first + length before ≡ last
+pub enumerate_more : {X : Type 0} (first : ℕ) (before : List X) (x : X) (last : ℕ)
+    → first + length before ≡ last
     → enumerate_from first (before ++ x ∷ []) ≡ enumerate_from first before ++ (last, x) ∷ []
 enumerate_more first [] x last is = ap (λ (number : ℕ). (number, x) ∷ []) (omega (arith, is))
 enumerate_more first (y ∷ before) x last is =
@@ -99,16 +101,19 @@ object_more {objects} {constants} object back looks room are =
     let LookBack : ℕ × TypedObject → Type 0 = λ numbered. LooksBack numbered.0 (numbered.1).home in
     record {
       objects_stand = objects_in_constants object.home count constants
-          ∙ ap (λ (numbers : List ℕ). numbers ++ number_to_list (constant_number count object.home)) are.objects_stand
+          ∙ ap (λ (numbers : List ℕ). numbers ++ number_to_list (constant_number count object.home))
+          are.objects_stand
           ∙ sym (filter_map-append numbered_constant before ((count, object) ∷ []))
           ∙ ap (filter_map numbered_constant) (sym all);
       lists_stand = lists_in_constants object.home count constants ∙ are.lists_stand
-          ∙ ap (λ (lists : List (List ℕ)). numbers_from 0 (length lists)) (sym (lists_kept object.home count constants));
+          ∙ ap (λ (lists : List (List ℕ)). numbers_from 0 (length lists))
+          (sym (lists_kept object.home count constants));
       look_back = subst (λ (numbered : List (ℕ × TypedObject)). All LookBack numbered) (sym all)
           (All-append LookBack before ((count, object) ∷ []) are.look_back
           (All-cons LookBack (count, object) [] back (All-nil LookBack)));
       at_places = All-append AtPlace objects (object ∷ []) places_before
-          (All-cons AtPlace object [] (place_later object.home objects (object ∷ []) looks) (All-nil AtPlace));
+          (All-cons AtPlace object [] (place_later object.home objects (object ∷ []) looks)
+          (All-nil AtPlace));
       have_room = All-append HasRoom objects (object ∷ []) are.have_room
           (All-cons HasRoom object [] room (All-nil HasRoom));
     }
@@ -121,4 +126,5 @@ back_later home number back = tt
 
 -- nothing so far
 pub none_yet : AreStorable [] (record { lists = []; items = [] })
-none_yet = record { objects_stand = refl; lists_stand = refl; look_back = All-nil _; at_places = All-nil _; have_room = All-nil _ }
+none_yet =
+    record { objects_stand = refl; lists_stand = refl; look_back = All-nil _; at_places = All-nil _; have_room = All-nil _ }

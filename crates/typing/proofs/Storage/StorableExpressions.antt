@@ -31,15 +31,19 @@ module _ {objects : List TypedObject} where
   part_with_member_is object object_type index extent (WithMember name given) constants keeps are =
       then_any _ (found (members_of object_type) MemberMismatch (place_of name)) _ (λ members.
       then_any _ (found (member_named members name.name) UnknownName (place_of name)) _ (λ place.
-      then_any _ (require (takes_subscripts extent place.member.dimension (count_of_given given)) SubscriptMismatch
+      then_any _
+      (require (takes_subscripts extent place.member.dimension (count_of_given given)) SubscriptMismatch
       (place_of name)) _ (λ takes.
       then_checks _ _ (given.typed constants) _ (keeps constants are) (λ typed is. is))))
 
-  part_of_is : (number : ℕ) (object : TypedObject) (extent : Extent) (given : GivenReference) (constants : Constants)
+  part_of_is : (number : ℕ) (object : TypedObject) (extent : Extent) (given : GivenReference)
+      (constants : Constants)
       → ReferenceKeeps objects given → AreStorable objects constants
       → IfOk (part_of number object extent given constants) (λ typed. AreStorable objects typed.1)
   part_of_is number object extent given constants keeps are =
-      then_any _ (require (takes_subscripts extent object.dimension (count_of_given given.arguments)) SubscriptMismatch
+      then_any _
+      (require (takes_subscripts extent object.dimension (count_of_given given.arguments))
+      SubscriptMismatch
       (place_of given.name)) _ (λ takes.
       then_checks _ _ (given.arguments.typed constants) _ (keeps.arguments constants are) (λ typed is.
       part_with_member_is number object.object_type _ extent given.member typed.1 keeps.member is))
@@ -72,7 +76,8 @@ module _ {objects : List TypedObject} where
       location_of_bound_is known binding given constants keeps are)
 
   -- what values go to
-  destination_of_bound_is : (known : Known) (binding : Binding) (given : GivenReference) (constants : Constants)
+  destination_of_bound_is : (known : Known) (binding : Binding) (given : GivenReference)
+      (constants : Constants)
       → ReferenceKeeps objects given → AreStorable objects constants
       → IfOk (destination_of_bound known binding given constants) (λ typed. AreStorable objects typed.1)
   destination_of_bound_is known (Declared (Object number)) given constants keeps are =
@@ -97,7 +102,8 @@ module _ {objects : List TypedObject} where
       → GivenKeeps objects given → AreStorable objects constants
       → IfOk (call_arguments procedure place given constants) (λ typed. AreStorable objects typed.1)
   call_arguments_is procedure place given constants keeps are =
-      then_any _ (require (count_of_given given == length procedure.parameter_types) ArgumentCount place) _ (λ are_all.
+      then_any _ (require (count_of_given given == length procedure.parameter_types) ArgumentCount place) _
+      (λ are_all.
       then_checks _ _ (given.typed constants) _ (keeps constants are) (λ typed is. is))
 
   call_of_is : (number : ℕ) (procedure : TypedProcedure) (given : GivenReference) (constants : Constants)
@@ -106,7 +112,8 @@ module _ {objects : List TypedObject} where
   call_of_is number procedure given constants keeps are =
       then_any _ (found procedure.result ValueOfUntyped (place_of given.name)) _ (λ result.
       then_checks _ _ (call_arguments procedure (place_of given.name) given.arguments constants) _
-      (call_arguments_is procedure (place_of given.name) given.arguments constants keeps.arguments are) (λ typed is.
+      (call_arguments_is procedure (place_of given.name) given.arguments constants keeps.arguments are)
+      (λ typed is.
       then_any _ (without_member given.member) _ (λ has_none. is)))
 
   -- built-in functions
@@ -114,7 +121,8 @@ module _ {objects : List TypedObject} where
       → ReferenceKeeps objects given → AreStorable objects constants
       → IfOk (unary_function function given constants) (λ typed. AreStorable objects typed.1)
   unary_function_is function given constants keeps are =
-      then_any _ (require (count_of_given given.arguments == 1) ArgumentCount (place_of given.name)) _ (λ is_one.
+      then_any _ (require (count_of_given given.arguments == 1) ArgumentCount (place_of given.name)) _
+      (λ is_one.
       then_checks _ _ (given.arguments.typed constants) _ (keeps.arguments constants are) (λ typed is.
       then_any _ (without_member given.member) _ (λ has_none.
       then_any _ (function_of function (place_of given.name) typed.0) _ (λ node. is))))
@@ -123,7 +131,8 @@ module _ {objects : List TypedObject} where
       → ReferenceKeeps objects given → AreStorable objects constants
       → IfOk (shift_function function given constants) (λ typed. AreStorable objects typed.1)
   shift_function_is function given constants keeps are =
-      then_any _ (require (count_of_given given.arguments == 2) ArgumentCount (place_of given.name)) _ (λ are_two.
+      then_any _ (require (count_of_given given.arguments == 2) ArgumentCount (place_of given.name)) _
+      (λ are_two.
       then_checks _ _ (given.arguments.typed constants) _ (keeps.arguments constants are) (λ typed is.
       then_any _ (without_member given.member) _ (λ has_none.
       then_any _ (shift_of function (place_of given.name) typed.0) _ (λ node. is))))
@@ -187,13 +196,15 @@ module _ {objects : List TypedObject} where
       → ReferenceKeeps objects given → AreStorable objects constants
       → IfOk (value_of known given constants) (λ typed. AreStorable objects typed.1)
   value_of_is known given constants keeps are =
-      then_any _ (bound known given.name) _ (λ binding. value_of_bound_is known binding given constants keeps are)
+      then_any _ (bound known given.name) _
+      (λ binding. value_of_bound_is known binding given constants keeps are)
 
   mutual
     pub expression_is : (known : Known) (tree : ExpressionTree) (constants : Constants)
         → AreStorable objects constants
         → IfOk (expression known tree constants) (λ typed. AreStorable objects typed.1)
-    expression_is known (ConstantLeaf constant) constants are = then_any _ (number_node constant) _ (λ node. are)
+    expression_is known (ConstantLeaf constant) constants are =
+        then_any _ (number_node constant) _ (λ node. are)
     expression_is known (ReferenceLeaf reference) constants are =
         value_of_is known (given_reference known reference) constants (reference_is known reference) are
     expression_is known (LocationLeaf reference) constants are =
@@ -207,10 +218,13 @@ module _ {objects : List TypedObject} where
         then_checks _ _ (expression known value destination.1) _ (expression_is known value destination.1 is)
         (λ typed after. after))
     expression_is known (UnaryNode operator operand) constants are =
-        then_checks _ _ (expression known operand constants) _ (expression_is known operand constants are) (λ typed is. is)
+        then_checks _ _ (expression known operand constants) _
+        (expression_is known operand constants are) (λ typed is. is)
     expression_is known (BinaryNode operator left right) constants are =
-        then_checks _ _ (expression known left constants) _ (expression_is known left constants are) (λ first is.
-        then_checks _ _ (expression known right first.1) _ (expression_is known right first.1 is) (λ second after. after))
+        then_checks _ _ (expression known left constants) _
+        (expression_is known left constants are) (λ first is.
+        then_checks _ _ (expression known right first.1) _ (expression_is known right first.1 is)
+        (λ second after. after))
 
     reference_is : (known : Known) (reference : ReferenceTree)
         → ReferenceKeeps objects (given_reference known reference)
@@ -226,11 +240,14 @@ module _ {objects : List TypedObject} where
         → IfOk (arguments known trees constants) (λ typed. AreStorable objects typed.1)
     arguments_is known NoArguments constants are = are
     arguments_is known (MoreArguments first others) constants are =
-        then_checks _ _ (expression known first constants) _ (expression_is known first constants are) (λ typed is.
-        then_checks _ _ (arguments known others typed.1) _ (arguments_is known others typed.1 is) (λ rest after. after))
+        then_checks _ _ (expression known first constants) _
+        (expression_is known first constants are) (λ typed is.
+        then_checks _ _ (arguments known others typed.1) _ (arguments_is known others typed.1 is)
+        (λ rest after. after))
 
   pub destination_is : (known : Known) (reference : ReferenceTree) (constants : Constants)
       → AreStorable objects constants
-      → IfOk (destination_of known (given_reference known reference) constants) (λ typed. AreStorable objects typed.1)
+      → IfOk (destination_of known (given_reference known reference) constants)
+      (λ typed. AreStorable objects typed.1)
   destination_is known reference constants are =
       destination_of_is known (given_reference known reference) constants (reference_is known reference) are

@@ -1,5 +1,5 @@
--- Objects that are declared stand among the constants where they have DATA, AT looks back at objects that have a
--- place, and values have room in their objects.
+-- Objects that are declared stand among the constants where they have DATA, AT looks back at objects that
+-- have a place, and values have room in their objects.
 use Rattle.typing.proofs.Prelude.{◌≡◌, ℕ, zero, suc, ◌+◌, ◌-◌, ◌*◌, ◌<◌, ◌≤◌, Bool, true, false, List, [], ◌∷◌, ◌++◌, length, take, drop, replicate, flat_map, sum_by, slice_get, Option, Some, None, Ok, Err, refl, sym, ap, ◌∙◌, subst, append_assoc, length-append, cond, arith, zero-le, zero-mul, one-mul, suc-mul, mod-lt, div-add-mod', IfOk, IfSome, IsSomeAnd, is_none, is_some, nat_le, nat_lt, not, ◌&&◌, ◌||◌, repeat, option_map_or, sum_by-append, sum_by-cons, slice_get_within, ScalarType, Byte, Address, Identifier, Place, StringTree, StringConstant, OriginTree, ConstantOrigin, LocationOrigin, OffsetTree, RestrictedTree, AtTree, ValueListTree, ItemTree, ElementTree, LiterallyElement, ItemElement, HeadingTree, DeclarationTrees, Binding, Declared, Object, Procedure, Here, into_body, with_procedure, is_declared_again, declared_by, OBJECT_LIMIT, FRAME_LIMIT, PARAMETER_LIMIT, AtAddress, ByteValue, WordValue, LocationValue, InitialValue, TypedMember, ObjectType, ScalarObject, StructureObject, Home, InData, InConstants, Placed, BasedOn, Elsewhere, Nowhere, InFrame, TypedObject, size_of_scalar, count_of, size_of_member, size_of_element, scalars_of_member, scalars_of_element, scalars_of_elements, LooksBack, HasPlace, LooksAtPlace, size_of_value, bytes_filled, Cause, DeclaredTwice, NoVariable, MisplacedAt, MisplacedValues, NestedProcedure, ExternalContents, StringNotNumber, ImpliedWithoutValues, NotByte, TooLarge, Checked, ◌>>=◌, require, found, number_of_characters, number_of_constant, with_offsets, Known, place_of, bound, object_of, Owner, TheModule, OfProcedure, Block, Progress, is_external, is_external_linkage, is_reentrant, ThisModule, OtherModulesToo, with_address, static_bound, static_object, RestrictedValue, ANumber, FromObject, restricted_value, address_of, at_address, Filled, and_before, fill_scalar, fill_characters, fill_string, place_of_origin, fill_value, fill, Extents, NoArray, Elements, AsListed, Contents, enough_elements, elements_for, contents, TypedItem, declare_names, place_of_item, base_of, typed_base, extents_of, typed_type, check_linkage, is_plain, typed_at, place_of_storage, typed_contents, is_data, home_in, home_with_values, home_of, object_named, with_typed_object, with_objects, typed_item, size_of_item, declare_item, declare_definition, declare_element, declare_elements, declare_parameters, no_more_parameters, check_visibility, check_reentrant, open_procedure}
 use Rattle.typing.proofs.Steps.{then_checks, then_any}
 use Rattle.typing.proofs.Storage.Storable.{AreStorable, object_more, back_later, place_later}
@@ -49,7 +49,8 @@ module _ (P : Home → Type 0) (values : List InitialValue) (is : IsAnyHome P va
   home_of_is : (owner : Owner) (item : ItemTree) (base : Option ℕ) (at : Option AtAddress)
       → IfSome at (λ address. P (Placed address)) → P (home_of owner item base at values)
   home_of_is owner item None at placed =
-      placed_is (is_external_linkage item.linkage) at (home_with_values owner (is_data item.value_list) values) placed
+      placed_is (is_external_linkage item.linkage) at
+      (home_with_values owner (is_data item.value_list) values) placed
       (home_with_values_is owner (is_data item.value_list))
   home_of_is owner item (Some base) at placed = is.based base
 
@@ -74,8 +75,10 @@ static_bound_is : (known : Known) (binding : Binding) (name : Identifier)
     → IfOk (static_bound ThisModule known binding name) (IsPlaceIn known.objects)
 static_bound_is known (Declared (Object number)) name =
     let table : List TypedObject = known.objects in
-    let IsPlace : Option TypedObject → Type 0 = λ found. IsSomeAnd found (λ (object : TypedObject). HasPlace object.home) in
-    then_checks _ _ (object_of known name number) _ (found_is (slice_get table number) NoVariable (place_of name)) (λ object is.
+    let IsPlace : Option TypedObject → Type 0 =
+    λ found. IsSomeAnd found (λ (object : TypedObject). HasPlace object.home) in
+    then_checks _ _ (object_of known name number) _
+    (found_is (slice_get table number) NoVariable (place_of name)) (λ object is.
     if_ok_more (λ found. (found ≡ number) × HasPlace object.home) (IsPlaceIn table)
     (with_address ThisModule object.home number (place_of name))
     (with_address_is object.home number (place_of name)) (λ found has.
@@ -91,10 +94,12 @@ static_object_is known name =
 
 -- where AT puts an object
 abbrev AddressStands : List TypedObject → AtAddress → Type 0
-AddressStands objects address = LooksBack (length objects) (Placed address) × LooksAtPlace objects (Placed address)
+AddressStands objects address =
+    LooksBack (length objects) (Placed address) × LooksAtPlace objects (Placed address)
 
 restricted_value_is : (known : Known) (origin : OriginTree) (offsets : List OffsetTree)
-    → IfOk (restricted_value ThisModule known origin offsets) (λ value. AddressStands known.objects (address_of value))
+    → IfOk (restricted_value ThisModule known origin offsets)
+    (λ value. AddressStands known.objects (address_of value))
 restricted_value_is known (ConstantOrigin constant) offsets =
     then_any _ (number_of_constant constant) _ (λ number.
     then_any _ (with_offsets number offsets) _ (λ sum. (tt, tt)))
@@ -113,7 +118,8 @@ typed_at_is : (known : Known) (block : Block) (item : ItemTree) (at : Option AtT
 typed_at_is known block item None = tt
 typed_at_is known block item (Some at) =
     then_any _ (require (is_plain block item) MisplacedAt at.place) _ (λ may_stand.
-    then_checks _ _ (at_address known at.address) _ (at_address_is known at.address) (λ address stands. stands))
+    then_checks _ _ (at_address known at.address) _ (at_address_is known at.address)
+    (λ address stands. stands))
 
 -- The values of a list take as many bytes as the scalars that they fill, which are the first of those given.
 record Fills (scalars : List ScalarType) (filled : Filled) : Type 0 where
@@ -154,7 +160,8 @@ fill_characters_is : (place : Place) (characters : List ℕ) (scalars : List Sca
     → IfOk (fill_characters place characters scalars) (Fills scalars)
 fill_characters_is place [] scalars = fills_none scalars
 fill_characters_is place (character ∷ others) (Byte ∷ left) =
-    then_checks _ _ (fill_characters place others left) _ (fill_characters_is place others left) (λ filled fills.
+    then_checks _ _ (fill_characters place others left) _
+    (fill_characters_is place others left) (λ filled fills.
     fills_more (ByteValue character) Byte left filled refl fills)
 fill_characters_is place characters scalars = tt
 
@@ -166,7 +173,8 @@ fill_string_is string (Address ∷ left) =
     then_any _ (found (number_of_characters string.characters) StringNotNumber string.place) _ (λ number.
     fills_more (WordValue number) Address left _ refl (fills_none left))
 
-fill_restricted_is : (known : Known) (scalars : List ScalarType) (origin : OriginTree) (offsets : List OffsetTree)
+fill_restricted_is : (known : Known) (scalars : List ScalarType) (origin : OriginTree)
+    (offsets : List OffsetTree)
     → IfOk (restricted_value OtherModulesToo known origin offsets >>= (λ value.
     fill_scalar (place_of_origin origin) scalars value)) (Fills scalars)
 fill_restricted_is known scalars origin offsets =
@@ -232,7 +240,8 @@ first_none (scalar ∷ scalars) = refl
 first_of_elements : (element : List ScalarType) (elements count all : ℕ) → count ≤ elements * length element
     → first_bytes count (repeat all element) ≤ elements * sum_by size_of_scalar element
 first_of_elements element zero zero all within = omega (arith, first_none (repeat all element))
-first_of_elements element zero (suc count) all within = absurd (omega (arith, within, zero-mul (length element)))
+first_of_elements element zero (suc count) all within =
+    absurd (omega (arith, within, zero-mul (length element)))
 first_of_elements element (suc elements) count zero within = zero-le
 first_of_elements element (suc elements) count (suc all) within =
     omega (
@@ -303,7 +312,8 @@ repeated (suc count) element =
 elements_bytes : (count : ℕ) (object_type : ObjectType)
     → sum_by size_of_scalar (scalars_of_elements count object_type) ≡ count * size_of_element object_type
 elements_bytes count object_type =
-    repeated count (scalars_of_element object_type) ∙ ap (λ (size : ℕ). count * size) (element_bytes object_type)
+    repeated count (scalars_of_element object_type)
+    ∙ ap (λ (size : ℕ). count * size) (element_bytes object_type)
 
 -- so values have room in an object that they fill
 fills_at_most : (scalars : List ScalarType) (filled : Filled) → Fills scalars filled
@@ -332,7 +342,8 @@ abbrev HasRoomIn : ObjectType → Contents → Type 0
 HasRoomIn object_type made =
     sum_by size_of_value made.values ≤ count_of made.dimension * size_of_element object_type
 
-contents_is : (known : Known) (place : Place) (object_type : ObjectType) (extents : Extents) (values : List RestrictedTree)
+contents_is : (known : Known) (place : Place) (object_type : ObjectType) (extents : Extents)
+    (values : List RestrictedTree)
     → IfOk (contents known place object_type extents values) (HasRoomIn object_type)
 contents_is known place object_type NoArray values =
     let scalars : List ScalarType = scalars_of_element object_type in
@@ -352,7 +363,8 @@ contents_is known place object_type AsListed values =
     then_any _ (require (nat_lt 0 used) ImpliedWithoutValues place) _ (λ is_some.
     fills_listed object_type all used filled fills is))
 
-typed_contents_is : (known : Known) (block : Block) (item : ItemTree) (object_type : ObjectType) (extents : Extents)
+typed_contents_is : (known : Known) (block : Block) (item : ItemTree)
+    (object_type : ObjectType) (extents : Extents)
     (list : Option ValueListTree)
     → IfOk (typed_contents known block item object_type extents list) (HasRoomIn object_type)
 typed_contents_is known block item object_type extents None =
@@ -367,7 +379,8 @@ abbrev HomeStands : List TypedObject → (size : ℕ) → Home → Type 0
 HomeStands objects size home =
     LooksBack (length objects) home × LooksAtPlace objects home × (bytes_filled home ≤ size)
 
-any_home : (objects : List TypedObject) (size : ℕ) (values : List InitialValue) → sum_by size_of_value values ≤ size
+any_home : (objects : List TypedObject) (size : ℕ) (values : List InitialValue)
+    → sum_by size_of_value values ≤ size
     → IsAnyHome (HomeStands objects size) values
 any_home objects size values fits = record {
   based = λ base. (tt, tt, zero-le);
@@ -378,7 +391,8 @@ any_home objects size values fits = record {
   in_constants = (tt, tt, fits);
 }
 
-some_home : (objects : List TypedObject) (size : ℕ) (at : Option AtAddress) → IfSome at (AddressStands objects)
+some_home : (objects : List TypedObject) (size : ℕ) (at : Option AtAddress)
+    → IfSome at (AddressStands objects)
     → IfSome at (λ address. HomeStands objects size (Placed address))
 some_home objects size None stands = tt
 some_home objects size (Some address) stands = (stands.0, stands.1, zero-le)
@@ -409,7 +423,8 @@ with_objects_is block item (name ∷ others) progress stands so_far =
     let longer : length objects + 1 ≡ length (objects ++ object ∷ []) =
     omega (arith, length-append objects (object ∷ [])) in
     let back : LooksBack (length (objects ++ object ∷ [])) item.home =
-    subst (λ (count : ℕ). LooksBack count item.home) longer (back_later item.home (length objects) stands.0) in
+    subst (λ (count : ℕ). LooksBack count item.home) longer
+    (back_later item.home (length objects) stands.0) in
     then_any _ (require (nat_le after.frame FRAME_LIMIT) TooLarge (place_of name)) _ (λ fits.
     with_objects_is block item others after
     (back, place_later item.home objects (object ∷ []) stands.1, stands.2)
@@ -419,32 +434,39 @@ declare_item_is : (block : Block) (item : ItemTree) (progress : Progress)
     → StandsSoFar progress → IfOk (declare_item block item progress) StandsSoFar
 declare_item_is block item progress so_far =
     then_any _ (declare_names block (declared_by item.subject) progress.known.here) _ (λ here.
-    then_checks _ _ (typed_item progress.known block item) _ (typed_item_is progress.known block item) (λ typed stands.
+    then_checks _ _ (typed_item progress.known block item) _
+    (typed_item_is progress.known block item) (λ typed stands.
     then_any _ (require (nat_le (size_of_item typed) OBJECT_LIMIT) TooLarge (place_of_item item)) _ (λ fits.
     then_checks _ _ (with_objects block typed (declared_by item.subject) progress) _
-    (with_objects_is block typed (declared_by item.subject) progress stands so_far) (λ declared after. after))))
+    (with_objects_is block typed (declared_by item.subject) progress stands so_far)
+    (λ declared after. after))))
 
 declare_definition_is : (block : Block) (name : Identifier) (progress : Progress)
     → StandsSoFar progress → IfOk (declare_definition block name progress) StandsSoFar
 declare_definition_is block name progress so_far =
-    then_any _ (require (not (is_declared_again progress.known.here name.name)) DeclaredTwice (place_of name)) _
+    then_any _
+    (require (not (is_declared_again progress.known.here name.name)) DeclaredTwice (place_of name)) _
     (λ is_new.
-    then_any _ (require (not (is_external block.owner)) ExternalContents (place_of name)) _ (λ may_stand. so_far))
+    then_any _ (require (not (is_external block.owner)) ExternalContents (place_of name)) _
+    (λ may_stand. so_far))
 
 declare_element_is : (block : Block) (element : ElementTree) (progress : Progress)
     → StandsSoFar progress → IfOk (declare_element block element progress) StandsSoFar
-declare_element_is block (LiterallyElement name text) progress so_far = declare_definition_is block name progress so_far
+declare_element_is block (LiterallyElement name text) progress so_far =
+    declare_definition_is block name progress so_far
 declare_element_is block (ItemElement item) progress so_far = declare_item_is block item progress so_far
 
 pub declare_elements_is : (block : Block) (elements : List ElementTree) (progress : Progress)
     → StandsSoFar progress → IfOk (declare_elements block elements progress) StandsSoFar
 declare_elements_is block [] progress so_far = so_far
 declare_elements_is block (element ∷ others) progress so_far =
-    then_checks _ _ (declare_element block element progress) _ (declare_element_is block element progress so_far)
+    then_checks _ _ (declare_element block element progress) _
+    (declare_element_is block element progress so_far)
     (λ after so_far_after. declare_elements_is block others after so_far_after)
 
 -- into a procedure
-pub open_procedure_is : (block : Block) (heading : HeadingTree) (declared : DeclarationTrees) (progress : Progress)
+pub open_procedure_is : (block : Block) (heading : HeadingTree) (declared : DeclarationTrees)
+    (progress : Progress)
     → StandsSoFar progress → IfOk (open_procedure block heading declared progress) StandsSoFar
 open_procedure_is block heading declared progress so_far =
     let named : Here = with_procedure heading.name.name progress.known.here in

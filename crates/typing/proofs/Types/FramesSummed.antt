@@ -1,4 +1,5 @@
--- The frame bytes of the procedures of a text so far are those of their variables, and go on to be as its tables grow.
+-- The frame bytes of the procedures of a text so far are those of their variables, and go on to be as its
+-- tables grow.
 use Rattle.typing.proofs.Prelude.{◌≡◌, ℕ, zero, suc, ◌+◌, ◌<◌, ◌≤◌, ◌==◌, Bool, true, false, List, [], ◌∷◌, ◌++◌, length, sum_by, slice_get, Option, None, Some, if◌then◌else◌, cond, nat_le, refl, sym, ap, ◌∙◌, subst, length-append, zero-le, arith, All, not, is_some, ◌&&◌, AllByRecursion, enumerate_from, option_map_or, eqb-true, eqb-false, eq-eqb, ne_eqb, leb-true, All-append, All-cons, All-nil, All-weaker, All-from_recursion, recursion_from_All, sum_by-append, sum_by-cons, Identifier, ItemTree, HeadingTree, FRAME_LIMIT, AtAddress, InitialValue, Home, InData, InConstants, Placed, BasedOn, Elsewhere, Nowhere, InFrame, TypedObject, TypedProcedure, TypedModule, size_of_object, is_in_frame, variable_bytes, FrameFits, FramesFit, Known, Owner, TheModule, OfProcedure, Block, Progress, is_external_linkage, is_reentrant, TypedItem, base_of, typed_base, extents_of, typed_type, check_linkage, typed_at, typed_contents, is_data, home_in, home_with_values, home_of, object_named, bytes_in_frame, with_typed_object, with_objects, typed_item, got_first}
 use Rattle.typing.proofs.Kept.{Gives, gives_ok, gives_after, in_turn, required}
 use Rattle.typing.proofs.Tables.{keeps_append}
@@ -26,20 +27,24 @@ abbrev IsBelow : (count : ℕ) → TypedObject → Type 0
 IsBelow count object = HomeBelow count object.home
 
 -- the frame of the procedure that the place is in; one that is not REENTRANT has none
-pub record OwnFrame (number : ℕ) (heading : HeadingTree) (objects : List TypedObject) (procedures : List TypedProcedure)
+pub record OwnFrame (number : ℕ) (heading : HeadingTree) (objects : List TypedObject)
+    (procedures : List TypedProcedure)
     (frame : ℕ) : Type 0 where
   pub stands : number < length procedures
   pub sum : frame ≡ sum_by (variable_bytes number) objects
   pub bytes : frame ≤ FRAME_LIMIT
   pub none : is_some heading.reentrant ≡ false → frame ≡ 0
-  pub entry : (procedure : TypedProcedure) → slice_get procedures number ≡ Some procedure → procedure.frame_bytes ≡ 0
+  pub entry : (procedure : TypedProcedure) → slice_get procedures number ≡ Some procedure
+      → procedure.frame_bytes ≡ 0
 
 abbrev pub OwnFits : Owner → List TypedObject → List TypedProcedure → ℕ → Type 0
 OwnFits TheModule objects procedures frame = Unit {0}
-OwnFits (OfProcedure number heading) objects procedures frame = OwnFrame number heading objects procedures frame
+OwnFits (OfProcedure number heading) objects procedures frame =
+    OwnFrame number heading objects procedures frame
 
 -- the frames so far
-pub record Summed (owner : Owner) (objects : List TypedObject) (procedures : List TypedProcedure) (frame : ℕ) :
+pub record Summed (owner : Owner) (objects : List TypedObject)
+    (procedures : List TypedProcedure) (frame : ℕ) :
     Type 0 where
   pub below : All (IsBelow (length procedures)) objects
   pub others : (number : ℕ) (procedure : TypedProcedure) → slice_get procedures number ≡ Some procedure
@@ -111,7 +116,8 @@ no_own_bytes number heading Nowhere object fits none = refl
 no_own_bytes number heading (InFrame procedure) object fits none = let is = fits.1 in absurd cc
 
 -- one more object
-home_below : (owner : Owner) (objects : List TypedObject) (procedures : List TypedProcedure) (frame : ℕ) (home : Home)
+home_below : (owner : Owner) (objects : List TypedObject) (procedures : List TypedProcedure)
+    (frame : ℕ) (home : Home)
     → HomeFits owner home → OwnFits owner objects procedures frame → HomeBelow (length procedures) home
 home_below owner objects procedures frame (InData values) fits own = tt
 home_below owner objects procedures frame (InConstants values) fits own = tt
@@ -131,13 +137,15 @@ own_more : (owner : Owner) (objects : List TypedObject) (procedures : List Typed
 own_more TheModule objects procedures frame object fits small own = tt
 own_more (OfProcedure number heading) objects procedures frame object fits small own = record {
   stands = own.stands;
-  sum = omega (arith, own.sum, own_bytes number heading object.home object fits, sum_more number objects object);
+  sum = omega
+      (arith, own.sum, own_bytes number heading object.home object fits, sum_more number objects object);
   bytes = small;
   none = λ plain. omega (arith, own.none plain, no_own_bytes number heading object.home object fits plain);
   entry = own.entry;
 }
 
-pub object_summed : {owner : Owner} {objects : List TypedObject} {procedures : List TypedProcedure} {frame : ℕ}
+pub object_summed : {owner : Owner} {objects : List TypedObject}
+    {procedures : List TypedProcedure} {frame : ℕ}
     (object : TypedObject)
     → HomeFits owner object.home → frame + bytes_in_frame object.home object ≤ FRAME_LIMIT
     → Summed owner objects procedures frame
@@ -209,25 +217,29 @@ opened_others TheModule objects procedures frame plain summed number procedure e
 opened_others (OfProcedure own heading) objects procedures frame plain summed number procedure e =
     same_or_other number own
     (λ same.
-    let entry = summed.own.entry procedure (subst (λ (at : ℕ). slice_get procedures at ≡ Some procedure) same e) in
+    let entry =
+    summed.own.entry procedure (subst (λ (at : ℕ). slice_get procedures at ≡ Some procedure) same e) in
     subst (λ (at : ℕ). FrameFits objects at procedure) (sym same) (record {
       variables = omega (arith, entry, summed.own.none plain, summed.own.sum);
       bytes = omega (arith, entry);
     }))
     (λ differ. summed.others number procedure e differ)
 
-pub procedure_summed : {owner : Owner} {objects : List TypedObject} {procedures : List TypedProcedure} {frame : ℕ}
+pub procedure_summed : {owner : Owner} {objects : List TypedObject}
+    {procedures : List TypedProcedure} {frame : ℕ}
     (heading : HeadingTree) (procedure : TypedProcedure)
     → is_reentrant owner ≡ false → procedure.frame_bytes ≡ 0
     → Summed owner objects procedures frame
     → Summed (OfProcedure (length procedures) heading) objects (procedures ++ procedure ∷ []) 0
 procedure_summed {owner} {objects} {procedures} {frame} heading procedure plain none summed =
     let count : ℕ = length procedures in
-    let longer : length (procedures ++ procedure ∷ []) ≡ count + 1 = length-append procedures (procedure ∷ []) in
+    let longer : length (procedures ++ procedure ∷ []) ≡ count + 1 =
+    length-append procedures (procedure ∷ []) in
     record {
       below = All-weaker (IsBelow count) (IsBelow (length (procedures ++ procedure ∷ [])))
           (λ object is.
-          still_below count (length (procedures ++ procedure ∷ [])) object.home longer is) objects summed.below;
+          still_below count (length (procedures ++ procedure ∷ [])) object.home longer is)
+          objects summed.below;
       others = λ number each e differ.
           opened_others owner objects procedures frame plain summed number each
           (get_before procedures procedure number each e differ);
@@ -243,7 +255,8 @@ procedure_summed {owner} {objects} {procedures} {frame} heading procedure plain 
       };
     }
   where
-    still_below : (count more : ℕ) (home : Home) → more ≡ count + 1 → HomeBelow count home → HomeBelow more home
+    still_below : (count more : ℕ) (home : Home) → more ≡ count + 1 → HomeBelow count home
+        → HomeBelow more home
     still_below count more (InData values) e is = tt
     still_below count more (InConstants values) e is = tt
     still_below count more (Placed at) e is = tt
@@ -275,7 +288,8 @@ some_at [] number small then_is = absurd (omega (arith, small))
 some_at (one ∷ all) zero small then_is = then_is one refl
 some_at (one ∷ all) (suc number) small then_is = some_at all number (omega (arith, small)) then_is
 
-module _ (objects : List TypedObject) (before added : List TypedProcedure) (first last : TypedProcedure) (frame : ℕ)
+module _ (objects : List TypedObject) (before added : List TypedProcedure)
+    (first last : TypedProcedure) (frame : ℕ)
     (heading : HeadingTree) (is : last.frame_bytes ≡ frame)
     (inside : Summed (OfProcedure (length before) heading) objects (before ++ first ∷ added) frame) where
   closed_others : (number : ℕ) (procedure : TypedProcedure)
@@ -287,12 +301,14 @@ module _ (objects : List TypedObject) (before added : List TypedProcedure) (firs
       sym (got_first before last added)
       ∙ subst (λ (at : ℕ). slice_get (before ++ last ∷ added) at ≡ Some procedure) same e in
       let it : last ≡ procedure = cc in
-      let bytes : procedure.frame_bytes ≡ frame = ap (λ (one : TypedProcedure). one.frame_bytes) (sym it) ∙ is in
+      let bytes : procedure.frame_bytes ≡ frame =
+      ap (λ (one : TypedProcedure). one.frame_bytes) (sym it) ∙ is in
       subst (λ (at : ℕ). FrameFits objects at procedure) (sym same) (record {
         variables = bytes ∙ inside.own.sum;
         bytes = omega (arith, bytes, inside.own.bytes);
       }))
-      (λ differ. inside.others number procedure (get_in_place before first last added number procedure e differ) differ)
+      (λ differ. inside.others number procedure
+      (get_in_place before first last added number procedure e differ) differ)
 
   closed_own : (owner : Owner) (frame_before : ℕ) (objects_before : List TypedObject)
       → OwnFits owner objects_before before frame_before
@@ -306,7 +322,8 @@ module _ (objects : List TypedObject) (before added : List TypedProcedure) (firs
         omega (arith, fits.variables, own.entry procedure e));
     bytes = zero-le;
     none = λ plain. refl;
-    entry = λ procedure e. own.entry procedure (get_in_front before (last ∷ added) number procedure e own.stands);
+    entry = λ procedure e. own.entry procedure
+        (get_in_front before (last ∷ added) number procedure e own.stands);
   }
 
   pub closed_summed : (owner : Owner) (frame_before : ℕ) (objects_before : List TypedObject)
@@ -322,12 +339,14 @@ module _ (objects : List TypedObject) (before added : List TypedProcedure) (firs
       same_length = length-append before (first ∷ added) ∙ sym (length-append before (last ∷ added))
 
 -- where an item lives
-home_fits : (owner : Owner) (item : ItemTree) (base : Option ℕ) (at : Option AtAddress) (values : List InitialValue)
+home_fits : (owner : Owner) (item : ItemTree) (base : Option ℕ) (at : Option AtAddress)
+    (values : List InitialValue)
     → HomeFits owner (home_of owner item base at values)
 home_fits owner item (Some base) at values = tt
 home_fits owner item None at values = placed (is_external_linkage item.linkage) at (is_data item.value_list)
   where
-    of_procedure : (number : ℕ) (heading : HeadingTree) (outside in_frame : Bool) → is_some heading.reentrant ≡ in_frame
+    of_procedure : (number : ℕ) (heading : HeadingTree) (outside in_frame : Bool)
+        → is_some heading.reentrant ≡ in_frame
         → HomeFits (OfProcedure number heading)
         (cond outside Nowhere (cond in_frame (InFrame number) (InData values)))
     of_procedure number heading true in_frame e = tt
@@ -344,7 +363,8 @@ home_fits owner item None at values = placed (is_external_linkage item.linkage) 
     with_values false = in_owner owner
 
     placed : (outside : Bool) (at : Option AtAddress) (has_data : Bool)
-        → HomeFits owner (cond outside Elsewhere (option_map_or Placed at (home_with_values owner has_data values)))
+        → HomeFits owner
+        (cond outside Elsewhere (option_map_or Placed at (home_with_values owner has_data values)))
     placed true at has_data = tt
     placed false (Some address) has_data = tt
     placed false None has_data = with_values has_data
@@ -370,7 +390,8 @@ pub with_objects-summed : (block : Block) (item : TypedItem) (names : List Ident
 with_objects-summed block item [] progress fits summed = gives_ok summed
 with_objects-summed block item (name ∷ others) progress fits summed =
     let object : TypedObject = object_named block item name.name in
-    in_turn (required (nat_le (with_typed_object item.linkage object progress).frame FRAME_LIMIT) _ _) λ _ small.
+    in_turn (required (nat_le (with_typed_object item.linkage object progress).frame FRAME_LIMIT) _ _)
+    λ _ small.
     with_objects-summed block item others (with_typed_object item.linkage object progress) fits
     (object_summed object fits (leb-true _ _ small) summed)
 
@@ -390,7 +411,8 @@ all_fit objects number (procedure ∷ procedures) fits = (
 pub frames_fit : (typed : TypedModule) (frame : ℕ)
     → Summed TheModule typed.objects typed.procedures frame → typed.main.frame_bytes ≡ 0 → FramesFit typed
 frames_fit typed frame summed none = record {
-  procedures = All-from_recursion (λ (numbered : ℕ × TypedProcedure). FrameFits typed.objects numbered.0 numbered.1)
+  procedures =
+      All-from_recursion (λ (numbered : ℕ × TypedProcedure). FrameFits typed.objects numbered.0 numbered.1)
       (enumerate_from 0 typed.procedures)
       (all_fit typed.objects 0 typed.procedures (λ at procedure e.
       subst (λ (place : ℕ). FrameFits typed.objects place procedure) (omega arith)

@@ -47,10 +47,12 @@ pub holding_both : {known : Known} {before between after : Constants} {P Q R : T
 holding_both first second both = record {
   grows = omega (arith, first.grows, second.grows);
   says = λ tables has lists.
-      both tables has (first.says tables has (omega (arith, lists, second.grows))) (second.says tables has lists);
+      both tables has (first.says tables has (omega (arith, lists, second.grows)))
+      (second.says tables has lists);
 }
 
-pub of_some : {X : Type 0} (P : X → Type 0) (option : Option X) (x : X) → option ≡ Some x → IsSomeAnd option P → P x
+pub of_some : {X : Type 0} (P : X → Type 0) (option : Option X) (x : X) → option ≡ Some x
+    → IsSomeAnd option P → P x
 of_some P option x is holds = subst (λ found. IsSomeAnd found P) is holds
 
 pub and_more : {X : Type 0} (P Q : X → Type 0) (option : Option X)

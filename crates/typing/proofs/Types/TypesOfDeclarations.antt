@@ -1,4 +1,5 @@
--- Declared objects can be referred to where their names are known, and declarations only add to what is known.
+-- Declared objects can be referred to where their names are known, and declarations only add to what is
+-- known.
 use Rattle.typing.proofs.Prelude.{◌≡◌, ℕ, zero, suc, ◌+◌, ◌<◌, ◌≤◌, Bool, true, false, List, [], ◌∷◌, ◌++◌, map, take, drop, length, Option, Some, None, slice_get, nat_le, refl, sym, ap, ◌∙◌, subst, cond, append_assoc, append-nil, length-append, arith, IfSome, IsSomeAnd, is_some, not, ◌||◌, option_map_or, length-map, ScalarType, Address, Identifier, Place, SubjectTree, ItemTree, ElementTree, LiterallyElement, ItemElement, HeadingTree, DeclarationTrees, Binding, Declared, Object, Body, into_body, is_declared_again, with_procedure, with_definition, declared_by, OBJECT_LIMIT, FRAME_LIMIT, PARAMETER_LIMIT, AtAddress, InitialValue, ObjectType, ScalarObject, StructureObject, Home, InData, InConstants, Placed, BasedOn, Elsewhere, Nowhere, InFrame, TypedObject, TypedProcedure, TypedModule, IsScalar, Within, WithinProcedure, WithinMain, LiesFor, IsSeen, DeclaredTwice, BasedParameter, ExternalContents, TooLarge, require, Known, place_of, GlobalProcedure, with_global, Owner, TheModule, OfProcedure, Block, Progress, is_external, is_external_linkage, is_reentrant, TypedItem, declare_names, place_of_item, base_of, is_not_based, is_address, is_base, object_bound, names_parameter, typed_base, extents_of, typed_type, check_linkage, typed_at, typed_contents, is_data, home_in, home_with_values, home_of, object_named, with_typed_object, with_objects, typed_item, size_of_item, declare_item, declare_definition, declare_element, declare_elements, no_more_parameters, check_visibility, check_reentrant, parameter_types, procedure_with, empty_list, open_procedure, and_parts, some_and}
 use Rattle.typing.proofs.Kept.{Gives, then_more, anything, gives_ok, gives_fault, gives_after, in_turn, required, is_found}
 use Rattle.typing.proofs.NamesBack.{is_bound, Binds, bound_entity}
@@ -11,13 +12,15 @@ use Rattle.typing.proofs.Types.TypesWalked.{headings-append, StandsAt, Goes, goe
 use Rattle.typing.proofs.Options.{equals_none}
 use Rattle.typing.proofs.ConstantTables.{lists_kept}
 
-base_is : (object : TypedObject) → is_base object ≡ true → IsScalar Address object × (is_not_based object.home ≡ true)
+base_is : (object : TypedObject) → is_base object ≡ true
+    → IsScalar Address object × (is_not_based object.home ≡ true)
 base_is object is =
     let first = and_parts _ _ is in
     let second = and_parts _ _ first.0 in
     ((equals_none object.dimension second.0, is_address_object object.object_type second.1), first.1)
   where
-    is_address_object : (object_type : ObjectType) → is_address object_type ≡ true → object_type ≡ ScalarObject Address
+    is_address_object : (object_type : ObjectType) → is_address object_type ≡ true
+        → object_type ≡ ScalarObject Address
     is_address_object (ScalarObject Address) e = refl
     is_address_object (ScalarObject scalar) e = cc
     is_address_object (StructureObject members) e = absurd cc
@@ -66,7 +69,8 @@ typed_base_is known block subject (Some name) stands =
     some_and _ (slice_get tables.objects number) object there
     (its.0, not_based_lies tables (names_within block.owner) object.home its.1 seen))
 
-home_of_is : (owner : Owner) (item : ItemTree) (base : Option ℕ) (at : Option AtAddress) (values : List InitialValue)
+home_of_is : (owner : Owner) (item : ItemTree) (base : Option ℕ) (at : Option AtAddress)
+    (values : List InitialValue)
     (known : Known) → BaseSeen owner known base → HomeSeen owner known (home_of owner item base at values)
 home_of_is owner item (Some base) at values known seen = seen
 home_of_is owner item None at values known seen = λ is_here tables keeps.
@@ -84,7 +88,8 @@ home_of_is owner item None at values known seen = λ is_here tables keeps.
         → IsSeen tables (names_within owner) (home_in owner values)
     in_owner tables TheModule is = tt
     in_owner tables (OfProcedure number heading) is =
-        of_procedure tables number heading.result (is_external_linkage heading.linkage) (is_some heading.reentrant) is
+        of_procedure tables number heading.result (is_external_linkage heading.linkage)
+        (is_some heading.reentrant) is
 
     with_values : (tables : TypedModule) → is_external owner ≡ false → (has_data : Bool)
         → IsSeen tables (names_within owner) (home_with_values owner has_data values)
@@ -99,7 +104,8 @@ home_of_is owner item None at values known seen = λ is_here tables keeps.
     placed tables is false (Some address) has_data = lies_for_all (names_within owner) (Placed address) tt
     placed tables is false None has_data = with_values tables is has_data
 
-typed_item_is : (known : Known) (block : Block) (item : ItemTree) → Stands block.owner known.objects known.here
+typed_item_is : (known : Known) (block : Block) (item : ItemTree)
+    → Stands block.owner known.objects known.here
     → Gives (λ (typed : TypedItem). HomeSeen block.owner known typed.home) (typed_item known block item)
 typed_item_is known block item stands =
     in_turn (typed_base_is known block item.subject (base_of item.subject) stands) λ base seen.
@@ -114,7 +120,8 @@ typed_item_is known block item stands =
 abbrev pub made : Block → TypedItem → List Identifier → List TypedObject
 made block item names = map (λ (name : Identifier). object_named block item name.name) names
 
-pub record ObjectsMade (block : Block) (item : TypedItem) (names : List Identifier) (before after : Progress) : Type 0 where
+pub record ObjectsMade (block : Block) (item : TypedItem) (names : List Identifier)
+    (before after : Progress) : Type 0 where
   pub objects : after.known.objects ≡ before.known.objects ++ made block item names
   pub procedures : after.known.procedures ≡ before.known.procedures
   pub lists : after.constants.lists ≡ before.constants.lists
@@ -123,12 +130,14 @@ pub record ObjectsMade (block : Block) (item : TypedItem) (names : List Identifi
 pub with_objects-make : (block : Block) (item : TypedItem) (names : List Identifier) (progress : Progress)
     → Gives (ObjectsMade block item names progress) (with_objects block item names progress)
 with_objects-make block item [] progress =
-    gives_ok (record { objects = sym (append-nil progress.known.objects); procedures = refl; lists = refl; here = refl })
+    gives_ok
+    (record { objects = sym (append-nil progress.known.objects); procedures = refl; lists = refl; here = refl })
 with_objects-make block item (name ∷ others) progress =
     let object : TypedObject = object_named block item name.name in
     gives_after (require (nat_le (with_typed_object item.linkage object progress).frame FRAME_LIMIT) TooLarge
     (place_of name)) λ small.
-    then_more (with_objects-make block item others (with_typed_object item.linkage object progress)) λ after rest.
+    then_more (with_objects-make block item others (with_typed_object item.linkage object progress))
+    λ after rest.
     record {
       objects = rest.objects ∙ append_assoc progress.known.objects (object ∷ []) (made block item others);
       procedures = rest.procedures;
@@ -137,7 +146,8 @@ with_objects-make block item (name ∷ others) progress =
     }
 
 -- each of them lives where the item does
-made_at : (block : Block) (item : TypedItem) (before : List TypedObject) (names : List Identifier) (number : ℕ)
+made_at : (block : Block) (item : TypedItem) (before : List TypedObject)
+    (names : List Identifier) (number : ℕ)
     → length before ≤ number → number < length before + length names
     → IsSomeAnd (slice_get (before ++ made block item names) number)
     (λ (object : TypedObject). object.home ≡ item.home)
@@ -161,7 +171,8 @@ made_seen : (block : Block) (item : TypedItem) (names : List Identifier) (before
     → IsSeenIn (names_within block.owner) after.objects (Object number) []
 made_seen block item names before after are seen number low high is_here tables keeps =
     go (slice_get after.objects number) refl
-    (subst (λ all. IsSomeAnd (slice_get all number) (λ (object : TypedObject). object.home ≡ item.home)) (sym are)
+    (subst (λ all. IsSomeAnd (slice_get all number) (λ (object : TypedObject). object.home ≡ item.home))
+    (sym are)
     (made_at block item before.objects names number low high))
   where
     kept : Keeps before.objects tables.objects
@@ -188,14 +199,19 @@ declare_item-goes block item progress stands =
     gives_after (require (nat_le (size_of_item typed) OBJECT_LIMIT) TooLarge (place_of_item item)) λ small.
     in_turn (anything (with_objects block typed (declared_by item.subject) progress)) λ after declared.
     let is = (with_objects-make block typed (declared_by item.subject) progress).holds after declared in
-    let listed = (with_objects-listed block typed (declared_by item.subject) progress fits stands.1).holds after declared in
+    let listed =
+    (with_objects-listed block typed (declared_by item.subject) progress fits stands.1).holds after
+    declared in
     let home = (typed_item_home progress.known block item).holds typed typed_as in
-    let summed = (with_objects-summed block typed (declared_by item.subject) progress home stands.2).holds after declared in
+    let summed =
+    (with_objects-summed block typed (declared_by item.subject) progress home stands.2).holds after
+    declared in
     let names : List Identifier = declared_by item.subject in
     let objects = progress.known.objects in
     let longer : length after.known.objects ≡ length objects + length names =
     ap length is.objects ∙ length-append objects (made block typed names)
-    ∙ ap (λ (count : ℕ). length objects + count) (length-map names (λ (name : Identifier). object_named block typed name.name)) in
+    ∙ ap (λ (count : ℕ). length objects + count)
+    (length-map names (λ (name : Identifier). object_named block typed name.name)) in
     let grow : Keeps objects after.known.objects =
     λ at object e. subst (λ all. slice_get all at ≡ Some object) (sym is.objects)
     (keeps_append objects (made block typed names) at object e) in
@@ -214,21 +230,27 @@ declare_item-goes block item progress stands =
       says = λ tables reaches. tt;
     })
 
-declare_definition-goes : (block : Block) (name : Identifier) (progress : Progress) → StandsAt block.owner progress
+declare_definition-goes : (block : Block) (name : Identifier) (progress : Progress)
+    → StandsAt block.owner progress
     → Gives (λ after. Goes block.owner progress after Nothing) (declare_definition block name progress)
 declare_definition-goes block name progress stands =
-    gives_after (require (not (is_declared_again progress.known.here name.name)) DeclaredTwice (place_of name)) λ once.
+    gives_after
+    (require (not (is_declared_again progress.known.here name.name)) DeclaredTwice (place_of name))
+    λ once.
     gives_after (require (not (is_external block.owner)) ExternalContents (place_of name)) λ placed.
     gives_ok
     (goes_to (with_definition name.name progress.known.here) refl (with_definition-stands stands.0 name.name)
     (goes_nowhere progress stands (λ tables reaches. tt)))
 
-declare_element-goes : (block : Block) (element : ElementTree) (progress : Progress) → StandsAt block.owner progress
+declare_element-goes : (block : Block) (element : ElementTree) (progress : Progress)
+    → StandsAt block.owner progress
     → Gives (λ after. Goes block.owner progress after Nothing) (declare_element block element progress)
-declare_element-goes block (LiterallyElement name text) progress stands = declare_definition-goes block name progress stands
+declare_element-goes block (LiterallyElement name text) progress stands =
+    declare_definition-goes block name progress stands
 declare_element-goes block (ItemElement item) progress stands = declare_item-goes block item progress stands
 
-pub declare_elements-go : (block : Block) (elements : List ElementTree) (progress : Progress) → StandsAt block.owner progress
+pub declare_elements-go : (block : Block) (elements : List ElementTree) (progress : Progress)
+    → StandsAt block.owner progress
     → Gives (λ after. Goes block.owner progress after Nothing) (declare_elements block elements progress)
 declare_elements-go block [] progress stands = gives_ok (goes_nowhere progress stands (λ tables reaches. tt))
 declare_elements-go block (element ∷ others) progress stands =
@@ -242,7 +264,8 @@ heading_procedure heading declared =
     procedure_with heading (parameter_types declared heading.parameters) [] 0 empty_list
 
 -- at its heading a procedure is added at the end of the table
-pub record Opened (owner : Owner) (heading : HeadingTree) (declared : DeclarationTrees) (before after : Progress) :
+pub record Opened (owner : Owner) (heading : HeadingTree) (declared : DeclarationTrees)
+    (before after : Progress) :
     Type 0 where
   pub stands : StandsAt (OfProcedure (length before.known.procedures) heading) after
   pub body : Body
@@ -271,13 +294,15 @@ open_procedure-opens block heading declared progress stands =
     in_turn
     (declare_parameters-stand {owner = OfProcedure number heading} (take PARAMETER_LIMIT heading.parameters)
     (into_body (with_procedure heading.name.name progress.known.here))
-    (into_body-stands number heading free.0 free.1 (with_procedure-stands stands.0 heading.name.name))) λ here is.
+    (into_body-stands number heading free.0 free.1 (with_procedure-stands stands.0 heading.name.name)))
+    λ here is.
     gives_after (no_more_parameters (drop PARAMETER_LIMIT heading.parameters)) λ few.
     gives_after (check_visibility block heading.linkage) λ visible.
     gives_after (check_reentrant heading.linkage heading.reentrant) λ reentrant.
     let procedures : List TypedProcedure = progress.known.procedures in
     let head : Heading = heading_of (heading_procedure heading declared) in
-    let listed : Listed progress.known.objects (headings (procedures ++ heading_procedure heading declared ∷ []))
+    let listed : Listed progress.known.objects
+    (headings (procedures ++ heading_procedure heading declared ∷ []))
     (with_global heading.linkage (GlobalProcedure number) progress.globals) =
     subst
     (λ heads. Listed progress.known.objects heads

@@ -11,13 +11,15 @@ constant_holds within (StringConstant string) =
     in_turn (is_found (number_of_characters string.characters) _ _) (λ number e.
     gives_ok (λ tables. number_holds number))
 
-works_on : (operator : BinaryOperator) (left right : ScalarType) → WorksOn operator (type_of_operands operator left right)
+works_on : (operator : BinaryOperator) (left right : ScalarType)
+    → WorksOn operator (type_of_operands operator left right)
 works_on Multiply left right = refl
 works_on Divide left right = refl
 works_on Modulo left right = refl
 works_on operator left right = tt
 
-binary_holds : (tables : TypedModule) (within : Within) (operator : BinaryOperator) (left right : TypedExpression)
+binary_holds : (tables : TypedModule) (within : Within) (operator : BinaryOperator)
+    (left right : TypedExpression)
     → TypesHold tables within left → TypesHold tables within right
     → TypesHold tables within (binary_node operator left right)
 binary_holds tables within operator left right one other =
@@ -46,11 +48,13 @@ module _ (within : Within) (known : Known) (sees : Sees within known) where
     expression_holds (ReferenceLeaf reference) constants =
         value_holds within known sees (given_reference known reference) constants (reference_holds reference)
     expression_holds (LocationLeaf reference) constants =
-        location_holds within known sees (given_reference known reference) constants (reference_holds reference)
+        location_holds within known sees (given_reference known reference) constants
+        (reference_holds reference)
     expression_holds (ListLeaf list) constants = gives_ok (list_holds within known list constants)
     expression_holds (ParenthesizedNode inner) constants = expression_holds inner constants
     expression_holds (AssignmentNode target value) constants =
-        in_turn (target_holds within known sees (given_reference known target) constants (reference_holds target))
+        in_turn (target_holds within known sees (given_reference known target) constants
+        (reference_holds target))
         (λ destination to.
         in_turn (expression_holds value destination.1) (λ typed is.
         gives_ok (holding_both to is (λ tables has there holds. (holds, there (type_of typed.0))))))
@@ -63,7 +67,8 @@ module _ (within : Within) (known : Known) (sees : Sees within known) where
         gives_ok (holding_both one other (λ tables has holds more.
         binary_holds tables within operator first.0 second.0 holds more))))
 
-    pub reference_holds : (reference : ReferenceTree) → ReferenceHolds within known (given_reference known reference)
+    pub reference_holds : (reference : ReferenceTree)
+        → ReferenceHolds within known (given_reference known reference)
     reference_holds (ReferenceTo name trees part) = (arguments_hold trees, member_holds part)
 
     member_holds : (part : MemberTree) → MemberHolds within known (given_member known part)
@@ -81,6 +86,7 @@ module _ (within : Within) (known : Known) (sees : Sees within known) where
 
   -- what a value goes to
   pub destination_holds : (reference : ReferenceTree) (constants : Constants)
-      → Gives (TargetHolds within known constants) (destination_of known (given_reference known reference) constants)
+      → Gives (TargetHolds within known constants)
+      (destination_of known (given_reference known reference) constants)
   destination_holds reference constants =
       target_holds within known sees (given_reference known reference) constants (reference_holds reference)

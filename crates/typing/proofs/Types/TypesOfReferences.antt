@@ -27,7 +27,8 @@ port_holds place trees = gives_fault
 
 -- a conversion to a type
 converted_holds : (tables : TypedModule) (within : Within) (to from : ScalarType) (typed : TypedExpression)
-    → type_of typed ≡ from → TypesHold tables within typed → HasType tables within to (converted to from typed)
+    → type_of typed ≡ from → TypesHold tables within typed
+    → HasType tables within to (converted to from typed)
 converted_holds tables within Byte Byte typed is holds = (holds, is)
 converted_holds tables within Address Address typed is holds = (holds, is)
 converted_holds tables within Byte Address typed is holds = (holds, refl)
@@ -63,7 +64,8 @@ subscript_of_is size (Some count) NoTyped = tt
 subscript_of_is size (Some count) (MoreTyped index NoTyped) = (refl, refl)
 subscript_of_is size (Some count) (MoreTyped first (MoreTyped second others)) = tt
 
-subscript_holds : (tables : TypedModule) (within : Within) (size : ℕ) (dimension : Option ℕ) (typed : TypedArguments)
+subscript_holds : (tables : TypedModule) (within : Within) (size : ℕ) (dimension : Option ℕ)
+    (typed : TypedArguments)
     → TypesHoldInArguments tables within typed
     → TypesHoldInSubscript tables within (subscript_of size dimension typed)
 subscript_holds tables within size None typed hold = tt
@@ -77,7 +79,8 @@ abbrev IsAnElement : Extent → Type 0
 IsAnElement AnElement = Unit {0}
 IsAnElement AlsoTheWhole = ⊥
 
-one_element : (extent : Extent) (size : ℕ) (dimension : Option ℕ) (trees : ArgumentTrees) (typed : TypedArguments)
+one_element : (extent : Extent) (size : ℕ) (dimension : Option ℕ) (trees : ArgumentTrees)
+    (typed : TypedArguments)
     → IsAnElement extent
     → takes_subscripts extent dimension (number_of_arguments trees) ≡ true
     → length (types_of typed) ≡ number_of_arguments trees
@@ -141,7 +144,8 @@ number_holds value = go (nat_le value 255) refl
     go false is = tt
 
 -- shifts
-pub shift_holds : (tables : TypedModule) (within : Within) (function : ShiftFunction) (value count : TypedExpression)
+pub shift_holds : (tables : TypedModule) (within : Within) (function : ShiftFunction)
+    (value count : TypedExpression)
     → TypesHold tables within value → TypesHold tables within count
     → TypesHold tables within (shift_node function value count)
 shift_holds tables within function value count one other =
@@ -176,7 +180,8 @@ pub seen_object : {within : Within} {known : Known} {number : ℕ} {object : Typ
 seen_object {within} {known} {number} {object} name sees bound_to entry = record {
   at = λ tables has. has.0 number object entry;
   seen = λ tables has.
-      of_some (λ (object : TypedObject). IsSeen tables within object.home) _ object (has.0 number object entry)
+      of_some (λ (object : TypedObject). IsSeen tables within object.home) _ object
+      (has.0 number object entry)
       (sees name.name number (bound_entity known.here name.name (Object number) bound_to) tables has.0);
 }
 
@@ -214,7 +219,8 @@ MemberHolds within known WithoutMember = Unit
 MemberHolds within known (WithMember name given) = GivenHolds within known given
 
 -- what a found part of an object says
-record PartHolds (within : Within) (home : Home) (extent : Extent) (part : FoundPart) (tables : TypedModule) : Type 0 where
+record PartHolds (within : Within) (home : Home) (extent : Extent) (part : FoundPart)
+    (tables : TypedModule) : Type 0 where
   types : TypesHoldInReference tables within part.reference
   located : HasLocation home → RefersToLocation tables within part.reference
   scalar : (scalar : ScalarType) → IsAnElement extent → part.scalar ≡ Some scalar
@@ -227,17 +233,21 @@ record ElementHolds (within : Within) (object : TypedObject) (extent : Extent) (
   types : TypesHoldInSubscript tables within subscript
   one : IsAnElement extent → IsOneOf object.dimension subscript
 
-module _ {within : Within} {known : Known} (number : ℕ) (object : TypedObject) (seen : SeenObject within known number object) where
+module _ {within : Within} {known : Known} (number : ℕ) (object : TypedObject)
+    (seen : SeenObject within known number object) where
   -- a part of the object, with what is known of it
-  located_part : (tables : TypedModule) (subscript : Subscript) (member : Option ℕ) (offset : ℕ) (member_subscript : Subscript)
+  located_part : (tables : TypedModule) (subscript : Subscript) (member : Option ℕ) (offset : ℕ)
+      (member_subscript : Subscript)
       → Has tables known
       → IsPartOf object (PartOf number subscript member offset member_subscript)
       → HasLocation object.home
       → RefersToLocation tables within (PartOf number subscript member offset member_subscript)
   located_part tables its_subscript member offset member_subscript has is located =
-      some_and _ (slice_get tables.objects number) object (seen.at tables has) (seen.seen tables has, located, is)
+      some_and _ (slice_get tables.objects number) object (seen.at tables has)
+      (seen.seen tables has, located, is)
 
-  scalar_part_holds : (tables : TypedModule) (scalar : ScalarType) (subscript : Subscript) (member : Option ℕ) (offset : ℕ)
+  scalar_part_holds : (tables : TypedModule) (scalar : ScalarType) (subscript : Subscript)
+      (member : Option ℕ) (offset : ℕ)
       (member_subscript : Subscript)
       → Has tables known
       → IsScalarOf object scalar (PartOf number subscript member offset member_subscript)
@@ -286,7 +296,9 @@ module _ {within : Within} {known : Known} (number : ℕ) (object : TypedObject)
       subst (λ its. IsInElement its (Some place.position) place.offset index) (sym are) in_members in
       record {
         types = (element.types, subscript_holds tables within size place.member.dimension typed so.1);
-        located = located_part tables subscript (Some place.position) place.offset index has (element.is, in_element);
+        located =
+            located_part tables subscript (Some place.position) place.offset index has
+            (element.is, in_element);
         scalar = λ scalar one e.
             scalar_part_holds tables scalar subscript (Some place.position) place.offset index has (
               (element.is, in_element),
@@ -297,10 +309,12 @@ module _ {within : Within} {known : Known} (number : ℕ) (object : TypedObject)
             );
       }
     where
-      of_scalar : (scalar : ScalarType) → Some place.member.scalar ≡ Some scalar → place.member.scalar ≡ scalar
+      of_scalar : (scalar : ScalarType) → Some place.member.scalar ≡ Some scalar
+          → place.member.scalar ≡ scalar
       of_scalar scalar e = cc
 
-  part_with_member_holds : (extent : Extent) (subscript : Subscript) (part : GivenMember) (constants : Constants)
+  part_with_member_holds : (extent : Extent) (subscript : Subscript) (part : GivenMember)
+      (constants : Constants)
       → MemberHolds within known part
       → Gives
       (λ (found : FoundPart × Constants). Holding known constants found.1
@@ -312,11 +326,13 @@ module _ {within : Within} {known : Known} (number : ℕ) (object : TypedObject)
   part_with_member_holds extent subscript (WithMember member given) constants holds =
       in_turn (is_found (members_of object.object_type) _ _) (λ members are.
       in_turn (is_found (member_named members member.name) _ _) (λ place at.
-      in_turn (required (takes_subscripts extent place.member.dimension (count_of_given given)) _ _) (λ _ fits.
+      in_turn (required (takes_subscripts extent place.member.dimension (count_of_given given)) _ _)
+      (λ _ fits.
       in_turn (holds constants) (λ typed so.
       gives_ok (holding_more so (λ tables has are_so element.
       member_holds tables extent subscript members place given.trees typed.0 has element
-      (structure_is object.object_type members are) (member_stands members member.name place at) fits are_so))))))
+      (structure_is object.object_type members are)
+      (member_stands members member.name place at) fits are_so))))))
 
 abbrev pub ReferenceHolds : Within → Known → GivenReference → Type 0
 ReferenceHolds within known given =
@@ -324,29 +340,35 @@ ReferenceHolds within known given =
 
 -- what a value is to say, and a target of a value of any type
 abbrev pub ValueHolds : Within → Known → Constants → TypedExpression × Constants → Type 0
-ValueHolds within known before found = Holding known before found.1 (λ tables. TypesHold tables within found.0)
+ValueHolds within known before found =
+    Holding known before found.1 (λ tables. TypesHold tables within found.0)
 
 abbrev pub TargetHolds : Within → Known → Constants → Destination × Constants → Type 0
 TargetHolds within known before found =
     Holding known before found.1
     (λ tables. (from : ScalarType) → TypesHoldInTarget tables within from (target_of found.0 from))
 
-function_holds : (within : Within) (function : UnaryFunction) (place : Place) (trees : ArgumentTrees) (values : TypedArguments)
+function_holds : (within : Within) (function : UnaryFunction) (place : Place) (trees : ArgumentTrees)
+    (values : TypedArguments)
     → Gives (λ node. (tables : TypedModule) → AreSo within trees values tables → TypesHold tables within node)
     (function_of function place values)
 function_holds within function place trees (MoreTyped operand NoTyped) = gives_ok (λ tables so. so.1.0)
 function_holds within function place trees values = gives_fault
 
-shift_of_holds : (within : Within) (function : ShiftFunction) (place : Place) (trees : ArgumentTrees) (values : TypedArguments)
+shift_of_holds : (within : Within) (function : ShiftFunction) (place : Place) (trees : ArgumentTrees)
+    (values : TypedArguments)
     → Gives (λ node. (tables : TypedModule) → AreSo within trees values tables → TypesHold tables within node)
     (shift_of function place values)
 shift_of_holds within function place trees (MoreTyped value (MoreTyped count NoTyped)) =
     gives_ok (λ tables so. shift_holds tables within function value count so.1.0 so.1.1.0)
 shift_of_holds within function place trees values = gives_fault
 
-measurement_holds : (within : Within) (known : Known) (measure : Measure) (place : Place) (trees : ArgumentTrees)
-    → Gives (λ node. (tables : TypedModule) → TypesHold tables within node) (measurement known measure place trees)
-measurement_holds within known measure place (MoreArguments (ReferenceLeaf (ReferenceTo name NoArguments part)) NoArguments) =
+measurement_holds : (within : Within) (known : Known) (measure : Measure) (place : Place)
+    (trees : ArgumentTrees)
+    → Gives (λ node. (tables : TypedModule) → TypesHold tables within node)
+    (measurement known measure place trees)
+measurement_holds within known measure place
+    (MoreArguments (ReferenceLeaf (ReferenceTo name NoArguments part)) NoArguments) =
     gives_after (bound known name) λ binding.
     gives_after (measured_object known binding name part) λ measured.
     gives_after (measure_of measure measured (place_of name)) λ value.
@@ -368,21 +390,25 @@ call_arguments_hold within known number procedure result place given constants e
     gives_ok (holding_more so (λ tables has are_so.
     let hold = arguments_hold tables within procedure.parameter_types typed.0
     (omega (arith, are_so.0, eqb-true _ _ are_all)) are_so.1 in (
-      takes_holds tables known number procedure result (arguments_as procedure.parameter_types typed.0) has entry is hold.0,
+      takes_holds tables known number procedure result (arguments_as procedure.parameter_types typed.0)
+          has entry is hold.0,
       hold.1,
     )))))
 
 -- A reference whose arguments hold, at a place where names are seen.
-module _ (within : Within) (known : Known) (sees : Sees within known) (given : GivenReference) (constants : Constants)
+module _ (within : Within) (known : Known) (sees : Sees within known) (given : GivenReference)
+    (constants : Constants)
     (holds : ReferenceHolds within known given) where
   part_holds : (number : ℕ) (object : TypedObject) (extent : Extent)
       → SeenObject within known number object
       → Gives
-      (λ (found : FoundPart × Constants). Holding known constants found.1 (PartHolds within object.home extent found.0))
+      (λ (found : FoundPart × Constants). Holding known constants found.1
+      (PartHolds within object.home extent found.0))
       (part_of number object extent given constants)
   part_holds number object extent seen =
       let size = size_of_element object.object_type in
-      in_turn (required (takes_subscripts extent object.dimension (count_of_given given.arguments)) _ _) (λ _ fits.
+      in_turn (required (takes_subscripts extent object.dimension (count_of_given given.arguments)) _ _)
+      (λ _ fits.
       in_turn (holds.0 constants) (λ typed so.
       then_more (part_with_member_holds number object seen extent (subscript_of size object.dimension typed.0)
       given.member typed.1 holds.1) (λ found part.
@@ -400,7 +426,8 @@ module _ (within : Within) (known : Known) (sees : Sees within known) (given : G
   scalar_holds : (number : ℕ) (object : TypedObject)
       → SeenObject within known number object
       → Gives
-      (λ (found : TypedReference × ScalarType × Constants). Holding known constants found.2 (ScalarHolds found))
+      (λ (found : TypedReference × ScalarType × Constants). Holding known constants found.2
+      (ScalarHolds found))
       (scalar_part number object given constants)
   scalar_holds number object seen =
       in_turn (part_holds number object AnElement seen) (λ part is.
@@ -412,7 +439,8 @@ module _ (within : Within) (known : Known) (sees : Sees within known) (given : G
 
   unary_holds : (function : UnaryFunction) → ValueSays (unary_function function given constants)
   unary_holds function =
-      gives_after (require (count_of_given given.arguments == 1) ArgumentCount (place_of given.name)) λ is_one.
+      gives_after (require (count_of_given given.arguments == 1) ArgumentCount (place_of given.name))
+      λ is_one.
       in_turn (holds.0 constants) (λ typed so.
       gives_after (without_member given.member) λ none.
       in_turn (function_holds within function (place_of given.name) given.arguments.trees typed.0) (λ node is.
@@ -420,7 +448,8 @@ module _ (within : Within) (known : Known) (sees : Sees within known) (given : G
 
   shifted_holds : (function : ShiftFunction) → ValueSays (shift_function function given constants)
   shifted_holds function =
-      gives_after (require (count_of_given given.arguments == 2) ArgumentCount (place_of given.name)) λ are_two.
+      gives_after (require (count_of_given given.arguments == 2) ArgumentCount (place_of given.name))
+      λ are_two.
       in_turn (holds.0 constants) (λ typed so.
       gives_after (without_member given.member) λ none.
       in_turn (shift_of_holds within function (place_of given.name) given.arguments.trees typed.0) (λ node is.
@@ -458,7 +487,8 @@ module _ (within : Within) (known : Known) (sees : Sees within known) (given : G
   value_of_bound_holds (Declared (Procedure number)) bound_to =
       in_turn (is_found (slice_get known.procedures number) _ _) (λ procedure entry.
       in_turn (is_found procedure.result _ _) (λ result is.
-      in_turn (call_arguments_hold within known number procedure (Some result) (place_of given.name) given.arguments
+      in_turn (call_arguments_hold within known number procedure (Some result)
+      (place_of given.name) given.arguments
       constants entry is holds.0) (λ typed says.
       gives_after (without_member given.member) λ none.
       gives_ok says)))

@@ -74,9 +74,11 @@ CountsIn within counter tables =
     IsSomeAnd (slice_get tables.objects counter.object)
     (λ (object : TypedObject). IsScalar counter.scalar object × LiesFor within object.home)
 
-counter_holds : (within : Within) (known : Known) (binding : Binding) (name : Identifier) (constants : Constants)
+counter_holds : (within : Within) (known : Known) (binding : Binding) (name : Identifier)
+    (constants : Constants)
     → Sees within known → Binds known name binding
-    → Gives (λ counter. Holding known constants constants (CountsIn within counter)) (counter_bound known binding name)
+    → Gives (λ counter. Holding known constants constants (CountsIn within counter))
+    (counter_bound known binding name)
 counter_holds within known (Declared (Object number)) name constants sees bound_to =
     in_turn (is_found (slice_get known.objects number) _ _) λ object entry.
     gives_after (is_writable object name) λ writable.
@@ -102,14 +104,16 @@ module _ (owner : Owner) (is_here : is_external owner ≡ false) where
   value_goes : (tree : ExpressionTree) (progress : Progress) → StandsAt owner progress
       → GoesOn owner progress (λ tables. TypesHold tables within) (value tree progress)
   value_goes tree progress stands =
-      in_turn (expression_holds within progress.known (names progress stands) tree progress.constants) λ found is.
+      in_turn (expression_holds within progress.known (names progress stands) tree progress.constants)
+      λ found is.
       gives_ok (goes_holding progress stands is)
 
   assignment_goes : (targets : List ReferenceTree) (source : ExpressionTree) (progress : Progress)
       → StandsAt owner progress
       → GoesOn owner progress (λ tables. TypesHoldIn tables within) (assignment targets source progress)
   assignment_goes targets source progress stands =
-      in_turn (destinations_hold within progress.known (names progress stands) targets progress.constants) λ places to.
+      in_turn (destinations_hold within progress.known (names progress stands) targets progress.constants)
+      λ places to.
       let there = goes_holding progress stands to in
       in_turn (value_goes source (with_constants places.1 progress) there.stands) λ found is.
       gives_ok (goes_as (goes_then there is) (λ tables says. (says.1, says.0 (type_of found.0))))
@@ -135,7 +139,8 @@ module _ (owner : Owner) (is_here : is_external owner ≡ false) where
       → GoesOn owner progress (λ tables. TypesHoldInHead tables within) (iteration tree progress)
   iteration_goes tree progress stands =
       in_turn (is_bound progress.known tree.variable) λ binding bound_to.
-      in_turn (counter_holds within progress.known binding tree.variable progress.constants (names progress stands) bound_to)
+      in_turn (counter_holds within progress.known binding tree.variable progress.constants
+      (names progress stands) bound_to)
       λ counter counts.
       let w₀ = goes_holding progress stands counts in
       in_turn (value_goes tree.first progress stands) λ first w₁.
@@ -146,7 +151,8 @@ module _ (owner : Owner) (is_here : is_external owner ≡ false) where
 
 return_goes : (place : Place) (owner : Owner) (tree : Option ExpressionTree) (progress : Progress)
     → is_external owner ≡ false → StandsAt owner progress
-    → GoesOn owner progress (λ tables. TypesHoldIn tables (within_of owner)) (return_from place owner tree progress)
+    → GoesOn owner progress (λ tables. TypesHoldIn tables (within_of owner))
+    (return_from place owner tree progress)
 return_goes place TheModule tree progress is_here stands = gives_fault
 return_goes place (OfProcedure number heading) tree progress is_here stands =
     go heading.result tree refl
@@ -155,7 +161,8 @@ return_goes place (OfProcedure number heading) tree progress is_here stands =
     own = OfProcedure number heading
 
     go : (result : Option ScalarType) (tree : Option ExpressionTree) → heading.result ≡ result
-        → GoesOn own progress (λ tables. TypesHoldIn tables (WithinProcedure number result)) (return_with place result tree progress)
+        → GoesOn own progress (λ tables. TypesHoldIn tables (WithinProcedure number result))
+        (return_with place result tree progress)
     go None None e = gives_ok (goes_nowhere progress stands (λ tables reaches. tt))
     go (Some scalar) (Some tree) e =
         in_turn (value_goes own is_here tree progress stands) λ found is.
@@ -207,15 +214,19 @@ list_goes : (owner : Owner) (trees : StatementTrees)
     (typed_from : ℕ → Progress → Checked (TypedStatements × Progress)) (progress : Progress)
     → StandsAt owner progress
     → ((label : ℕ) (inside : Progress) → StandsAt owner inside
-    → GoesOn owner inside (λ tables. TypesHoldInStatements tables (within_of owner)) (typed_from label inside))
-    → GoesOn owner progress (λ tables. TypesHoldInList tables (within_of owner)) (list_of trees typed_from progress)
+    → GoesOn owner inside (λ tables. TypesHoldInStatements tables (within_of owner))
+    (typed_from label inside))
+    → GoesOn owner progress (λ tables. TypesHoldInList tables (within_of owner))
+    (list_of trees typed_from progress)
 list_goes owner trees typed_from progress stands each =
     let inside : Progress = with_here (into_list (labels_of trees) progress.known.here) progress in
-    in_turn (each progress.known.here.labels inside (into_list-stands stands.0 (labels_of trees), stands.1, stands.2)) λ done w.
+    in_turn (each progress.known.here.labels inside
+    (into_list-stands stands.0 (labels_of trees), stands.1, stands.2)) λ done w.
     gives_ok (goes_to (out_of_list done.1.known.here) refl (out_of_list-stands w.stands.0) (goes_from refl w))
 
 -- out of a procedure: its entry has the heading that it had
-closed_goes : (owner : Owner) (heading : HeadingTree) (declared : DeclarationTrees) (parameters : List ℕ) (body : TypedList)
+closed_goes : (owner : Owner) (heading : HeadingTree) (declared : DeclarationTrees)
+    (parameters : List ℕ) (body : TypedList)
     (before opened within : Progress)
     → Opened owner heading declared before opened
     → Goes (OfProcedure (length before.known.procedures) heading) opened within
@@ -256,13 +267,16 @@ closed_goes owner heading declared parameters body before opened within heads in
             owner before.frame before.known.objects heads.own),
       );
       around = left.1;
-      objects = λ at object e. inside.objects at object (subst (λ all. slice_get all at ≡ Some object) (sym heads.objects) e);
+      objects =
+          λ at object e. inside.objects at object
+          (subst (λ all. slice_get all at ≡ Some object) (sym heads.objects) e);
       added = last ∷ inside.added;
       appended = closed_table procedures first last inside.added within.known.procedures is;
       lists = omega (arith, inside.lists, ap (λ (constants : Constants). length constants.lists) heads.lists);
       bodies = λ tables reaches. (
         inside.says tables (reaches_inside tables reaches),
-        subst (λ (at : ℕ). AllHold tables at inside.added) next (inside.bodies tables (reaches_inside tables reaches)),
+        subst (λ (at : ℕ). AllHold tables at inside.added) next
+            (inside.bodies tables (reaches_inside tables reaches)),
       );
       says = λ tables reaches. tt;
     }
@@ -270,7 +284,8 @@ closed_goes owner heading declared parameters body before opened within heads in
 mutual
   kind_goes : (block : Block) (tree : StatementKindTree) (progress : Progress)
       → is_external block.owner ≡ false → StandsAt block.owner progress
-      → GoesOn block.owner progress (λ tables. TypesHoldIn tables (within_of block.owner)) (kind block tree progress)
+      → GoesOn block.owner progress (λ tables. TypesHoldIn tables (within_of block.owner))
+      (kind block tree progress)
   kind_goes block (trees.NullStatement place) progress is stands =
       gives_ok (goes_nowhere progress stands (λ tables reaches. tt))
   kind_goes block (trees.AssignmentStatement targets source) progress is stands =
@@ -281,17 +296,20 @@ mutual
       return_goes place block.owner result progress is stands
   kind_goes block (trees.HaltStatement place) progress is stands =
       gives_ok (goes_nowhere progress stands (λ tables reaches. tt))
-  kind_goes block (trees.GotoStatement place label) progress is stands = goto_goes label block.owner progress stands
+  kind_goes block (trees.GotoStatement place label) progress is stands =
+      goto_goes label block.owner progress stands
   kind_goes block (trees.IfStatement place condition body otherwise) progress is stands =
       in_turn (value_goes block.owner is condition progress stands) λ tested w₁.
       in_turn (alone_goes block body tested.1 is w₁.stands) λ chosen w₂.
       in_turn (else_goes block otherwise chosen.1 is w₂.stands) λ other w₃.
       gives_ok (goes_as (goes_then w₁ (goes_then w₂ w₃)) (λ tables says. (says.0, says.1.0, says.1.1)))
   kind_goes block (trees.DoStatement place declared body) progress is stands =
-      in_turn (declarations_go (inner_block block) declared (entered progress) (into_block-stands stands.0, stands.1, stands.2)) λ opened w₁.
+      in_turn (declarations_go (inner_block block) declared (entered progress)
+      (into_block-stands stands.0, stands.1, stands.2)) λ opened w₁.
       in_turn
       (list_goes block.owner body (λ label. statements (inner_block block) body label) opened w₁.stands
-      (λ label inside s. statements_go (inner_block block) body label inside (may_stand block.owner body is) s))
+      (λ label inside s. statements_go (inner_block block) body label inside
+      (may_stand block.owner body is) s))
       λ done w₂.
       gives_ok
       (goes_as (goes_to (out_of_block done.1.known.here) refl (out_of_block-stands w₂.stands.0)
@@ -315,27 +333,34 @@ mutual
 
   labelled_goes : (block : Block) (tree : StatementTree) (progress : Progress)
       → is_external block.owner ≡ false → StandsAt block.owner progress
-      → GoesOn block.owner progress (λ tables. TypesHoldIn tables (within_of block.owner)) (labelled block tree progress)
-  labelled_goes block (LabelledStatement labels tree) progress is stands = kind_goes block tree progress is stands
+      → GoesOn block.owner progress (λ tables. TypesHoldIn tables (within_of block.owner))
+      (labelled block tree progress)
+  labelled_goes block (LabelledStatement labels tree) progress is stands =
+      kind_goes block tree progress is stands
 
   alone_goes : (block : Block) (tree : StatementTree) (progress : Progress)
       → is_external block.owner ≡ false → StandsAt block.owner progress
-      → GoesOn block.owner progress (λ tables. TypesHoldIn tables (within_of block.owner)) (alone block tree progress)
+      → GoesOn block.owner progress (λ tables. TypesHoldIn tables (within_of block.owner))
+      (alone block tree progress)
   alone_goes block (LabelledStatement [] tree) progress is stands = kind_goes block tree progress is stands
   alone_goes block (LabelledStatement (label ∷ labels) tree) progress is stands = gives_fault
 
   else_goes : (block : Block) (tree : ElseTree) (progress : Progress)
       → is_external block.owner ≡ false → StandsAt block.owner progress
-      → GoesOn block.owner progress (λ tables. TypesHoldInElse tables (within_of block.owner)) (else_part block tree progress)
-  else_goes block trees.NoElse progress is stands = gives_ok (goes_nowhere progress stands (λ tables reaches. tt))
+      → GoesOn block.owner progress (λ tables. TypesHoldInElse tables (within_of block.owner))
+      (else_part block tree progress)
+  else_goes block trees.NoElse progress is stands =
+      gives_ok (goes_nowhere progress stands (λ tables reaches. tt))
   else_goes block (trees.ElseStatement body) progress is stands =
       in_turn (alone_goes block body progress is stands) λ done w.
       gives_ok w
 
   cases_go : (block : Block) (trees : StatementTrees) (progress : Progress)
       → is_external block.owner ≡ false → StandsAt block.owner progress
-      → GoesOn block.owner progress (λ tables. TypesHoldInStatements tables (within_of block.owner)) (cases block trees progress)
-  cases_go block trees.NoStatements progress is stands = gives_ok (goes_nowhere progress stands (λ tables reaches. tt))
+      → GoesOn block.owner progress (λ tables. TypesHoldInStatements tables (within_of block.owner))
+      (cases block trees progress)
+  cases_go block trees.NoStatements progress is stands =
+      gives_ok (goes_nowhere progress stands (λ tables reaches. tt))
   cases_go block (trees.MoreStatements first others) progress is stands =
       in_turn (alone_goes block first progress is stands) λ done w₁.
       in_turn (cases_go block others done.1 is w₁.stands) λ rest w₂.
@@ -349,15 +374,18 @@ mutual
       gives_ok (goes_nowhere progress stands (λ tables reaches. tt))
   statements_go block (trees.MoreStatements first others) label progress is stands =
       in_turn (declare_labels-stand (labels_before first) progress.known.here stands.0) λ here there.
-      in_turn (labelled_goes block first (with_here here progress) is (there.0, stands.1, stands.2)) λ done w₁.
+      in_turn (labelled_goes block first (with_here here progress) is (there.0, stands.1, stands.2))
+      λ done w₁.
       in_turn (statements_go block others (label + length (labels_before first)) done.1
       (may_stand block.owner others is) w₁.stands) λ rest w₂.
       gives_ok (goes_as (goes_then (goes_from there.1 w₁) w₂)
       (λ tables says. after_labels_hold tables (within_of block.owner) label (labels_before first) _ says))
 
-  declaration_goes : (block : Block) (tree : DeclarationTree) (progress : Progress) → StandsAt block.owner progress
+  declaration_goes : (block : Block) (tree : DeclarationTree) (progress : Progress)
+      → StandsAt block.owner progress
       → Gives (λ after. Goes block.owner progress after Nothing) (declaration block tree progress)
-  declaration_goes block (DeclareTree elements) progress stands = declare_elements-go block elements progress stands
+  declaration_goes block (DeclareTree elements) progress stands =
+      declare_elements-go block elements progress stands
   declaration_goes block (ProcedureTree heading declared body end_name) progress stands =
       let own : Block = own_block heading progress in
       in_turn (open_procedure-opens block heading declared progress stands) λ opened heads.
@@ -371,7 +399,8 @@ mutual
       (closed_goes block.owner heading declared parameters done.0 progress opened done.1 heads
       (goes_as (goes_then w₁ w₂) (λ tables says. says.1)))
 
-  declarations_go : (block : Block) (trees : DeclarationTrees) (progress : Progress) → StandsAt block.owner progress
+  declarations_go : (block : Block) (trees : DeclarationTrees) (progress : Progress)
+      → StandsAt block.owner progress
       → Gives (λ after. Goes block.owner progress after Nothing) (declarations block trees progress)
   declarations_go block NoDeclarations progress stands =
       gives_ok (goes_nowhere progress stands (λ tables reaches. tt))
@@ -394,7 +423,8 @@ module_holds name body progress goes =
     let bodies : AllHold tables 0 progress.known.procedures =
     subst (λ procedures. AllHold tables 0 procedures) (sym goes.appended) (goes.bodies tables reaches) in (
       record {
-        procedures = All-from_recursion (TypesHoldInProcedure tables) (enumerate_from 0 progress.known.procedures)
+        procedures =
+            All-from_recursion (TypesHoldInProcedure tables) (enumerate_from 0 progress.known.procedures)
             bodies;
         main = goes.says tables reaches;
       },
@@ -406,9 +436,11 @@ typing_holds : (tree : ModuleTree) → Gives Fits (typing_of tree)
 unfolding typing_of
 typing_holds tree =
     in_turn (declarations_go module_block tree.declarations at_the_beginning
-    (record { count = refl; inside = λ _. (tt, tt, tt); outside = tt }, none_listed, none_summed)) λ declared w₁.
+    (record { count = refl; inside = λ _. (tt, tt, tt); outside = tt }, none_listed, none_summed))
+    λ declared w₁.
     in_turn
-    (list_goes TheModule tree.statements (λ label. statements module_block tree.statements label) declared w₁.stands
+    (list_goes TheModule tree.statements
+    (λ label. statements module_block tree.statements label) declared w₁.stands
     (λ label inside s. statements_go module_block tree.statements label inside
     (may_stand TheModule tree.statements refl) s)) λ done w₂.
     gives_ok
@@ -418,8 +450,10 @@ typing_holds tree =
 pub is_well_typed : (tree : ModuleTree) (found : TypedModule) → typing_of tree ≡ Ok found → IsWellTyped found
 is_well_typed tree found is = ((typing_holds tree).holds found is).0
 
-pub globals_are_listed : (tree : ModuleTree) (found : TypedModule) → typing_of tree ≡ Ok found → ListsGlobals found
+pub globals_are_listed : (tree : ModuleTree) (found : TypedModule) → typing_of tree ≡ Ok found
+    → ListsGlobals found
 globals_are_listed tree found is = ((typing_holds tree).holds found is).1
 
-pub frames_are_summed : (tree : ModuleTree) (found : TypedModule) → typing_of tree ≡ Ok found → FramesFit found
+pub frames_are_summed : (tree : ModuleTree) (found : TypedModule)
+    → typing_of tree ≡ Ok found → FramesFit found
 frames_are_summed tree found is = ((typing_holds tree).holds found is).2

@@ -1,5 +1,5 @@
--- What typing a part of a text adds, and what the types of the part say of every module that holds what is known at its
--- end.
+-- What typing a part of a text adds, and what the types of the part say of every module that holds what is
+-- known at its end.
 use Rattle.typing.proofs.Prelude.{◌≡◌, ℕ, ◌+◌, ◌≤◌, List, [], ◌∷◌, ◌++◌, length, Some, slice_get, slice_set, refl, sym, ap, ◌∙◌, subst, append_assoc, append-nil, length-append, arith, AllByRecursion, enumerate_from, map-append, set-append_seam, Here, TypedProcedure, TypedModule, Constants, TypesHoldInProcedure, Owner, Progress, with_here, with_constants}
 use Rattle.typing.proofs.Tables.{Keeps, keeps_append}
 use Rattle.typing.proofs.Types.TypesKept.{Heading, heading_of, headings, Has, HasLists, Holding}
@@ -18,7 +18,8 @@ Reaches tables progress = Has tables progress.known × HasLists tables progress.
 
 -- procedures that are numbered from one on
 abbrev pub AllHold : TypedModule → (number : ℕ) → List TypedProcedure → Type 0
-AllHold tables number procedures = AllByRecursion (TypesHoldInProcedure tables) (enumerate_from number procedures)
+AllHold tables number procedures =
+    AllByRecursion (TypesHoldInProcedure tables) (enumerate_from number procedures)
 
 all_hold-append : (tables : TypedModule) (number : ℕ) (one other : List TypedProcedure)
     → AllHold tables number one → AllHold tables (number + length one) other
@@ -43,7 +44,8 @@ pub record Goes (owner : Owner) (before after : Progress) (Says : TypedModule �
       → AllHold tables (length before.known.procedures) added
   pub says : (tables : TypedModule) → Reaches tables after → Says tables
 
-pub headings-append : (procedures more : List TypedProcedure) → headings (procedures ++ more) ≡ headings procedures ++ headings more
+pub headings-append : (procedures more : List TypedProcedure)
+    → headings (procedures ++ more) ≡ headings procedures ++ headings more
 headings-append procedures more = map-append heading_of procedures more
 
 pub reached : {owner : Owner} {before after : Progress} {Says : TypedModule → Type 0} (tables : TypedModule)
@@ -162,15 +164,18 @@ goes_to here same stands goes = record {
   says = goes.says;
 }
 
--- at its end the entry of a procedure takes the place of the one of its heading, and nothing else in the table changes
-pub closed_table : (before : List TypedProcedure) (first last : TypedProcedure) (added table : List TypedProcedure)
+-- at its end the entry of a procedure takes the place of the one of its heading, and nothing else in the
+-- table changes
+pub closed_table : (before : List TypedProcedure) (first last : TypedProcedure)
+    (added table : List TypedProcedure)
     → table ≡ (before ++ first ∷ []) ++ added
     → slice_set table (length before) last ≡ before ++ last ∷ added
 closed_table before first last added table is =
     ap (λ k. slice_set k (length before) last) (is ∙ append_assoc before (first ∷ []) added)
     ∙ set-append_seam before first added last
 
-pub same_headings : (before : List TypedProcedure) (first last : TypedProcedure) (added table : List TypedProcedure)
+pub same_headings : (before : List TypedProcedure) (first last : TypedProcedure)
+    (added table : List TypedProcedure)
     → heading_of first ≡ heading_of last
     → table ≡ (before ++ first ∷ []) ++ added
     → headings (slice_set table (length before) last) ≡ headings table

@@ -14,7 +14,8 @@ returns c =
     c.args.generator.now c.body_of-body.new.generator labelled ready c.list.new.self after
     c.body_of-body.ensures.tree c.body_of-body.ensures.procedure
     (subst HasNothing (sym c.body_of-body.ensures.frame) c.empty-frame.ensures)
-    c.body_of-body.ensures.first c.body_of-body.ensures.emission c.body_of-body.ensures.labels c.in_ok-add.ensures c.in_ok-stack_end.ensures refl
+    c.body_of-body.ensures.first c.body_of-body.ensures.emission c.body_of-body.ensures.labels
+    c.in_ok-add.ensures c.in_ok-stack_end.ensures refl
     c.in_ok-list.ensures.code c.in_ok-add-2.ensures
 
 pub list-requires : goal.list-requires

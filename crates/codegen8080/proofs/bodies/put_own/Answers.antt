@@ -14,7 +14,8 @@ returns c =
     c.args.generator.now c.body_of-body.new.generator labelled c.put_entry.new.generator c.list.new.self
     c.put_end.new.generator c.body_of-body.ensures.tree c.body_of-body.ensures.procedure
     (subst (IsFrameOf c.args.procedure.now) (sym c.body_of-body.ensures.frame) c.in_ok-frame.ensures)
-    c.body_of-body.ensures.first c.body_of-body.ensures.emission c.body_of-body.ensures.labels c.in_ok-add.ensures refl c.in_ok-put_entry.ensures
+    c.body_of-body.ensures.first c.body_of-body.ensures.emission c.body_of-body.ensures.labels
+    c.in_ok-add.ensures refl c.in_ok-put_entry.ensures
     c.in_ok-list.ensures.code c.in_ok-put_end.ensures
 
 pub put_entry-requires : goal.put_entry-requires

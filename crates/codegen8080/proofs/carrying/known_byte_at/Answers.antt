@@ -7,5 +7,6 @@ returns c =
     emits_after _ _ _ _ _ _ c.add.result c.in_ok-byte_at.ensures
     (subst
     (λ (none : Facts). OnOk c.add.result (EmitsSteps (site_of c.args.body.now)
-    (Holds (record none { byte_in_a = Some c.args.location }) ∷ []) c.byte_at.new.emission c.add.new.emission))
+    (Holds (record none { byte_in_a = Some c.args.location }) ∷ []) c.byte_at.new.emission
+    c.add.new.emission))
     c.none.ensures c.add.ensures)

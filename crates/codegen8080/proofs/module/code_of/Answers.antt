@@ -4,10 +4,13 @@ use Rattle.codegen8080.proofs.module.code_of.Goals as goal
 
 pub returns : goal.returns
 returns c =
-    code_written c.args.tree.now c.in_ok-start.start.index c.in_ok-generator.generator c.put_own_code.new.generator
+    code_written c.args.tree.now c.in_ok-start.start.index c.in_ok-generator.generator
+    c.put_own_code.new.generator
     c.as_slice.result.now _ c.in_ok-writer.writer c.in_ok-generator.ensures.emission c.in_ok-start.ensures
     (c.as_slice.ensures.value
     ∙ ap (λ table. table.items)
-    (c.into_code-writer.ensures.called ∙ ap (λ (emission : Emission). emission.is_called) c.into_parts-emission.ensures))
-    (c.into_code-writer.ensures.writer ∙ ap (λ (emission : Emission). emission.writer) c.into_parts-emission.ensures)
+    (c.into_code-writer.ensures.called ∙ ap (λ (emission : Emission). emission.is_called)
+    c.into_parts-emission.ensures))
+    (c.into_code-writer.ensures.writer ∙ ap (λ (emission : Emission). emission.writer)
+    c.into_parts-emission.ensures)
     c.in_ok-writer.ensures

@@ -43,8 +43,10 @@ returns-clause-made c =
 
 pub returns-in_err-code-clause-refused : goal.returns-in_err-code-clause-refused
 returns-in_err-code-clause-refused c =
-    code_refused c.args.tree.now c.in_ok-writer.field-0.start.index c.in_ok-writer.field-0.writer _ _ c.finish.result
-    c.from_residual-in_err-code.result c.in_err-code.field-0.0 (search rules) (search rules) c.in_ok-writer.ensures
+    code_refused c.args.tree.now c.in_ok-writer.field-0.start.index
+    c.in_ok-writer.field-0.writer _ _ c.finish.result
+    c.from_residual-in_err-code.result c.in_err-code.field-0.0 (search rules) (search rules)
+    c.in_ok-writer.ensures
     c.finish.ensures.refused
 
 pub returns-in_err-variables-clause-refused : goal.returns-in_err-variables-clause-refused

@@ -12,7 +12,8 @@ returns c =
     (record (c.args.generator.now) { emission = written }) c.put_main_if_any.new.generator
     c.put_procedures.new.generator
     (subst
-    (λ contents. Writes c.args.generator.now.emission.writer c.put_contents.new.writer (contents_items contents))
+    (λ contents. Writes c.args.generator.now.emission.writer c.put_contents.new.writer
+    (contents_items contents))
     c.as_slice.ensures.value c.in_ok-put_contents.ensures)
     refl (ap (λ (label : LabelNumber). label.index) c.label-start.ensures.label)
     c.label-start.ensures.taken c.in_ok-put_main_if_any.ensures

@@ -8,7 +8,8 @@ returns-clause-externals c = λ number found given.
 
 pub returns-clause-names : goal.returns-clause-names
 returns-clause-names c =
-    subst (λ contents. NumbersNames c.args.externals c.put_contents.new.writer.externals (contents_items contents))
+    subst (λ contents. NumbersNames c.args.externals c.put_contents.new.writer.externals
+    (contents_items contents))
     c.as_slice.ensures.value
     (subst (λ (written : Written). NumbersNames written.externals c.put_contents.new.writer.externals
     (contents_items c.as_slice.result.now)) c.sharing-writer.ensures c.in_ok-put_contents.ensures.names)

@@ -7,6 +7,8 @@ places_of-requires c = subst (IsNumbering c.in-Some.count) (sym c.numbers-number
 
 pub returns : goal.returns
 returns c =
-    names_listed c.args.externals.now c.args.numbered.now c.numbers-numbers.result.now c.in_ok-places.places.items
-    c.in_ok-names.names c.numbers-numbers.ensures c.requires c.in_ok-places.ensures c.in_ok-names.ensures.names
+    names_listed c.args.externals.now c.args.numbered.now c.numbers-numbers.result.now
+    c.in_ok-places.places.items
+    c.in_ok-names.names c.numbers-numbers.ensures c.requires c.in_ok-places.ensures
+    c.in_ok-names.ensures.names
     c.in_ok-names.ensures.publics

@@ -21,6 +21,7 @@ returns c = record {
       ap (λ (object : ObjectModule). object.externals) c.from_parts.ensures
       ∙ c.into_parts-externals.ensures.externals;
   publics =
-      ap (λ (object : ObjectModule). object.publics) c.from_parts.ensures ∙ c.into_parts-externals.ensures.publics;
+      ap (λ (object : ObjectModule). object.publics) c.from_parts.ensures
+      ∙ c.into_parts-externals.ensures.publics;
   start = ap (λ (object : ObjectModule). object.start) c.from_parts.ensures;
 }

@@ -7,8 +7,10 @@ loop-rest-preserved c =
     let before = app_of c.loop-rest.built in
     record {
       app =
-          fold_step with_argument before (app_of c.in_ok-built.built) _ c.loop-rest.rest.now c.in-len1-up.len_at_least
-          (adds.shape c.arg_of.ensures.local ∙ ap (with_rule before) c.arg_of.ensures.rule) ∙ c.loop-rest.invariant.app;
+          fold_step with_argument before (app_of c.in_ok-built.built) _ c.loop-rest.rest.now
+          c.in-len1-up.len_at_least
+          (adds.shape c.arg_of.ensures.local ∙ ap (with_rule before) c.arg_of.ensures.rule)
+          ∙ c.loop-rest.invariant.app;
       local = adds.globals ∙ rw (c.loop-rest.invariant.local, c.arg_of.ensures.local) refl;
     }
 

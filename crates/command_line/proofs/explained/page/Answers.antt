@@ -10,9 +10,12 @@ last_page (Some page) = refl
 
 in_three : (number : Text) → page_among (SOURCES ∷ PROGRAMS ∷ FILES ∷ []) number ≡ page_of number
 unfolding page_of
-in_three number = ap (or_page (page_in SOURCES number)) (ap (or_page (page_in PROGRAMS number)) (last_page (page_in FILES number)))
+in_three number =
+    ap (or_page (page_in SOURCES number))
+    (ap (or_page (page_in PROGRAMS number)) (last_page (page_in FILES number)))
 
 pub returns : goal.returns
 returns c =
     subst (λ (page : Option Text). IfOk c.page_among.result (λ found. option_map (λ p. p.now) found ≡ page))
-    (ap (page_among (SOURCES ∷ PROGRAMS ∷ FILES ∷ [])) c.as_bytes.ensures.value ∙ in_three c.args.number.now) c.page_among.ensures
+    (ap (page_among (SOURCES ∷ PROGRAMS ∷ FILES ∷ [])) c.as_bytes.ensures.value ∙ in_three c.args.number.now)
+    c.page_among.ensures

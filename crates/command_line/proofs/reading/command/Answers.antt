@@ -4,17 +4,22 @@ use Rattle.command_line.proofs.reading.command.Goals as goal
 no_fault : (c : In-Ok) → fault_of plm_app (texts c.args.words.now) ≡ []
 no_fault c =
     let plm_is = c.in_ok-plm.ensures.0 in
-    subst (λ (a : App). fault_of a (texts c.args.words.now) ≡ []) plm_is (c.in-Ok.ensures.kinds (ap is_simple_and_free plm_is ∙ plm_is_free))
+    subst (λ (a : App). fault_of a (texts c.args.words.now) ≡ []) plm_is
+    (c.in-Ok.ensures.kinds (ap is_simple_and_free plm_is ∙ plm_is_free))
 
-found : (c : In-Ok) → option_and_then wanted_of_match (subcommand_rows_of c.in-Ok.matches) ≡ wanted_by (texts c.args.words.now)
+found : (c : In-Ok) → option_and_then wanted_of_match (subcommand_rows_of c.in-Ok.matches)
+    ≡ wanted_by (texts c.args.words.now)
 found c =
     let plm_is = c.in_ok-plm.ensures.0 in
-    ap (option_and_then wanted_of_match) ((c.in-Ok.ensures.matches (ap is_simple plm_is ∙ plm_is_simple)).1 ∙ ap (λ (a : App). subcommand_of a (texts c.args.words.now)) plm_is)
+    ap (option_and_then wanted_of_match)
+    ((c.in-Ok.ensures.matches (ap is_simple plm_is ∙ plm_is_simple)).1
+    ∙ ap (λ (a : App). subcommand_of a (texts c.args.words.now)) plm_is)
 
 pub unreachable-requires : goal.unreachable-requires
 unreachable-requires c =
     let at = (goal.at.unreachable-requires c).In-Ok in
-    order_is_there (texts c.args.words.now) (no_fault at) (sym (sym (ap (option_map wanted_in) c.in-None.is) ∙ c.in_ok-order.ensures ∙ found at))
+    order_is_there (texts c.args.words.now) (no_fault at)
+    (sym (sym (ap (option_map wanted_in) c.in-None.is) ∙ c.in_ok-order.ensures ∙ found at))
 
 pub returns : goal.returns
 returns c =
@@ -45,29 +50,54 @@ returns c =
 has_kind : (c : goal.After-failure_of) → HasKind (fault_of plm_app (texts c.args.words.now)) c.in-Err.error
 has_kind c =
     let plm_is = c.in_ok-plm.ensures.0 in
-    subst (λ (a : App). HasKind (fault_of a (texts c.args.words.now)) c.in-Err.error) plm_is (c.in-Err.ensures.kinds (ap is_simple_and_free plm_is ∙ plm_is_free))
+    subst (λ (a : App). HasKind (fault_of a (texts c.args.words.now)) c.in-Err.error) plm_is
+    (c.in-Err.ensures.kinds (ap is_simple_and_free plm_is ∙ plm_is_free))
 
 pub returns-in-Err : goal.returns-in-Err
 returns-in-Err c = record {
-  files = files_failed (texts c.args.words.now) c.in-Err.error c.failure_of.result (has_kind c) c.failure_of.ensures;
-  option = text_failed (texts c.args.words.now) c.in-Err.error c.failure_of.result (has_kind c) c.failure_of.ensures;
-  map = map_failed (texts c.args.words.now) c.in-Err.error c.failure_of.result (has_kind c) c.failure_of.ensures;
-  watch = watch_failed (texts c.args.words.now) c.in-Err.error c.failure_of.result (has_kind c) c.failure_of.ensures;
-  compile = compile_failed (texts c.args.words.now) c.in-Err.error c.failure_of.result (has_kind c) c.failure_of.ensures;
-  link = link_failed (texts c.args.words.now) c.in-Err.error c.failure_of.result (has_kind c) c.failure_of.ensures;
-  place = place_failed (texts c.args.words.now) c.in-Err.error c.failure_of.result (has_kind c) c.failure_of.ensures;
-  place_option = place_text_failed (texts c.args.words.now) c.in-Err.error c.failure_of.result (has_kind c) c.failure_of.ensures;
-  jump = jump_failed (texts c.args.words.now) c.in-Err.error c.failure_of.result (has_kind c) c.failure_of.ensures;
-  need = need_failed (texts c.args.words.now) c.in-Err.error c.failure_of.result (has_kind c) c.failure_of.ensures;
-  execute = execute_failed (texts c.args.words.now) c.in-Err.error c.failure_of.result (has_kind c) c.failure_of.ensures;
-  execute_option = execute_text_failed (texts c.args.words.now) c.in-Err.error c.failure_of.result (has_kind c) c.failure_of.ensures;
-  execute_watch = execute_watch_failed (texts c.args.words.now) c.in-Err.error c.failure_of.result (has_kind c) c.failure_of.ensures;
-  explain = explain_failed (texts c.args.words.now) c.in-Err.error c.failure_of.result (has_kind c) c.failure_of.ensures;
-  convert = convert_failed (texts c.args.words.now) c.in-Err.error c.failure_of.result (has_kind c) c.failure_of.ensures;
+  files = files_failed (texts c.args.words.now) c.in-Err.error c.failure_of.result (has_kind c)
+      c.failure_of.ensures;
+  option =
+      text_failed (texts c.args.words.now) c.in-Err.error c.failure_of.result (has_kind c)
+      c.failure_of.ensures;
+  map = map_failed (texts c.args.words.now) c.in-Err.error c.failure_of.result (has_kind c)
+      c.failure_of.ensures;
+  watch = watch_failed (texts c.args.words.now) c.in-Err.error c.failure_of.result (has_kind c)
+      c.failure_of.ensures;
+  compile =
+      compile_failed (texts c.args.words.now) c.in-Err.error c.failure_of.result (has_kind c)
+      c.failure_of.ensures;
+  link = link_failed (texts c.args.words.now) c.in-Err.error c.failure_of.result (has_kind c)
+      c.failure_of.ensures;
+  place = place_failed (texts c.args.words.now) c.in-Err.error c.failure_of.result (has_kind c)
+      c.failure_of.ensures;
+  place_option =
+      place_text_failed (texts c.args.words.now) c.in-Err.error c.failure_of.result (has_kind c)
+      c.failure_of.ensures;
+  jump = jump_failed (texts c.args.words.now) c.in-Err.error c.failure_of.result (has_kind c)
+      c.failure_of.ensures;
+  need = need_failed (texts c.args.words.now) c.in-Err.error c.failure_of.result (has_kind c)
+      c.failure_of.ensures;
+  execute =
+      execute_failed (texts c.args.words.now) c.in-Err.error c.failure_of.result (has_kind c)
+      c.failure_of.ensures;
+  execute_option =
+      execute_text_failed (texts c.args.words.now) c.in-Err.error c.failure_of.result (has_kind c)
+      c.failure_of.ensures;
+  execute_watch =
+      execute_watch_failed (texts c.args.words.now) c.in-Err.error c.failure_of.result (has_kind c)
+      c.failure_of.ensures;
+  explain =
+      explain_failed (texts c.args.words.now) c.in-Err.error c.failure_of.result (has_kind c)
+      c.failure_of.ensures;
+  convert =
+      convert_failed (texts c.args.words.now) c.in-Err.error c.failure_of.result (has_kind c)
+      c.failure_of.ensures;
   order = tt;
   some = tt;
   ok = tt;
-  fault = fault_among Order c.in-Err.error c.failure_of.result (fault_of plm_app (texts c.args.words.now)) (has_kind c) c.failure_of.ensures;
+  fault = fault_among Order c.in-Err.error c.failure_of.result (fault_of plm_app (texts c.args.words.now))
+      (has_kind c) c.failure_of.ensures;
 }
 
 pub returns-in_err-plm : goal.returns-in_err-plm

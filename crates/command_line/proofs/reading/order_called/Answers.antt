@@ -6,9 +6,11 @@ pub returns-in-Some : goal.returns-in-Some
 returns-in-Some c =
     let rows = rows_of (found_of c.args.matches.now) in
     subst (λ (wanted : Option Wanted). IfOk c.order_for.result (λ order. option_map wanted_in order ≡ wanted))
-    (ap (option_map (λ command. wanted_of_command command rows)) c.in-Some.ensures ∙ wanted_is c.args.word.now rows) c.order_for.ensures
+    (ap (option_map (λ command. wanted_of_command command rows)) c.in-Some.ensures
+    ∙ wanted_is c.args.word.now rows) c.order_for.ensures
 
 pub returns-in-None : goal.returns-in-None
 returns-in-None c =
     let rows = rows_of (found_of c.args.matches.now) in
-    ap (option_map (λ command. wanted_of_command command rows)) c.in-None.ensures ∙ wanted_is c.args.word.now rows
+    ap (option_map (λ command. wanted_of_command command rows)) c.in-None.ensures
+    ∙ wanted_is c.args.word.now rows

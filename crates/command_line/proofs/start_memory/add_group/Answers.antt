@@ -5,13 +5,17 @@ pub returns-in_default : goal.returns-in_default
 returns-in_default c = short_group c.args.memory.now.items c.args.group.now c.in_default.len_below
 
 pub returns-then-colon-ne58 : goal.returns-then-colon-ne58
-returns-then-colon-ne58 c = no_colon c.args.memory.now.items c.args.group.now c.in-len5-up.len_at_least c.if-colon-ne58.true
+returns-then-colon-ne58 c =
+    no_colon c.args.memory.now.items c.args.group.now c.in-len5-up.len_at_least c.if-colon-ne58.true
 
 pub returns-in-Some : goal.returns-in-Some
 returns-in-Some c =
-    subst (λ (found : Option (List MemoryByte)). IfOk c.add_bytes.result (λ is_read. in_front c.args.memory.now.items found ≡ if_read is_read c.add_bytes.new.memory.items))
-    (sym (group_is c.args.group.now (Some c.in-Some.start) c.in-len5-up.len_at_least c.if-colon-ne58.false c.in-Some.ensures)) c.add_bytes.ensures
+    subst (λ (found : Option (List MemoryByte)). IfOk c.add_bytes.result
+    (λ is_read. in_front c.args.memory.now.items found ≡ if_read is_read c.add_bytes.new.memory.items))
+    (sym (group_is c.args.group.now (Some c.in-Some.start) c.in-len5-up.len_at_least c.if-colon-ne58.false
+    c.in-Some.ensures)) c.add_bytes.ensures
 
 pub returns-in-None : goal.returns-in-None
 returns-in-None c =
-    ap (in_front c.args.memory.now.items) (group_is c.args.group.now None c.in-len5-up.len_at_least c.if-colon-ne58.false c.in-None.ensures)
+    ap (in_front c.args.memory.now.items)
+    (group_is c.args.group.now None c.in-len5-up.len_at_least c.if-colon-ne58.false c.in-None.ensures)

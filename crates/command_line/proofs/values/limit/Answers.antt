@@ -9,4 +9,5 @@ returns-in-Err c =
 pub returns-then-number-le-MOST : goal.returns-then-number-le-MOST
 returns-then-number-le-MOST c =
     let plus : (slice_index c.args.text.now 0 == 43) ≡ false = cc in
-    number_read 64 1000000000000 c.args.text.now c.in-Ok.number plus c.in-Ok.ensures.value.0 c.if-number-le-MOST.true
+    number_read 64 1000000000000 c.args.text.now c.in-Ok.number plus c.in-Ok.ensures.value.0
+    c.if-number-le-MOST.true

@@ -5,9 +5,11 @@ use Rattle.convert.proofs.assembly.+putting.Given as goal
 abbrev pub invariant-put_lines-loop-rest : goal.invariant-put_lines-loop-rest
 invariant-put_lines-loop-rest l = record {
   put :
-      lines_put l.advice l.entries (file_put l.advice l.entries l.depth) l.file l.number (map (λ line. line.now) l.rest)
+      lines_put l.advice l.entries (file_put l.advice l.entries l.depth) l.file l.number
+      (map (λ line. line.now) l.rest)
       l.blocks.items (parts_of l.assembly)
-      ≡ lines_put l.advice l.entries (file_put l.advice l.entries l.depth) l.file 1 (map (λ line. line.now) l.lines) []
+      ≡ lines_put l.advice l.entries (file_put l.advice l.entries l.depth) l.file 1
+      (map (λ line. line.now) l.lines) []
       (parts_of l.fn.assembly);
   count : l.number + length l.rest ≡ 1 + length l.lines;
 }

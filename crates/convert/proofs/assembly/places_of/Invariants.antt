@@ -4,7 +4,8 @@ use Rattle.convert.proofs.assembly.places_of.Given as goal
 
 abbrev pub invariant-loop-rest : goal.invariant-loop-rest
 invariant-loop-rest l = record {
-  placed : l.places.items ++ places_from l.number (map (λ line. line.now) l.rest) ≡ places_from 1 (map (λ line. line.now) l.lines);
+  placed : l.places.items ++ places_from l.number (map (λ line. line.now) l.rest)
+      ≡ places_from 1 (map (λ line. line.now) l.lines);
   count : l.number + length l.rest ≡ 1 + length l.lines;
 }
 

@@ -6,7 +6,8 @@ use Rattle.convert.proofs.origins.lines_of_changes.Given as goal
 abbrev pub invariant-loop-rest : goal.invariant-loop-rest
 invariant-loop-rest l = record {
   marked : l.mark.line ≡ line_at l.source l.mark.place;
-  added : l.lines.items ++ lines_after l.mark.place l.source (changes_of l.rest) ≡ 1 ∷ lines_after 0 l.source (changes_of l.edits);
+  added : l.lines.items ++ lines_after l.mark.place l.source (changes_of l.rest)
+      ≡ 1 ∷ lines_after 0 l.source (changes_of l.edits);
 }
 
 abbrev pub decreases-loop-rest : goal.decreases-loop-rest

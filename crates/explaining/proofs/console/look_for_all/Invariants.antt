@@ -4,7 +4,8 @@ use Rattle.explaining.proofs.console.look_for_all.Given as goal
 -- of all files those before the ones that are left were looked for
 abbrev pub invariant-loop-rest : goal.invariant-loop-rest
 invariant-loop-rest g l =
-    LookedSoFar (length l.initial.rest) (length l.rest) (g.F.Files.files l.initial.files.inner) (g.F.Files.files l.files.inner) (g.F.Files.failures l.initial.files.inner)
+    LookedSoFar (length l.initial.rest) (length l.rest) (g.F.Files.files l.initial.files.inner)
+    (g.F.Files.files l.files.inner) (g.F.Files.failures l.initial.files.inner)
     (g.F.Files.failures l.files.inner)
 
 abbrev pub decreases-loop-rest : goal.decreases-loop-rest

@@ -7,7 +7,8 @@ returns-clause-marks c =
     let size : 4 + c.in-Some.place.count - 4 ≡ c.in-Some.place.count = omega arith in
     let added : List ℕ → List Piece =
     λ bytes. c.args.pieces.now.items ++ (record { start = c.in-Some.place.start; bytes = bytes }) ∷ [] in
-    marks_taken c.args.used.now c.mark.new.used c.args.pieces.now.items c.push.new.self.items c.read_line.new.buffer
+    marks_taken c.args.used.now c.mark.new.used c.args.pieces.now.items c.push.new.self.items
+    c.read_line.new.buffer
     c.in-Some.place c.requires c.in-Some.ensures.fits (grind (arith, common_steps)) c.mark.ensures
     (c.in_ok-push.ensures.items
     ∙ ap added
@@ -19,7 +20,8 @@ returns-clause-ok c =
     let size : 4 + c.in-Some.place.count - 4 ≡ c.in-Some.place.count = omega arith in
     let added : List ℕ → List Piece =
     λ bytes. c.args.pieces.now.items ++ (record { start = c.in-Some.place.start; bytes = bytes }) ∷ [] in
-    takes_line c.args.used.now c.args.pieces.now.items c.push.new.self.items c.args.line.now c.read_line.new.buffer
+    takes_line c.args.used.now c.args.pieces.now.items c.push.new.self.items c.args.line.now
+    c.read_line.new.buffer
     c.in-Some.place c.byte_sum.result c.requires c.in-Some.ensures.fits (grind (arith, common_steps))
     c.in-Some.ensures.read c.byte_sum.ensures (omega arith) (sym c.is_used.ensures ∙ c.if-is_used.false)
     (c.in_ok-push.ensures.items

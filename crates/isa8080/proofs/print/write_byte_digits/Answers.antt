@@ -10,5 +10,6 @@ hole_is d spec n shown is small = rw (is, shown) (ap Some (hex_byte true n small
 pub returns : goal.returns
 returns g c =
     subst (λ text. DisplaysOnOk g.W.Write.write_str_gives c.args.f.now c.write.result text c.write.new.self)
-    (hole_is c.in_radix.result c.laid_out.result c.args.byte c.in_radix.ensures c.laid_out.ensures c.ranges.byte.fits)
+    (hole_is c.in_radix.result c.laid_out.result c.args.byte c.in_radix.ensures
+    c.laid_out.ensures c.ranges.byte.fits)
     c.write.ensures.writes

@@ -3,4 +3,5 @@ use Rattle.join.proofs.MainModules.{mains}
 use Rattle.join.proofs.joined.has_one_main.Given as goal
 
 abbrev pub invariant-loop-typed : goal.invariant-loop-typed
-invariant-loop-typed l = mains l.found (drop l.typed-index l.modules) ≡ count_by is_main (map module_view l.modules)
+invariant-loop-typed l =
+    mains l.found (drop l.typed-index l.modules) ≡ count_by is_main (map module_view l.modules)

@@ -3,5 +3,6 @@ use Rattle.join.proofs.joined.is_main.Goals as goal
 
 pub returns : goal.returns
 returns c =
-    statements_stand c.args.typed.now.main.body.first_label c.args.typed.now.main.body.places.items c.args.typed.now.main.body.statements.items
+    statements_stand c.args.typed.now.main.body.first_label c.args.typed.now.main.body.places.items
+    c.args.typed.now.main.body.statements.items
     c.as_slice.result.now c.is_empty.result c.as_slice.ensures.value c.is_empty.ensures

@@ -4,13 +4,15 @@ use Rattle.link_modules.proofs.contents.add_module.Goals as goal
 pub add_contents-requires-clause-code : goal.add_contents-requires-clause-code
 add_contents-requires-clause-code g c =
     subst
-    (λ (r : Resolved). start_of r.start Code + length_of (g.L.Linkable.told c.item-item.result.now) Code ≤ 65535)
+    (λ (r : Resolved). start_of r.start Code + length_of (g.L.Linkable.told c.item-item.result.now) Code
+    ≤ 65535)
     (sym c.in_ok-resolved.ensures) c.item-item.ensures.code
 
 pub add_contents-requires-clause-data_bytes : goal.add_contents-requires-clause-data_bytes
 add_contents-requires-clause-data_bytes g c =
     subst
-    (λ (r : Resolved). start_of r.start Data + length_of (g.L.Linkable.told c.item-item.result.now) Data ≤ 65535)
+    (λ (r : Resolved). start_of r.start Data + length_of (g.L.Linkable.told c.item-item.result.now) Data
+    ≤ 65535)
     (sym c.in_ok-resolved.ensures) c.item-item.ensures.data_bytes
 
 pub returns-clause-code : goal.returns-clause-code

@@ -6,7 +6,8 @@ invariant-loop-fix l = record {
   within : AreWithin l.stretch.offset (length l.stretch.bytes.now) (drop l.fix-index l.own);
   added :
       l.fixes.items
-      ++ filter_map (fix_kept (start_of l.resolved.start l.stretch.segment) (kept_by l.resolved)) (drop l.fix-index l.own)
+      ++ filter_map (fix_kept (start_of l.resolved.start l.stretch.segment) (kept_by l.resolved))
+      (drop l.fix-index l.own)
       ≡ l.initial.fixes.items
       ++ filter_map (fix_kept (start_of l.resolved.start l.stretch.segment) (kept_by l.resolved)) l.own;
 }

@@ -5,13 +5,15 @@ use Rattle.link_modules.proofs.merging.link.Goals as goal
 pub returns-clause-merged : goal.returns-clause-merged
 returns-clause-merged c =
     subst
-    (λ (modules : List ObjectModule). IfOk c.merge.result (λ (merged : Merged). merge_of modules ≡ Ok merged.object))
+    (λ (modules : List ObjectModule). IfOk c.merge.result
+    (λ (merged : Merged). merge_of modules ≡ Ok merged.object))
     (c.as_slice.ensures.value ∙ c.in_ok-inputs.ensures) c.merge.ensures.merged
 
 pub returns-clause-starts : goal.returns-clause-starts
 returns-clause-starts c =
     subst
-    (λ (modules : List ObjectModule). IfOk c.merge.result (λ (merged : Merged). merged.starts ≡ starts_of modules))
+    (λ (modules : List ObjectModule). IfOk c.merge.result
+    (λ (merged : Merged). merged.starts ≡ starts_of modules))
     (c.as_slice.ensures.value ∙ c.in_ok-inputs.ensures) c.merge.ensures.starts
 
 pub returns-clause-refused : goal.returns-clause-refused

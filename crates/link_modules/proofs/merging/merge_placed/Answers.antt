@@ -15,7 +15,8 @@ returns-in_err-code-clause-refused g c =
     (λ (fault : LinkFault). merge_of c.args.inputs.now ≡ Err (refusal_of fault))
     (search rules) c.in_err-code.was
     (λ fault h k.
-    by_highs c.args.inputs.now c.args.names.now c.requires.known c.requires.resolved c.requires.fits c.requires.single
+    by_highs c.args.inputs.now c.args.names.now c.requires.known c.requires.resolved
+    c.requires.fits c.requires.single
     c.new-publics.result c.as_slice-placed.result.now _ (c.as_slice-placed.ensures.value ∙ c.requires.placed)
     (c.new-publics.ensures ∙ c.in_ok-owned.ensures
     ∙ ap all_publics (c.as_slice-placed.ensures.value ∙ c.requires.placed))

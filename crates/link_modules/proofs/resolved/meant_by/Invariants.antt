@@ -3,7 +3,8 @@ use Rattle.link_modules.proofs.resolved.meant_by.Given as goal
 
 abbrev pub invariant-loop-name : goal.invariant-loop-name
 invariant-loop-name g l =
-    map (option_map owned_public_view) l.meant.items ++ map (public_named l.publics) (g.L.Linkable.told l.walk).externals
+    map (option_map owned_public_view) l.meant.items
+    ++ map (public_named l.publics) (g.L.Linkable.told l.walk).externals
     ≡ map (public_named l.publics) (g.L.Linkable.told l.fn.walk).externals
 
 abbrev pub decreases-loop-name : goal.decreases-loop-name

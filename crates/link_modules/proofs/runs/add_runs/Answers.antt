@@ -4,7 +4,8 @@ use Rattle.link_modules.proofs.runs.add_runs.Goals as goal
 pub loop-rest-init : goal.loop-rest-init
 loop-rest-init c =
     let theirs :
-    HaveTheirFixes (length_of c.args.object.now c.args.segment) c.fixes-left.result.now c.runs-rest.result.now =
+    HaveTheirFixes (length_of c.args.object.now c.args.segment) c.fixes-left.result.now
+    c.runs-rest.result.now =
     runs_have_fixes c.args.object.now c.args.segment (length_of c.args.object.now c.args.segment)
     c.runs-rest.result.now c.fixes-left.result.now c.requires.valid c.runs-rest.ensures.runs
     c.fixes-left.ensures.fixes c.runs-rest.ensures.longest in

@@ -4,8 +4,10 @@ use Rattle.listings.proofs.lines.put_parts_in.Given as goal
 -- what was added, and then what the rest adds, is all
 abbrev pub invariant-loop-rest : goal.invariant-loop-rest
 invariant-loop-rest l = record {
-  made : l.lines.items ++ parts_text (name_at l.names) (parts_in l.line (map (lined (name_at l.names)) l.rest))
-      ≡ l.initial.lines.items ++ parts_text (name_at l.names) (parts_in l.line (map (lined (name_at l.names)) l.initial.rest));
+  made : l.lines.items ++ parts_text (name_at l.names)
+      (parts_in l.line (map (lined (name_at l.names)) l.rest))
+      ≡ l.initial.lines.items ++ parts_text (name_at l.names)
+      (parts_in l.line (map (lined (name_at l.names)) l.initial.rest));
   good : AllByRecursion IsGood l.rest;
 }
 

@@ -41,7 +41,8 @@ loop-number-preserved c =
 
 pub returns : goal.returns
 returns c =
-    all_views c.args.sources.now c.args.built.now c.loop-number.number c.loop-number.code_base c.loop-number.data_base
+    all_views c.args.sources.now c.args.built.now c.loop-number.number c.loop-number.code_base
+    c.loop-number.data_base
     c.loop-number.views.items c.loop-number.invariant c.plan-plan.ensures.construction
     (omega (
       arith,

@@ -7,7 +7,9 @@ abbrev pub invariant-loop-words : goal.invariant-loop-words
 invariant-loop-words l = record {
   in_range : l.processed ≤ MOST_WORDS;
   depth : length l.pending.items ≤ DEEPEST;
-  waits : Waits (lexemes_of l.fn.output.items) l.fn.processed (lexeme_of l.used) (reverse (map (λ text. map (at_use (lexeme_of l.used)) (lexemes_of text.now)) l.pending.items)) (lexemes_of l.output.items) l.processed;
+  waits : Waits (lexemes_of l.fn.output.items) l.fn.processed (lexeme_of l.used)
+      (reverse (map (λ text. map (at_use (lexeme_of l.used)) (lexemes_of text.now)) l.pending.items))
+      (lexemes_of l.output.items) l.processed;
 }
 
 -- each turn processes a word, or is done with a text

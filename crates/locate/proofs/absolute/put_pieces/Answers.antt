@@ -9,7 +9,8 @@ returns c =
     sym c.loop-piece.invariant.left
     ∙ ap (λ r. loaded r c.loop-piece.memory) (drop_all c.loop-piece.piece-index c.args.pieces.now past) in
     record {
-      bytes = all_loaded c.args.pieces.now c.args.memory.now c.loop-piece.memory c.requires.runs c.requires.in_memory all
+      bytes = all_loaded c.args.pieces.now c.args.memory.now c.loop-piece.memory c.requires.runs
+          c.requires.in_memory all
           (λ some. c.loop-piece.invariant.whole (omega arith));
       pieces = all;
     }

@@ -6,7 +6,8 @@ invariant-loop-rest l = record {
   room : LieInMemory l.base l.rest;
   put :
       with_pieces l.pieces.items (pieces_from (gain_at (plan_view l.plan)) l.base l.rest l.left)
-      ≡ with_pieces l.initial.pieces.items (pieces_from (gain_at (plan_view l.plan)) l.base l.initial.rest l.initial.left);
+      ≡ with_pieces l.initial.pieces.items
+      (pieces_from (gain_at (plan_view l.plan)) l.base l.initial.rest l.initial.left);
 }
 
 abbrev pub decreases-loop-rest : goal.decreases-loop-rest

@@ -7,46 +7,68 @@ use Rattle.names.proofs.uses.+uses.Goals as goal
 pub bind_arguments-loop-argument-preserved : goal.bind_arguments-loop-argument-preserved
 bind_arguments-loop-argument-preserved t c =
     goes_on
-    (λ (argument : Expression) bindings. bound_at c.args.scopes.now (names_in_expression (expression_tree argument)) bindings)
-    (λ arguments bindings. bound_at c.args.scopes.now (names_in_arguments (argument_trees arguments)) bindings)
-    (λ argument arguments bindings. bind_more_append c.args.scopes.now (names_in_expression (expression_tree argument)) (names_in_arguments (argument_trees arguments)) bindings)
-    c.args.arguments.now c.loop-argument.argument-index c.argument-item.result c.loop-argument.bindings.items c.bind_expression.new.bindings.items _
+    (λ (argument : Expression) bindings. bound_at c.args.scopes.now
+    (names_in_expression (expression_tree argument)) bindings)
+    (λ arguments bindings. bound_at c.args.scopes.now
+    (names_in_arguments (argument_trees arguments)) bindings)
+    (λ argument arguments bindings. bind_more_append c.args.scopes.now
+    (names_in_expression (expression_tree argument))
+    (names_in_arguments (argument_trees arguments)) bindings)
+    c.args.arguments.now c.loop-argument.argument-index c.argument-item.result c.loop-argument.bindings.items
+    c.bind_expression.new.bindings.items _
     c.loop-argument-test.true c.argument-item.is c.loop-argument.invariant c.in_ok-bind_expression.ensures
 
 pub bind_arguments-returns-in_err-bind_expression : goal.bind_arguments-returns-in_err-bind_expression
 bind_arguments-returns-in_err-bind_expression t c =
     let a = fails_within
-    (λ (argument : Expression) bindings. bound_at c.args.scopes.now (names_in_expression (expression_tree argument)) bindings)
-    (λ arguments bindings. bound_at c.args.scopes.now (names_in_arguments (argument_trees arguments)) bindings)
-    (λ argument arguments bindings. bind_more_append c.args.scopes.now (names_in_expression (expression_tree argument)) (names_in_arguments (argument_trees arguments)) bindings)
-    c.args.arguments.now c.loop-argument.argument-index c.argument-item.result c.loop-argument.bindings.items _ _
+    (λ (argument : Expression) bindings. bound_at c.args.scopes.now
+    (names_in_expression (expression_tree argument)) bindings)
+    (λ arguments bindings. bound_at c.args.scopes.now
+    (names_in_arguments (argument_trees arguments)) bindings)
+    (λ argument arguments bindings. bind_more_append c.args.scopes.now
+    (names_in_expression (expression_tree argument))
+    (names_in_arguments (argument_trees arguments)) bindings)
+    c.args.arguments.now c.loop-argument.argument-index c.argument-item.result
+    c.loop-argument.bindings.items _ _
     c.loop-argument-test.true c.argument-item.is c.loop-argument.invariant c.in_err-bind_expression.ensures in
-    hands_on c.from_residual.result c.in_err-bind_expression.field-0.0 c.bind_expression.new.bindings.items _ (search rules) a
+    hands_on c.from_residual.result c.in_err-bind_expression.field-0.0
+    c.bind_expression.new.bindings.items _ (search rules) a
 
 pub bind_arguments-returns : goal.bind_arguments-returns
 bind_arguments-returns t c =
     loop_ended
-    (λ (argument : Expression) bindings. bound_at c.args.scopes.now (names_in_expression (expression_tree argument)) bindings)
-    (λ arguments bindings. bound_at c.args.scopes.now (names_in_arguments (argument_trees arguments)) bindings)
-    (λ argument arguments bindings. bind_more_append c.args.scopes.now (names_in_expression (expression_tree argument)) (names_in_arguments (argument_trees arguments)) bindings)
-    c.args.arguments.now c.loop-argument.argument-index c.loop-argument.bindings.items _ _ c.loop-argument-test.false c.loop-argument.invariant
+    (λ (argument : Expression) bindings. bound_at c.args.scopes.now
+    (names_in_expression (expression_tree argument)) bindings)
+    (λ arguments bindings. bound_at c.args.scopes.now
+    (names_in_arguments (argument_trees arguments)) bindings)
+    (λ argument arguments bindings. bind_more_append c.args.scopes.now
+    (names_in_expression (expression_tree argument))
+    (names_in_arguments (argument_trees arguments)) bindings)
+    c.args.arguments.now c.loop-argument.argument-index c.loop-argument.bindings.items _ _
+    c.loop-argument-test.false c.loop-argument.invariant
     (bound_none c.args.scopes.now c.loop-argument.bindings.items)
 
 pub bind_reference-returns-in_err-bind_arguments : goal.bind_reference-returns-in_err-bind_arguments
 bind_reference-returns-in_err-bind_arguments t c =
-    let a = reference_fails c.args.scopes.now c.args.reference.now c.as_slice.result.now c.args.bindings.now.items c.bind_name.new.bindings.items c.as_slice.ensures.value c.in_ok-bind_name.ensures
+    let a = reference_fails c.args.scopes.now c.args.reference.now c.as_slice.result.now
+    c.args.bindings.now.items c.bind_name.new.bindings.items c.as_slice.ensures.value
+    c.in_ok-bind_name.ensures
     (fault_in c.in_err-bind_arguments.field-0.0) c.in_err-bind_arguments.ensures in
-    hands_on c.from_residual-in_err-bind_arguments.result c.in_err-bind_arguments.field-0.0 c.bind_arguments.new.bindings.items _ (search rules) a
+    hands_on c.from_residual-in_err-bind_arguments.result c.in_err-bind_arguments.field-0.0
+    c.bind_arguments.new.bindings.items _ (search rules) a
 
 pub bind_reference-returns-in-None : goal.bind_reference-returns-in-None
 bind_reference-returns-in-None t c =
-    member_bound c.args.scopes.now c.args.reference.now c.as_slice.result.now c.args.bindings.now.items c.bind_name.new.bindings.items c.as_slice.ensures.value c.in_ok-bind_name.ensures
+    member_bound c.args.scopes.now c.args.reference.now c.as_slice.result.now c.args.bindings.now.items
+    c.bind_name.new.bindings.items c.as_slice.ensures.value c.in_ok-bind_name.ensures
     c.bind_arguments.new.bindings.items None c.in_ok-bind_arguments.ensures c.in-None.is
     ∙ bound_none c.args.scopes.now c.bind_arguments.new.bindings.items
 
 pub bind_reference-returns-in-Some : goal.bind_reference-returns-in-Some
 bind_reference-returns-in-Some t c =
-    let a = member_bound c.args.scopes.now c.args.reference.now c.as_slice.result.now c.args.bindings.now.items c.bind_name.new.bindings.items c.as_slice.ensures.value c.in_ok-bind_name.ensures
+    let a = member_bound c.args.scopes.now c.args.reference.now c.as_slice.result.now
+    c.args.bindings.now.items c.bind_name.new.bindings.items c.as_slice.ensures.value
+    c.in_ok-bind_name.ensures
     c.bind_arguments.new.bindings.items _ c.in_ok-bind_arguments.ensures c.in-Some.is in
     rw a (rw (← c.deref.ensures, ← c.as_slice-in-Some.ensures.value) c.bind_arguments-in-Some.ensures)
 

@@ -3,7 +3,8 @@ use Rattle.object_commands.proofs.listing.put_piece.Goals as goal
 
 pub loop-rest-preserved : goal.loop-rest-preserved
 loop-rest-preserved c =
-    listed_next _ _ _ _ _ _ _ _ _ c.in_ok-size.size _ c.loop-rest.invariant c.in-len1-up.len_at_least c.in_ok-size.ensures.there c.in_ok-size.ensures.size
+    listed_next _ _ _ _ _ _ _ _ _ c.in_ok-size.size _ c.loop-rest.invariant c.in-len1-up.len_at_least
+    c.in_ok-size.ensures.there c.in_ok-size.ensures.size
     c.in_ok-size.ensures.lines (rest_is c.in_ok-size.size c.loop-rest.rest.now)
 
 pub returns : goal.returns

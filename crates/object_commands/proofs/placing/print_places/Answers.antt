@@ -14,10 +14,16 @@ returns-clause-refused g c = λ other.
     (c.as_slice.ensures.value ∙ c.in-Ok-printed.ensures) c.in-Err-Memory.ensures.err
 
 pub returns-in-Err-printed-clause-told : goal.returns-in-Err-printed-clause-told
-returns-in-Err-printed-clause-told g c = λ refused. tells_later _ _ _ _ _ _ _ c.in-Ok.ensures.silent c.in-Ok.ensures.count c.refuse_memory.ensures.told
+returns-in-Err-printed-clause-told g c =
+    λ refused. tells_later _ _ _ _ _ _ _ c.in-Ok.ensures.silent c.in-Ok.ensures.count
+    c.refuse_memory.ensures.told
 
 pub returns-in-Err-Fault-clause-told : goal.returns-in-Err-Fault-clause-told
-returns-in-Err-Fault-clause-told g c = λ refused. tells_later _ _ _ _ _ _ _ c.in-Ok.ensures.silent c.in-Ok.ensures.count c.refuse_output.ensures.told
+returns-in-Err-Fault-clause-told g c =
+    λ refused. tells_later _ _ _ _ _ _ _ c.in-Ok.ensures.silent c.in-Ok.ensures.count
+    c.refuse_output.ensures.told
 
 pub returns-clause-told : goal.returns-clause-told
-returns-clause-told g c = λ refused. tells_later _ _ _ _ _ _ _ c.in-Ok.ensures.silent c.in-Ok.ensures.count c.refuse_memory-in-Err-Memory.ensures.told
+returns-clause-told g c =
+    λ refused. tells_later _ _ _ _ _ _ _ c.in-Ok.ensures.silent c.in-Ok.ensures.count
+    c.refuse_memory-in-Err-Memory.ensures.told

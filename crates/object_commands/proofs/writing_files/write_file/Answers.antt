@@ -9,7 +9,9 @@ loop-sent-preserved g c =
     record {
       fits = grind (arith, common_steps);
       count = c.in_ok-sent.ensures.count ∙ c.loop-sent.invariant.count;
-      written = file_grown _ _ _ c.args.name.now bytes _ c.loop-sent.sent n (grind (arith, common_steps)) c.loop-sent.invariant.written c.in_ok-sent.ensures.ok;
+      written =
+          file_grown _ _ _ c.args.name.now bytes _ c.loop-sent.sent n (grind (arith, common_steps))
+          c.loop-sent.invariant.written c.in_ok-sent.ensures.ok;
     }
 
 pub loop-sent-init : goal.loop-sent-init
@@ -20,7 +22,8 @@ loop-sent-init g c = record {
 }
 
 pub returns-in_err-begin-clause-err : goal.returns-in_err-begin-clause-err
-returns-in_err-begin-clause-err g c = on_err c.from_residual.result _ (not_begun _ _ _ _ c.in_err-begin.ensures.err)
+returns-in_err-begin-clause-err g c =
+    on_err c.from_residual.result _ (not_begun _ _ _ _ c.in_err-begin.ensures.err)
 
 pub returns-in_err-sent-clause-err : goal.returns-in_err-sent-clause-err
 returns-in_err-sent-clause-err g c =
@@ -29,4 +32,5 @@ returns-in_err-sent-clause-err g c =
 
 pub returns-clause-ok : goal.returns-clause-ok
 returns-clause-ok g c =
-    written_whole _ _ _ _ c.loop-sent.sent c.loop-sent.invariant.fits (search rules) c.loop-sent.invariant.written
+    written_whole _ _ _ _ c.loop-sent.sent c.loop-sent.invariant.fits (search rules)
+    c.loop-sent.invariant.written

@@ -6,8 +6,10 @@ pub loop-at-init : goal.loop-at-init
 loop-at-init g c = record {
   run =
       subst
-      (λ place. RunLeft c.args.segment place c.args.bytes.now c.args.fixes.now (g.W.Write.contents c.args.out.now)
-      (g.W.Write.contents c.args.out.now) (run_text c.args.segment c.args.offset c.args.bytes.now c.args.fixes.now))
+      (λ place. RunLeft c.args.segment place c.args.bytes.now c.args.fixes.now
+      (g.W.Write.contents c.args.out.now)
+      (g.W.Write.contents c.args.out.now)
+      (run_text c.args.segment c.args.offset c.args.bytes.now c.args.fixes.now))
       (omega arith)
       (run_start c.args.segment c.args.offset c.args.bytes.now c.args.fixes.now _ c.requires.fixes);
   bytes = omega arith;
@@ -18,7 +20,8 @@ pub loop-at-preserved : goal.loop-at-preserved
 loop-at-preserved g c = record {
   run =
       next_cut c.args.segment c.args.offset c.loop-at.at c.loop-at.first c.size_of_cut-size.result
-      c.fixes_before-count.result (c.args.offset + c.loop-at.at) c.args.bytes.now c.args.fixes.now (omega arith) refl
+      c.fixes_before-count.result (c.args.offset + c.loop-at.at) c.args.bytes.now
+      c.args.fixes.now (omega arith) refl
       c.size_of_cut-size.ensures.size c.fixes_before-count.ensures.count _ _ _ c.loop-at.invariant.run _
       c.in_ok-write_content.ensures.ok;
   bytes = omega arith;
@@ -29,7 +32,8 @@ pub returns-in_err-write_content-clause-err : goal.returns-in_err-write_content-
 returns-in_err-write_content-clause-err g c =
     on_err c.from_residual.result _
     (next_cut_begun c.args.segment c.args.offset c.loop-at.at c.loop-at.first c.size_of_cut-size.result
-    c.fixes_before-count.result (c.args.offset + c.loop-at.at) c.args.bytes.now c.args.fixes.now (omega arith) refl
+    c.fixes_before-count.result (c.args.offset + c.loop-at.at) c.args.bytes.now
+    c.args.fixes.now (omega arith) refl
     c.size_of_cut-size.ensures.size c.fixes_before-count.ensures.count _ _ _ c.loop-at.invariant.run _
     c.in_err-write_content.ensures.err)
 

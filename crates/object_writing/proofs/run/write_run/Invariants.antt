@@ -5,7 +5,8 @@ use Rattle.object_writing.proofs.run.write_run.Given as goal
 abbrev pub invariant-loop-at : goal.invariant-loop-at
 invariant-loop-at g l = record {
   run : RunLeft l.segment (l.offset + l.at) (drop l.at l.bytes) (drop l.first l.fixes)
-      (g.W.Write.contents l.initial.out) (g.W.Write.contents l.out) (run_text l.segment l.offset l.bytes l.fixes);
+      (g.W.Write.contents l.initial.out) (g.W.Write.contents l.out)
+      (run_text l.segment l.offset l.bytes l.fixes);
   bytes : l.at ≤ length l.bytes;
   fixes : l.first ≤ length l.fixes;
 }

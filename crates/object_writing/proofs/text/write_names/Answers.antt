@@ -6,7 +6,8 @@ pub returns-in_err-write_external_names-clause-err : goal.returns-in_err-write_e
 returns-in_err-write_external_names-clause-err g c =
     on_err c.from_residual.result _
     (first_begun _ _ _ _
-    (subst (AppendsBeginning _ _) (ap (λ names. flat_map part_bytes (external_parts names)) c.externals.ensures)
+    (subst (AppendsBeginning _ _) (ap (λ names. flat_map part_bytes (external_parts names))
+    c.externals.ensures)
     c.in_err-write_external_names.ensures.err))
 
 pub returns-clause-ok : goal.returns-clause-ok

@@ -22,7 +22,8 @@ returns-clause-ok g c =
 pub returns-clause-err : goal.returns-clause-err
 returns-clause-err g c =
     on_err_then c.write_end.result _ _ c.write_end.ensures.err
-    (λ done. last_of_three_begun (g.W.Write.contents c.args.out.now) (g.W.Write.contents c.write_segment.new.out)
+    (λ done. last_of_three_begun (g.W.Write.contents c.args.out.now)
+    (g.W.Write.contents c.write_segment.new.out)
     (g.W.Write.contents c.write_segment-2.new.out) (g.W.Write.contents c.write_end.new.out) _ _ _
     c.in_ok-write_segment.ensures.ok c.in_ok-write_segment-2.ensures.ok
     (subst (AppendsBeginning _ _) (ap end_text c.start.ensures) done))

@@ -14,8 +14,10 @@ loop-run-init g c = record {
 pub loop-run-preserved : goal.loop-run-preserved
 loop-run-preserved g c = record {
   segment =
-      next_more c.args.object.now c.args.segment c.runs-runs.result.now c.loop-run.run-index c.offset-offset.result
-      c.loop-run.first c.fixes_before-count.result c.run-item.result c.run-item.result c.bytes-bytes.result.now
+      next_more c.args.object.now c.args.segment c.runs-runs.result.now c.loop-run.run-index
+      c.offset-offset.result
+      c.loop-run.first c.fixes_before-count.result c.run-item.result c.run-item.result
+      c.bytes-bytes.result.now
       c.fixes-fixes.result.now (omega arith) c.run-item.is c.offset-offset.ensures c.bytes-bytes.ensures
       c.fixes_before-count.ensures.count _ _ c.loop-run.invariant.segment _ c.in_ok-write_run.ensures.ok;
   fixes = omega (arith, length-drop c.loop-run.first c.fixes-fixes.result.now);
@@ -24,14 +26,16 @@ loop-run-preserved g c = record {
 pub returns-in_err-write_run-clause-err : goal.returns-in_err-write_run-clause-err
 returns-in_err-write_run-clause-err g c =
     on_err c.from_residual.result _
-    (next_begun c.args.object.now c.args.segment c.runs-runs.result.now c.loop-run.run-index c.offset-offset.result
+    (next_begun c.args.object.now c.args.segment c.runs-runs.result.now c.loop-run.run-index
+    c.offset-offset.result
     c.loop-run.first c.fixes_before-count.result c.run-item.result c.run-item.result c.bytes-bytes.result.now
     c.fixes-fixes.result.now (omega arith) c.run-item.is c.offset-offset.ensures c.bytes-bytes.ensures
     c.fixes_before-count.ensures.count _ _ c.loop-run.invariant.segment _ c.in_err-write_run.ensures.err)
 
 pub write_run-requires-clause-within : goal.write_run-requires-clause-within
 write_run-requires-clause-within g c =
-    next_within c.args.object.now c.args.segment c.runs-runs.result.now c.loop-run.run-index c.offset-offset.result
+    next_within c.args.object.now c.args.segment c.runs-runs.result.now c.loop-run.run-index
+    c.offset-offset.result
     c.loop-run.first c.fixes_before-count.result c.run-item.result c.run-item.result c.bytes-bytes.result.now
     c.fixes-fixes.result.now (omega arith) c.run-item.is c.offset-offset.ensures c.bytes-bytes.ensures
     c.fixes_before-count.ensures.count _ _ c.loop-run.invariant.segment
@@ -39,7 +43,8 @@ write_run-requires-clause-within g c =
 
 pub write_run-requires-clause-fixes : goal.write_run-requires-clause-fixes
 write_run-requires-clause-fixes g c =
-    next_fixes c.args.object.now c.args.segment c.runs-runs.result.now c.loop-run.run-index c.offset-offset.result
+    next_fixes c.args.object.now c.args.segment c.runs-runs.result.now c.loop-run.run-index
+    c.offset-offset.result
     c.loop-run.first c.fixes_before-count.result c.run-item.result c.run-item.result c.bytes-bytes.result.now
     c.fixes-fixes.result.now (omega arith) c.run-item.is c.offset-offset.ensures c.bytes-bytes.ensures
     c.fixes_before-count.ensures.count _ _ c.loop-run.invariant.segment

@@ -7,5 +7,6 @@ from_parts-requires c =
 
 pub returns : goal.returns
 returns c =
-    module_told c.args.walk.now c.in_ok-parts.parts c.from_parts.result c.requires.contents c.in_ok-parts.ensures
+    module_told c.args.walk.now c.in_ok-parts.parts c.from_parts.result c.requires.contents
+    c.in_ok-parts.ensures
     c.from_parts.ensures

@@ -6,7 +6,9 @@ pub returns-in_err-write_bytes-clause-err : goal.returns-in_err-write_bytes-clau
 returns-in_err-write_bytes-clause-err g c =
     let word = c.word.result in
     let body = c.args.body.now in
-    let whole = record_is c.args.kind c.checksum-last.result body word c.word.ensures c.checksum-last.ensures.byte c.checksum-last.ensures.adds_up in
+    let whole =
+    record_is c.args.kind c.checksum-last.result body word c.word.ensures c.checksum-last.ensures.byte
+    c.checksum-last.ensures.adds_up in
     on_err c.from_residual.result _
     (heading_begun (g.W.Write.contents c.args.out.now) (g.W.Write.contents c.write_bytes.new.out)
     (g.W.Write.contents c.write_bytes.new.out) (g.W.Write.contents c.write_bytes.new.out)
@@ -17,7 +19,9 @@ pub returns-in_err-write_bytes-2-clause-err : goal.returns-in_err-write_bytes-2-
 returns-in_err-write_bytes-2-clause-err g c =
     let word = c.word.result in
     let body = c.args.body.now in
-    let whole = record_is c.args.kind c.checksum-last.result body word c.word.ensures c.checksum-last.ensures.byte c.checksum-last.ensures.adds_up in
+    let whole =
+    record_is c.args.kind c.checksum-last.result body word c.word.ensures c.checksum-last.ensures.byte
+    c.checksum-last.ensures.adds_up in
     on_err c.from_residual-in_err-write_bytes-2.result _
     (body_begun (g.W.Write.contents c.args.out.now) (g.W.Write.contents c.write_bytes.new.out)
     (g.W.Write.contents c.write_bytes-2.new.out) (g.W.Write.contents c.write_bytes-2.new.out)
@@ -28,7 +32,9 @@ pub returns-clause-ok : goal.returns-clause-ok
 returns-clause-ok g c =
     let word = c.word.result in
     let body = c.args.body.now in
-    let whole = record_is c.args.kind c.checksum-last.result body word c.word.ensures c.checksum-last.ensures.byte c.checksum-last.ensures.adds_up in
+    let whole =
+    record_is c.args.kind c.checksum-last.result body word c.word.ensures c.checksum-last.ensures.byte
+    c.checksum-last.ensures.adds_up in
     on_ok_then c.write_bytes-3.result _ _ c.write_bytes-3.ensures.ok
     (record_written (g.W.Write.contents c.args.out.now) (g.W.Write.contents c.write_bytes.new.out)
     (g.W.Write.contents c.write_bytes-2.new.out) (g.W.Write.contents c.write_bytes-3.new.out)
@@ -39,7 +45,9 @@ pub returns-clause-err : goal.returns-clause-err
 returns-clause-err g c =
     let word = c.word.result in
     let body = c.args.body.now in
-    let whole = record_is c.args.kind c.checksum-last.result body word c.word.ensures c.checksum-last.ensures.byte c.checksum-last.ensures.adds_up in
+    let whole =
+    record_is c.args.kind c.checksum-last.result body word c.word.ensures c.checksum-last.ensures.byte
+    c.checksum-last.ensures.adds_up in
     on_err_then c.write_bytes-3.result _ _ c.write_bytes-3.ensures.err
     (last_begun (g.W.Write.contents c.args.out.now) (g.W.Write.contents c.write_bytes.new.out)
     (g.W.Write.contents c.write_bytes-2.new.out) (g.W.Write.contents c.write_bytes-3.new.out)

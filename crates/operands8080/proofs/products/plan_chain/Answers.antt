@@ -5,7 +5,8 @@ use Rattle.operands8080.proofs.products.plan_chain.Goals as goal
 
 pub loop-index-preserved : goal.loop-index-preserved
 loop-index-preserved c = record {
-  added = bit_added c.loop-index.steps.list.items c.plan_bit.new.steps.list.items _ c.args.number c.loop-index.index
+  added = bit_added c.loop-index.steps.list.items c.plan_bit.new.steps.list.items _
+      c.args.number c.loop-index.index
       c.args.twice c.args.once_more c.loop-index.is_below c.has_bit-is_set.result c.loop-index.invariant.added
       c.in_ok-plan_bit.ensures.added
       (c.has_bit-is_set.ensures ∙ ap (has_bit c.args.number) c.saturating_sub.ensures)
@@ -15,7 +16,8 @@ loop-index-preserved c = record {
 
 pub returns : goal.returns
 returns c = record {
-  added = chain_ended c.loop-index.steps.list.items _ c.args.number c.loop-index.index c.args.twice c.args.once_more
+  added = chain_ended c.loop-index.steps.list.items _ c.args.number c.loop-index.index
+      c.args.twice c.args.once_more
       c.loop-index.is_below c.loop-index.invariant.added (omega arith);
   labels = c.loop-index.invariant.labels;
 }

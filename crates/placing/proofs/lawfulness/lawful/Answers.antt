@@ -4,5 +4,6 @@ use Rattle.placing.proofs.lawfulness.lawful.Goals as goal
 
 pub returns : goal.returns
 returns c =
-    decides (map module_view (modules_of c.args.joined.now)) (placement_view c.args.placement.now) c.is_lawful.result
+    decides (map module_view (modules_of c.args.joined.now))
+    (placement_view c.args.placement.now) c.is_lawful.result
     c.is_lawful.ensures

@@ -10,7 +10,9 @@ returns-in-Some-misplaced_in c =
     (name_of_misplaced c.args.ranges.code c.args.ranges.stack
     (placed_objects (map module_view c.args.modules.now) (map module_placement_view c.args.placements.now)))
     c.loop-typed.invariant.0 c.misplaced_in.result c.in-Some-misplaced_in.name c.typed-item.result
-    c.in-Some.placed.now (omega arith) c.typed-item.is (slice_get_read c.args.placements.now (length c.args.placements.now) c.loop-typed.number c.in-Some.placed.now
+    c.in-Some.placed.now (omega arith) c.typed-item.is
+    (slice_get_read c.args.placements.now (length c.args.placements.now) c.loop-typed.number
+    c.in-Some.placed.now
     refl (c.in-Some.ensures.lookup.3).0 c.in-Some.ensures.lookup.1) c.misplaced_in.ensures
     c.in-Some-misplaced_in.is
 
@@ -21,7 +23,9 @@ loop-typed-preserved c = (
       (name_of_misplaced c.args.ranges.code c.args.ranges.stack
       (placed_objects (map module_view c.args.modules.now) (map module_placement_view c.args.placements.now)))
       c.loop-typed.invariant.0 c.misplaced_in.result c.typed-item.result
-      c.in-Some.placed.now (omega arith) c.typed-item.is (slice_get_read c.args.placements.now (length c.args.placements.now) c.loop-typed.number c.in-Some.placed.now
+      c.in-Some.placed.now (omega arith) c.typed-item.is
+      (slice_get_read c.args.placements.now (length c.args.placements.now) c.loop-typed.number
+      c.in-Some.placed.now
       refl (c.in-Some.ensures.lookup.3).0 c.in-Some.ensures.lookup.1) c.misplaced_in.ensures
       c.in_default-misplaced_in.is,
   omega arith,

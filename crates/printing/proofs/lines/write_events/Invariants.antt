@@ -4,7 +4,8 @@ use Rattle.printing.proofs.lines.write_events.Given as goal
 abbrev pub invariant-loop-at : goal.invariant-loop-at
 invariant-loop-at g l = record {
   fits : l.at ≤ length l.events;
-  written : Appends (g.W.Write.contents l.initial.out) (g.W.Write.contents l.out) (flat_map (shown_line l.quiet) (take l.at l.events));
+  written : Appends (g.W.Write.contents l.initial.out) (g.W.Write.contents l.out)
+      (flat_map (shown_line l.quiet) (take l.at l.events));
 }
 
 abbrev pub decreases-loop-at : goal.decreases-loop-at

@@ -6,5 +6,6 @@ emit_parts-requires c =
     record {
       fits =
           fits_move c.args.code.now c.two_labels.new.code c.in_ok-next.next c.in_ok-next.whole
-          c.in_ok-next.ensures.valid c.in_ok-next.ensures.first c.in_ok-next.ensures.second c.in_ok-next.ensures.more;
+          c.in_ok-next.ensures.valid c.in_ok-next.ensures.first c.in_ok-next.ensures.second
+          c.in_ok-next.ensures.more;
     }

@@ -4,7 +4,8 @@ use Rattle.stack_compiler.proofs.procedures.emit_modules.Given as goal
 abbrev pub invariant-loop-number_of_module : goal.invariant-loop-number_of_module
 invariant-loop-number_of_module l =
     l.code.items
-    ++ modules_code_from (map module_view l.program.modules.now) (placement_view l.program.placement.now) l.number_of_module
+    ++ modules_code_from (map module_view l.program.modules.now)
+    (placement_view l.program.placement.now) l.number_of_module
     (map module_view (drop l.number_of_module l.modules))
     ≡ l.fn.code.items
     ++ modules_code_from (map module_view l.program.modules.now) (placement_view l.program.placement.now) 0

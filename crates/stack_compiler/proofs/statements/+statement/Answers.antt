@@ -6,10 +6,12 @@ use Rattle.stack_compiler.proofs.statements.+statement.Goals as goal
 
 pub cases_of-returns : goal.cases_of-returns
 cases_of-returns t c =
-    cases_made (site_view c.args.site.now) c.args.statements.now c.in_ok-cases.cases.items c.open_cases.new.cases.items
+    cases_made (site_view c.args.site.now) c.args.statements.now c.in_ok-cases.cases.items
+    c.open_cases.new.cases.items
     c.close_cases.new.code.items c.open_cases.new.ends.items c.in_ok-cases.ensures
     (c.in_ok-open_cases.ensures
-    ∙ ap (λ ends. opened (site_view c.args.site.now) 0 (opening c.in_ok-cases.cases.items ends) (statements_view c.args.statements.now)) c.new-ends.ensures.items)
+    ∙ ap (λ ends. opened (site_view c.args.site.now) 0 (opening c.in_ok-cases.cases.items ends)
+    (statements_view c.args.statements.now)) c.new-ends.ensures.items)
     (c.close_cases.ensures ∙ ap (λ ends. closed ends c.open_cases.new.cases.items) c.as_slice.ensures.value)
 
 pub emit_iterate-returns : goal.emit_iterate-returns
@@ -21,27 +23,35 @@ emit_iterate-returns t c =
     iterate_made site head (list_view c.args.turns.now.body)
     c.args.code.now.items c.emit_first.new.code.items c.emit.new.code.items c.emit_list.new.code.items
     c.emit_stepping.new.code.items c.emit-2.new.code.items (passing c.emit-2.new.code.items start) tested
-    c.emit_test.new.code.items c.close_jump_unless.new.code.items start c.next_place-leave.result (length tested - (start + 1))
-    c.in_ok-emit_first.ensures c.next_place-start.ensures c.in_ok-emit.ensures c.in_ok-emit_list.ensures c.in_ok-emit_stepping.ensures
+    c.emit_test.new.code.items c.close_jump_unless.new.code.items start c.next_place-leave.result
+    (length tested - (start + 1))
+    c.in_ok-emit_first.ensures c.next_place-start.ensures c.in_ok-emit.ensures c.in_ok-emit_list.ensures
+    c.in_ok-emit_stepping.ensures
     c.next_place-leave.ensures c.in_ok-emit-2.ensures refl refl refl
     c.in_ok-emit_test.ensures c.close_jump_unless.ensures
 
 pub emit_statements-loop-statement-preserved : goal.emit_statements-loop-statement-preserved
 emit_statements-loop-statement-preserved t c =
-    statement_emitted (site_view c.args.site.now) c.loop-statement.code.items _ c.args.statements.now c.loop-statement.statement-index c.loop-statement.invariant
-    c.statement-item.result c.emit_statement.new.code.items (omega arith) c.statement-item.is c.in_ok-emit_statement.ensures
+    statement_emitted (site_view c.args.site.now) c.loop-statement.code.items _ c.args.statements.now
+    c.loop-statement.statement-index c.loop-statement.invariant
+    c.statement-item.result c.emit_statement.new.code.items (omega arith) c.statement-item.is
+    c.in_ok-emit_statement.ensures
 
 pub emit_statements-returns : goal.emit_statements-returns
 emit_statements-returns t c =
-    statements_emitted (site_view c.args.site.now) c.loop-statement.code.items _ c.args.statements.now c.loop-statement.statement-index c.loop-statement.invariant (omega arith)
+    statements_emitted (site_view c.args.site.now) c.loop-statement.code.items _ c.args.statements.now
+    c.loop-statement.statement-index c.loop-statement.invariant (omega arith)
 
 pub emit_while-returns : goal.emit_while-returns
 emit_while-returns t c =
     on_ok_weaker c.emit_loop_back.result
-    (while_made c.args.code.now.items c.emit.new.code.items c.emit_list.new.code.items c.close_jump.new.code.items c.emit_expression.new.code.items
+    (while_made c.args.code.now.items c.emit.new.code.items c.emit_list.new.code.items
+    c.close_jump.new.code.items c.emit_expression.new.code.items
     c.emit_loop_back.new.code.items (list_code (site_view c.args.site.now) (list_view c.args.turns.now.body))
-    (expression_code (site_view c.args.site.now) (expression_view c.args.turns.now.condition)) c.next_place-start.result (length c.emit_expression.new.code.items - (c.next_place-start.result + 1))
-    c.next_place-start.ensures c.in_ok-emit.ensures c.in_ok-emit_list.ensures c.close_jump.ensures c.in_ok-emit_expression.ensures refl)
+    (expression_code (site_view c.args.site.now) (expression_view c.args.turns.now.condition))
+    c.next_place-start.result (length c.emit_expression.new.code.items - (c.next_place-start.result + 1))
+    c.next_place-start.ensures c.in_ok-emit.ensures c.in_ok-emit_list.ensures c.close_jump.ensures
+    c.in_ok-emit_expression.ensures refl)
     c.emit_loop_back.ensures
 
 pub emit_if-returns-in_ok-emit_statement-in-Some : goal.emit_if-returns-in_ok-emit_statement-in-Some
@@ -49,31 +59,45 @@ emit_if-returns-in_ok-emit_statement-in-Some t c =
     let site = site_view c.args.site.now in
     let condition = expression_code site (expression_view c.args.branch.now.condition) in
     let body = statement_code site (statement_view c.args.branch.now.body) in
-    if_with c.args.code.now.items c.emit_expression.new.code.items c.emit.new.code.items c.emit_statement.new.code.items c.emit-in-Some.new.code.items
-    c.close_jump_unless.new.code.items c.emit_statement-in-Some.new.code.items c.close_jump.new.code.items condition body
-    (statement_code site (statement_view c.in-Some.otherwise)) c.next_place-choice.result c.next_place-end.result
-    c.in_ok-emit_expression.ensures c.next_place-choice.ensures c.in_ok-emit.ensures c.in_ok-emit_statement.ensures c.next_place-end.ensures
-    c.in_ok-emit-in-Some.ensures c.close_jump_unless.ensures c.in_ok-emit_statement-in-Some.ensures c.close_jump.ensures
-    ∙ ap (λ (one : Option TypedStatement). c.args.code.now.items ++ (condition ++ choice_code body (else_code site (else_view one)))) (sym c.in-Some.is)
+    if_with c.args.code.now.items c.emit_expression.new.code.items c.emit.new.code.items
+    c.emit_statement.new.code.items c.emit-in-Some.new.code.items
+    c.close_jump_unless.new.code.items c.emit_statement-in-Some.new.code.items
+    c.close_jump.new.code.items condition body
+    (statement_code site (statement_view c.in-Some.otherwise)) c.next_place-choice.result
+    c.next_place-end.result
+    c.in_ok-emit_expression.ensures c.next_place-choice.ensures c.in_ok-emit.ensures
+    c.in_ok-emit_statement.ensures c.next_place-end.ensures
+    c.in_ok-emit-in-Some.ensures c.close_jump_unless.ensures c.in_ok-emit_statement-in-Some.ensures
+    c.close_jump.ensures
+    ∙ ap (λ (one : Option TypedStatement). c.args.code.now.items
+    ++ (condition ++ choice_code body (else_code site (else_view one)))) (sym c.in-Some.is)
 
 pub emit_if-returns-in-None : goal.emit_if-returns-in-None
 emit_if-returns-in-None t c =
     let site = site_view c.args.site.now in
     let condition = expression_code site (expression_view c.args.branch.now.condition) in
     let body = statement_code site (statement_view c.args.branch.now.body) in
-    if_without c.args.code.now.items c.emit_expression.new.code.items c.emit.new.code.items c.emit_statement.new.code.items
+    if_without c.args.code.now.items c.emit_expression.new.code.items c.emit.new.code.items
+    c.emit_statement.new.code.items
     c.close_jump_unless-in-None.new.code.items condition body c.next_place-choice.result
-    c.in_ok-emit_expression.ensures c.next_place-choice.ensures c.in_ok-emit.ensures c.in_ok-emit_statement.ensures c.close_jump_unless-in-None.ensures
-    ∙ ap (λ (one : Option TypedStatement). c.args.code.now.items ++ (condition ++ choice_code body (else_code site (else_view one)))) (sym c.in-None.is)
+    c.in_ok-emit_expression.ensures c.next_place-choice.ensures c.in_ok-emit.ensures
+    c.in_ok-emit_statement.ensures c.close_jump_unless-in-None.ensures
+    ∙ ap (λ (one : Option TypedStatement). c.args.code.now.items
+    ++ (condition ++ choice_code body (else_code site (else_view one)))) (sym c.in-None.is)
 
 pub open_cases-loop-entry-preserved : goal.open_cases-loop-entry-preserved
 open_cases-loop-entry-preserved t c =
-    case_opened (site_view c.args.site.now) c.loop-entry.cases.items c.loop-entry.ends.items _ c.args.statements.now c.loop-entry.entry c.loop-entry.invariant
-    c.index-statements-entry.result c.close_jump.new.code.items c.emit_statement.new.code.items c.emit.new.code.items c.push.new.self.items
-    (omega arith) c.index-statements-entry.is c.close_jump.ensures c.in_ok-emit_statement.ensures c.in_ok-emit.ensures
-    (c.in_ok-push.ensures.items ∙ ap (λ count. c.loop-entry.ends.items ++ (count ∷ [])) (c.len.ensures ∙ c.emit.new.code.ok.0))
+    case_opened (site_view c.args.site.now) c.loop-entry.cases.items c.loop-entry.ends.items _
+    c.args.statements.now c.loop-entry.entry c.loop-entry.invariant
+    c.index-statements-entry.result c.close_jump.new.code.items c.emit_statement.new.code.items
+    c.emit.new.code.items c.push.new.self.items
+    (omega arith) c.index-statements-entry.is c.close_jump.ensures c.in_ok-emit_statement.ensures
+    c.in_ok-emit.ensures
+    (c.in_ok-push.ensures.items ∙ ap (λ count. c.loop-entry.ends.items ++ (count ∷ []))
+    (c.len.ensures ∙ c.emit.new.code.ok.0))
 
 pub open_cases-returns : goal.open_cases-returns
 open_cases-returns t c =
-    cases_opened (site_view c.args.site.now) c.loop-entry.cases.items c.loop-entry.ends.items _ c.args.statements.now c.loop-entry.entry c.loop-entry.invariant
+    cases_opened (site_view c.args.site.now) c.loop-entry.cases.items c.loop-entry.ends.items _
+    c.args.statements.now c.loop-entry.entry c.loop-entry.invariant
     c.close_jump-2.new.code.items (omega arith) (omega arith) c.close_jump-2.ensures

@@ -8,5 +8,6 @@ invariant-emit_statements-loop-statement l =
 
 abbrev pub invariant-open_cases-loop-entry : goal.invariant-open_cases-loop-entry
 invariant-open_cases-loop-entry l =
-    opened (site_view l.site) l.entry (opening l.cases.items l.ends.items) (statements_view (drop l.entry l.statements))
+    opened (site_view l.site) l.entry (opening l.cases.items l.ends.items)
+    (statements_view (drop l.entry l.statements))
     ≡ opened (site_view l.site) 0 (opening l.fn.cases.items l.fn.ends.items) (statements_view l.statements)

@@ -4,26 +4,36 @@ use Rattle.tool.proofs.building.build_program.Goals as goal
 
 pub place_program-requires-clause-lengths : goal.place_program-requires-clause-lengths
 place_program-requires-clause-lengths c =
-    subst (λ (lengths : List ℕ). length lengths ≡ length c.args.parts.modules.items) (sym c.as_slice-2.ensures.value)
-    (count_fits (map module_view c.args.parts.modules.items) c.args.parts.objects.items c.args.parts.lengths.items c.requires.made c.requires.lengths
+    subst (λ (lengths : List ℕ). length lengths ≡ length c.args.parts.modules.items)
+    (sym c.as_slice-2.ensures.value)
+    (count_fits (map module_view c.args.parts.modules.items) c.args.parts.objects.items
+    c.args.parts.lengths.items c.requires.made c.requires.lengths
     ∙ length-map c.args.parts.modules.items module_view)
 
 pub place_program-requires-clause-storage : goal.place_program-requires-clause-storage
 place_program-requires-clause-storage c =
     subst (HaveStorage (map module_view c.args.parts.modules.items)) (sym c.as_slice-2.ensures.value)
-    (have_storage (map module_view c.args.parts.modules.items) c.args.parts.objects.items c.args.parts.lengths.items c.requires.made c.requires.lengths)
+    (have_storage (map module_view c.args.parts.modules.items) c.args.parts.objects.items
+    c.args.parts.lengths.items c.requires.made c.requires.lengths)
 
 pub image_of-requires : goal.image_of-requires
 image_of-requires c = record {
   have_image = subst (HaveImage (plan_view c.args.plan.now)) (sym c.as_slice-3.ensures.value)
-      (placed_has_image c.args.plan.now (map module_view c.args.parts.modules.items) c.args.parts.objects.items c.args.parts.lengths.items c.in-Ok.placed c.requires.made c.requires.lengths
-      (subst (λ (lengths : List ℕ). IsPlacedBy (map module_view c.args.parts.modules.items) lengths c.args.plan.now c.in-Ok.placed) c.as_slice-2.ensures.value c.in-Ok.ensures.placed));
+      (placed_has_image c.args.plan.now (map module_view c.args.parts.modules.items)
+      c.args.parts.objects.items c.args.parts.lengths.items c.in-Ok.placed
+      c.requires.made c.requires.lengths
+      (subst (λ (lengths : List ℕ). IsPlacedBy (map module_view c.args.parts.modules.items) lengths
+      c.args.plan.now c.in-Ok.placed) c.as_slice-2.ensures.value c.in-Ok.ensures.placed));
 }
 
 pub new-requires : goal.new-requires
 new-requires c =
-    is_construction c.args.plan.now (map module_view c.args.parts.modules.items) c.args.parts.lengths.items c.in-Ok.placed c.args.parts.objects.items c.in_ok-image.image
-    (subst (λ (lengths : List ℕ). IsPlacedBy (map module_view c.args.parts.modules.items) lengths c.args.plan.now c.in-Ok.placed) c.as_slice-2.ensures.value c.in-Ok.ensures.placed)
+    is_construction c.args.plan.now (map module_view c.args.parts.modules.items) c.args.parts.lengths.items
+    c.in-Ok.placed c.args.parts.objects.items c.in_ok-image.image
+    (subst (λ (lengths : List ℕ). IsPlacedBy (map module_view c.args.parts.modules.items) lengths
+    c.args.plan.now c.in-Ok.placed) c.as_slice-2.ensures.value c.in-Ok.ensures.placed)
     c.requires.lengths c.requires.made
-    (subst (λ (objects : List ObjectModule). IsImageOfObjects c.args.plan.now objects c.in_ok-image.image) c.as_slice-3.ensures.value c.in_ok-image.ensures.linked)
-    (subst (λ (objects : List ObjectModule). GivesImageOfObjects c.args.plan.now objects c.in_ok-image.image) c.as_slice-3.ensures.value c.in_ok-image.ensures.gives)
+    (subst (λ (objects : List ObjectModule). IsImageOfObjects c.args.plan.now objects c.in_ok-image.image)
+    c.as_slice-3.ensures.value c.in_ok-image.ensures.linked)
+    (subst (λ (objects : List ObjectModule). GivesImageOfObjects c.args.plan.now objects c.in_ok-image.image)
+    c.as_slice-3.ensures.value c.in_ok-image.ensures.gives)

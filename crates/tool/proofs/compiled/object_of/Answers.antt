@@ -5,7 +5,8 @@ use Rattle.tool.proofs.compiled.object_of.Goals as goal
 pub returns-in-Ok-clause-made : goal.returns-in-Ok-clause-made
 returns-in-Ok-clause-made c =
     made_of (module_view c.args.source.now.typed) c.in_ok-tree.tree c.in-Ok.object
-    (sound_tree_code (module_view c.args.source.now.typed) (layout_view c.args.source.now.storage) c.in_ok-tree.tree c.requires.sound c.requires.source
+    (sound_tree_code (module_view c.args.source.now.typed) (layout_view c.args.source.now.storage)
+    c.in_ok-tree.tree c.requires.sound c.requires.source
     c.requires.storage c.in_ok-tree.ensures.lowered)
     c.in-Ok.ensures.sound
 
@@ -13,6 +14,7 @@ pub returns-in-Err-clause-refused : goal.returns-in-Err-clause-refused
 returns-in-Err-clause-refused c =
     rw c.of_code.ensures
     (generation_refused c.args.file (module_view c.args.source.now.typed) c.in_ok-tree.tree c.in-Err.failure
-    (sound_tree_code (module_view c.args.source.now.typed) (layout_view c.args.source.now.storage) c.in_ok-tree.tree c.requires.sound c.requires.source
+    (sound_tree_code (module_view c.args.source.now.typed) (layout_view c.args.source.now.storage)
+    c.in_ok-tree.tree c.requires.sound c.requires.source
     c.requires.storage c.in_ok-tree.ensures.lowered)
     c.in-Err.ensures.not_made)

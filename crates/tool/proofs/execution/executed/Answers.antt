@@ -7,6 +7,10 @@ returns-clause-faithful g c =
     let script = g.P.Ports.script c.args.ports in
     let events = g.P.Ports.events c.args.ports in
     let failures = g.P.Ports.failures c.args.ports in
-    let run : IsRun c.args.limit (started c.args.built.now.image c.args.memory script events failures) c.run-end.result c.run-end.new.self = search rules in
-    let halt : c.run-end.result ≡ Halted → IsOnlyHalt (started c.args.built.now.image c.args.memory script events failures) c.run-end.new.self = search rules in
-    λ never. is_faithful c.args.built.now.image c.args.memory script events failures _ (c.machine_of-machine.ensures.agrees never) c.args.limit c.run-end.result c.run-end.new.self run halt
+    let run : IsRun c.args.limit (started c.args.built.now.image c.args.memory script events failures)
+    c.run-end.result c.run-end.new.self = search rules in
+    let halt : c.run-end.result ≡ Halted
+    → IsOnlyHalt (started c.args.built.now.image c.args.memory script events failures)
+    c.run-end.new.self = search rules in
+    λ never. is_faithful c.args.built.now.image c.args.memory script events failures _
+    (c.machine_of-machine.ensures.agrees never) c.args.limit c.run-end.result c.run-end.new.self run halt

@@ -20,7 +20,8 @@ returns c = record {
     main = c.in_ok-tree-2.ensures.main;
     main_kind = c.in_ok-tree-2.ensures.main_heading.kind ∙ c.in_ok-tree.ensures.main_kind;
     main_frame = ap vec_items c.in_ok-tree-2.ensures.main_heading.frame ∙ c.in_ok-tree.ensures.main_frame;
-    main_frame_bytes = c.in_ok-tree-2.ensures.main_heading.frame_bytes ∙ c.in_ok-tree.ensures.main_frame_bytes;
+    main_frame_bytes =
+        c.in_ok-tree-2.ensures.main_heading.frame_bytes ∙ c.in_ok-tree.ensures.main_frame_bytes;
     main_result = c.in_ok-tree-2.ensures.main_heading.result ∙ c.in_ok-tree.ensures.main_result;
     traits = c.in_ok-tree-2.ensures.leads.sound.keeps;
     order = c.in_ok-tree-2.ensures.leads.sound.rises;

@@ -20,9 +20,11 @@ add_main-requires-clause-jumps c = c.requires.jumps.main
 
 pub returns : goal.returns
 returns c =
-    subst (λ (tree : TreeModule). BodiesAreAdded (module_view c.args.typed.now) (layout_view c.args.storage.now) tree
+    subst (λ (tree : TreeModule). BodiesAreAdded (module_view c.args.typed.now)
+    (layout_view c.args.storage.now) tree
     c.finish.result) c.new-lowering.ensures
-    (subst (BodiesAreAdded (module_view c.args.typed.now) (layout_view c.args.storage.now) c.new-lowering.result.tree)
+    (subst (BodiesAreAdded (module_view c.args.typed.now) (layout_view c.args.storage.now)
+    c.new-lowering.result.tree)
     (sym c.finish.ensures)
     (bodies_added (module_view c.args.typed.now) (layout_view c.args.storage.now) c.new-lowering.result
     c.add_bodies.new.self c.add_main.new.self c.as_slice.result.now

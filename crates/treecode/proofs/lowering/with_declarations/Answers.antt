@@ -5,14 +5,17 @@ use Rattle.treecode.proofs.lowering.with_declarations.Goals as goal
 
 pub returns-clause-externals : goal.returns-clause-externals
 returns-clause-externals c =
-    ap (λ (all : Gathered). all.names) c.in_ok-externals.ensures ∙ names_gathered (module_view c.args.typed.now)
+    ap (λ (all : Gathered). all.names) c.in_ok-externals.ensures
+    ∙ names_gathered (module_view c.args.typed.now)
 
 pub returns-clause-homes : goal.returns-clause-homes
 returns-clause-homes c =
     homes_of_module (module_view c.args.typed.now) (layout_view c.args.storage.now)
-    (gathered_view c.in_ok-externals.externals) (placed_in c.add_headings.new.tree) (placed_in c.add_homes.new.tree)
+    (gathered_view c.in_ok-externals.externals) (placed_in c.add_headings.new.tree)
+    (placed_in c.add_homes.new.tree)
     c.in_ok-externals.ensures
-    (ap (λ (tree : TreeModule). tree.homes.items) c.in_ok-add_headings.ensures.kept ∙ c.empty_module-tree.ensures.homes)
+    (ap (λ (tree : TreeModule). tree.homes.items) c.in_ok-add_headings.ensures.kept
+    ∙ c.empty_module-tree.ensures.homes)
     (c.in_ok-add_headings.ensures.headings
     ∙ ap (λ (procedures : List TreeProcedure). map heading_of procedures
     ++ headings_in c.in_ok-externals.externals.procedures.entries.items 0
@@ -24,9 +27,11 @@ returns-clause-homes c =
 pub returns-clause-headings : goal.returns-clause-headings
 returns-clause-headings c =
     headings_of_module (module_view c.args.typed.now) (layout_view c.args.storage.now)
-    (gathered_view c.in_ok-externals.externals) (placed_in c.add_headings.new.tree) (placed_in c.add_homes.new.tree)
+    (gathered_view c.in_ok-externals.externals) (placed_in c.add_headings.new.tree)
+    (placed_in c.add_homes.new.tree)
     c.in_ok-externals.ensures
-    (ap (λ (tree : TreeModule). tree.homes.items) c.in_ok-add_headings.ensures.kept ∙ c.empty_module-tree.ensures.homes)
+    (ap (λ (tree : TreeModule). tree.homes.items) c.in_ok-add_headings.ensures.kept
+    ∙ c.empty_module-tree.ensures.homes)
     (c.in_ok-add_headings.ensures.headings
     ∙ ap (λ (procedures : List TreeProcedure). map heading_of procedures
     ++ headings_in c.in_ok-externals.externals.procedures.entries.items 0

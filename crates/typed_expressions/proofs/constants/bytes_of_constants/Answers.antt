@@ -6,5 +6,7 @@ loop-constant-preserved c =
     let before = c.loop-constant.bytes.items in
     rw c.in_ok-push_constant.ensures
     (append_assoc before (bytes_of_constant (constant_tree c.constant-item.result)) _
-    ∙ sym (drop_item (λ (items : List Constant). before ++ bytes_of_constants (map constant_tree items)) c.args.list.now c.loop-constant.constant-index c.constant-item.result c.loop-constant-test.true c.constant-item.is)
+    ∙ sym (drop_item (λ (items : List Constant). before ++ bytes_of_constants (map constant_tree items))
+    c.args.list.now c.loop-constant.constant-index c.constant-item.result
+    c.loop-constant-test.true c.constant-item.is)
     ∙ c.loop-constant.invariant)

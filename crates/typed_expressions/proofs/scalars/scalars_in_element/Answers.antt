@@ -7,5 +7,7 @@ loop-position-init c = omega (arith, ap length (element_runs (type_view c.args.o
 
 pub loop-position-preserved : goal.loop-position-preserved
 loop-position-preserved c =
-    let is = run_length (type_view c.args.object_type.now) c.loop-position.position c.in_ok-run_at.field-0 (search rules) in
+    let is =
+    run_length (type_view c.args.object_type.now) c.loop-position.position
+    c.in_ok-run_at.field-0 (search rules) in
     omega arith

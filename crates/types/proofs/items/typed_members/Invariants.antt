@@ -4,4 +4,5 @@ use Rattle.types.proofs.checks.typed_members.Given as goal
 
 -- the members that are left decide
 abbrev pub invariant-loop-member : goal.invariant-loop-member
-invariant-loop-member l = checks.typed_members l.typed (drop l.member-index l.members) ≡ checks.typed_members [] l.members
+invariant-loop-member l =
+    checks.typed_members l.typed (drop l.member-index l.members) ≡ checks.typed_members [] l.members

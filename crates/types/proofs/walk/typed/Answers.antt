@@ -6,11 +6,14 @@ use Rattle.types.proofs.walk.typed.Goals as goal
 pub returns-in_err-body-clause-typing : goal.returns-in_err-body-clause-typing
 returns-in_err-body-clause-typing c =
     answers_fault _ _ c.in_err-body.field-0.0 _ (search rules)
-    (typing_fails (module_tree c.args.parsed.now) (progress_view c.new-checker.result) _ c.new-checker.ensures c.in_err-body.ensures)
+    (typing_fails (module_tree c.args.parsed.now) (progress_view c.new-checker.result) _ c.new-checker.ensures
+    c.in_err-body.ensures)
 
 pub returns-clause-typing : goal.returns-clause-typing
 returns-clause-typing c =
-    typing_given (module_tree c.args.parsed.now) (progress_view c.new-checker.result) (list_view c.in_ok-body.body) (progress_view c.module.new.self) c.new-checker.ensures c.in_ok-body.ensures
+    typing_given (module_tree c.args.parsed.now) (progress_view c.new-checker.result)
+    (list_view c.in_ok-body.body) (progress_view c.module.new.self) c.new-checker.ensures
+    c.in_ok-body.ensures
     ∙ ap Ok (sym c.into_typed.ensures)
 
 pub returns-clause-numbers : goal.returns-clause-numbers

@@ -5,5 +5,6 @@ use Rattle.words.proofs.names.has_characters.Given as goal
 abbrev pub invariant-loop-b : goal.invariant-loop-b
 invariant-loop-b l = record {
   in_range : l.place ≤ length l.characters;
-  agree : bytes_eq (drop l.place l.characters) (name_of (drop l.b-index l.text)) ≡ bytes_eq l.characters (name_of l.text);
+  agree : bytes_eq (drop l.place l.characters) (name_of (drop l.b-index l.text))
+      ≡ bytes_eq l.characters (name_of l.text);
 }

@@ -5,6 +5,8 @@ use Rattle.words.proofs.numbers.number_in.Given as goal
 abbrev pub invariant-loop-b : goal.invariant-loop-b
 invariant-loop-b l = record {
   in_range : l.value ≤ GREATEST_NUMBER;
-  digits : list_all (λ digit. nat_lt (digit_value digit) l.base) (name_of (drop l.b-index l.text)) ≡ list_all (λ digit. nat_lt (digit_value digit) l.base) (name_of l.text);
-  value : fold (λ value digit. value * l.base + digit_value digit) l.value (name_of (drop l.b-index l.text)) ≡ value_of l.base (name_of l.text);
+  digits : list_all (λ digit. nat_lt (digit_value digit) l.base) (name_of (drop l.b-index l.text))
+      ≡ list_all (λ digit. nat_lt (digit_value digit) l.base) (name_of l.text);
+  value : fold (λ value digit. value * l.base + digit_value digit) l.value (name_of (drop l.b-index l.text))
+      ≡ value_of l.base (name_of l.text);
 }

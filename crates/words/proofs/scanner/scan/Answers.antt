@@ -7,7 +7,8 @@ returns-in-Ending c =
     let source = c.args.source.now in
     let words = lexemes_of c.loop-words.words.items in
     let is = item_here source c.loop-words.start Ending c.in-Ending.ensures.item in
-    let spelled : Spells source words = subst (SpellsFrom source 0) (append-nil words) (c.loop-words.invariant.words [] (at_end is)) in
+    let spelled : Spells source words =
+    subst (SpellsFrom source 0) (append-nil words) (c.loop-words.invariant.words [] (at_end is)) in
     record { spells = spelled; slices = slices source words spelled; rising = rising source words spelled; fault = tt }
 
 pub returns-in-Wrong-clause-fault : goal.returns-in-Wrong-clause-fault
@@ -15,7 +16,8 @@ returns-in-Wrong-clause-fault c =
     let source = c.args.source.now in
     let is = item_here source c.loop-words.start (Wrong c.in-Wrong.cause) c.in-Wrong.ensures.item in
     let start = c.loop-words.start in
-    let same : fault_of c.in-Wrong.cause start (line_at source start) ≡ c.fault_of.result = ap (fault_of c.in-Wrong.cause start) (sym c.loop-words.invariant.line) ∙ sym c.fault_of.ensures in
+    let same : fault_of c.in-Wrong.cause start (line_at source start) ≡ c.fault_of.result =
+    ap (fault_of c.in-Wrong.cause start) (sym c.loop-words.invariant.line) ∙ sym c.fault_of.ensures in
     subst (IsFirstFault source) same (c.loop-words.invariant.fault _ (fault_here is))
 
 pub loop-words-preserved-in-Blank : goal.loop-words-preserved-in-Blank
@@ -38,11 +40,18 @@ loop-words-preserved c =
     let kind = c.in-Spelled.kind in
     let taken = c.in-Spelled.length in
     let is = item_here source start (Spelled kind taken) c.in-Spelled.ensures.item in
-    let longer : lexemes_of c.push.new.self.items ≡ lexemes_of c.loop-words.words.items ++ lexeme_at source start kind taken ∷ [] =
-    lexemes_of-push c.loop-words.words.items c.push.new.self.items _ c.in_ok-push-in-Spelled.ensures.items ∙ ap (λ w. lexemes_of c.loop-words.words.items ++ w ∷ []) (word_here source start taken c.loop-words.line kind c.loop-words.invariant.line) in
+    let longer : lexemes_of c.push.new.self.items
+    ≡ lexemes_of c.loop-words.words.items ++ lexeme_at source start kind taken ∷ [] =
+    lexemes_of-push c.loop-words.words.items c.push.new.self.items _ c.in_ok-push-in-Spelled.ensures.items
+    ∙ ap (λ w. lexemes_of c.loop-words.words.items ++ w ∷ [])
+    (word_here source start taken c.loop-words.line kind c.loop-words.invariant.line) in
     record {
       in_range = search rules;
-      line = line_after source start taken _ _ c.loop-words.invariant.line c.count_of_line_feeds-in-Spelled.ensures;
-      words = λ rest spells. subst (SpellsFrom source 0) (sym (append_assoc (lexemes_of c.loop-words.words.items) (lexeme_at source start kind taken ∷ []) rest) ∙ ap (λ words. words ++ rest) (sym longer)) (c.loop-words.invariant.words (lexeme_at source start kind taken ∷ rest) (word_then is spells));
+      line = line_after source start taken _ _ c.loop-words.invariant.line
+          c.count_of_line_feeds-in-Spelled.ensures;
+      words = λ rest spells. subst (SpellsFrom source 0)
+          (sym (append_assoc (lexemes_of c.loop-words.words.items) (lexeme_at source start kind taken ∷ [])
+          rest) ∙ ap (λ words. words ++ rest) (sym longer))
+          (c.loop-words.invariant.words (lexeme_at source start kind taken ∷ rest) (word_then is spells));
       fault = λ fault found. c.loop-words.invariant.fault fault (fault_after_word is found);
     }

@@ -6,7 +6,8 @@ abbrev pub invariant-loop-words : goal.invariant-loop-words
 invariant-loop-words l = record {
   in_range : l.start ≤ length l.source;
   line : l.line ≡ line_at l.source l.start;
-  words : (rest : List Lexeme) → SpellsFrom l.source l.start rest → SpellsFrom l.source 0 (lexemes_of l.words.items ++ rest);
+  words : (rest : List Lexeme) → SpellsFrom l.source l.start rest
+      → SpellsFrom l.source 0 (lexemes_of l.words.items ++ rest);
   fault : (fault : Fault) → FaultFrom l.source l.start fault → FaultFrom l.source 0 fault;
 }
 

@@ -45,7 +45,8 @@ planned-loop-index-preserved t c = elim c.match-get.branch [
   | planned-in-Some+in_ok-waiting w ↦
       rw (w.self-is, w.waiting-is)
       (step_passed c.args.body.now c.args.self.now c.loop-index.self c.loop-index.waiting c.args.start
-      c.loop-index.index _ _ _ c.loop-index.invariant (sym c.get.ensures ∙ w.in-Some.is) w.in_ok-waiting.ensures)
+      c.loop-index.index _ _ _ c.loop-index.invariant (sym c.get.ensures ∙ w.in-Some.is)
+      w.in_ok-waiting.ensures)
   | planned-in_default w ↦
       rw (w.self-is, w.waiting-is)
       (none_passed c.args.body.now c.args.self.now c.loop-index.self c.loop-index.waiting c.args.start
@@ -61,7 +62,8 @@ planned-returns-clause-code t c =
 pub statement-returns-clause-code : goal.statement-returns-clause-code
 statement-returns-clause-code t c =
     let ready : Generator = record (c.plan_next.new.self) { goes_on = true } in
-    statement_added_if c.args.body.now c.args.number c.in-Some.statement c.count-start.result c.args.self.now ready
+    statement_added_if c.args.body.now c.args.number c.in-Some.statement c.count-start.result
+    c.args.self.now ready
     c.planned.new.self c.planned.result (sym c.statement.ensures ∙ c.in-Some.is)
     c.in_ok-plan_next.ensures.emission c.in_ok-plan_next.ensures.labels refl c.in_ok-plan_next.ensures.plan
     c.count-start.ensures

@@ -4,7 +4,8 @@ use Rattle.codegen8080.proofs.generator.Generator.step.Goals as goal
 
 pub returns : goal.returns
 returns c =
-    step_added c.args.body.now c.args.step c.args.waiting c.waiting_after.result c.args.self.now c.arrive.new.self
+    step_added c.args.body.now c.args.step c.args.waiting c.waiting_after.result
+    c.args.self.now c.arrive.new.self
     c.carry.new.emission c.here_after.result
     (subst
     (λ (here : Here). EmitsSteps (site_of c.args.body.now)
@@ -13,7 +14,8 @@ returns c =
     c.args.self.now.emission c.carry.new.emission)
     c.here-here.ensures c.in_ok-carry.ensures)
     (c.here_after.ensures
-    ∙ ap (λ (here : Here). here_after here c.args.waiting c.carry.new.emission.facts c.args.step) c.here-here.ensures)
+    ∙ ap (λ (here : Here). here_after here c.args.waiting c.carry.new.emission.facts c.args.step)
+    c.here-here.ensures)
     c.arrive.ensures
     (c.waiting_after.ensures
     ∙ ap (λ (here : Here). waiting_after here c.args.waiting c.args.step) c.here-here.ensures)

@@ -15,13 +15,16 @@ invariant_of-result c =
     let none : map owned_public_view c.self.inside.publics.items ≡ [] = search rules in
     let absent : is_among c.valid-name.result c.self.inside.known ≡ false = search rules in
     let more : names_of after ≡ names_of before ++ c.valid-name.result ∷ [] =
-    ap (λ (e : List (List ℕ)). names_of (record { externals = e; publics = after.publics })) c.in_ok-push.ensures.items
+    ap (λ (e : List (List ℕ)). names_of (record { externals = e; publics = after.publics }))
+    c.in_ok-push.ensures.items
     ∙ external_names before.externals before.publics c.valid-name.result none in
     record {
       known =
           grown_known c.self.inside.known c.insert.new.self before after c.valid-name.result
           c.self.invariant.known absent c.in_ok-insert.ensures more;
       is =
-          linkage_with_name before after c.valid-name.result more c.self.invariant.is c.valid-name.ensures.valid
-          (ap (is_among c.valid-name.result) (sym c.self.invariant.known) ∙ absent) c.self.invariant.is.publics;
+          linkage_with_name before after c.valid-name.result more c.self.invariant.is
+          c.valid-name.ensures.valid
+          (ap (is_among c.valid-name.result) (sym c.self.invariant.known) ∙ absent)
+          c.self.invariant.is.publics;
     }

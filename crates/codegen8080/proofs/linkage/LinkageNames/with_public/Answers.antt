@@ -16,7 +16,8 @@ invariant_of-result c =
     let absent : is_among c.valid-name.result c.self.inside.known ≡ false = search rules in
     let same : c.valid-name.result ≡ public.name = search rules in
     let pushed : after.publics ≡ before.publics ++ public ∷ [] =
-    ap (map owned_public_view) c.in_ok-push.ensures.items ∙ map_more owned_public_view c.self.inside.publics.items c.args.public in
+    ap (map owned_public_view) c.in_ok-push.ensures.items
+    ∙ map_more owned_public_view c.self.inside.publics.items c.args.public in
     let more : names_of after ≡ names_of before ++ c.valid-name.result ∷ [] =
     ap (λ (p : List Public). names_of (record { externals = after.externals; publics = p })) pushed
     ∙ public_names before.externals before.publics public
@@ -27,7 +28,8 @@ invariant_of-result c =
           grown_known c.self.inside.known c.insert.new.self before after c.valid-name.result
           c.self.invariant.known absent c.in_ok-insert.ensures more;
       is =
-          linkage_with_name before after c.valid-name.result more c.self.invariant.is c.valid-name.ensures.valid
+          linkage_with_name before after c.valid-name.result more c.self.invariant.is
+          c.valid-name.ensures.valid
           (ap (is_among c.valid-name.result) (sym c.self.invariant.known) ∙ absent)
           (ap (list_all is_valid_public) pushed
           ∙ all_and_one is_valid_public before.publics public c.self.invariant.is.publics valid);

@@ -11,7 +11,8 @@ returns-then-eq-clause-size c =
 
 pub returns-then-eq-clause-within : goal.returns-then-eq-clause-within
 returns-then-eq-clause-within c =
-    let there : (c.in-Some.slot.now.size ≡ get_or (sizes_in c.args.procedure c.args.self.now.objects) c.args.object 0)
+    let there : (c.in-Some.slot.now.size
+    ≡ get_or (sizes_in c.args.procedure c.args.self.now.objects) c.args.object 0)
     × (c.in-Some.slot.now.start
     ≡ total (take c.args.object (sizes_in c.args.procedure c.args.self.now.objects))) =
     part_there c.self.inside.objects.items c.deref.result.now c.self.inside.frame_sizes.items c.args.self.now

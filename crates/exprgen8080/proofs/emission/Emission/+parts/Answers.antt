@@ -6,7 +6,8 @@ use Rattle.exprgen8080.proofs.emission.Emission.+parts.Goals as goal
 
 pub emit-add-requires : goal.emit-add-requires
 emit-add-requires t c =
-    let lower : step_measure c.args.site.now.tree.now c.in-Some.step < part_measure c.args.site.now.tree.now c.args.part =
+    let lower : step_measure c.args.site.now.tree.now c.in-Some.step
+    < part_measure c.args.site.now.tree.now c.args.part =
     measure_falls c.args.site.now.tree.now c.args.part c.loop-index.self.steps.list.items c.loop-index.index _
     c.loop-index.invariant.below (sym c.get.ensures ∙ c.in-Some.is) in
     search rules
@@ -16,9 +17,11 @@ emit-loop-index-init t c =
     let planned : Emission = record (c.args.self.now) { steps = c.plan_task.new.steps } in
     subst (λ start. IsWriting c.args.site.now c.args.part c.args.self.now planned start c.count-end.result)
     (sym c.count-start.ensures)
-    (writing_begins c.args.site.now c.args.part c.args.self.now c.args.self.now planned c.count-end.result refl
+    (writing_begins c.args.site.now c.args.part c.args.self.now c.args.self.now planned
+    c.count-end.result refl
     (subst
-    (λ (here : Site). AddsWithLabels c.args.self.now.steps c.plan_task.new.steps (task_labels here c.args.part)
+    (λ (here : Site). AddsWithLabels c.args.self.now.steps c.plan_task.new.steps
+    (task_labels here c.args.part)
     (task_steps here c.args.part))
     c.site-here.ensures c.in_ok-plan_task.ensures)
     c.plan_task.new.steps.few
@@ -45,5 +48,6 @@ emit-returns t c =
     writing_ends c.args.site.now c.args.part c.args.self.now c.loop-index.self
     (record (c.loop-index.self) { steps = c.truncate.new.self })
     c.loop-index.index c.count-end.result c.loop-index.invariant c.loop-index-test.false refl
-    (c.truncate.ensures.list ∙ ap (λ count. take count c.loop-index.self.steps.list.items) c.count-start.ensures)
+    (c.truncate.ensures.list ∙ ap (λ count. take count c.loop-index.self.steps.list.items)
+    c.count-start.ensures)
     c.truncate.ensures.labels

@@ -4,5 +4,7 @@ use Rattle.interpreter.proofs.contents.modules.fill.Goals as goal
 
 pub returns : goal.returns
 returns c =
-    modules_put (program_view c.args.program.now) c.modules-placements.result.now c.args.memory.now c.loop-number_of_module.memory
-    c.loop-number_of_module.number_of_module c.modules-placements.ensures c.loop-number_of_module.invariant (omega arith)
+    modules_put (program_view c.args.program.now) c.modules-placements.result.now c.args.memory.now
+    c.loop-number_of_module.memory
+    c.loop-number_of_module.number_of_module c.modules-placements.ensures
+    c.loop-number_of_module.invariant (omega arith)

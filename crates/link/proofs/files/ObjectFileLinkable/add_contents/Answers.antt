@@ -5,14 +5,16 @@ pub add_contents-requires-clause-code : goal.add_contents-requires-clause-code
 add_contents-requires-clause-code c =
     subst (λ w. AllFitAt c.args.resolved.now Code w.contents) (sym c.again-walk.ensures)
     (code_fits c.args.resolved.now c.self.inside.walk c.self.invariant.fits
-    (subst (λ w. start_of c.args.resolved.now.start Code + length_of (module_by w) Code ≤ 65535) (sym c.self.view_is)
+    (subst (λ w. start_of c.args.resolved.now.start Code + length_of (module_by w) Code ≤ 65535)
+    (sym c.self.view_is)
     c.requires.code))
 
 pub add_contents-requires-clause-data_bytes : goal.add_contents-requires-clause-data_bytes
 add_contents-requires-clause-data_bytes c =
     subst (λ w. AllFitAt c.args.resolved.now Data w.contents) (sym c.again-walk.ensures)
     (data_fits c.args.resolved.now c.self.inside.walk c.self.invariant.fits
-    (subst (λ w. start_of c.args.resolved.now.start Data + length_of (module_by w) Data ≤ 65535) (sym c.self.view_is)
+    (subst (λ w. start_of c.args.resolved.now.start Data + length_of (module_by w) Data ≤ 65535)
+    (sym c.self.view_is)
     c.requires.data_bytes))
 
 pub returns-clause-code : goal.returns-clause-code

@@ -5,7 +5,8 @@ pub invariant_of-self : goal.invariant_of-self
 invariant_of-self c = record {
   named = ap (λ (w : Walking). is_name w.name) c.next_external.ensures.rest ∙ c.self.invariant.named;
   externals =
-      names_left c.self.inside.walk.externals c.next_external.new.self.externals _ c.next_external.ensures.next
+      names_left c.self.inside.walk.externals c.next_external.new.self.externals _
+      c.next_external.ensures.next
       c.self.invariant.externals;
   publics =
       ap (λ (w : Walking). list_all is_name (map public_name w.publics)) c.next_external.ensures.rest

@@ -5,7 +5,8 @@ pub invariant_of-self : goal.invariant_of-self
 invariant_of-self c = record {
   named = ap (λ (w : Walking). is_name w.name) c.next_public.ensures.rest ∙ c.self.invariant.named;
   externals =
-      ap (λ (w : Walking). list_all is_name w.externals) c.next_public.ensures.rest ∙ c.self.invariant.externals;
+      ap (λ (w : Walking). list_all is_name w.externals) c.next_public.ensures.rest
+      ∙ c.self.invariant.externals;
   publics =
       publics_left c.self.inside.walk.publics c.next_public.new.self.publics _ c.next_public.ensures.next
       c.self.invariant.publics;

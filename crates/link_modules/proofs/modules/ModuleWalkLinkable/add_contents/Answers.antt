@@ -11,11 +11,13 @@ returns-clause-code c =
     c.in_ok-add_runs.ensures
     ∙ code_kept c.args.resolved.now c.args.code.now c.self.inside.object.now
     (map owned_public_view c.self.inside.publics.now) c.self.inside.externals.now
-    ∙ ap (λ (object : ObjectModule). grown_from c.args.resolved.now Code c.args.code.now object) c.self.view_is
+    ∙ ap (λ (object : ObjectModule). grown_from c.args.resolved.now Code c.args.code.now object)
+    c.self.view_is
 
 pub returns-clause-data_bytes : goal.returns-clause-data_bytes
 returns-clause-data_bytes c =
     c.in_ok-add_runs-2.ensures
     ∙ data_kept c.args.resolved.now c.args.data_bytes.now c.self.inside.object.now
     (map owned_public_view c.self.inside.publics.now) c.self.inside.externals.now
-    ∙ ap (λ (object : ObjectModule). grown_from c.args.resolved.now Data c.args.data_bytes.now object) c.self.view_is
+    ∙ ap (λ (object : ObjectModule). grown_from c.args.resolved.now Data c.args.data_bytes.now object)
+    c.self.view_is

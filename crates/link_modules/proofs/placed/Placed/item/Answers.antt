@@ -4,7 +4,8 @@ use Rattle.link_modules.proofs.placed.Placed.item.Goals as goal
 pub returns-clause-code : goal.returns-clause-code
 returns-clause-code g c =
     subst
-    (λ (one : Linked). (one.start).code + length (g.L.Linkable.told c.self.inside.item.now).code.places ≤ 65535)
+    (λ (one : Linked). (one.start).code + length (g.L.Linkable.told c.self.inside.item.now).code.places
+    ≤ 65535)
     c.self.view_is c.self.invariant.code
 
 pub returns-clause-data_bytes : goal.returns-clause-data_bytes

@@ -10,8 +10,10 @@ statements-loop-statement-preserved t c =
     goes_on
     (λ (statement : Statement) walk. gives (see_statement (statement_tree statement)) walk)
     (λ (statements : List Statement) walk. gives (see_statements (statement_trees statements)) walk)
-    (λ statement statements walk. gives_turn (see_statement (statement_tree statement)) (see_statements (statement_trees statements)) walk)
-    c.args.statements.now c.loop-statement.statement-index c.statement-item.result c.loop-statement.self c.statement.new.self _
+    (λ statement statements walk. gives_turn (see_statement (statement_tree statement))
+    (see_statements (statement_trees statements)) walk)
+    c.args.statements.now c.loop-statement.statement-index c.statement-item.result c.loop-statement.self
+    c.statement.new.self _
     c.loop-statement-test.true c.statement-item.is c.loop-statement.invariant c.in_ok-statement.ensures
 
 pub statements-returns-in_err-statement : goal.statements-returns-in_err-statement
@@ -20,7 +22,8 @@ statements-returns-in_err-statement t c =
     (fails_within
     (λ (statement : Statement) walk. gives (see_statement (statement_tree statement)) walk)
     (λ (statements : List Statement) walk. gives (see_statements (statement_trees statements)) walk)
-    (λ statement statements walk. gives_turn (see_statement (statement_tree statement)) (see_statements (statement_trees statements)) walk)
+    (λ statement statements walk. gives_turn (see_statement (statement_tree statement))
+    (see_statements (statement_trees statements)) walk)
     c.args.statements.now c.loop-statement.statement-index c.statement-item.result c.loop-statement.self _ _
     c.loop-statement-test.true c.statement-item.is c.loop-statement.invariant c.in_err-statement.ensures)
 
@@ -29,8 +32,10 @@ statements-returns t c =
     loop_ended
     (λ (statement : Statement) walk. gives (see_statement (statement_tree statement)) walk)
     (λ (statements : List Statement) walk. gives (see_statements (statement_trees statements)) walk)
-    (λ statement statements walk. gives_turn (see_statement (statement_tree statement)) (see_statements (statement_trees statements)) walk)
-    c.args.statements.now c.loop-statement.statement-index c.loop-statement.self _ _ c.loop-statement-test.false c.loop-statement.invariant
+    (λ statement statements walk. gives_turn (see_statement (statement_tree statement))
+    (see_statements (statement_trees statements)) walk)
+    c.args.statements.now c.loop-statement.statement-index c.loop-statement.self _ _
+    c.loop-statement-test.false c.loop-statement.invariant
     (gives_nothing c.loop-statement.self)
 
 pub cases-loop-statement-preserved : goal.cases-loop-statement-preserved
@@ -38,8 +43,10 @@ cases-loop-statement-preserved t c =
     goes_on
     (λ (statement : Statement) walk. gives (see_kind (kind_tree statement.kind)) walk)
     (λ (statements : List Statement) walk. gives (see_cases (statement_trees statements)) walk)
-    (λ statement statements walk. gives_turn (see_kind (kind_tree statement.kind)) (see_cases (statement_trees statements)) walk)
-    c.args.statements.now c.loop-statement.statement-index c.statement-item.result c.loop-statement.self c.kind.new.self _
+    (λ statement statements walk. gives_turn (see_kind (kind_tree statement.kind))
+    (see_cases (statement_trees statements)) walk)
+    c.args.statements.now c.loop-statement.statement-index c.statement-item.result
+    c.loop-statement.self c.kind.new.self _
     c.loop-statement-test.true c.statement-item.is c.loop-statement.invariant c.in_ok-kind.ensures
 
 pub cases-returns-in_err-kind : goal.cases-returns-in_err-kind
@@ -48,7 +55,8 @@ cases-returns-in_err-kind t c =
     (fails_within
     (λ (statement : Statement) walk. gives (see_kind (kind_tree statement.kind)) walk)
     (λ (statements : List Statement) walk. gives (see_cases (statement_trees statements)) walk)
-    (λ statement statements walk. gives_turn (see_kind (kind_tree statement.kind)) (see_cases (statement_trees statements)) walk)
+    (λ statement statements walk. gives_turn (see_kind (kind_tree statement.kind))
+    (see_cases (statement_trees statements)) walk)
     c.args.statements.now c.loop-statement.statement-index c.statement-item.result c.loop-statement.self _ _
     c.loop-statement-test.true c.statement-item.is c.loop-statement.invariant c.in_err-kind.ensures)
 
@@ -57,8 +65,10 @@ cases-returns t c =
     loop_ended
     (λ (statement : Statement) walk. gives (see_kind (kind_tree statement.kind)) walk)
     (λ (statements : List Statement) walk. gives (see_cases (statement_trees statements)) walk)
-    (λ statement statements walk. gives_turn (see_kind (kind_tree statement.kind)) (see_cases (statement_trees statements)) walk)
-    c.args.statements.now c.loop-statement.statement-index c.loop-statement.self _ _ c.loop-statement-test.false c.loop-statement.invariant
+    (λ statement statements walk. gives_turn (see_kind (kind_tree statement.kind))
+    (see_cases (statement_trees statements)) walk)
+    c.args.statements.now c.loop-statement.statement-index c.loop-statement.self _ _
+    c.loop-statement-test.false c.loop-statement.invariant
     (gives_nothing c.loop-statement.self)
 
 pub declarations-loop-declaration-preserved : goal.declarations-loop-declaration-preserved
@@ -66,9 +76,12 @@ declarations-loop-declaration-preserved t c =
     goes_on
     (λ (declaration : Declaration) walk. gives (see_declaration (declaration_tree declaration)) walk)
     (λ (declarations : List Declaration) walk. gives (see_declarations (declaration_trees declarations)) walk)
-    (λ declaration declarations walk. gives_turn (see_declaration (declaration_tree declaration)) (see_declarations (declaration_trees declarations)) walk)
-    c.args.declarations.now c.loop-declaration.declaration-index c.declaration-item.result c.loop-declaration.self c.declaration.new.self _
-    c.loop-declaration-test.true c.declaration-item.is c.loop-declaration.invariant c.in_ok-declaration.ensures
+    (λ declaration declarations walk. gives_turn (see_declaration (declaration_tree declaration))
+    (see_declarations (declaration_trees declarations)) walk)
+    c.args.declarations.now c.loop-declaration.declaration-index c.declaration-item.result
+    c.loop-declaration.self c.declaration.new.self _
+    c.loop-declaration-test.true c.declaration-item.is c.loop-declaration.invariant
+    c.in_ok-declaration.ensures
 
 pub declarations-returns-in_err-declaration : goal.declarations-returns-in_err-declaration
 declarations-returns-in_err-declaration t c =
@@ -76,17 +89,22 @@ declarations-returns-in_err-declaration t c =
     (fails_within
     (λ (declaration : Declaration) walk. gives (see_declaration (declaration_tree declaration)) walk)
     (λ (declarations : List Declaration) walk. gives (see_declarations (declaration_trees declarations)) walk)
-    (λ declaration declarations walk. gives_turn (see_declaration (declaration_tree declaration)) (see_declarations (declaration_trees declarations)) walk)
-    c.args.declarations.now c.loop-declaration.declaration-index c.declaration-item.result c.loop-declaration.self _ _
-    c.loop-declaration-test.true c.declaration-item.is c.loop-declaration.invariant c.in_err-declaration.ensures)
+    (λ declaration declarations walk. gives_turn (see_declaration (declaration_tree declaration))
+    (see_declarations (declaration_trees declarations)) walk)
+    c.args.declarations.now c.loop-declaration.declaration-index c.declaration-item.result
+    c.loop-declaration.self _ _
+    c.loop-declaration-test.true c.declaration-item.is c.loop-declaration.invariant
+    c.in_err-declaration.ensures)
 
 pub declarations-returns : goal.declarations-returns
 declarations-returns t c =
     loop_ended
     (λ (declaration : Declaration) walk. gives (see_declaration (declaration_tree declaration)) walk)
     (λ (declarations : List Declaration) walk. gives (see_declarations (declaration_trees declarations)) walk)
-    (λ declaration declarations walk. gives_turn (see_declaration (declaration_tree declaration)) (see_declarations (declaration_trees declarations)) walk)
-    c.args.declarations.now c.loop-declaration.declaration-index c.loop-declaration.self _ _ c.loop-declaration-test.false c.loop-declaration.invariant
+    (λ declaration declarations walk. gives_turn (see_declaration (declaration_tree declaration))
+    (see_declarations (declaration_trees declarations)) walk)
+    c.args.declarations.now c.loop-declaration.declaration-index c.loop-declaration.self _ _
+    c.loop-declaration-test.false c.loop-declaration.invariant
     (gives_nothing c.loop-declaration.self)
 
 pub statement-returns-in_err-labels : goal.statement-returns-in_err-labels

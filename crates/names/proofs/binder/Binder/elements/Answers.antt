@@ -8,8 +8,10 @@ loop-element-preserved c =
     goes_on
     (λ (element : Element) walk. gives (see_element (element_tree element)) walk)
     (λ (elements : List Element) walk. gives (see_all see_element (map element_tree elements)) walk)
-    (λ element elements walk. gives_turn (see_element (element_tree element)) (see_all see_element (map element_tree elements)) walk)
-    c.args.elements.now c.loop-element.element-index c.element-item.result c.loop-element.self c.element.new.self _
+    (λ element elements walk. gives_turn (see_element (element_tree element))
+    (see_all see_element (map element_tree elements)) walk)
+    c.args.elements.now c.loop-element.element-index c.element-item.result c.loop-element.self
+    c.element.new.self _
     c.loop-element-test.true c.element-item.is c.loop-element.invariant c.in_ok-element.ensures
 
 pub returns-in_err-element : goal.returns-in_err-element
@@ -18,7 +20,8 @@ returns-in_err-element c =
     (fails_within
     (λ (element : Element) walk. gives (see_element (element_tree element)) walk)
     (λ (elements : List Element) walk. gives (see_all see_element (map element_tree elements)) walk)
-    (λ element elements walk. gives_turn (see_element (element_tree element)) (see_all see_element (map element_tree elements)) walk)
+    (λ element elements walk. gives_turn (see_element (element_tree element))
+    (see_all see_element (map element_tree elements)) walk)
     c.args.elements.now c.loop-element.element-index c.element-item.result c.loop-element.self _ _
     c.loop-element-test.true c.element-item.is c.loop-element.invariant c.in_err-element.ensures)
 
@@ -27,6 +30,8 @@ returns c =
     loop_ended
     (λ (element : Element) walk. gives (see_element (element_tree element)) walk)
     (λ (elements : List Element) walk. gives (see_all see_element (map element_tree elements)) walk)
-    (λ element elements walk. gives_turn (see_element (element_tree element)) (see_all see_element (map element_tree elements)) walk)
-    c.args.elements.now c.loop-element.element-index c.loop-element.self _ _ c.loop-element-test.false c.loop-element.invariant
+    (λ element elements walk. gives_turn (see_element (element_tree element))
+    (see_all see_element (map element_tree elements)) walk)
+    c.args.elements.now c.loop-element.element-index c.loop-element.self _ _ c.loop-element-test.false
+    c.loop-element.invariant
     (gives_nothing c.loop-element.self)

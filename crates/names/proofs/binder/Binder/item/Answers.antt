@@ -7,7 +7,9 @@ pub returns : goal.returns
 returns c =
     let before : Walk = walk_at c.self.inside.scopes c.self.inside.bindings.items in
     let other : Walk = walk_at c.self.inside.scopes c.bind_item-used.new.bindings.items in
-    rw (← c.self.view_is) (item_done _ _ before other refl c.bind_item-used.result c.subject.new.self c.in_ok-subject.ensures c.bind_item-used.ensures)
+    rw (← c.self.view_is)
+    (item_done _ _ before other refl c.bind_item-used.result c.subject.new.self c.in_ok-subject.ensures
+    c.bind_item-used.ensures)
 
 pub returns-in_err-subject : goal.returns-in_err-subject
 returns-in_err-subject c =

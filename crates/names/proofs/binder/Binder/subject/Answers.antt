@@ -5,7 +5,8 @@ use Rattle.names.proofs.binder.Binder.subject.Goals as goal
 pub returns-in_ok-object-in-Single : goal.returns-in_ok-object-in-Single
 returns-in_ok-object-in-Single c =
     rw c.in-Single.is
-    (gives_then (declares_object c.in-Single.name) nothing c.args.self.now c.object.new.self c.in_ok-object-in-Single.ensures ∙ gives_nothing c.object.new.self)
+    (gives_then (declares_object c.in-Single.name) nothing c.args.self.now c.object.new.self
+    c.in_ok-object-in-Single.ensures ∙ gives_nothing c.object.new.self)
 
 pub returns-in_err-object-in-Single : goal.returns-in_err-object-in-Single
 returns-in_err-object-in-Single c = grind (arith, fails_then)

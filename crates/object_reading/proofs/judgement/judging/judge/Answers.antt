@@ -4,7 +4,8 @@ use Rattle.object_reading.proofs.judgement.judging.judge.Goals as goal
 
 pub loop-records-init : goal.loop-records-init
 loop-records-init c =
-    passed_at_beginning c.args.bytes.now c.new-records.result (state_view c.new-state.result) c.new-records.ensures c.new-state.ensures
+    passed_at_beginning c.args.bytes.now c.new-records.result (state_view c.new-state.result)
+    c.new-records.ensures c.new-state.ensures
 
 pub loop-records-smaller : goal.loop-records-smaller
 loop-records-smaller c =
@@ -12,7 +13,8 @@ loop-records-smaller c =
 
 pub loop-records-preserved : goal.loop-records-preserved
 loop-records-preserved c =
-    record_passed c.args.bytes.now c.loop-records.records (state_view c.loop-records.state) (state_view c.take.new.self)
+    record_passed c.args.bytes.now c.loop-records.records (state_view c.loop-records.state)
+    (state_view c.take.new.self)
     c.in-Ok.read.kind c.in-Ok.read.body.now c.next_record.new.self c.loop-records.invariant
     (sym c.is_ended.ensures ∙ c.loop-records-test.true)
     (in_front c.loop-records.records c.next_record.new.self (record_view c.in-Ok.read) c.in-Ok.ensures.record
@@ -22,29 +24,35 @@ loop-records-preserved c =
 pub returns-in_err-take-in-Ok-clause-fault : goal.returns-in_err-take-in-Ok-clause-fault
 returns-in_err-take-in-Ok-clause-fault c =
     handed_on c.from_residual.result c.in_err-take-in-Ok.field-0.0
-    (λ fault. record_taken (state_view c.loop-records.state) c.in-Ok.read.kind c.in-Ok.read.body.now ≡ Err fault)
+    (λ fault. record_taken (state_view c.loop-records.state) c.in-Ok.read.kind c.in-Ok.read.body.now
+    ≡ Err fault)
     (λ fault. HasFirstFault c.args.bytes.now fault) (search rules) c.in_err-take-in-Ok.ensures.fault
     (λ fault refused.
-    (record_refused c.args.bytes.now c.loop-records.records (state_view c.loop-records.state) c.in-Ok.read.kind
+    (record_refused c.args.bytes.now c.loop-records.records
+    (state_view c.loop-records.state) c.in-Ok.read.kind
     c.in-Ok.read.body.now c.next_record.new.self fault
     (are_bytes c.args.bytes.now (λ k. omega (arith, c.type_inv.bytes k))) c.loop-records.invariant
     (sym c.is_ended.ensures ∙ c.loop-records-test.true)
     (in_front c.loop-records.records c.next_record.new.self (record_view c.in-Ok.read) c.in-Ok.ensures.record
-    c.in-Ok.ensures.no_fault c.in-Ok.ensures.of_type c.in-Ok.ensures.body c.in-Ok.ensures.rest) refused).first)
+    c.in-Ok.ensures.no_fault c.in-Ok.ensures.of_type c.in-Ok.ensures.body
+    c.in-Ok.ensures.rest) refused).first)
 
 pub returns-in_err-take-in-Ok-clause-none : goal.returns-in_err-take-in-Ok-clause-none
 returns-in_err-take-in-Ok-clause-none c =
     handed_on c.from_residual.result c.in_err-take-in-Ok.field-0.0
-    (λ fault. record_taken (state_view c.loop-records.state) c.in-Ok.read.kind c.in-Ok.read.body.now ≡ Err fault)
+    (λ fault. record_taken (state_view c.loop-records.state) c.in-Ok.read.kind c.in-Ok.read.body.now
+    ≡ Err fault)
     (λ fault. (object : ObjectValue) → Spells c.args.bytes.now object → ⊥) (search rules)
     c.in_err-take-in-Ok.ensures.fault
     (λ fault refused.
-    (record_refused c.args.bytes.now c.loop-records.records (state_view c.loop-records.state) c.in-Ok.read.kind
+    (record_refused c.args.bytes.now c.loop-records.records
+    (state_view c.loop-records.state) c.in-Ok.read.kind
     c.in-Ok.read.body.now c.next_record.new.self fault
     (are_bytes c.args.bytes.now (λ k. omega (arith, c.type_inv.bytes k))) c.loop-records.invariant
     (sym c.is_ended.ensures ∙ c.loop-records-test.true)
     (in_front c.loop-records.records c.next_record.new.self (record_view c.in-Ok.read) c.in-Ok.ensures.record
-    c.in-Ok.ensures.no_fault c.in-Ok.ensures.of_type c.in-Ok.ensures.body c.in-Ok.ensures.rest) refused).spells_none)
+    c.in-Ok.ensures.no_fault c.in-Ok.ensures.of_type c.in-Ok.ensures.body c.in-Ok.ensures.rest)
+    refused).spells_none)
 
 pub returns-in-Err-clause-fault : goal.returns-in-Err-clause-fault
 returns-in-Err-clause-fault c =
@@ -63,8 +71,10 @@ returns-in-Err-clause-none c =
 pub returns-then-is_empty-clause-judged : goal.returns-then-is_empty-clause-judged
 returns-then-is_empty-clause-judged c =
     judged_whole c.args.bytes.now c.loop-records.records c.rest.result.now (state_view c.loop-records.state)
-    c.header.result (are_bytes c.args.bytes.now (λ k. omega (arith, c.type_inv.bytes k))) c.loop-records.invariant
-    (sym c.is_ended.ensures ∙ c.loop-records-test.false) c.rest.ensures (sym c.is_empty.ensures ∙ c.if-is_empty.true)
+    c.header.result (are_bytes c.args.bytes.now (λ k. omega (arith, c.type_inv.bytes k)))
+    c.loop-records.invariant
+    (sym c.is_ended.ensures ∙ c.loop-records-test.false) c.rest.ensures
+    (sym c.is_empty.ensures ∙ c.if-is_empty.true)
     c.header.ensures
 
 pub returns-clause-fault : goal.returns-clause-fault

@@ -7,6 +7,7 @@ returns-in_err-read-clause-none c =
 
 pub returns-clause-entries : goal.returns-clause-entries
 returns-clause-entries c =
-    fix_entries c.args.own c.in_ok-target.target c.in_ok-target.kind c.args.rest.now c.in_ok-read.read.body.now
+    fix_entries c.args.own c.in_ok-target.target c.in_ok-target.kind c.args.rest.now
+    c.in_ok-read.read.body.now
     c.in_ok-target.entries.now c.in_ok-read.read.kind c.requires c.in_ok-read.ensures.no_fault
     c.in_ok-read.ensures.of_type c.in_ok-read.ensures.body c.in_ok-target.ensures

@@ -14,11 +14,13 @@ returns-in_err-write_other-2-clause-err g c =
 pub returns-clause-ok : goal.returns-clause-ok
 returns-clause-ok g c =
     on_ok_then c.write_other-3.result _ _ c.write_other-3.ensures.ok
-    (three_written (g.W.Write.contents c.args.out.now) (g.W.Write.contents c.write_other.new.out) (g.W.Write.contents c.write_other-2.new.out) (g.W.Write.contents c.write_other-3.new.out)
+    (three_written (g.W.Write.contents c.args.out.now) (g.W.Write.contents c.write_other.new.out)
+    (g.W.Write.contents c.write_other-2.new.out) (g.W.Write.contents c.write_other-3.new.out)
     _ _ _ c.in_ok-write_other.ensures.ok c.in_ok-write_other-2.ensures.ok)
 
 pub returns-clause-err : goal.returns-clause-err
 returns-clause-err g c =
     on_err_then c.write_other-3.result _ _ c.write_other-3.ensures.err
-    (last_of_three_begun (g.W.Write.contents c.args.out.now) (g.W.Write.contents c.write_other.new.out) (g.W.Write.contents c.write_other-2.new.out) (g.W.Write.contents c.write_other-3.new.out)
+    (last_of_three_begun (g.W.Write.contents c.args.out.now) (g.W.Write.contents c.write_other.new.out)
+    (g.W.Write.contents c.write_other-2.new.out) (g.W.Write.contents c.write_other-3.new.out)
     _ _ _ c.in_ok-write_other.ensures.ok c.in_ok-write_other-2.ensures.ok)

@@ -6,7 +6,8 @@ returns-then-is_in-clause-err g c =
     let public = c.args.public.now in
     on_err_then c.add_definition.result _ _ c.add_definition.ensures.err
     (subst (AppendsBeginning _ _)
-    (ap (λ name. flushed c.args.group.now (length (definition_bytes (record { offset = public.offset; name = name }))))
+    (ap (λ name. flushed c.args.group.now
+    (length (definition_bytes (record { offset = public.offset; name = name }))))
     c.as_slice.ensures.same
     ∙ ap (flushed_by c.args.group.now)
     (sym

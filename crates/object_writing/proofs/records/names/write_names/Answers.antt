@@ -8,13 +8,16 @@ loop-name-init g c = none_yet _ _
 
 pub loop-name-preserved : goal.loop-name-preserved
 loop-name-preserved g c =
-    item_written name_entry c.loop-name.group c.args.names.now c.loop-name.name-index c.name-item.result c.name-item.result _ _ _ _ _
-    (omega arith) c.name-item.is c.loop-name.invariant c.in_ok-add_name.ensures.ok c.in_ok-add_name.ensures.group
+    item_written name_entry c.loop-name.group c.args.names.now c.loop-name.name-index c.name-item.result
+    c.name-item.result _ _ _ _ _
+    (omega arith) c.name-item.is c.loop-name.invariant c.in_ok-add_name.ensures.ok
+    c.in_ok-add_name.ensures.group
 
 pub returns-in_err-add_name-clause-err : goal.returns-in_err-add_name-clause-err
 returns-in_err-add_name-clause-err g c =
     on_err c.from_residual.result _
-    (item_begun name_entry c.loop-name.group c.args.names.now c.loop-name.name-index c.name-item.result c.name-item.result _ _ _ _
+    (item_begun name_entry c.loop-name.group c.args.names.now c.loop-name.name-index c.name-item.result
+    c.name-item.result _ _ _ _
     (omega arith) c.name-item.is c.loop-name.invariant c.in_err-add_name.ensures.err)
 
 pub returns-clause-ok : goal.returns-clause-ok

@@ -39,6 +39,7 @@ returns c =
           c.args.self.now c.args.number_of_module c.args.procedure c.args.arguments c.requires.tables some
           c.in-Some.entry c.in-Some.ensures c.if-self-entry.false fits;
       sinks =
-          sank_by_call c.args.self.now.budget (length c.args.loaded.code.now) c.args.self.now.at c.in-Some.entry.begin
+          sank_by_call c.args.self.now.budget (length c.args.loaded.code.now) c.args.self.now.at
+          c.in-Some.entry.begin
           (weight_of_calls (length c.args.loaded.code.now) c.args.self.now.calls) some c.requires.at;
     })

@@ -4,5 +4,7 @@ use Rattle.steps8080.proofs.externals.Externals.number.Goals as goal
 
 pub invariant_of-self : goal.invariant_of-self
 invariant_of-self c =
-    numbering_more c.self.inside.numbers.items _ c.self.inside.used c.saturating_add-self-inside.result c.args.name
-    c.unwrap_or-number.result c.self.invariant (search rules) (search rules) (search rules) (search rules) refl
+    numbering_more c.self.inside.numbers.items _ c.self.inside.used
+    c.saturating_add-self-inside.result c.args.name
+    c.unwrap_or-number.result c.self.invariant (search rules) (search rules)
+    (search rules) (search rules) refl

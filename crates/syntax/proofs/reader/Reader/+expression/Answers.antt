@@ -9,7 +9,8 @@ pub expressions-returns-in_err-next-clause-gives : goal.expressions-returns-in_e
 expressions-returns-in_err-next-clause-gives t c =
     let keeps = expression-keeps c.args.room expression_level in
     gives_exit _ c.from_residual-in_err-next.result _ _ _ c.from_residual-in_err-next.ensures.1
-    (list_fails (expression c.args.room expression_level) keeps expression_tree _ _ _ _ _ _ c.more.invariant.all
+    (list_fails (expression c.args.room expression_level) keeps expression_tree _ _ _ _ _ _
+    c.more.invariant.all
     c.at_mark.ensures c.more-test.true c.skip.ensures c.in_err-next.ensures.gives)
 
 pub expressions-more-smaller : goal.expressions-more-smaller

@@ -6,5 +6,6 @@ abbrev pub invariant-arguments-loop-argument : goal.invariant-arguments-loop-arg
 invariant-arguments-loop-argument l =
     (beside l.self ≡ beside l.fn.self)
     × (with_item (after_numbers l.numbers.items)
-    (numbers_in (layout_view l.storage) (nodes_of l.self.tree) (arguments_view (drop l.argument-index l.arguments)))
+    (numbers_in (layout_view l.storage) (nodes_of l.self.tree)
+    (arguments_view (drop l.argument-index l.arguments)))
     ≡ numbers_in (layout_view l.storage) (nodes_of l.fn.self.tree) (arguments_view l.arguments))

@@ -10,7 +10,8 @@ choose_case-returns-clause-ok t c =
     (expression_view c.args.choice.now.choice) (statements_view c.args.choice.now.body.items)
     (walk_of c.value.new.self) c.in_ok-number.number (walk_of c.statements.new.self) c.in_ok-body.body
     c.in_ok-number.ensures.ok
-    (ap (λ all. statements_in (layout_view c.args.storage.now) (walk_of c.value.new.self) (statements_view all))
+    (ap (λ all. statements_in (layout_view c.args.storage.now) (walk_of c.value.new.self)
+    (statements_view all))
     (sym c.as_slice.ensures.value)
     ∙ c.in_ok-body.ensures.ok)
     c.add.ensures.ok
@@ -36,12 +37,14 @@ statement-returns-in_ok-list-in-Do-clause-ok t c =
     do_returned c.add-in-Do.result (layout_view c.args.storage.now) (walk_of c.args.self.now)
     (walk_of c.add-in-Do.new.self) c.args.statement.now
     (list_view c.deref-in-Do.result.now) (walk_of c.list.new.self) c.in_ok-list-in-Do.list
-    (ap statement_view c.in-Do.is ∙ do_view c.in-Do.body ∙ ap (λ list. DoStatement (list_view list)) (sym held))
+    (ap statement_view c.in-Do.is ∙ do_view c.in-Do.body
+    ∙ ap (λ list. DoStatement (list_view list)) (sym held))
     c.in_ok-list-in-Do.ensures.ok c.add-in-Do.ensures.ok
 
 pub statement-returns-in-While-clause-ok : goal.statement-returns-in-While-clause-ok
 statement-returns-in-While-clause-ok t c =
-    let held : c.deref-in-While.result.now ≡ c.in-While.turns.value = search (rules, c.deref-in-While.ensures) in
+    let held : c.deref-in-While.result.now ≡ c.in-While.turns.value =
+    search (rules, c.deref-in-While.ensures) in
     view_returned c.repeat.result (layout_view c.args.storage.now) (walk_of c.args.self.now)
     (walk_of c.repeat.new.self) c.args.statement.now
     (WhileStatement (expression_view c.deref-in-While.result.now.condition)
@@ -52,7 +55,8 @@ statement-returns-in-While-clause-ok t c =
 
 pub statement-returns-in-Iterate-clause-ok : goal.statement-returns-in-Iterate-clause-ok
 statement-returns-in-Iterate-clause-ok t c =
-    let held : c.deref-in-Iterate.result.now ≡ c.in-Iterate.turns.value = search (rules, c.deref-in-Iterate.ensures) in
+    let held : c.deref-in-Iterate.result.now ≡ c.in-Iterate.turns.value =
+    search (rules, c.deref-in-Iterate.ensures) in
     view_returned c.iterate.result (layout_view c.args.storage.now) (walk_of c.args.self.now)
     (walk_of c.iterate.new.self) c.args.statement.now
     (IterateStatement (iteration_view c.deref-in-Iterate.result.now.head)
@@ -63,7 +67,8 @@ statement-returns-in-Iterate-clause-ok t c =
 
 pub statement-returns-in-Case-clause-ok : goal.statement-returns-in-Case-clause-ok
 statement-returns-in-Case-clause-ok t c =
-    let held : c.deref-in-Case.result.now ≡ c.in-Case.choice.value = search (rules, c.deref-in-Case.ensures) in
+    let held : c.deref-in-Case.result.now ≡ c.in-Case.choice.value =
+    search (rules, c.deref-in-Case.ensures) in
     view_returned c.choose_case.result (layout_view c.args.storage.now) (walk_of c.args.self.now)
     (walk_of c.choose_case.new.self) c.args.statement.now
     (CaseStatement (expression_view c.deref-in-Case.result.now.choice)
@@ -74,15 +79,18 @@ statement-returns-in-Case-clause-ok t c =
 
 pub statements-returns-clause-kept : goal.statements-returns-clause-kept
 statements-returns-clause-kept t c =
-    outside_lists c.loop-statement.self c.add_list.new.self c.add_list.ensures.kept ∙ (c.loop-statement.invariant).0
+    outside_lists c.loop-statement.self c.add_list.new.self c.add_list.ensures.kept
+    ∙ (c.loop-statement.invariant).0
 
 pub statements-returns-clause-ok : goal.statements-returns-clause-ok
 statements-returns-clause-ok t c =
     list_put c.loop-statement.self c.add_list.new.self
-    (items_in (layout_view c.args.storage.now) (walk_of c.args.self.now) true (statements_view c.args.statements.now))
+    (items_in (layout_view c.args.storage.now) (walk_of c.args.self.now) true
+    (statements_view c.args.statements.now))
     c.as_slice.result.now c.loop-statement.reaches_its_end c.in_ok-range.range
     (sym
-    (items_all_added (layout_view c.args.storage.now) (walk_of c.loop-statement.self) c.loop-statement.reaches_its_end
+    (items_all_added (layout_view c.args.storage.now) (walk_of c.loop-statement.self)
+    c.loop-statement.reaches_its_end
     c.loop-statement.numbers.items _ c.args.statements.now c.loop-statement.statement-index
     (c.loop-statement.invariant).1 (omega arith))
     ∙ ap (λ (all : List StatementNumber).

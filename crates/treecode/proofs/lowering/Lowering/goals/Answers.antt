@@ -13,5 +13,6 @@ loop-target-preserved c = (
 
 pub returns-clause-ok : goal.returns-clause-ok
 returns-clause-ok c =
-    sym (goals_all_added (layout_view c.args.storage.now) (walk_of c.loop-target.self) c.loop-target.added.items _
+    sym (goals_all_added (layout_view c.args.storage.now) (walk_of c.loop-target.self)
+    c.loop-target.added.items _
     c.args.targets.now c.loop-target.target-index (c.loop-target.invariant).1 (omega arith))

@@ -7,7 +7,10 @@ pub returns-in_ok-value-in_default : goal.returns-in_ok-value-in_default
 returns-in_ok-value-in_default c = elim c.in_default-1.branch [
   | in_default-via-in-Constant-String+else-is_empty w ↦
       let some : length c.args.restricted.now.offsets.items ≡ 0 → ⊥ = λ none. search (rules, none) in
-      let is = string_with_offsets (known_view c.args.self.now) (left_of (type_view c.args.object_type.now) c.args.filling.now.scalars) (string_tree w.in-Constant-String.string.value) c.args.restricted.now.offsets.items some in
+      let is =
+      string_with_offsets (known_view c.args.self.now)
+      (left_of (type_view c.args.object_type.now) c.args.filling.now.scalars)
+      (string_tree w.in-Constant-String.string.value) c.args.restricted.now.offsets.items some in
       grind (arith, is)
   | in_default-via-in-Constant+in-Number-1 w ↦ search rules
   | in_default-via-in-Location-1 w ↦ search rules

@@ -6,24 +6,34 @@ use Rattle.types.proofs.checker.Checker.+walk.Goals as goal
 
 pub cases-loop-tree-preserved : goal.cases-loop-tree-preserved
 cases-loop-tree-preserved t c =
-    cases_go_on (block_view c.args.block) c.args.trees.now c.loop-tree.tree-index c.tree-item.result c.loop-tree.made.items c.push.new.self.items c.in_ok-typed.typed
-    (progress_view c.loop-tree.self) (progress_view c.alone.new.self) _ c.loop-tree-test.true c.tree-item.is c.loop-tree.invariant c.in_ok-typed.ensures c.in_ok-push.ensures.items
+    cases_go_on (block_view c.args.block) c.args.trees.now c.loop-tree.tree-index c.tree-item.result
+    c.loop-tree.made.items c.push.new.self.items c.in_ok-typed.typed
+    (progress_view c.loop-tree.self) (progress_view c.alone.new.self) _ c.loop-tree-test.true c.tree-item.is
+    c.loop-tree.invariant c.in_ok-typed.ensures c.in_ok-push.ensures.items
 
 pub cases-returns : goal.cases-returns
 cases-returns t c =
-    cases_ended (block_view c.args.block) c.args.trees.now c.loop-tree.tree-index c.loop-tree.made.items (progress_view c.loop-tree.self) _ c.loop-tree-test.false c.loop-tree.invariant
+    cases_ended (block_view c.args.block) c.args.trees.now c.loop-tree.tree-index c.loop-tree.made.items
+    (progress_view c.loop-tree.self) _ c.loop-tree-test.false c.loop-tree.invariant
 
 pub statements-loop-tree-preserved : goal.statements-loop-tree-preserved
 statements-loop-tree-preserved t c = record {
-  typed = statements_go_on (block_view c.args.block) c.args.trees.now c.loop-tree.tree-index c.tree-item.result c.loop-tree-test.true c.tree-item.is c.in_ok-typed.typed
-      (listed_view c.loop-tree.listed) (listed_view c.push.new.self) c.as_slice.result.now c.as_slice.ensures.value c.in_ok-push.ensures.ok (progress_view c.loop-tree.self) (progress_view c.statement.new.self) _ c.loop-tree.invariant.typed c.in_ok-typed.ensures;
-  placed = places_go_on (block_view c.args.block) c.args.trees.now c.loop-tree.tree-index c.tree-item.result c.loop-tree-test.true c.tree-item.is c.in_ok-typed.typed
-      (listed_view c.loop-tree.listed) (listed_view c.push.new.self) c.as_slice.result.now c.as_slice.ensures.value c.in_ok-push.ensures.ok _ c.loop-tree.invariant.placed;
+  typed = statements_go_on (block_view c.args.block) c.args.trees.now c.loop-tree.tree-index
+      c.tree-item.result c.loop-tree-test.true c.tree-item.is c.in_ok-typed.typed
+      (listed_view c.loop-tree.listed) (listed_view c.push.new.self) c.as_slice.result.now
+      c.as_slice.ensures.value c.in_ok-push.ensures.ok (progress_view c.loop-tree.self)
+      (progress_view c.statement.new.self) _ c.loop-tree.invariant.typed c.in_ok-typed.ensures;
+  placed =
+      places_go_on (block_view c.args.block) c.args.trees.now c.loop-tree.tree-index c.tree-item.result
+      c.loop-tree-test.true c.tree-item.is c.in_ok-typed.typed
+      (listed_view c.loop-tree.listed) (listed_view c.push.new.self) c.as_slice.result.now
+      c.as_slice.ensures.value c.in_ok-push.ensures.ok _ c.loop-tree.invariant.placed;
 }
 
 pub statements-returns-clause-statements : goal.statements-returns-clause-statements
 statements-returns-clause-statements t c =
-    statements_ended (block_view c.args.block) c.args.trees.now c.loop-tree.tree-index c.loop-tree.listed.statements.items c.loop-tree.listed.label
+    statements_ended (block_view c.args.block) c.args.trees.now c.loop-tree.tree-index
+    c.loop-tree.listed.statements.items c.loop-tree.listed.label
     (progress_view c.loop-tree.self) _ c.loop-tree-test.false c.loop-tree.invariant.typed
 
 pub kind-returns-in-If : goal.kind-returns-in-If
@@ -46,20 +56,30 @@ declaration-returns-in-Procedure t c = grind (arith, procedure_is)
 
 pub cases-returns-in_err-typed : goal.cases-returns-in_err-typed
 cases-returns-in_err-typed t c =
-    let failed = cases_fail (block_view c.args.block) c.args.trees.now c.loop-tree.tree-index c.tree-item.result c.loop-tree.made.items (progress_view c.loop-tree.self) _
-    (fault_in c.in_err-typed.field-0.0) c.loop-tree-test.true c.tree-item.is c.loop-tree.invariant c.in_err-typed.ensures in
+    let failed =
+    cases_fail (block_view c.args.block) c.args.trees.now c.loop-tree.tree-index c.tree-item.result
+    c.loop-tree.made.items (progress_view c.loop-tree.self) _
+    (fault_in c.in_err-typed.field-0.0) c.loop-tree-test.true c.tree-item.is c.loop-tree.invariant
+    c.in_err-typed.ensures in
     search rules
 
 pub procedure-returns-in_err-inside : goal.procedure-returns-in_err-inside
 procedure-returns-in_err-inside t c =
-    leaves_fault c.from_residual-in_err-inside.result c.in_err-inside.field-0.0 (progress_view c.procedure_inside.new.self) _ (search rules)
-    (procedure_fails (block_view c.args.block) c.args.procedure.now _ (ap declaration_trees c.as_slice-declared.ensures.value) (progress_view c.args.self.now) (progress_view c.open_procedure.new.self) c.in_ok-number.number
-    (c.in_ok-number.ensures.number ∙ sym (length-map c.args.self.now.known.procedures.items procedure_view)) c.in_ok-number.ensures.opened _ c.in_err-inside.ensures)
+    leaves_fault c.from_residual-in_err-inside.result c.in_err-inside.field-0.0
+    (progress_view c.procedure_inside.new.self) _ (search rules)
+    (procedure_fails (block_view c.args.block) c.args.procedure.now _
+    (ap declaration_trees c.as_slice-declared.ensures.value) (progress_view c.args.self.now)
+    (progress_view c.open_procedure.new.self) c.in_ok-number.number
+    (c.in_ok-number.ensures.number ∙ sym (length-map c.args.self.now.known.procedures.items procedure_view))
+    c.in_ok-number.ensures.opened _ c.in_err-inside.ensures)
 
 pub procedure-returns : goal.procedure-returns
 procedure-returns t c =
     subst (Leaves c.close_procedure.result (progress_view c.close_procedure.new.self))
-    (procedure_whole (block_view c.args.block) c.args.procedure.now _ (ap declaration_trees c.as_slice-declared.ensures.value) (progress_view c.args.self.now) (progress_view c.open_procedure.new.self) c.in_ok-number.number
-    (c.in_ok-number.ensures.number ∙ sym (length-map c.args.self.now.known.procedures.items procedure_view)) c.in_ok-number.ensures.opened
+    (procedure_whole (block_view c.args.block) c.args.procedure.now _
+    (ap declaration_trees c.as_slice-declared.ensures.value) (progress_view c.args.self.now)
+    (progress_view c.open_procedure.new.self) c.in_ok-number.number
+    (c.in_ok-number.ensures.number ∙ sym (length-map c.args.self.now.known.procedures.items procedure_view))
+    c.in_ok-number.ensures.opened
     (inside_view c.in_ok-inside.inside) (progress_view c.procedure_inside.new.self) c.in_ok-inside.ensures)
     c.close_procedure.ensures

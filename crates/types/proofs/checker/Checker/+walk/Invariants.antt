@@ -3,14 +3,18 @@ use Rattle.types.proofs.checker.Checker.+walk.Given as goal
 
 abbrev pub invariant-cases-loop-tree : goal.invariant-cases-loop-tree
 invariant-cases-loop-tree l =
-    in_front (statements_after l.made.items) (cases (block_view l.block) (statement_trees (drop l.tree-index l.trees)) (progress_view l.self))
+    in_front (statements_after l.made.items)
+    (cases (block_view l.block) (statement_trees (drop l.tree-index l.trees)) (progress_view l.self))
     ≡ cases (block_view l.block) (statement_trees l.trees) (progress_view l.fn.self)
 
 abbrev pub invariant-statements-loop-tree : goal.invariant-statements-loop-tree
 invariant-statements-loop-tree l = record {
-  typed : in_front (statements_after l.listed.statements.items) (statements (block_view l.block) (statement_trees (drop l.tree-index l.trees)) l.listed.label (progress_view l.self))
+  typed : in_front (statements_after l.listed.statements.items)
+      (statements (block_view l.block) (statement_trees (drop l.tree-index l.trees)) l.listed.label
+      (progress_view l.self))
       ≡ statements (block_view l.block) (statement_trees l.trees) l.first_label (progress_view l.fn.self);
-  placed : l.listed.places.items ++ places_from (length l.listed.statements.items) (statement_trees (drop l.tree-index l.trees)) ≡ places_from 0 (statement_trees l.trees);
+  placed : l.listed.places.items ++ places_from (length l.listed.statements.items)
+      (statement_trees (drop l.tree-index l.trees)) ≡ places_from 0 (statement_trees l.trees);
 }
 
 abbrev pub invariant-declarations-loop-tree : goal.invariant-declarations-loop-tree
