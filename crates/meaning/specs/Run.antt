@@ -1,6 +1,6 @@
 -- Runs of a program with a budget. Without a main program, or where that returns or jumps out, a run has ended:
 -- `TakesNoDefault` of `meaning_laws` says that this is never so, in programs as `Meaning` says.
-use Rattle.std.specs.Prelude.{◌≢◌, ℕ, suc, List, [], position, find}
+use Rattle.std.specs.Prelude.{◌≡◌, ◌≢◌, ℕ, suc, List, [], position, find}
 use Rattle.std.specs.Option.{option_map_or}
 use Rattle.ports.specs.declared.event.Event.{Event}
 use Rattle.typed_trees.specs.TypedTrees.{TypedModule}
@@ -32,11 +32,11 @@ main_done budget typed around s =
 abbrev pub number_of_main : List TypedModule → ℕ
 number_of_main modules = option_map_or (λ number. number) (position is_main modules) 0
 
--- The run of a program at a placement, with this room on the stack, from a given memory, a script and the
+-- What a program comes to at a placement, with this room on the stack, from a given memory, a script and the
 -- events that the ports hold already, with a budget of turns, jumps and calls.
-unfoldable pub source_run :
-    List TypedModule → Placement → ℕ → List ℕ → List (List ℕ) → List Event → ℕ → Run
-source_run modules placement room memory script events budget =
+abbrev pub source_outcome :
+    List TypedModule → Placement → ℕ → List ℕ → List (List ℕ) → List Event → ℕ → Outcome Flow
+source_outcome modules placement room memory script events budget =
     let program : Program = record { modules = modules; placement = placement; script = script } in
     let around : Surroundings =
     record { program = program; number_of_module = number_of_main modules; room = room } in
@@ -46,9 +46,20 @@ source_run modules placement room memory script events budget =
       events = events;
       budget = budget;
     } in
-    run_of
-    (option_map_or (λ (typed : TypedModule). main_done budget typed around start) (find is_main modules)
-    (Gave Flow.Onward start))
+    option_map_or (λ (typed : TypedModule). main_done budget typed around start) (find is_main modules)
+    (Gave Flow.Onward start)
+
+-- the run of that program
+unfoldable pub source_run :
+    List TypedModule → Placement → ℕ → List ℕ → List (List ℕ) → List Event → ℕ → Run
+source_run modules placement room memory script events budget =
+    run_of (source_outcome modules placement room memory script events budget)
+
+-- the state in which a run has ended
+abbrev pub EndsIn : Outcome Flow → State → Type 0
+EndsIn (Gave flow s) end = s ≡ end
+EndsIn (Stopped Ended s) end = s ≡ end
+EndsIn (Stopped why s) end = ⊥
 
 -- no budget takes the program outside
 abbrev pub NeverOutside : (ℕ → Run) → Type 0

@@ -1,5 +1,4 @@
 pub mod Machine
 pub mod Rooms
-pub mod Planning
 pub mod Dropping
 pub mod Modules

@@ -1,9 +1,4 @@
-pub mod Planning
-pub mod Carried
-pub mod Assigning
-pub mod Looping
-pub mod Choosing
-pub mod Statements
-pub mod Entering
+pub mod Binding
+pub mod Lists
 pub mod Modules
 pub mod Placing

@@ -35,11 +35,10 @@ pub use Rattle.measure_laws.specs.internal.Heights.{BranchThere, ByteDropped, By
 pub use Rattle.measure_laws.specs.Sound.{IsSound}
 pub use Rattle.measure_laws.specs.Weights.{beside_within, weight_in_form, weight_in_target, weight_of_given, weight_of_index, weight_of_indices}
 unfoldable pub use Rattle.measure_laws.specs.Weights.{beside_at}
-pub use Rattle.measure_laws.specs.internal.Bodies.{ListRuns, StatementRuns, StepsRun}
-pub use Rattle.measure_laws.specs.internal.Fits.{ListFits, ListFootprint, PlanMeasured, PlanFootprint, StatementFits, StatementFootprint, StepsFit, spared_by}
+pub use Rattle.measure_laws.specs.internal.Fits.{BodyGround, HoldsWithinLevel, IsWithinLevel, ItemsMeasured, ListFootprint, MayBind, MayGo, MayGoTo, PlanMeasured, PlanFootprint, StatementFootprint, StatementMeasured, spared_by}
 pub use Rattle.measure_laws.specs.internal.Footprints.{AimHolds, GoesOn, GoesOnWithLabel, GoesOnWithWord, Source, beside, given, indices, more_for_byte, more_for_word, size_of_step, size_of_steps, type_at}
-pub use Rattle.measure_laws.specs.internal.ItemLabels.{ItemGoes, ItemsBind, ItemsGo}
+pub use Rattle.measure_laws.specs.internal.ItemLabels.{ItemGoes, ItemsBind, ItemsGo, Knows}
 pub use Rattle.measure_laws.specs.internal.Modules.{HasItsPlace, LabelsHavePlaces}
-pub use Rattle.measure_laws.specs.internal.Plans.{ListGoes, PlanBinds, PlanGoes, PlanHas, PlannedBinds, StatementGoes, TaskThen}
+pub use Rattle.measure_laws.specs.internal.Plans.{JumpTo, JumpsTo, PlanBinds, PlannedBinds}
 pub use Rattle.measure_laws.specs.internal.Sizes.{bytes_for}
-pub use Rattle.measure_laws.specs.internal.Steps.{StepsBind, StepsGo, TaskGoes}
+pub use Rattle.measure_laws.specs.internal.Steps.{StepsBind}

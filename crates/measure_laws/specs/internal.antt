@@ -2,7 +2,6 @@
 pub mod Heights
 pub mod Sizes
 pub mod Footprints
-pub mod Bodies
 pub mod Charges
 pub mod Steps
 pub mod ItemLabels

@@ -10,13 +10,10 @@ use Rattle.literally.specs.Expansion.{Expands, IsFault}
 use Rattle.grammar.specs.Derivation.{Derives}
 use Rattle.syntax.proofs.ParserLaws.{derives_at_most_one}
 use Rattle.trees.specs.Trees.{ModuleTree}
-use Rattle.typing.specs.internal.Typing.{typing_of}
+use Rattle.typing_rules.specs.Modules.{ModuleTyping}
+use Rattle.typing_rules.proofs.Laws.{judged_once}
 use Rattle.sources.specs.{Causes.{HasReadCause}, Reading.{IsExpansionOf, IsSource, IsSpellingOf}}
 use Rattle.sources.specs.declared.read.ReadFault.{ReadFault, TheVariants.{TooLong, Words, Expansion, Syntax, Typing, Storage}}
-
-same_ok : {A E : Type 0} (result other : Result A E) (one two : A) → result ≡ Ok one → other ≡ Ok two
-    → result ≡ other → one ≡ two
-same_ok result other one two first second same = cc
 
 not_both_ways : {A E : Type 0} (result other : Result A E) (one : A) (fault : E)
     → result ≡ Ok one → other ≡ Err fault → result ≡ other → ⊥
@@ -48,8 +45,10 @@ same_tree text one other first second =
 same_typing : (text : List ℕ) (one other : TypedModule) → HasTyping text one
     → HasTyping text other → one ≡ other
 same_typing text one other first second =
-    same_ok (typing_of first.tree) (typing_of second.tree) one other first.typing second.typing
-    (ap typing_of (same_tree text first.tree second.tree first.read second.read))
+    (judged_once second.tree).one_typing one other
+    (subst (λ (tree : ModuleTree). ModuleTyping tree one)
+    (same_tree text first.tree second.tree first.read second.read) first.typing)
+    second.typing
 
 -- no fault of a source has a cause
 pub no_cause : (text : List ℕ) (fault : ReadFault) → HasReadCause fault text → IsSource text → ⊥
@@ -71,8 +70,10 @@ no_cause text (Syntax fault) cause source =
     (subst (λ (words : List Lexeme). Derives words source.source.typing.tree) same read.derived)
 no_cause text (Typing fault) cause source =
     let typing = source.source.typing in
-    not_both_ways (typing_of typing.tree) (typing_of cause.tree) source.typed fault typing.typing cause.wrong
-    (ap typing_of (same_tree text typing.tree cause.tree typing.read cause.read))
+    (judged_once cause.tree).never_both source.typed fault
+    (subst (λ (tree : ModuleTree). ModuleTyping tree source.typed)
+    (same_tree text typing.tree cause.tree typing.read cause.read) typing.typing)
+    cause.wrong
 no_cause text (Storage fault) cause source =
     not_both_ways (storage_of source.typed) (storage_of cause.typed) (storage_with source.typed) fault
     source.source.storage cause.wrong

@@ -1,6 +1,6 @@
 -- The parts of statements that hold no statement: what the typing gives of them has a typing by the rules,
 -- and the fault that it gives is one of the rules.
-use Rattle.typing_rules.proofs.Prelude.{not-false, not-true, ◌≡◌, ℕ, ◌==◌, Bool, true, false, not, List, [], ◌∷◌, length, Option, Some, None, Ok, refl, sym, ap, subst, arith, slice_get, inl, inr, ◌⊎◌, eqb-true, eqb-false, ScalarType, Identifier, Place, ExpressionTree, ReferenceTree, ReferenceTo, ArgumentTrees, Binding, Declared, BuiltInName, UnknownLabel, BuiltIn, Object, Procedure, Label, Definition, binding_of, TypedArguments, ObjectType, ScalarObject, StructureObject, TypedProcedure, Constants, ArgumentCount, CallOfNoProcedure, ConstantWritten, NoVariable, UnknownName, Fault, Checked, ◌>>=◌, arguments, Known, number_of_arguments, scalar_of, is_constant, StandsFor, IsVariable, IsProcedure, IsBuiltIn, IsNoProcedure, ExpressionTyping, ValuesTyping, no_values, next_value, ExpressionFault}
+use Rattle.typing_rules.proofs.Prelude.{not-false, not-true, ◌≡◌, ℕ, ◌==◌, Bool, true, false, not, List, [], ◌∷◌, length, Option, Some, None, Ok, refl, sym, subst, arith, slice_get, inl, inr, ◌⊎◌, eqb-true, eqb-false, ScalarType, Identifier, Place, ExpressionTree, ReferenceTree, ReferenceTo, ArgumentTrees, Binding, Declared, BuiltInName, UnknownLabel, BuiltIn, Object, Procedure, Label, Definition, binding_of, TypedArguments, ObjectType, ScalarObject, StructureObject, TypedProcedure, Constants, ArgumentCount, CallOfNoProcedure, ConstantWritten, NoVariable, UnknownName, Fault, Checked, ◌>>=◌, arguments, Known, number_of_arguments, scalar_of, is_constant, StandsFor, IsVariable, IsProcedure, IsBuiltIn, IsNoProcedure, ExpressionTyping, ValuesTyping, no_values, next_value, ExpressionFault}
 use Rattle.std.specs.Prelude.{◌&&◌, is_none}
 use Rattle.trees.specs.Trees.{HeadingTree, IterationTree, CallStatement, ReturnStatement, GotoStatement}
 use Rattle.names.specs.declared.entity.BuiltIn.TheVariants as built_ins

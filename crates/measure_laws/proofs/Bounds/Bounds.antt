@@ -49,5 +49,7 @@ pub too_long_is_past_its_bound :
     → SEGMENT_LIMIT + 1 ≤ code_bound typed
 too_long_is_past_its_bound typed storage tree sound few lowered (CodeIsNone start code written none) =
     omega (arith, none, code_is_within_its_bound typed storage tree start code sound lowered written)
-too_long_is_past_its_bound typed storage tree sound few lowered (DataAreNone start code variables written is grown none) =
-    absurd (omega (arith, none, few, data_are_within_their_bytes typed storage tree variables sound lowered is))
+too_long_is_past_its_bound typed storage tree sound few lowered
+    (DataAreNone start code variables written is grown none) =
+    absurd (omega
+    (arith, none, few, data_are_within_their_bytes typed storage tree variables sound lowered is))

@@ -1,5 +1,5 @@
--- The constants of a module take as many bytes as its objects with DATA and its constant lists, and its data as many as
--- its objects without AT and DATA.
+-- The constants of a module take as many bytes as its objects with DATA and its constant lists, and its data
+-- as many as its objects without AT and DATA.
 use Rattle.measure_laws.proofs.Prelude.{◌≡◌, ℕ, suc, ◌+◌, ◌-◌, ◌≤◌, ◌==◌, Bool, true, false, ◌&&◌, min, if◌then◌else◌, nat_le, nat_lt, List, [], ◌∷◌, ◌++◌, length, map, slice_get, sum_by, Option, Some, None, refl, arith, All, option_map_or, eqb-true, sum_by-cons, ConstantItem, ConstantObject, ConstantList, InitialValue, ByteValue, WordValue, LocationValue, size_of_object, IsStorable, bytes_filled, size_of_value, TypedHome, InData, InConstants, TypedObject, TypedModule, constant_bytes, size_of_constant, bytes_in_data, data_bytes, size_of_items, Content, Word, Gap, Home, constant_object, constants_from, constants_of, content_of, bytes_of_value, with_constant, with_gap, with_gap_if_any, with_object, static_object, variables_from, variables_of, contents_items, same_sizes, holds_for_item}
 use Rattle.treecode.specs.declared.module.Content.TheVariants.{Byte}
 use Rattle.treecode.specs.declared.place.Place.TheVariants as places
@@ -23,7 +23,8 @@ contents_take (Word (places.Data offset) ∷ others) = omega (arith, contents_ta
 contents_take (Word (places.External offset name) ∷ others) = omega (arith, contents_take others)
 contents_take (Gap count ∷ others) = omega (arith, contents_take others)
 
-both_take : (one other : List Content) → bytes_of_contents (one ++ other) ≡ bytes_of_contents one + bytes_of_contents other
+both_take : (one other : List Content)
+    → bytes_of_contents (one ++ other) ≡ bytes_of_contents one + bytes_of_contents other
 both_take [] other = omega arith
 both_take (first ∷ one) other = omega (arith, both_take one other)
 
@@ -34,7 +35,8 @@ joined_takes :
 joined_takes gap count true = omega arith
 joined_takes gap count false = omega arith
 
-gap_takes : (before : List Content) (count : ℕ) → bytes_of_contents (with_gap before count) ≡ bytes_of_contents before + count
+gap_takes : (before : List Content) (count : ℕ)
+    → bytes_of_contents (with_gap before count) ≡ bytes_of_contents before + count
 gap_takes [] count = omega arith
 gap_takes (Gap gap ∷ []) count =
     let takes = joined_takes gap count (nat_lt 0 gap && nat_le (gap + count) 65535) in omega (arith, takes)
@@ -49,12 +51,14 @@ gap_if_any_takes before count = by (count == 0) refl
   where
     by :
         (none : Bool) → (count == 0) ≡ none
-        → bytes_of_contents (if none then before else with_gap before count) ≡ bytes_of_contents before + count
+        → bytes_of_contents (if none then before else with_gap before count)
+        ≡ bytes_of_contents before + count
     by true is = let zero_is = eqb-true count 0 is in omega (arith, zero_is)
     by false is = gap_takes before count
 
 -- the values of DATA
-value_takes : (starts : List Home) (value : InitialValue) → bytes_of_content (content_of starts value) ≡ size_of_value value
+value_takes : (starts : List Home) (value : InitialValue)
+    → bytes_of_content (content_of starts value) ≡ size_of_value value
 value_takes starts (ByteValue byte) = refl
 value_takes starts (WordValue word) = refl
 value_takes starts (LocationValue object offset) = refl
@@ -70,14 +74,16 @@ values_take starts (value ∷ values) =
 object_takes :
     (starts : List Home) (object : TypedObject) (values : List InitialValue) (before : List Content)
     → sum_by size_of_value values ≤ size_of_object object
-    → bytes_of_contents (with_object starts object values before) ≤ bytes_of_contents before + size_of_object object
+    → bytes_of_contents (with_object starts object values before)
+    ≤ bytes_of_contents before + size_of_object object
 object_takes starts object values before filled =
     let filler = min (min (size_of_object object) 4294967295 - sum_by bytes_of_value values) 65535 in
     let gap = gap_if_any_takes (before ++ map (content_of starts) values) filler in
     let both = both_take before (map (content_of starts) values) in
     let take = values_take starts values in
     let same = same_sizes values in
-    let small = filler_fits (size_of_object object) (sum_by bytes_of_value values) (omega (arith, same, filled)) in
+    let small =
+    filler_fits (size_of_object object) (sum_by bytes_of_value values) (omega (arith, same, filled)) in
     omega (arith, gap, both, take, same, small)
   where
     filler_fits :
@@ -88,8 +94,10 @@ object_takes starts object values before filled =
 constant_object_takes :
     (starts : List Home) (object : TypedObject) (home : TypedHome) (before : List Content)
     → bytes_filled home ≤ size_of_object object
-    → bytes_of_contents (constant_object starts object home before) ≤ bytes_of_contents before + size_of_object object
-constant_object_takes starts object (InConstants values) before filled = object_takes starts object values before filled
+    → bytes_of_contents (constant_object starts object home before)
+    ≤ bytes_of_contents before + size_of_object object
+constant_object_takes starts object (InConstants values) before filled =
+    object_takes starts object values before filled
 constant_object_takes starts object other before filled = omega arith
 
 -- a constant list
@@ -108,14 +116,17 @@ constant_takes typed starts (ConstantObject number) before storable = by (slice_
     by :
         (found : Option TypedObject) → slice_get typed.objects number ≡ found
         → bytes_of_contents
-        (option_map_or (λ (object : TypedObject). constant_object starts object object.home before) found before)
+        (option_map_or (λ (object : TypedObject). constant_object starts object object.home before) found
+        before)
         ≤ bytes_of_contents before + option_map_or size_of_object found 0
     by None is = omega arith
     by (Some object) is =
         constant_object_takes starts object object.home before
-        (holds_for_item (λ (one : TypedObject). bytes_filled one.home ≤ size_of_object one) typed.objects number object
+        (holds_for_item (λ (one : TypedObject). bytes_filled one.home ≤ size_of_object one)
+        typed.objects number object
         storable.filled is)
-constant_takes typed starts (ConstantList number) before storable = by (slice_get typed.constants.lists number)
+constant_takes typed starts (ConstantList number) before storable =
+    by (slice_get typed.constants.lists number)
   where
     by :
         (found : Option (List ℕ))
@@ -154,8 +165,10 @@ constants_fit typed starts storable =
 static_object_takes :
     (starts : List Home) (object : TypedObject) (home : TypedHome) (before : List Content)
     → bytes_filled home ≤ size_of_object object
-    → bytes_of_contents (static_object starts object home before) ≤ bytes_of_contents before + bytes_in_data home object
-static_object_takes starts object (InData values) before filled = object_takes starts object values before filled
+    → bytes_of_contents (static_object starts object home before)
+    ≤ bytes_of_contents before + bytes_in_data home object
+static_object_takes starts object (InData values) before filled =
+    object_takes starts object values before filled
 static_object_takes starts object other before filled = omega arith
 
 variables_from_take :

@@ -1,9 +1,8 @@
 -- Known values take few bytes, whatever their weight.
-use Rattle.measure_laws.proofs.Prelude.{◌≡◌, ℕ, ◌≤◌, ◌==◌, Bool, true, false, List, [], ◌∷◌, Option, Some, None, if◌then◌else◌, refl, ◌∙◌, arith, Item, LoadPair, size_of_items, Hl, A, clear_a, low, set, Dcx, Inx, ExpressionNumber, Static, Place, location_after, place_number, Facts, before, is_at, Site, known, number, expression, note_address_steps, byte_steps, known_byte_steps, AreWritten, IsWritten, PartPlanned, knowing, steps_of, task_steps, byte_number_steps, word_steps, Body, part, site_of, StepsFit}
+use Rattle.measure_laws.proofs.Prelude.{◌≡◌, ℕ, ◌≤◌, ◌==◌, Bool, true, false, List, [], ◌∷◌, Option, Some, None, if◌then◌else◌, refl, ◌∙◌, arith, Item, LoadPair, size_of_items, Hl, A, clear_a, low, set, Dcx, Inx, ExpressionNumber, Static, Place, location_after, place_number, Facts, before, is_at, Site, known, number, expression, note_address_steps, byte_steps, known_byte_steps, AreWritten, IsWritten, PartPlanned, knowing, steps_of, task_steps, byte_number_steps, word_steps, Body, part, Here, AreCarriedOut, site_of}
 use Rattle.steps8080.specs.declared.step.Step.TheVariants as steps
 use Rattle.steps8080.specs.declared.step.Task.TheVariants as tasks
-use Rattle.measure_laws.proofs.{Bounds.ExpressionParts.{task_fits}, Bounds.Pieces.{steps_within}}
-use Rattle.measure_laws.specs.internal.Footprints.{PartIsOf}
+use Rattle.measure_laws.proofs.{Bounds.ExpressionParts.{task_small}, Bounds.Pieces.{steps_within}}
 
 -- if an expression is known as a number, its value is that number
 pub record IsKnown (site : Site) (value : ExpressionNumber) (number : ℕ) : Type 0 where
@@ -12,13 +11,15 @@ pub record IsKnown (site : Site) (value : ExpressionNumber) (number : ℕ) : Typ
   pub number_is : place_number place ≡ Some number
 
 pub number_known :
-    (site : Site) (value : ExpressionNumber) (given : ℕ) → number site value ≡ Some given → IsKnown site value given
+    (site : Site) (value : ExpressionNumber) (given : ℕ) → number site value ≡ Some given
+    → IsKnown site value given
 unfolding number
 number_known site value given is = by (known site value) refl is
   where
     by :
         (found : Option Place) → known site value ≡ found
-        → (elim found as (λ (one : Option Place). Option ℕ) [ Some place ↦ place_number place | None ↦ None ]) ≡ Some given
+        → (elim found as (λ (one : Option Place). Option ℕ) [ Some place ↦ place_number place | None ↦ None ])
+        ≡ Some given
         → IsKnown site value given
     by (Some place) known_is number_is = record { place = place; known_is = known_is; number_is = number_is }
     by None known_is number_is = let never : ⊥ = cc in absurd never
@@ -33,20 +34,26 @@ address_if_within :
     else if later then steps.Plain (Dcx Hl) ∷ note_address_steps (Static place)
     else steps.Word (LoadPair Hl) place ∷ note_address_steps (Static place)) list last
     → size_of_items list ≤ 3
-address_if_within place pushed true earlier later written = let small = steps_within [] tt written in omega (arith, small)
+address_if_within place pushed true earlier later written =
+    let small = steps_within [] tt written in omega (arith, small)
 address_if_within place pushed false true later written =
-    let small = steps_within (steps.Plain (Inx Hl) ∷ note_address_steps (Static place)) (tt, (tt, tt)) written in
+    let small =
+    steps_within (steps.Plain (Inx Hl) ∷ note_address_steps (Static place)) (tt, (tt, tt)) written in
     omega (arith, small)
 address_if_within place pushed false false true written =
-    let small = steps_within (steps.Plain (Dcx Hl) ∷ note_address_steps (Static place)) (tt, (tt, tt)) written in
+    let small =
+    steps_within (steps.Plain (Dcx Hl) ∷ note_address_steps (Static place)) (tt, (tt, tt)) written in
     omega (arith, small)
 address_if_within place pushed false false false written =
-    let small = steps_within (steps.Word (LoadPair Hl) place ∷ note_address_steps (Static place)) (tt, (tt, tt)) written in
+    let small =
+    steps_within (steps.Word (LoadPair Hl) place ∷ note_address_steps (Static place))
+    (tt, (tt, tt)) written in
     omega (arith, small)
 
 -- a known word
 known_word_within :
-    {site : Site} {called : List Bool} {facts last : Facts} {list : List Item} (at : Site) (value : ExpressionNumber)
+    {site : Site} {called : List Bool} {facts last : Facts} {list : List Item} (at : Site)
+    (value : ExpressionNumber)
     (place : Place) (pushed : ℕ)
     → known at value ≡ Some place
     → AreWritten site called facts (word_steps at value pushed) list last
@@ -70,7 +77,8 @@ number_within number false written =
     let small = steps_within (steps.Plain (set A number) ∷ []) (tt, tt) written in omega (arith, small)
 
 known_byte_within :
-    {site : Site} {called : List Bool} {facts last : Facts} {list : List Item} (at : Site) (value : ExpressionNumber)
+    {site : Site} {called : List Bool} {facts last : Facts} {list : List Item} (at : Site)
+    (value : ExpressionNumber)
     (place : Place) (number pushed : ℕ)
     → known at value ≡ Some place
     → place_number place ≡ Some number
@@ -83,48 +91,43 @@ known_byte_within at value place number pushed is number_is written =
 
 -- with other facts, a value is known by the same number
 known_anywhere :
-    (site : Site) (facts : Facts) (value : ExpressionNumber) → known (knowing site facts) value ≡ known site value
+    (site : Site) (facts : Facts) (value : ExpressionNumber)
+    → known (knowing site facts) value ≡ known site value
 unfolding known expression
 known_anywhere site facts value = refl
 
-pub known_word_fits :
-    {body : Body} {called : List Bool} (value : ExpressionNumber) (given pushed : ℕ)
-    → number (site_of body) value ≡ Some given
-    → PartIsOf body.tree.now (tasks.Word value)
-    → StepsFit body called (part (tasks.Word value) pushed ∷ []) 3
-unfolding task_steps steps_of
-known_word_fits {body = body} {called = called} value given pushed is of =
-    let there = number_known (site_of body) value given is in
-    task_fits (tasks.Word value) pushed 3
-    (λ facts last list written. by facts there.place (known_anywhere (site_of body) facts value ∙ there.known_is) written)
-    of
+module _
+    {body : Body} {called : List Bool} {here last : Here} {waiting : Option Facts} {list : List Item}
+    (value : ExpressionNumber) (given pushed : ℕ) (is : number (site_of body) value ≡ Some given)
   where
-    by :
-        (facts : Facts) {last : Facts} {list : List Item} (place : Place)
-        → known (knowing (site_of body) facts) value ≡ Some place
-        → IsWritten (site_of body) called facts (record { task = tasks.Word value; pushed = pushed }) list last
-        → size_of_items list ≤ 3
-    by facts place known_is (PartPlanned label written) =
-        known_word_within (knowing (site_of body) facts) value place pushed known_is written
+    pub known_word_small : AreCarriedOut body called here waiting (part (tasks.Word value) pushed ∷ []) list
+        last → size_of_items list ≤ 3
+    unfolding task_steps steps_of
+    known_word_small done =
+        task_small (tasks.Word value) pushed 3 (λ facts known first written. by facts written) done
+      where
+        by :
+            (facts : Facts) {known : Facts} {first : List Item}
+            → IsWritten (site_of body) called facts
+            (record { task = tasks.Word value; pushed = pushed }) first known
+            → size_of_items first ≤ 3
+        by facts (PartPlanned label written) =
+            let there = number_known (site_of body) value given is in
+            known_word_within (knowing (site_of body) facts) value there.place pushed
+            (known_anywhere (site_of body) facts value ∙ there.known_is) written
 
-pub known_byte_fits :
-    {body : Body} {called : List Bool} (value : ExpressionNumber) (given pushed : ℕ)
-    → number (site_of body) value ≡ Some given
-    → PartIsOf body.tree.now (tasks.Byte value)
-    → StepsFit body called (part (tasks.Byte value) pushed ∷ []) 3
-unfolding task_steps steps_of
-known_byte_fits {body = body} {called = called} value given pushed is of =
-    let there = number_known (site_of body) value given is in
-    task_fits (tasks.Byte value) pushed 3
-    (λ facts last list written.
-    by facts there.place (known_anywhere (site_of body) facts value ∙ there.known_is) there.number_is written)
-    of
-  where
-    by :
-        (facts : Facts) {last : Facts} {list : List Item} (place : Place)
-        → known (knowing (site_of body) facts) value ≡ Some place
-        → place_number place ≡ Some given
-        → IsWritten (site_of body) called facts (record { task = tasks.Byte value; pushed = pushed }) list last
-        → size_of_items list ≤ 3
-    by facts place known_is number_is (PartPlanned label written) =
-        known_byte_within (knowing (site_of body) facts) value place given pushed known_is number_is written
+    pub known_byte_small : AreCarriedOut body called here waiting (part (tasks.Byte value) pushed ∷ []) list
+        last → size_of_items list ≤ 3
+    unfolding task_steps steps_of
+    known_byte_small done =
+        task_small (tasks.Byte value) pushed 3 (λ facts known first written. by facts written) done
+      where
+        by :
+            (facts : Facts) {known : Facts} {first : List Item}
+            → IsWritten (site_of body) called facts
+            (record { task = tasks.Byte value; pushed = pushed }) first known
+            → size_of_items first ≤ 3
+        by facts (PartPlanned label written) =
+            let there = number_known (site_of body) value given is in
+            known_byte_within (knowing (site_of body) facts) value there.place given pushed
+            (known_anywhere (site_of body) facts value ∙ there.known_is) there.number_is written

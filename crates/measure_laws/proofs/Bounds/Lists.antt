@@ -1,129 +1,92 @@
 -- Statements one after another.
-use Rattle.measure_laws.proofs.Prelude.{◌≡◌, ℕ, suc, ◌+◌, ◌-◌, ◌≤◌, Bool, List, [], ◌∷◌, slice_get, Option, Some, refl, sym, subst, ◌∙◌, arith, same_Some, IsNoLabel, TypedStatement, LabelStatement, TypedStatements, NoStatements, MoreStatements, TypedList, weight_of_list, weight_of_statement, weight_of_statements, Item, size_of_items, size_in_parts, Range, StatementNumber, Facts, Body, Here, AreAllCarriedOut, AreCarriedOut, IsCarriedOut, IsListCarriedOut, ListCarriedOut, ListPlanned, StatementCarriedOut, StepCarriedOut, bytes_for, ListFits, StatementFits, spared_by, Source, PlanFootprint, StatementFootprint, ListFootprint, ListRuns, StatementRuns, FindsRoom, NothingThere, PushesAtMost}
+use Rattle.measure_laws.proofs.Prelude.{◌≡◌, ℕ, suc, ◌+◌, ◌-◌, ◌≤◌, List, [], ◌∷◌, ◌++◌, slice_get, Option, Some, refl, sym, subst, ◌∙◌, arith, same_Some, IsNoLabel, TypedStatement, LabelStatement, TypedStatements, NoStatements, MoreStatements, TypedList, weight_of_list, weight_of_statement, weight_of_statements, Item, Range, StatementNumber, Facts, Here, AreAllCarriedOut, AreCarriedOut, IsCarriedOut, IsListCarriedOut, ListCarriedOut, ListPlanned, StatementCarriedOut, StepCarriedOut, bytes_for, spared_by, BodyGround, ItemsMeasured, ListFootprint, MayBind, PlanFootprint, StatementFootprint, NothingThere}
 use Rattle.typed_trees.specs.TypedTrees.{ListOf}
 use Rattle.statements8080.specs.declared.plan.Planned.TheVariants as planned
 use Rattle.codegen8080.specs.internal.Generated as generated
-use Rattle.measure_laws.proofs.Bounds.Fitting.{no_size}
-use Rattle.measure_laws.proofs.{Heights.Planning.{none_room}, Heights.Rooms.{room_joined}}
+use Rattle.measure_laws.proofs.{Bounds.Fitting.{items_then, items_within, none_measured}, Footprints.Items.{bound_after, bound_first}}
 
--- as many statements of the table of lists as `count`, from an entry on, are not too long for their trees
-pub data AllFit (body : Body) (called : List Bool) (level : ℕ) (counts : Type 0) : (first count : ℕ) → TypedStatements → Type 0 where
-  NoneFit : {first : ℕ} → AllFit body called level counts first 0 NoStatements
+-- as many statements of the table of lists as `count`, from an entry on, have their footprints
+pub data AllFit (at : BodyGround) : (first count : ℕ) → TypedStatements → Type 0 where
+  NoneFit : {first : ℕ} → AllFit at first 0 NoStatements
   MoreFit : {first count : ℕ} {number : StatementNumber} {tree : TypedStatement} {others : TypedStatements}
-      → slice_get body.tree.now.lists.items first ≡ Some number
-      → StatementFootprint body called level counts number tree
-      → AllFit body called level counts (suc first) count others
-      → AllFit body called level counts first (suc count) (MoreStatements tree others)
+      → slice_get at.body.tree.now.lists.items first ≡ Some number
+      → StatementFootprint at number tree
+      → AllFit at (suc first) count others
+      → AllFit at first (suc count) (MoreStatements tree others)
 
--- their code is not too long
-all_within :
-    {body : Body} {called : List Bool} {level : ℕ} {counts : Type 0} {first count : ℕ} {trees : TypedStatements}
-    → AllFit body called level counts first count trees
-    → counts
-    → {here last : Here} {list : List Item}
-    → AreAllCarriedOut body called here first count list last
-    → size_of_items list ≤ bytes_for (weight_of_statements trees)
-all_within NoneFit c generated.NoStatements = omega arith
-all_within {body = body} {called = called} (MoreFit {number = number} {tree = tree} there fit others) c (generated.MoreStatements {here = here} {middle = middle} {number = other} {list = list} {more = more} found done rest) =
-    let same : other ≡ number = same_Some other number (sym found ∙ there) in
-    let one = (fit.fit c).fits (subst (λ (n : StatementNumber). IsCarriedOut body called here.facts n list middle) same done) in
-    omega (arith, size_in_parts list more, one, all_within others c rest)
+all_measured :
+    {at : BodyGround} {first count : ℕ} {trees : TypedStatements} {here last : Here} {list : List Item}
+    → AllFit at first count trees
+    → AreAllCarriedOut at.body at.called here first count list last
+    → MayBind at list
+    → ItemsMeasured at at.level list at.level (bytes_for (weight_of_statements trees))
+all_measured NoneFit generated.NoStatements own =
+    record { room = λ p. NothingThere; small = λ c. omega arith; goes = λ c. tt }
+all_measured {at = at} (MoreFit {number = number} {tree = tree} there fit others)
+    (generated.MoreStatements {here = here} {middle = middle} {number = other} {list = list} {more = more}
+    found done rest) own =
+    let one =
+    fit.fits (subst (λ (n : StatementNumber). IsCarriedOut at.body at.called here.facts n list middle)
+    (same_Some other number (sym found ∙ there)) done)
+    (λ label is. own label (bound_first label list more is)) in
+    items_within
+    (items_then list more one.measured (all_measured others rest
+    (λ label is. own label (bound_after label list more is))))
+    (λ c. omega (arith, one.enough c))
 
--- they find room
-all_room :
-    {body : Body} {called : List Bool} {level : ℕ} {counts : Type 0} {first count : ℕ} {trees : TypedStatements}
-    → AllFit body called level counts first count trees
-    → {here last : Here} {list : List Item}
-    → AreAllCarriedOut body called here first count list last
-    → PushesAtMost body.tree.now level list
-all_room NoneFit generated.NoStatements = NothingThere
-all_room {body = body} {called = called} (MoreFit {number = number} there one others) (generated.MoreStatements {here = here} {middle = middle} {number = other} {list = list} found done rest) =
-    room_joined
-    (one.run.room (subst (λ (n : StatementNumber). IsCarriedOut body called here.facts n list middle)
-    (same_Some other number (sym found ∙ there)) done))
-    (all_room others rest)
-
-pub list_fits :
-    {body : Body} {called : List Bool} {level : ℕ} {counts : Type 0} (range : Range) (first_label : ℕ) (places : List ℕ) {trees : TypedStatements}
-    → AllFit body called level counts range.first range.count trees
-    → ListFootprint body called level counts range (ListOf first_label places trees)
-list_fits {body = body} {called = called} {level = level} {counts = counts} range first_label places {trees = trees} all =
-    record { fit = λ c. record { fits = λ done. by c done }; run = record { room = λ done. room_by done } }
-  where
-    by :
-        counts
-        → {before : Facts} {after : Here} {list : List Item}
-        → IsListCarriedOut body called before range list after
-        → size_of_items list ≤ bytes_for (weight_of_statements trees)
-    by c (ListPlanned done) = all_within all c done
-
-    room_by :
-        {before : Facts} {after : Here} {list : List Item}
-        → IsListCarriedOut body called before range list after
-        → PushesAtMost body.tree.now level list
-    room_by (ListPlanned done) = all_room all done
+pub list_measured :
+    {at : BodyGround} {range : Range} {trees : TypedStatements} {before : Facts}
+    {after : Here} {list : List Item}
+    → AllFit at range.first range.count trees
+    → IsListCarriedOut at.body at.called before range list after
+    → MayBind at list
+    → ItemsMeasured at at.level list at.level (bytes_for (weight_of_statements trees))
+list_measured all (ListPlanned done) own = all_measured all done own
 
 -- a list as a planned step
-list_within :
-    {body : Body} {called : List Bool} {range : Range} {tree : TypedList}
-    → ListFits body called range tree
-    → {here last : Here} {waiting : Option Facts} {list : List Item}
-    → AreCarriedOut body called here waiting (planned.List range ∷ []) list last
-    → size_of_items list ≤ bytes_for (weight_of_list tree)
-list_within fit (ListCarriedOut {first = first} {more = more} done rest) =
-    omega (arith, size_in_parts first more, fit.fits done, no_size rest)
-list_within fit (StepCarriedOut ok written rest) = absurd ok
-
-list_room :
-    {body : Body} {called : List Bool} {level : ℕ} {range : Range}
-    → ListRuns body called level range
-    → {here last : Here} {waiting : Option Facts} {list : List Item}
-    → AreCarriedOut body called here waiting (planned.List range ∷ []) list last
-    → FindsRoom body.tree.now level level list level
-list_room runs (ListCarriedOut done rest) = room_joined (runs.room done) (none_room rest)
-list_room runs (StepCarriedOut ok written rest) = absurd ok
+list_step_measured :
+    {at : BodyGround} {range : Range} {tree : TypedList} {here last : Here}
+    {waiting : Option Facts} {list : List Item}
+    → ListFootprint at range tree
+    → AreCarriedOut at.body at.called here waiting (planned.List range ∷ []) list last
+    → MayBind at list
+    → ItemsMeasured at at.level list at.level (bytes_for (weight_of_list tree))
+list_step_measured is (ListCarriedOut {first = first} {more = more} done rest) own =
+    items_within
+    (items_then first more (is.fits done (λ label bound. own label (bound_first label first more bound)))
+    (none_measured {most = 0} rest))
+    (λ c. omega arith)
+list_step_measured is (StepCarriedOut ok written rest) own = absurd ok
 
 pub list_step_fits :
-    {body : Body} {called : List Bool} {source : Source body.tree.now} {level : ℕ} {counts : Type 0} {range : Range} {tree : TypedList}
-    → ListFootprint body called level counts range tree
-    → PlanFootprint body called source level counts (planned.List range ∷ []) (bytes_for (weight_of_list tree))
-list_step_fits is = record {
-  fit = λ c. record { fits = λ done. list_within (is.fit c) done; has = (tt, tt) };
-  run = record { room = λ done. list_room is.run done };
-}
+    {at : BodyGround} {range : Range} {tree : TypedList}
+    → ListFootprint at range tree
+    → PlanFootprint at (planned.List range ∷ []) (bytes_for (weight_of_list tree))
+list_step_fits is = record { fits = λ done own. list_step_measured is done own }
 
 -- a statement as a planned step
-statement_within :
-    {body : Body} {called : List Bool} {number : StatementNumber} {tree : TypedStatement}
-    → StatementFits body called number tree
-    → {here last : Here} {waiting : Option Facts} {list : List Item}
-    → AreCarriedOut body called here waiting (planned.Statement number ∷ []) list last
-    → size_of_items list + spared_by tree ≤ bytes_for (weight_of_statement tree)
-statement_within fit (StatementCarriedOut {first = first} {more = more} done rest) =
-    omega (arith, size_in_parts first more, fit.fits done, no_size rest)
-statement_within fit (StepCarriedOut ok written rest) = absurd ok
-
-statement_room :
-    {body : Body} {called : List Bool} {level : ℕ} {number : StatementNumber}
-    → StatementRuns body called level number
-    → {here last : Here} {waiting : Option Facts} {list : List Item}
-    → AreCarriedOut body called here waiting (planned.Statement number ∷ []) list last
-    → FindsRoom body.tree.now level level list level
-statement_room runs (StatementCarriedOut done rest) = room_joined (runs.room done) (none_room rest)
-statement_room runs (StepCarriedOut ok written rest) = absurd ok
+statement_step_measured :
+    {at : BodyGround} {number : StatementNumber} {tree : TypedStatement} {most : ℕ}
+    {here last : Here} {waiting : Option Facts} {list : List Item}
+    → StatementFootprint at number tree
+    → (at.counts → bytes_for (weight_of_statement tree) ≤ most + spared_by tree)
+    → AreCarriedOut at.body at.called here waiting (planned.Statement number ∷ []) list last
+    → MayBind at list
+    → ItemsMeasured at at.level list at.level most
+statement_step_measured is most (StatementCarriedOut {first = first} {more = more} done rest) own =
+    let one = is.fits done (λ label bound. own label (bound_first label first more bound)) in
+    items_within (items_then first more one.measured (none_measured {most = 0} rest))
+    (λ c. omega (arith, one.enough c, most c))
+statement_step_measured is most (StepCarriedOut ok written rest) own = absurd ok
 
 pub statement_step_fits :
-    {body : Body} {called : List Bool} {source : Source body.tree.now} {level : ℕ} {counts : Type 0} {number : StatementNumber}
-    {tree : TypedStatement}
-    → StatementFootprint body called level counts number tree
-    → PlanFootprint body called source level counts (planned.Statement number ∷ []) (bytes_for (weight_of_statement tree))
-statement_step_fits is = record {
-  fit = λ c. record { fits = λ done. let small = statement_within (is.fit c) done in omega (arith, small); has = (tt, tt) };
-  run = record { room = λ done. statement_room is.run done };
-}
+    {at : BodyGround} {number : StatementNumber} {tree : TypedStatement}
+    → StatementFootprint at number tree
+    → PlanFootprint at (planned.Statement number ∷ []) (bytes_for (weight_of_statement tree))
+statement_step_fits is = record { fits = λ done own. statement_step_measured is (λ c. omega arith) done own }
 
 -- a statement of a DO CASE is not a label, and leaves some bytes free
-pub no_label_spares : (tree : TypedStatement) → IsNoLabel tree → spared_by tree ≡ 8
+no_label_spares : (tree : TypedStatement) → IsNoLabel tree → spared_by tree ≡ 8
 no_label_spares (LabelStatement label) none = absurd none
 no_label_spares other none = refl
 
@@ -132,18 +95,10 @@ no_label_weighs (LabelStatement label) none = absurd none
 no_label_weighs other none = omega arith
 
 pub case_step_fits :
-    {body : Body} {called : List Bool} {source : Source body.tree.now} {level : ℕ} {counts : Type 0} {number : StatementNumber}
-    {tree : TypedStatement}
-    → (counts → IsNoLabel tree)
-    → StatementFootprint body called level counts number tree
-    → PlanFootprint body called source level counts (planned.Statement number ∷ []) (bytes_for (weight_of_statement tree) - 8)
+    {at : BodyGround} {number : StatementNumber} {tree : TypedStatement}
+    → (at.counts → IsNoLabel tree)
+    → StatementFootprint at number tree
+    → PlanFootprint at (planned.Statement number ∷ []) (bytes_for (weight_of_statement tree) - 8)
 case_step_fits {tree = tree} none is = record {
-  fit = λ c. record {
-    fits = λ done.
-        let small = statement_within (is.fit c) done in
-        let spared = no_label_spares tree (none c) in
-        omega (arith, small, spared);
-    has = (tt, tt);
-  };
-  run = record { room = λ done. statement_room is.run done };
+  fits = λ done own. statement_step_measured is (λ c. omega (arith, no_label_spares tree (none c))) done own;
 }

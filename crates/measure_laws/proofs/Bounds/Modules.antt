@@ -1,9 +1,13 @@
 -- The code of a module takes at most as many bytes as its bound.
-use Rattle.measure_laws.proofs.Prelude.{◌≡◌, ℕ, suc, ◌+◌, ◌*◌, ◌≤◌, Bool, true, false, List, [], ◌∷◌, ◌++◌, length, slice_get, sum_by, Some, refl, sym, ap, subst, ◌∙◌, arith, sum_by-cons, HasParameters, BodyIsSound, TypedModule, TypedProcedure, TypesHoldInList, TypesHoldInProcedure, Within, WithinMain, WithinProcedure, code_bound, constant_bytes, weight_of, weight_of_list, Storage, Code, ObjectModule, length_of, Hlt, Item, set_bytes, size_of_items, size_in_parts, places_length, set_length, Routine, size_of_routine, TreeModule, ProcedureKind, TreeProcedure, HasBody, IsList, IsLowered, IsProcedure, labels_numbered_in_list, nodes_of, has_frame, parameter_count, has_parameters, numbered_at, Written, has_routine, Body, Here, AreCodeOf, AreRoutines, IsCodeOf, IsCodeOfMain, IsCodeOfRoutine, IsCodeWritten, IsEndCode, IsGenerated, IsOwnCode, IsProcedureCode, all_routines, contents_items, has_main, with_targets, bytes_for, IsSound, ListFits, holds_for_item, FRAME_LIMIT, height_of_list, Source}
+use Rattle.measure_laws.proofs.Prelude.{◌≡◌, ℕ, suc, ◌+◌, ◌*◌, ◌≤◌, Bool, true, false, List, [], ◌∷◌, ◌++◌, length, slice_get, sum_by, Some, refl, sym, ap, subst, ◌∙◌, arith, sum_by-cons, HasParameters, BodyIsSound, TypedModule, TypedProcedure, TypesHoldInList, TypesHoldInProcedure, Within, WithinMain, WithinProcedure, code_bound, constant_bytes, weight_of, weight_of_list, Storage, Code, ObjectModule, length_of, Hlt, Item, set_bytes, size_of_items, size_in_parts, places_length, set_length, Routine, size_of_routine, TreeModule, ProcedureKind, TreeProcedure, HasBody, IsList, IsLowered, IsProcedure, labels_numbered_in_list, nodes_of, has_frame, parameter_count, has_parameters, numbered_at, Written, has_routine, Body, Here, AreCodeOf, AreRoutines, IsCodeOf, IsCodeOfMain, IsCodeOfRoutine, IsCodeWritten, IsEndCode, IsGenerated, IsOwnCode, IsProcedureCode, all_routines, contents_items, has_main, with_targets, bytes_for, IsSound, Content, Place, address_items, content_items, site_of, ItemsBind, ItemsGo, Knows, BodyGround, ListFootprint, inl, inr, holds_for_item, FRAME_LIMIT, height_of_list, Source}
 use Rattle.typed_trees.specs.Weight.{weight_of_procedure}
-use Rattle.asm8080.specs.declared.item.Item.TheVariants as items
 use Rattle.treecode.specs.declared.procedure.ProcedureKind.TheVariants as kinds
-use Rattle.measure_laws.proofs.{Bounds.Constants.{constants_fit}, Bounds.Entries.{entry_fits}, Bounds.Numbering.{numbered_size}, Bounds.Returns.{end_fits}, Bounds.Statements.{whole_list_fits}, Heights.Modules.{frame_is_small, source_of}}
+use Rattle.asm8080.specs.declared.item.Item.TheVariants as items
+use Rattle.treecode.specs.declared.module.Content.TheVariants as contents
+use Rattle.treecode.specs.declared.place.Place.TheVariants as places
+use Rattle.treecode_laws.proofs.Labels.{main_label_has_one_number, procedure_label_has_one_number}
+use Rattle.measure_laws.specs.internal.Footprints.{anywhere}
+use Rattle.measure_laws.proofs.{Bounds.Constants.{constants_fit}, Bounds.Entries.{entry_fits}, Bounds.Numbering.{numbered_size}, Bounds.Returns.{end_fits}, Bounds.Statements.{whole_list_fits}, Footprints.Items.{bound_after, bound_first, items_both}, Footprints.Parts.{knows_anywhere}, Heights.Modules.{frame_is_small, source_of}, Labels.Lists.{LabelsDiffer, none_around}}
 
 -- the routines that are called
 bytes_of_routines : List Routine → ℕ
@@ -61,12 +65,15 @@ module _
     few_in_frame list code kinds.Reentrant same =
         let plan =
         code.frame.planned same
-        (has_frame typed (nodes_of tree) storage number procedure heading sound.parameters sound.frames found is) in
+        (has_frame typed (nodes_of tree) storage number procedure heading sound.parameters
+        sound.frames found is) in
         omega (arith, plan.parameter_count)
     few_in_frame list code kinds.Static same =
-        let none = code.frame.empty (λ other. let never : ⊥ = cc in never) in omega (arith, none.parameter_count)
+        let none = code.frame.empty (λ other. let never : ⊥ = cc in never) in
+        omega (arith, none.parameter_count)
     few_in_frame list code (kinds.External name) same =
-        let none = code.frame.empty (λ other. let never : ⊥ = cc in never) in omega (arith, none.parameter_count)
+        let none = code.frame.empty (λ other. let never : ⊥ = cc in never) in
+        omega (arith, none.parameter_count)
 
     pub few_parameters :
         (list : List Item) (code : IsProcedureCode tree called number procedure list)
@@ -74,107 +81,200 @@ module _
     few_parameters list code =
         let few = few_in_frame list code procedure.kind refl in omega (arith, few, as_many, has.count)
 
+-- a constant refers to no label
+address_goes : (ok : ℕ → Type 0) (place : Place) → ItemsGo ok (address_items place)
+address_goes ok (places.Number number) = (tt, (tt, tt))
+address_goes ok other = (tt, tt)
+
+content_goes : (ok : ℕ → Type 0) (content : Content) → ItemsGo ok (content_items content)
+content_goes ok (contents.Byte value) = (tt, tt)
+content_goes ok (contents.Word place) = address_goes ok place
+content_goes ok (contents.Gap count) = (tt, tt)
+
+contents_go : (ok : ℕ → Type 0) (list : List Content) → ItemsGo ok (contents_items list)
+contents_go ok [] = tt
+contents_go ok (content ∷ others) =
+    items_both ok (content_items content) (contents_items others) (content_goes ok content)
+    (contents_go ok others)
+
+-- no label of a body has two numbers
+body_differs :
+    (typed : TypedModule) (procedure : TypedProcedure) (index : ℕ)
+    → IsSound typed
+    → slice_get typed.procedures index ≡ Some procedure
+    → LabelsDiffer (labels_numbered_in_list procedure.body)
+body_differs typed procedure index sound there =
+    procedure_label_has_one_number typed index procedure sound.jumps
+    (holds_for_item (λ (given : TypedProcedure). BodyIsSound given.body) typed.procedures index procedure
+    sound.jumps.procedures there).stands there
+
+-- code takes at most `most` bytes, and refers only to these labels
+pub record CodeMeasured (ok : ℕ → Type 0) (list : List Item) (most : ℕ) : Type 0 where
+  pub small : size_of_items list ≤ most
+  pub goes : ItemsGo ok list
+
+no_code : (ok : ℕ → Type 0) (list : List Item) (most : ℕ) → list ≡ [] → CodeMeasured ok list most
+no_code ok list most is =
+    subst (λ (items : List Item). CodeMeasured ok items most) (sym is)
+    (record { small = omega arith; goes = tt })
+
 module _
     (typed : TypedModule) (storage : Storage) (tree : TreeModule) (called : List Bool) (sound : IsSound typed)
-    (lowered : IsLowered typed storage tree)
+    (lowered : IsLowered typed storage tree) (ok : ℕ → Type 0)
+    (knows : (body : Body) → body.tree.now ≡ tree → Knows ok (site_of body) called)
   where
+    abbrev Own : List Item → Type 0
+    Own list = (label : ℕ) → ItemsBind label list → ok label
+
+    -- the ground of a body where bytes and labels count
+    abbrev ground_of : (body : Body) → body.tree.now ≡ tree → Within → (level : ℕ) → BodyGround
+    ground_of body tree_is within level = record {
+      body = body;
+      called = called;
+      source = source_of typed storage body.tree.now sound.parameters
+          (subst (λ (one : TreeModule). IsLowered typed storage one) (sym tree_is) lowered) within;
+      level = level;
+      ok = ok;
+      counts = Unit {0};
+      pushes = ⊥;
+      knows = λ c. knows body tree_is;
+    }
+
     -- the statements of a body
     body_fits :
         (body : Body) (within : Within) (procedure : TreeProcedure) (heading : TypedProcedure)
-        → body.tree.now ≡ tree
+        → (tree_is : body.tree.now ≡ tree)
         → body.frame.now.parameter_count ≤ 16
         → body.frame.now.variable_bytes ≤ FRAME_LIMIT
         → HasBody (nodes_of tree) storage procedure heading
         → TypesHoldInList typed within heading.body
         → BodyIsSound heading.body
-        → ListFits body called procedure.body heading.body
-    body_fits body within procedure heading tree_is few small has types jumps =
-        (whole_list_fits body called
-        (source_of typed storage body.tree.now sound.parameters
-        (subst (λ (one : TreeModule). IsLowered typed storage one) (sym tree_is) lowered) within)
-        (2 + 2 * height_of_list heading.body) (Unit {0}) (λ c. few) small (labels_numbered_in_list heading.body)
-        procedure.body
-        (subst (λ (one : TreeModule). IsList (nodes_of one) storage (labels_numbered_in_list heading.body)
-        (length (nodes_of tree).statements) procedure.body heading.body) (sym tree_is) has.body)
-        types (λ c. jumps.stands) (omega arith)).fit tt
+        → LabelsDiffer (labels_numbered_in_list heading.body)
+        → ListFootprint (ground_of body tree_is within (2 + 2 * height_of_list heading.body))
+        procedure.body heading.body
+    body_fits body within procedure heading tree_is few small has types jumps differ =
+        let labels = labels_numbered_in_list heading.body in
+        let at = ground_of body tree_is within (2 + 2 * height_of_list heading.body) in
+        whole_list_fits at (λ c. few) small labels (λ c. differ) procedure.body []
+        (subst (λ (one : TreeModule). IsList (nodes_of one) storage labels
+        (length (nodes_of tree).statements) procedure.body
+        heading.body) (sym tree_is) has.body)
+        types (λ c. jumps.stands) (λ c. jumps.closed) (none_around at labels) (omega arith)
 
     -- the main program
-    main_within :
+    main_measured :
         (start : ℕ) (is_there : Bool) (list : List Item)
         → IsCodeOfMain tree called start is_there list
-        → size_of_items list ≤ 4 + bytes_for (weight_of_list typed.main.body)
-    main_within start false list is = let size = ap size_of_items is in omega (arith, size)
-    main_within start true list is =
+        → Own list
+        → CodeMeasured ok list (4 + bytes_for (weight_of_list typed.main.body))
+    main_measured start false list is own = no_code ok list _ is
+    main_measured start true list is own =
         let size = ap size_of_items is.list_is in
         let statements =
-        (body_fits is.body WithinMain tree.main typed.main is.tree_is (omega (arith, is.frame.parameter_count))
-        (omega (arith, is.frame.variable_bytes)) lowered.main
-        sound.types.main sound.jumps.main).fits is.written in
-        omega (arith, size, size_in_parts is.statements (items.Plain Hlt ∷ []), statements)
+        (body_fits is.body WithinMain tree.main typed.main is.tree_is
+        (omega (arith, is.frame.parameter_count))
+        (omega (arith, is.frame.variable_bytes)) lowered.main sound.types.main sound.jumps.main
+        (main_label_has_one_number typed sound.jumps)).fits is.written
+        (λ label bound c. own label
+        (subst (λ given. ItemsBind label given) (sym is.list_is)
+        (inr (inr (bound_first label is.statements (items.Plain Hlt ∷ []) bound))))) in
+        record {
+          small = omega
+              (arith, size, size_in_parts is.statements (items.Plain Hlt ∷ []), statements.small tt);
+          goes = subst (λ given. ItemsGo ok given) (sym is.list_is)
+              (tt, (tt, items_both ok is.statements (items.Plain Hlt ∷ []) (statements.goes tt) (tt, tt)));
+        }
 
     -- a procedure
-    end_within :
+    end_measured :
         (body : Body) (here : Here) (is_reached : Bool) (list : List Item)
-        → Source body.tree.now
+        (tree_is : body.tree.now ≡ tree) (within : Within)
         → body.frame.now.variable_bytes ≤ FRAME_LIMIT
         → IsEndCode body called here is_reached list
-        → size_of_items list ≤ 33 + 3 * body.frame.now.parameter_count
-    end_within body here true list source small is = ((end_fits body called source 0 (Unit {0}) small).fit tt).fits is.1
-    end_within body here false list source small is = let size = ap size_of_items is in omega (arith, size)
+        → Own list
+        → CodeMeasured ok list (33 + 3 * body.frame.now.parameter_count)
+    end_measured body here true list tree_is within small is own =
+        let ends =
+        (end_fits (ground_of body tree_is within 0) small).fits is.1 (λ label bound c. own label bound) in
+        record { small = ends.small tt; goes = ends.goes tt }
+    end_measured body here false list tree_is within small is own = no_code ok list _ is
 
     module _
         (number : ℕ) (procedure : TreeProcedure) (heading : TypedProcedure)
         (found : slice_get typed.procedures number ≡ Some heading)
         (is : IsProcedure typed (nodes_of tree) storage number procedure heading)
       where
-        own_within :
+        own_measured :
             (list : List Item)
             → IsProcedureCode tree called number procedure list
-            → size_of_items list ≤ bytes_for (weight_of_procedure heading)
-        own_within list code =
-            let few = few_in_frame typed storage tree called sound number procedure heading found is list code procedure.kind refl in
+            → Own list
+            → CodeMeasured ok list (bytes_for (weight_of_procedure heading))
+        own_measured list code own =
+            let few =
+            few_in_frame typed storage tree called sound number procedure heading found is list code
+            procedure.kind refl in
             let many = as_many typed storage tree called sound number procedure heading found is in
             let size = ap size_of_items code.list_is in
-            let begins = (entry_fits code.body code.first).fits code.begins in
+            let after = code.statements ++ code.ending in
+            let inside : (label : ℕ) → ItemsBind label (code.beginning ++ after) → ok label =
+            λ label bound. own label
+            (subst (λ given. ItemsBind label given) (sym code.list_is) (inr bound)) in
+            let within = WithinProcedure number heading.result in
+            let begins =
+            (entry_fits {at = ground_of code.body code.tree_is within 0} (λ none. none) code.first).fits
+            code.begins
+            (λ label bound c. inside label (bound_first label code.beginning after bound)) in
             let given = ap (λ (one : TreeProcedure). length one.parameters.items) code.procedure_is in
             let small =
-            frame_is_small typed storage tree number procedure heading code.body sound.frames sound.parameters found is
+            frame_is_small typed storage tree number procedure heading code.body sound.frames
+            sound.parameters found is
             code.frame in
             let statements =
-            (body_fits code.body (WithinProcedure number heading.result) procedure heading code.tree_is
+            (body_fits code.body within procedure heading code.tree_is
             (few_parameters typed storage tree called sound number procedure heading found is list code)
             small is.has_body
-            (numbered_at (TypesHoldInProcedure typed) typed.procedures number heading sound.types.procedures found)
+            (numbered_at (TypesHoldInProcedure typed) typed.procedures number heading
+            sound.types.procedures found)
             (holds_for_item (λ (one : TypedProcedure). BodyIsSound one.body) typed.procedures number heading
-            sound.jumps.procedures found)).fits code.written in
+            sound.jumps.procedures found) (body_differs typed heading number sound found)).fits code.written
+            (λ label bound c. inside label
+            (bound_after label code.beginning after (bound_first label code.statements code.ending bound))) in
             let ends =
-            end_within code.body code.last procedure.reaches_its_end code.ending
-            (source_of typed storage code.body.tree.now sound.parameters
-            (subst (λ (one : TreeModule). IsLowered typed storage one) (sym code.tree_is) lowered)
-            (WithinProcedure number heading.result)) small code.ends in
-            omega (
-              arith,
-              size,
-              size_in_parts code.beginning (code.statements ++ code.ending),
-              size_in_parts code.statements code.ending,
-              begins,
-              given,
-              statements,
-              ends,
-              few,
-              many,
-            )
+            end_measured code.body code.last procedure.reaches_its_end code.ending code.tree_is
+            within small code.ends
+            (λ label bound. inside label
+            (bound_after label code.beginning after (bound_after label code.statements code.ending bound))) in
+            record {
+              small = omega (
+                arith,
+                size,
+                size_in_parts code.beginning after,
+                size_in_parts code.statements code.ending,
+                begins.small tt,
+                given,
+                statements.small tt,
+                ends.small,
+                few,
+                many,
+              );
+              goes = subst (λ given. ItemsGo ok given) (sym code.list_is) (
+                tt,
+                items_both ok code.beginning after (begins.goes tt)
+                    (items_both ok code.statements code.ending (statements.goes tt) ends.goes),
+              );
+            }
 
-        code_within :
+        code_measured :
             (kind : ProcedureKind) (list : List Item)
             → IsCodeOf tree called number procedure kind list
-            → size_of_items list ≤ bytes_for (weight_of_procedure heading)
-        code_within kinds.Reentrant list code = own_within list code
-        code_within kinds.Static list code = own_within list code
-        code_within (kinds.External name) list none = let size = ap size_of_items none in omega (arith, size)
+            → Own list
+            → CodeMeasured ok list (bytes_for (weight_of_procedure heading))
+        code_measured kinds.Reentrant list code own = own_measured list code own
+        code_measured kinds.Static list code own = own_measured list code own
+        code_measured (kinds.External name) list none own = no_code ok list _ none
 
     -- procedures one after another
-    procedures_within :
+    procedures_measured :
         (number : ℕ) (procedures : List TreeProcedure) (headings : List TypedProcedure) (list : List Item)
         → length procedures ≡ length headings
         → ((index : ℕ) (procedure : TreeProcedure) (heading : TypedProcedure)
@@ -183,60 +283,91 @@ module _
         → (slice_get tree.procedures.items (number + index) ≡ Some procedure)
         × (slice_get typed.procedures (number + index) ≡ Some heading))
         → AreCodeOf tree called number procedures list
-        → size_of_items list ≤ bytes_for (sum_by weight_of_procedure headings)
-    procedures_within number [] headings list same there are = let size = ap size_of_items are in omega (arith, size)
-    procedures_within number (procedure ∷ procedures) [] list same there are = absurd (omega (arith, same))
-    procedures_within number (procedure ∷ procedures) (heading ∷ headings) list same there are =
+        → Own list
+        → CodeMeasured ok list (bytes_for (sum_by weight_of_procedure headings))
+    procedures_measured number [] headings list same there are own = no_code ok list _ are
+    procedures_measured number (procedure ∷ procedures) [] list same there are own =
+        absurd (omega (arith, same))
+    procedures_measured number (procedure ∷ procedures) (heading ∷ headings) list same there are own =
         let size = ap size_of_items are.4 in
+        let inside : (label : ℕ) → ItemsBind label (are.0 ++ are.1) → ok label =
+        λ label bound. own label (subst (λ given. ItemsBind label given) (sym are.4) bound) in
         let here = there 0 procedure heading refl refl in
         let at : number + 0 ≡ number = omega arith in
         let tree_there =
         subst (λ (n : ℕ). slice_get tree.procedures.items n ≡ Some procedure) at here.0 in
         let typed_there = subst (λ (n : ℕ). slice_get typed.procedures n ≡ Some heading) at here.1 in
         let one =
-        code_within number procedure heading typed_there (lowered.procedures number procedure heading tree_there typed_there)
-        procedure.kind are.0 are.2 in
+        code_measured number procedure heading typed_there
+        (lowered.procedures number procedure heading tree_there typed_there)
+        procedure.kind are.0 are.2 (λ label bound. inside label (bound_first label are.0 are.1 bound)) in
         let rest =
-        procedures_within (suc number) procedures headings are.1 (omega (arith, same))
+        procedures_measured (suc number) procedures headings are.1 (omega (arith, same))
         (λ index one other one_there other_there.
         let next = there (suc index) one other one_there other_there in
         let further : number + suc index ≡ suc number + index = omega arith in (
           subst (λ (n : ℕ). slice_get tree.procedures.items n ≡ Some one) further next.0,
           subst (λ (n : ℕ). slice_get typed.procedures n ≡ Some other) further next.1,
         ))
-        are.3 in
-        omega (arith, size, size_in_parts are.0 are.1, one, rest, sum_by-cons weight_of_procedure heading headings)
+        are.3 (λ label bound. inside label (bound_after label are.0 are.1 bound)) in
+        record {
+          small = omega (
+            arith,
+            size,
+            size_in_parts are.0 are.1,
+            one.small,
+            rest.small,
+            sum_by-cons weight_of_procedure heading headings,
+          );
+          goes = subst (λ given. ItemsGo ok given) (sym are.4) (items_both ok are.0 are.1 one.goes rest.goes);
+        }
 
     -- the constants, the main program and the procedures
-    own_code_within :
+    pub own_code_measured :
         (start : ℕ) (list : List Item)
         → IsOwnCode tree called start list
-        → size_of_items list ≤ constant_bytes typed + 4 + bytes_for (weight_of typed)
+        → Own list
+        → CodeMeasured ok list (constant_bytes typed + 4 + bytes_for (weight_of typed))
     unfolding weight_of
-    own_code_within start list is =
+    own_code_measured start list is own =
         let size = ap size_of_items is.list_is in
-        let constants : size_of_items (contents_items tree.constants.items) ≤ constant_bytes typed =
+        let constant_items = contents_items tree.constants.items in
+        let inside : (label : ℕ) → ItemsBind label (constant_items ++ (is.main ++ is.procedures)) → ok label =
+        λ label bound. own label (subst (λ given. ItemsBind label given) (sym is.list_is) bound) in
+        let constants : size_of_items constant_items ≤ constant_bytes typed =
         subst (λ (n : ℕ). n ≤ constant_bytes typed)
         (ap (λ given. size_of_items (contents_items given)) (sym lowered.constants))
         (constants_fit typed tree.homes.items sound.storable) in
-        let main = main_within start (has_main tree) is.main is.main_is in
+        let main =
+        main_measured start (has_main tree) is.main is.main_is
+        (λ label bound. inside label
+        (bound_after label constant_items (is.main ++ is.procedures)
+        (bound_first label is.main is.procedures bound))) in
         let procedures =
-        procedures_within 0 tree.procedures.items typed.procedures is.procedures lowered.procedure_count
+        procedures_measured 0 tree.procedures.items typed.procedures is.procedures lowered.procedure_count
         (λ index procedure heading tree_there typed_there.
         let none : 0 + index ≡ index = omega arith in (
           subst (λ (n : ℕ). slice_get tree.procedures.items n ≡ Some procedure) (sym none) tree_there,
           subst (λ (n : ℕ). slice_get typed.procedures n ≡ Some heading) (sym none) typed_there,
         ))
-        is.procedures_are in
-        omega (
-          arith,
-          size,
-          size_in_parts (contents_items tree.constants.items) (is.main ++ is.procedures),
-          size_in_parts is.main is.procedures,
-          constants,
-          main,
-          procedures,
-        )
+        is.procedures_are
+        (λ label bound. inside label
+        (bound_after label constant_items (is.main ++ is.procedures)
+        (bound_after label is.main is.procedures bound))) in
+        record {
+          small = omega (
+            arith,
+            size,
+            size_in_parts constant_items (is.main ++ is.procedures),
+            size_in_parts is.main is.procedures,
+            constants,
+            main.small,
+            procedures.small,
+          );
+          goes = subst (λ given. ItemsGo ok given) (sym is.list_is)
+              (items_both ok constant_items (is.main ++ is.procedures) (contents_go ok tree.constants.items)
+              (items_both ok is.main is.procedures main.goes procedures.goes));
+        }
 
 -- the code of a module as it was written
 pub module_fits :
@@ -248,7 +379,10 @@ pub module_fits :
 unfolding code_bound
 module_fits typed storage tree start written sound lowered is =
     let size = ap size_of_items is.items_are in
-    let own = own_code_within typed storage tree is.called sound lowered start is.own is.own_is in
+    let own =
+    (own_code_measured typed storage tree is.called sound lowered anywhere
+    (λ body tree_is. knows_anywhere (site_of body) is.called) start is.own is.own_is
+    (λ label bound. tt)).small in
     let listed = routines_within tree is.called written all_routines is.listed is.listed_are in
     omega (
       arith,

@@ -7,7 +7,8 @@ with_word_size :
     (form : WordForm) (found : Option Reference) (made : Item)
     → option_map (items.WithWord form) found ≡ Some made
     → size_of made ≡ 3
-with_word_size form (Some reference) made is = ap size_of (sym (same_Some (items.WithWord form reference) made is))
+with_word_size form (Some reference) made is =
+    ap size_of (sym (same_Some (items.WithWord form reference) made is))
 with_word_size form None made is = let never : ⊥ = cc in absurd never
 
 address_size :
@@ -19,10 +20,12 @@ mark_size : (found : Option ℕ) (made : Item) → option_map items.Mark found �
 mark_size (Some label) made is = ap size_of (sym (same_Some (items.Mark label) made is))
 mark_size None made is = let never : ⊥ = cc in absurd never
 
-item_size : (written : Written) (item made : Item) → numbered_item written item ≡ Some made → size_of made ≡ size_of item
+item_size : (written : Written) (item made : Item) → numbered_item written item ≡ Some made
+    → size_of made ≡ size_of item
 item_size written (items.WithWord form reference) made is =
     with_word_size form (numbered_reference written reference) made is
-item_size written (items.Address reference) made is = address_size (numbered_reference written reference) made is
+item_size written (items.Address reference) made is =
+    address_size (numbered_reference written reference) made is
 item_size written (items.Mark label) made is = mark_size (entry written.labels label) made is
 item_size written item made is = ap size_of (sym (same_Some item made is))
 

@@ -1,10 +1,9 @@
 -- The returns of procedures.
-use Rattle.measure_laws.proofs.Prelude.{◌≡◌, ℕ, zero, suc, ◌+◌, ◌-◌, ◌*◌, ◌/◌, ◌%◌, ◌≤◌, nat_eq, nat_le, min, Bool, true, false, if◌then◌else◌, List, [], ◌∷◌, ◌++◌, replicate, Option, Some, None, refl, sym, ap, subst, ◌∙◌, arith, leb-true, Instr, Dad, Inx, Lxi, Pchl, Pop, Push, Ret, Sphl, Xchg, Hl, Sp, StackBc, StackDe, StackHl, Item, ScalarType, Byte, Address, FRAME_LIMIT, ProcedureKind, Facts, clear_a, Site, AreWritten, NoneWritten, PlainWritten, Body, Planned, plain, Here, AreCarriedOut, StepCarriedOut, carried_steps, drop_steps, end_steps, kept_steps, pops_steps, return_of_frame_steps, return_over_any_steps, return_over_steps, return_steps, return_steps_by, zero_result_steps, BytesDropped, FindsRoom, StepsRun, Source, PlanMeasured, PlanFootprint}
+use Rattle.measure_laws.proofs.Prelude.{◌≡◌, ℕ, zero, suc, ◌+◌, ◌-◌, ◌*◌, ◌/◌, ◌%◌, ◌≤◌, nat_eq, nat_le, min, Bool, true, false, if◌then◌else◌, List, [], ◌∷◌, ◌++◌, replicate, Option, Some, None, refl, sym, ap, subst, ◌∙◌, arith, leb-true, Instr, Dad, Inx, Lxi, Pchl, Pop, Push, Ret, Sphl, Xchg, Hl, Sp, StackBc, StackDe, StackHl, Item, ScalarType, Byte, Address, FRAME_LIMIT, ProcedureKind, Facts, clear_a, Site, AreWritten, NoneWritten, PlainWritten, Body, Planned, plain, Here, AreCarriedOut, StepCarriedOut, carried_steps, drop_steps, end_steps, kept_steps, pops_steps, return_of_frame_steps, return_over_any_steps, return_over_steps, return_steps, return_steps_by, zero_result_steps, BytesDropped, FindsRoom, BodyGround, ItemsMeasured, PlanMeasured, PlanFootprint}
 use Rattle.asm8080.specs.declared.item.Item.TheVariants as items
 use Rattle.treecode.specs.declared.procedure.ProcedureKind.TheVariants as kinds
 use Rattle.steps8080.specs.declared.step.Step.TheVariants as steps
-use Rattle.measure_laws.proofs.Bounds.Pieces as pieces
-use Rattle.measure_laws.proofs.{Bounds.Planning.{both_fit, code_fits, less_fits, none_fit, plains_fit, then_fit}, Heights.Planning.{none_room}}
+use Rattle.measure_laws.proofs.{Bounds.Fitting.{both_fit, either_fit, less_fits, none_fit, none_measured, then_fit}, Bounds.Pieces.{bare_fits}, Bounds.Planning.{code_fits, plains_fit}}
 
 -- an instruction with others after it
 record Followed
@@ -44,21 +43,19 @@ plain_first i others (StepCarriedOut {more = more} ok written rest) = record {
 }
 
 -- steps that drop bytes
-record Drops
-    (body : Body) (called : List Bool) (source : Source body.tree.now) (level : ℕ) (counts : Type 0) (free : ℕ)
-    (planned : List Planned) (most : ℕ) : Type 0 where
+record Drops (at : BodyGround) (free : ℕ) (planned : List Planned) (most : ℕ) : Type 0 where
   pub after : ℕ
   pub more : free ≤ after
-  pub fit : PlanMeasured body called source level counts free planned after most
+  pub fit : PlanMeasured at free planned after most
 
-module _ (body : Body) (called : List Bool) (source : Source body.tree.now) (level : ℕ) (counts : Type 0) where
+module _ (at : BodyGround) where
   repeated_drops :
       (i : Instr) (bytes : ℕ)
-      → ((free : ℕ) → PlanMeasured body called source level counts free (plain i ∷ []) (free + bytes) 3)
+      → ((free : ℕ) → PlanMeasured at free (plain i ∷ []) (free + bytes) 3)
       → (count free : ℕ)
-      → Drops body called source level counts free (replicate count (plain i)) (3 * count)
+      → Drops at free (replicate count (plain i)) (3 * count)
   repeated_drops i bytes one zero free =
-      record { after = free; more = omega arith; fit = less_fits none_fit (omega arith) }
+      record { after = free; more = omega arith; fit = none_fit }
   repeated_drops i bytes one (suc count) free =
       let rest = repeated_drops i bytes one count (free + bytes) in
       record {
@@ -68,7 +65,7 @@ module _ (body : Body) (called : List Bool) (source : Source body.tree.now) (lev
       }
 
   -- drops words from the stack
-  pops_drop : (words free : ℕ) → Drops body called source level counts free (pops_steps words) (3 * words)
+  pops_drop : (words free : ℕ) → Drops at free (pops_steps words) (3 * words)
   unfolding pops_steps
   pops_drop words free =
       repeated_drops (Pop StackBc) 2 (λ free. code_fits (steps.Plain (Pop StackBc)) refl refl) words free
@@ -77,37 +74,37 @@ module _ (body : Body) (called : List Bool) (source : Source body.tree.now) (lev
   sphl_room :
       {here last : Here} {waiting : Option Facts} {list : List Item} (free bytes : ℕ)
       → bytes ≤ FRAME_LIMIT + 2
-      → AreCarriedOut body called here waiting
+      → at.pushes
+      → AreCarriedOut at.body at.called here waiting
       (plain (Lxi Hl bytes) ∷ plain (Dad Sp) ∷ plain Sphl ∷ []) list last
-      → FindsRoom body.tree.now level free list (free + bytes)
-  sphl_room free bytes small done =
+      → FindsRoom at.body.tree.now at.level free list (free + bytes)
+  sphl_room free bytes small p done =
       let first = plain_first (Lxi Hl bytes) (plain (Dad Sp) ∷ plain Sphl ∷ []) done in
       let second = plain_first (Dad Sp) (plain Sphl ∷ []) first.rest in
       let third = plain_first Sphl [] second.rest in
-      subst (λ (list : List Item). FindsRoom body.tree.now level free list (free + bytes))
+      subst (λ (list : List Item). FindsRoom at.body.tree.now at.level free list (free + bytes))
       (sym
       (first.same
       ∙ ap (λ (list : List Item). items.Plain (Lxi Hl bytes) ∷ list)
       (second.same ∙ ap (λ (list : List Item). items.Plain (Dad Sp) ∷ list) third.same)))
-      (BytesDropped small (none_room third.rest))
-
-  sphl_run :
-      (free bytes : ℕ) → bytes ≤ FRAME_LIMIT + 2
-      → StepsRun body called level free (plain (Lxi Hl bytes) ∷ plain (Dad Sp) ∷ plain Sphl ∷ []) (free + bytes)
-  sphl_run free bytes small = record { room = λ done. sphl_room free bytes small done }
+      (BytesDropped small ((none_measured {at = at} {most = 0} third.rest).room p))
 
   sphl_fits :
       (free bytes : ℕ) → bytes ≤ FRAME_LIMIT + 2
-      → PlanMeasured body called source level counts free
-      (plain (Lxi Hl bytes) ∷ plain (Dad Sp) ∷ plain Sphl ∷ []) (free + bytes) 9
+      → PlanMeasured at free (plain (Lxi Hl bytes) ∷ plain (Dad Sp) ∷ plain Sphl ∷ []) (free + bytes) 9
   sphl_fits free bytes small = record {
-    fit = λ c. pieces.plains_fit (plain (Lxi Hl bytes) ∷ plain (Dad Sp) ∷ plain Sphl ∷ []) refl;
-    run = sphl_run free bytes small;
+    fits = λ done own.
+        let bare : ItemsMeasured (record at { pushes = ⊥ }) free _ free 9 =
+        (then_fit (bare_fits (λ p. p) (steps.Plain (Lxi Hl bytes)) refl tt)
+        (then_fit (bare_fits (λ p. p) (steps.Plain (Dad Sp)) refl tt)
+        (bare_fits (λ p. p) (steps.Plain Sphl) refl tt))).fits
+        done own in
+        record { room = λ p. sphl_room free bytes small p done; small = bare.small; goes = bare.goes };
   }
 
   kept_fits :
       (free bytes : ℕ) (result : Option ScalarType) → bytes ≤ FRAME_LIMIT + 2
-      → PlanMeasured body called source level counts free
+      → PlanMeasured at free
       (kept_steps result (Lxi Hl bytes ∷ Dad Sp ∷ Sphl ∷ [])) (free + bytes) 15
   unfolding kept_steps
   kept_fits free bytes (Some Address) small =
@@ -118,14 +115,16 @@ module _ (body : Body) (called : List Bool) (source : Source body.tree.now) (lev
 
   -- drops bytes from the stack
   drop_by_drops :
-      (free bytes : ℕ) (result : Option ScalarType) (few : Bool) → nat_le bytes 12 ≡ few → bytes ≤ FRAME_LIMIT + 2
-      → Drops body called source level counts free
+      (free bytes : ℕ) (result : Option ScalarType) (few : Bool) → nat_le bytes 12 ≡ few
+      → bytes ≤ FRAME_LIMIT + 2
+      → Drops at free
       (if few then pops_steps (bytes / 2) ++ replicate (bytes % 2) (plain (Inx Sp))
       else kept_steps result (Lxi Hl bytes ∷ Dad Sp ∷ Sphl ∷ [])) 21
   drop_by_drops free bytes result true is small =
       let words = pops_drop (bytes / 2) free in
       let odd =
-      repeated_drops (Inx Sp) 1 (λ free. code_fits (steps.Plain (Inx Sp)) refl refl) (bytes % 2) words.after in
+      repeated_drops (Inx Sp) 1 (λ free. code_fits (steps.Plain (Inx Sp)) refl refl)
+      (bytes % 2) words.after in
       let few = leb-true bytes 12 is in
       record {
         after = odd.after;
@@ -140,15 +139,15 @@ module _ (body : Body) (called : List Bool) (source : Source body.tree.now) (lev
 
   drop_drops :
       (free bytes : ℕ) (result : Option ScalarType) → bytes ≤ FRAME_LIMIT + 2
-      → Drops body called source level counts free (drop_steps bytes result) 21
+      → Drops at free (drop_steps bytes result) 21
   unfolding drop_steps
   drop_drops free bytes result small = drop_by_drops free bytes result (nat_le bytes 12) refl small
 
   -- a return over words, if at least as many bytes are free as at the level
   elsewhere_fits :
-      (words free : ℕ) → level ≤ free
-      → PlanMeasured body called source level counts free
-      (plain (Pop StackHl) ∷ (pops_steps words ++ (plain Pchl ∷ []))) level (9 + 3 * words)
+      (words free : ℕ) → at.level ≤ free
+      → PlanMeasured at free
+      (plain (Pop StackHl) ∷ (pops_steps words ++ (plain Pchl ∷ []))) at.level (9 + 3 * words)
   elsewhere_fits words free enough =
       let dropped = pops_drop words (free + 2) in
       less_fits
@@ -157,8 +156,8 @@ module _ (body : Body) (called : List Bool) (source : Source body.tree.now) (lev
       (omega arith)
 
   return_over_fits :
-      (words free : ℕ) (result : Option ScalarType) → level ≤ free
-      → PlanMeasured body called source level counts free (return_over_steps words result) level (9 + 3 * words)
+      (words free : ℕ) (result : Option ScalarType) → at.level ≤ free
+      → PlanMeasured at free (return_over_steps words result) at.level (9 + 3 * words)
   unfolding return_over_steps
   return_over_fits words free (Some Address) enough =
       let dropped = pops_drop words (free + 2) in
@@ -172,16 +171,12 @@ module _ (body : Body) (called : List Bool) (source : Source body.tree.now) (lev
   return_over_fits words free None enough = elsewhere_fits words free enough
 
   return_over_any_fits :
-      (words free : ℕ) (result : Option ScalarType) → level ≤ free
-      → PlanMeasured body called source level counts free (return_over_any_steps words result) level (9 + 3 * words)
+      (words free : ℕ) (result : Option ScalarType) → at.level ≤ free
+      → PlanMeasured at free (return_over_any_steps words result) at.level (9 + 3 * words)
   unfolding return_over_any_steps
-  return_over_any_fits words free result enough = by (nat_eq words 0)
-    where
-      by : (none : Bool)
-          → PlanMeasured body called source level counts free
-          (if none then plain Ret ∷ [] else return_over_steps words result) level (9 + 3 * words)
-      by true = less_fits (code_fits (steps.Plain Ret) refl refl) (omega arith)
-      by false = return_over_fits words free result enough
+  return_over_any_fits words free result enough =
+      either_fit (nat_eq words 0) (less_fits (code_fits (steps.Plain Ret) refl refl) (omega arith))
+      (return_over_fits words free result enough)
 
   -- a return
   frame_fits :
@@ -190,38 +185,38 @@ module _ (body : Body) (called : List Bool) (source : Source body.tree.now) (lev
   frame_fits bytes true small = omega (arith, small)
   frame_fits bytes false small = omega (arith, small)
 
-  module _ (small : body.frame.now.variable_bytes ≤ FRAME_LIMIT) where
+  module _ (small : at.body.frame.now.variable_bytes ≤ FRAME_LIMIT) where
     return_by_fits :
         (kind : ProcedureKind)
-        → PlanFootprint body called source level counts (return_steps_by kind body)
-        (30 + 3 * body.frame.now.parameter_count)
+        → PlanFootprint at (return_steps_by kind at.body)
+        (30 + 3 * at.body.frame.now.parameter_count)
     unfolding return_steps_by return_of_frame_steps
     return_by_fits kinds.Reentrant =
-        let count = body.frame.now.parameter_count in
+        let count = at.body.frame.now.parameter_count in
         let dropped =
-        drop_drops level (min (body.frame.now.variable_bytes + (if nat_eq count 0 then 0 else 2)) 65535)
-        body.procedure.now.result (frame_fits body.frame.now.variable_bytes (nat_eq count 0) small) in
+        drop_drops at.level (min (at.body.frame.now.variable_bytes + (if nat_eq count 0 then 0 else 2)) 65535)
+        at.body.procedure.now.result (frame_fits at.body.frame.now.variable_bytes (nat_eq count 0) small) in
         less_fits
         (both_fit dropped.fit
-        (return_over_any_fits (count - 1) dropped.after body.procedure.now.result dropped.more))
+        (return_over_any_fits (count - 1) dropped.after at.body.procedure.now.result dropped.more))
         (omega arith)
-    return_by_fits kind = less_fits (code_fits (steps.Plain Ret) refl refl) (omega arith)
+    return_by_fits other = less_fits (code_fits (steps.Plain Ret) refl refl) (omega arith)
 
     pub return_fits :
-        PlanFootprint body called source level counts (return_steps body)
-        (30 + 3 * body.frame.now.parameter_count)
-    return_fits = return_by_fits body.procedure.now.kind
+        PlanFootprint at (return_steps at.body)
+        (30 + 3 * at.body.frame.now.parameter_count)
+    return_fits = return_by_fits at.body.procedure.now.kind
 
     -- the end
     zero_fits :
-        (result : Option ScalarType) → PlanFootprint body called source level counts (zero_result_steps result) 3
+        (result : Option ScalarType) → PlanFootprint at (zero_result_steps result) 3
     unfolding zero_result_steps
-    zero_fits (Some Byte) = plains_fit (plain clear_a ∷ []) refl
-    zero_fits (Some Address) = plains_fit (plain (Lxi Hl 0) ∷ []) refl
-    zero_fits None = less_fits none_fit (omega arith)
+    zero_fits (Some Byte) = plains_fit (plain clear_a ∷ []) refl tt
+    zero_fits (Some Address) = plains_fit (plain (Lxi Hl 0) ∷ []) refl tt
+    zero_fits None = none_fit
 
     pub end_fits :
-        PlanFootprint body called source level counts (end_steps body)
-        (33 + 3 * body.frame.now.parameter_count)
+        PlanFootprint at (end_steps at.body)
+        (33 + 3 * at.body.frame.now.parameter_count)
     unfolding end_steps
-    end_fits = less_fits (both_fit (zero_fits body.procedure.now.result) return_fits) (omega arith)
+    end_fits = less_fits (both_fit (zero_fits at.body.procedure.now.result) return_fits) (omega arith)

@@ -85,7 +85,8 @@ location_fits_by :
     → Footprint at free (elim location [
       | locations.Static place ↦ steps.Word LoadHl place ∷ []
       | locations.Frame variable offset ↦
-          frame_word_steps site (locations.Frame variable offset) (distance site variable offset pushed) pushed
+          frame_word_steps site (locations.Frame variable offset)
+          (distance site variable offset pushed) pushed
     ]) free 8
 location_fits_by site (locations.Static place) pushed = counted refl (omega arith)
 location_fits_by site (locations.Frame variable offset) pushed =
@@ -128,7 +129,8 @@ second_footprint {at = at} {free = free} second pushed is =
     by_test (keeps at.site second.index).de
     (after_plain (114 + 128 * beside at.site second.index) refl
     (joined (113 + 128 * beside at.site second.index) 1
-    (product_footprint second.index second.stride pushed (operand_from_below is)) (counted refl (omega arith)) (omega arith))
+    (product_footprint second.index second.stride pushed (operand_from_below is))
+    (counted refl (omega arith)) (omega arith))
     (omega arith))
     (counted (two_free is, kept.go) (omega (arith, kept.small)))
   where
@@ -158,10 +160,12 @@ computed_in parts = parts.computed
 split_sum_is :
     (at : Ground) (free : ℕ) (subscript : Subscript) (operator : BinaryOperator)
     (left : ExpressionNumber) (found : Option ℕ)
-    → IsIndexOf at free (1 + beside at.site subscript.index) (record { index = left; stride = subscript.stride })
+    → IsIndexOf at free (1 + beside at.site subscript.index)
+    (record { index = left; stride = subscript.stride })
     → IsBelow at free subscript.index
     → IfSome
-    (unwrap_or (option_and_then (λ value. split_sum subscript operator value left) found) (split_whole subscript)).computed
+    (unwrap_or (option_and_then (λ value. split_sum subscript operator value left) found)
+    (split_whole subscript)).computed
     (IsIndexOf at free (1 + beside at.site subscript.index))
 split_sum_is at free subscript Add left (Some value) one is = one
 split_sum_is at free subscript Subtract left (Some value) one is = one
@@ -172,7 +176,8 @@ split_form_is :
     (at : Ground) (free : ℕ) (subscript : Subscript) (form : ExpressionForm)
     → IsBelow at free subscript.index
     → HasParts at free subscript.index form
-    → IfSome (split_form at.site subscript form).computed (IsIndexOf at free (1 + beside at.site subscript.index))
+    → IfSome (split_form at.site subscript form).computed
+    (IsIndexOf at free (1 + beside at.site subscript.index))
 split_form_is at free subscript (forms.Binary scalars.Address operator left right) is has =
     split_sum_is at free subscript operator left (number at.site right)
     (record { one = has.one; small = omega (arith, has.same) }) is
@@ -181,15 +186,18 @@ split_form_is at free subscript form is has = whole_is subscript is
 split_computed_is :
     (at : Ground) (free : ℕ) (subscript : Subscript)
     → IsBelow at free subscript.index
-    → IfSome (split_computed at.site subscript).computed (IsIndexOf at free (1 + beside at.site subscript.index))
+    → IfSome (split_computed at.site subscript).computed
+    (IsIndexOf at free (1 + beside at.site subscript.index))
 unfolding split_computed
 split_computed_is at free subscript is = by (expression at.site subscript.index) refl
   where
     by : (found : Option Expression) → expression at.site subscript.index ≡ found
         → IfSome
-        (computed_in (elim found [ Some one ↦ split_form at.site subscript one.form | None ↦ split_whole subscript ]))
+        (computed_in
+        (elim found [ Some one ↦ split_form at.site subscript one.form | None ↦ split_whole subscript ]))
         (IsIndexOf at free (1 + beside at.site subscript.index))
-    by (Some one) there = split_form_is at free subscript one.form is (has_parts at (operand_from_below is) there)
+    by (Some one) there =
+        split_form_is at free subscript one.form is (has_parts at (operand_from_below is) there)
     by None there = whole_is subscript is
 
 split_is :
@@ -221,16 +229,19 @@ located_footprint at free base one_limit two_limit None None pushed one two =
     within 12 (base_footprint base pushed) (omega arith)
 located_footprint at free base one_limit two_limit (Some first) None pushed one two =
     joined (113 + 128 * beside at.site first.index) 14
-    (product_footprint first.index first.stride pushed (operand_from_below one.one)) (base_added_footprint base pushed)
+    (product_footprint first.index first.stride pushed (operand_from_below one.one))
+    (base_added_footprint base pushed)
     (omega (arith, one.small))
 located_footprint at free base one_limit two_limit None (Some second) pushed one two =
     joined (113 + 128 * beside at.site second.index) 14
-    (product_footprint second.index second.stride pushed (operand_from_below two.one)) (base_added_footprint base pushed)
+    (product_footprint second.index second.stride pushed (operand_from_below two.one))
+    (base_added_footprint base pushed)
     (omega (arith, two.small))
 located_footprint at free base one_limit two_limit (Some first) (Some second) pushed one two =
     joined (229 + 128 * beside at.site first.index + 128 * beside at.site second.index) 14
     (joined (113 + 128 * beside at.site first.index) (116 + 128 * beside at.site second.index)
-    (product_footprint first.index first.stride pushed (operand_from_below one.one)) (second_footprint second pushed two.one)
+    (product_footprint first.index first.stride pushed (operand_from_below one.one))
+    (second_footprint second pushed two.one)
     (omega arith)) (base_added_footprint base pushed) (omega (arith, one.small, two.small))
 
 -- the address of a part of an object
@@ -269,7 +280,8 @@ location_byte_by :
     → Footprint at free (elim location [
       | locations.Static place ↦ steps.Word LoadA place ∷ []
       | locations.Frame variable offset ↦
-          frame_byte_steps at.site (locations.Frame variable offset) (distance at.site variable offset pushed) pushed
+          frame_byte_steps at.site (locations.Frame variable offset)
+          (distance at.site variable offset pushed) pushed
     ]) free 5
 location_byte_by (locations.Static place) pushed = counted refl (omega arith)
 location_byte_by {at = at} (locations.Frame variable offset) pushed =
@@ -311,7 +323,8 @@ byte_to_l_by :
     → Footprint at free (elim location [
       | locations.Static place ↦ steps.Word LoadHl place ∷ []
       | locations.Frame variable offset ↦
-          frame_byte_to_l_steps at.site (locations.Frame variable offset) (distance at.site variable offset pushed) pushed
+          frame_byte_to_l_steps at.site (locations.Frame variable offset)
+          (distance at.site variable offset pushed) pushed
     ]) free 5
 byte_to_l_by (locations.Static place) pushed = counted refl (omega arith)
 byte_to_l_by {at = at} (locations.Frame variable offset) pushed =

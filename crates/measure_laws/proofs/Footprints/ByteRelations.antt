@@ -72,7 +72,8 @@ memory_form_is :
     → AreSides at free limit sides
     → IfSome (memory_form at.site comparison sides) (IsForm at free limit)
 memory_form_is at free limit comparison sides are =
-    by (operand_in_memory at.site sides.second) (operand_is_in_memory at free sides.second (operand_from_below are.two))
+    by (operand_in_memory at.site sides.second)
+    (operand_is_in_memory at free sides.second (operand_from_below are.two))
   where
     chosen :
         (b : Bool) (reference : Reference)
@@ -84,7 +85,8 @@ memory_form_is at free limit comparison sides are =
     by : (found : Option Reference) → IfSome found (IsInMemory at free sides.second)
         → IfSome (elim found [
           | Some reference ↦
-              if may_begin_with at.site comparison sides.is_in_order then Some (WithMemory sides reference) else None
+              if may_begin_with at.site comparison sides.is_in_order then Some
+              (WithMemory sides reference) else None
           | None ↦ None
         ])
         (IsForm at free limit)
@@ -125,7 +127,8 @@ without_push_is at free limit comparison sides are =
         ])
         (IsForm at free limit)
     by true = register_form_is at free limit comparison sides are
-    by false = either (memory_form at.site comparison sides) (memory_form_is at free limit comparison sides are)
+    by false =
+        either (memory_form at.site comparison sides) (memory_form_is at free limit comparison sides are)
 
 better_is :
     (at : Ground) (free : ℕ) (limit : ℕ) (one other : Option Form) (is_other_better : Bool)
@@ -177,17 +180,21 @@ form_is at free comparison one two = by comparison.question
     by LeftBelow =
         or_push_is at free (beside at.site comparison.left + beside at.site comparison.right)
         (without_push at.site comparison (in_order comparison))
-        (without_push_is at free (beside at.site comparison.left + beside at.site comparison.right) comparison (in_order comparison) straight)
+        (without_push_is at free (beside at.site comparison.left + beside at.site comparison.right) comparison
+        (in_order comparison) straight)
     by RightBelow =
         or_push_is at free (beside at.site comparison.left + beside at.site comparison.right)
         (without_push at.site comparison (exchanged comparison))
-        (without_push_is at free (beside at.site comparison.left + beside at.site comparison.right) comparison (exchanged comparison) turned)
+        (without_push_is at free (beside at.site comparison.left + beside at.site comparison.right) comparison
+        (exchanged comparison) turned)
     by Equal =
         better_is at free (beside at.site comparison.left + beside at.site comparison.right)
         (without_push at.site comparison (in_order comparison))
         (without_push at.site comparison (exchanged comparison)) (is_better_exchanged at.site comparison)
-        (without_push_is at free (beside at.site comparison.left + beside at.site comparison.right) comparison (in_order comparison) straight)
-        (without_push_is at free (beside at.site comparison.left + beside at.site comparison.right) comparison (exchanged comparison) turned)
+        (without_push_is at free (beside at.site comparison.left + beside at.site comparison.right) comparison
+        (in_order comparison) straight)
+        (without_push_is at free (beside at.site comparison.left + beside at.site comparison.right) comparison
+        (exchanged comparison) turned)
 
 left_back_footprint :
     {at : Ground} {free : ℕ} (question : Question)
@@ -230,7 +237,8 @@ byte_relation_footprint {at = at} {free = free} comparison setting one two =
         let sum : beside at.site sides.first + beside at.site sides.second
         ≤ beside at.site comparison.left + beside at.site comparison.right = is.0.small in
         let place : indices at.site reference ≤ beside at.site sides.second = is.1.small in
-        counted (operand_from_below is.0.one, (is.1.place, refl)) (omega (arith, sum, place, is.0.one.byte_small))
+        counted (operand_from_below is.0.one, (is.1.place, refl))
+        (omega (arith, sum, place, is.0.one.byte_small))
     by (WithE sides) is =
         counted (operand_from_below is.two, (operand_from_below is.one, refl))
         (omega (arith, is.small, is.one.byte_small, is.two.byte_small))

@@ -44,7 +44,8 @@ high_byte_footprint {at = at} {free = free} expression pushed is =
     (λ unknown. by_test (fits_byte at.site expression) (counted (operand_from_below is, refl) (omega arith))
     (by_finding (high_byte_in_memory at.site expression)
     (λ reference there. in_memory reference
-    (of_found (IsInMemory at free expression) (high_is_in_memory at free expression (operand_from_below is)) there))
+    (of_found (IsInMemory at free expression)
+    (high_is_in_memory at free expression (operand_from_below is)) there))
     (λ none. counted (operand_from_below is, refl) (omega arith))))
   where
     in_memory :
@@ -253,7 +254,8 @@ from_number_footprint {at = at} operation number value pushed is =
     by_test (commutes operation)
     (within (78 + 128 * beside at.site value) (with_number_footprint operation value number pushed is)
     (omega arith))
-    (after_part 3 (operand_from_below is) (after_plain 2 refl (added_footprint ((number + 1) % 256)) (omega arith))
+    (after_part 3 (operand_from_below is)
+    (after_plain 2 refl (added_footprint ((number + 1) % 256)) (omega arith))
     (omega arith))
 
 -- an operand that stays in memory is one of the two
@@ -283,7 +285,7 @@ after_right_is at free operation operands one = by (commutes operation) (is_free
         LeftFree else None) (IsByteForm at free operands)
     by true alone =
         placed (operand_in_memory at.site operands.left)
-        (operand_is_in_memory at free operands.left (weak one))
+        (operand_is_in_memory at free operands.left (operand_from_below one))
     by false true = tt
     by false false = tt
 
@@ -342,7 +344,7 @@ with_left_is at free operation operands one =
         else form_without_memory at.site operation operands)
     by true =
         placed (operand_in_memory at.site operands.left)
-        (operand_is_in_memory at free operands.left (weak one))
+        (operand_is_in_memory at free operands.left (operand_from_below one))
     by false = without_memory_is at free operation operands
 
 byte_form_is :

@@ -14,7 +14,8 @@ value_is at Byte value is = is
 value_is at Address value is = is
 
 value_small : (at : Ground) {free : ℕ} (from : ScalarType) (value : ExpressionNumber)
-    → IsOperand at free value → bytes_of_task at.site.tree.now (value_task from value) ≤ 76 + 128 * beside at.site value
+    → IsOperand at free value → bytes_of_task at.site.tree.now (value_task from value)
+    ≤ 76 + 128 * beside at.site value
 unfolding value_task
 value_small at Byte value is = omega arith
 value_small at Address value is = omega arith
@@ -22,7 +23,8 @@ value_small at Address value is = omega arith
 last_footprint :
     {at : Ground} {free : ℕ} (expression : ExpressionNumber) (pushed : ℕ)
     → IsOperand at free expression
-    → Footprint at free (last_argument_steps at.site expression pushed) free (76 + 128 * beside at.site expression)
+    → Footprint at free (last_argument_steps at.site expression pushed) free
+    (76 + 128 * beside at.site expression)
 unfolding last_argument_steps
 last_footprint {at = at} expression pushed is =
     after_part 0 (value_is at (scalar at.site expression) expression is) (counted refl (omega arith))
@@ -66,22 +68,29 @@ given_footprint :
     → TypesHoldInArguments at.source.typed at.source.within trees
     → 2 * (count + height_of_arguments trees) ≤ free
     → Footprint at free (arguments_steps at.site arguments count pushed) (free - 2 * (count - 1))
-    (128 * weight_of_given (beside_at (nodes_of at.site.tree.now)) at.site.tree.now.arguments.items first count)
+    (128 * weight_of_given (beside_at (nodes_of at.site.tree.now))
+    at.site.tree.now.arguments.items first count)
 unfolding arguments_steps
-given_footprint at free arguments first zero pushed whole enough AreNone types room = counted (omega arith) (omega arith)
-given_footprint at free arguments first (suc count) pushed whole enough (AreMore {number = number} there one more) types room =
+given_footprint at free arguments first zero pushed whole enough AreNone types room =
+    counted (omega arith) (omega arith)
+given_footprint at free arguments first (suc count) pushed whole enough
+    (AreMore {number = number} there one more) types room =
     let place : first ≡ arguments.first + (arguments.count - suc count) = omega (arith, whole, enough) in
-    let weighs : option_map_or (λ (found : ExpressionNumber). 1 + beside_at (nodes_of at.site.tree.now) found.index)
+    let weighs : option_map_or
+    (λ (found : ExpressionNumber). 1 + beside_at (nodes_of at.site.tree.now) found.index)
     (slice_get at.site.tree.now.arguments.items first) 0
     ≡ 1 + beside_at (nodes_of at.site.tree.now) number.index =
     ap (λ (entry : Option ExpressionNumber).
-    option_map_or (λ (found : ExpressionNumber). 1 + beside_at (nodes_of at.site.tree.now) found.index) entry 0) there in
+    option_map_or (λ (found : ExpressionNumber). 1 + beside_at (nodes_of at.site.tree.now) found.index) entry
+    0) there in
     let is : IsOperand at free number = needs {source = at.source} one types.0 (omega (arith, room)) in
     let given : Footprint at free (argument_steps at.site number count pushed) (free - 2 * min count 1)
     (77 + 128 * beside at.site number) = argument_footprint number count pushed is (omega (arith, room)) in
-    let rest : Footprint at (free - 2 * min count 1) (arguments_steps at.site arguments count ((pushed + 2) % 65536))
+    let rest : Footprint at (free - 2 * min count 1)
+    (arguments_steps at.site arguments count ((pushed + 2) % 65536))
     (free - 2 * min count 1 - 2 * (count - 1))
-    (128 * weight_of_given (beside_at (nodes_of at.site.tree.now)) at.site.tree.now.arguments.items (suc first) count) =
+    (128 * weight_of_given (beside_at (nodes_of at.site.tree.now)) at.site.tree.now.arguments.items
+    (suc first) count) =
     given_footprint at (free - 2 * min count 1) arguments (suc first) count ((pushed + 2) % 65536)
     (omega (arith, whole)) (omega (arith, enough)) more types.1 (omega (arith, room)) in
     subst (λ (found : Option ExpressionNumber). Footprint at free (elim found [
@@ -90,12 +99,15 @@ given_footprint at free arguments first (suc count) pushed whole enough (AreMore
           ++ arguments_steps at.site arguments count ((pushed + 2) % 65536)
       | None ↦ arguments_steps at.site arguments count pushed
     ]) (free - 2 * (suc count - 1))
-    (128 * weight_of_given (beside_at (nodes_of at.site.tree.now)) at.site.tree.now.arguments.items first (suc count)))
-    (sym (item_there at.site.tree.now.arguments.items arguments (arguments.count - suc count) first number place
+    (128 * weight_of_given (beside_at (nodes_of at.site.tree.now))
+    at.site.tree.now.arguments.items first (suc count)))
+    (sym (item_there at.site.tree.now.arguments.items arguments
+    (arguments.count - suc count) first number place
     (omega (arith, enough)) there))
     (ending (omega (arith, room))
     (joined (77 + 128 * beside at.site number)
-    (128 * weight_of_given (beside_at (nodes_of at.site.tree.now)) at.site.tree.now.arguments.items (suc first) count)
+    (128 * weight_of_given (beside_at (nodes_of at.site.tree.now))
+    at.site.tree.now.arguments.items (suc first) count)
     given rest (omega (arith, weighs))))
 
 -- a call
@@ -107,7 +119,8 @@ pub call_footprint :
 unfolding call_steps
 call_footprint {at = at} {free = free} procedure arguments pushed are =
     joined (128 * given at.site arguments) 3
-    (given_footprint at free arguments arguments.first arguments.count pushed refl (omega arith) are.node are.types
+    (given_footprint at free arguments arguments.first arguments.count pushed refl
+    (omega arith) are.node are.types
     (omega (arith, are.room)))
     (counted (omega (arith, are.room), omega (arith, are.room, are.takes)) (omega arith)) (omega arith)
 

@@ -7,12 +7,14 @@ power_below : (count power number : ℕ) → IfSome (power_from count power numb
 power_below zero power number = tt
 power_below (suc others) power number = by (number == 2 ^ power) (power_below others (power + 1) number)
   where
-    further : (found : Option ℕ) → IfSome found (λ p. p < power + 1 + others) → IfSome found (λ p. p < power + suc others)
+    further : (found : Option ℕ) → IfSome found (λ p. p < power + 1 + others)
+        → IfSome found (λ p. p < power + suc others)
     further (Some p) small = omega (arith, small)
     further None small = tt
 
     by : (b : Bool) → IfSome (power_from others (power + 1) number) (λ p. p < power + 1 + others)
-        → IfSome (if b then Some power else power_from others (power + 1) number) (λ p. p < power + suc others)
+        → IfSome (if b then Some power else power_from others (power + 1) number)
+        (λ p. p < power + suc others)
     by true small = omega arith
     by false small = further (power_from others (power + 1) number) small
 
@@ -27,8 +29,10 @@ bit_footprint :
     → size_of_instruction twice ≡ 1 → size_of_instruction once_more ≡ 1
     → Footprint at free (bit_steps twice once_more is_below is_set) free 2
 bit_footprint twice once_more false is_set one two twice_one once_one = counted refl (omega arith)
-bit_footprint twice once_more true false one two twice_one once_one = after_plain 0 one (counted refl (omega arith)) (omega (arith, twice_one))
-bit_footprint twice once_more true true one two twice_one once_one = after_plain 1 one (after_plain 0 two (counted refl (omega arith)) (omega (arith, once_one)))
+bit_footprint twice once_more true false one two twice_one once_one =
+    after_plain 0 one (counted refl (omega arith)) (omega (arith, twice_one))
+bit_footprint twice once_more true true one two twice_one once_one =
+    after_plain 1 one (after_plain 0 two (counted refl (omega arith)) (omega (arith, once_one)))
     (omega (arith, twice_one))
 
 -- two instructions for each bit
@@ -40,7 +44,8 @@ chain_footprint :
 unfolding chain_from
 chain_footprint zero number twice once_more is_below one two twice_one once_one = counted refl (omega arith)
 chain_footprint (suc bit) number twice once_more is_below one two twice_one once_one =
-    joined 2 (2 * bit) (bit_footprint twice once_more is_below (has_bit number bit) one two twice_one once_one)
+    joined 2 (2 * bit)
+    (bit_footprint twice once_more is_below (has_bit number bit) one two twice_one once_one)
     (chain_footprint bit number twice once_more (is_below || has_bit number bit) one two twice_one once_one)
     (omega arith)
 
@@ -52,7 +57,8 @@ small_multiple_footprint number =
     (λ power is. within power (repeated (Dad Hl) power refl refl)
     (omega (arith, of_found (λ p. p < 16) (power_small number) is)))
     (λ none. after_plain 33 refl
-    (after_plain 32 refl (chain_footprint 16 number (Dad Hl) (Dad Bc) false refl refl refl refl) (omega arith))
+    (after_plain 32 refl (chain_footprint 16 number (Dad Hl) (Dad Bc) false refl refl refl refl)
+    (omega arith))
     (omega arith))
 
 pub multiple_footprint :
@@ -80,7 +86,8 @@ byte_multiple_footprint number =
     (λ power is. within power (repeated (with_register Add A) power refl refl)
     (omega (arith, of_found (λ p. p < 16) (power_small number) is)))
     (λ none. after_plain 32 refl
-    (chain_footprint 16 number (with_register Add A) (with_register Add B) false refl refl refl refl) (omega arith))
+    (chain_footprint 16 number (with_register Add A) (with_register Add B) false refl refl refl refl)
+    (omega arith))
 
 -- its low byte
 pub byte_product_footprint :

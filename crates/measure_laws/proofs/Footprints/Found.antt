@@ -25,9 +25,12 @@ inside_form :
     (at : Ground) (free : ℕ) (number : ExpressionNumber) (form : ExpressionForm)
     → IsOperand at free number → HasParts at free number form
     → IsInside at free number (inside number form)
-inside_form at free number (forms.Conversion inner) is has = record { one = has.one; small = omega (arith, has.same) }
-inside_form at free number (forms.Function Low operand) is has = record { one = operand_from_below has.one; small = omega (arith, has.same) }
-inside_form at free number (forms.Function Double operand) is has = record { one = operand_from_below has.one; small = omega (arith, has.same) }
+inside_form at free number (forms.Conversion inner) is has =
+    record { one = has.one; small = omega (arith, has.same) }
+inside_form at free number (forms.Function Low operand) is has =
+    record { one = operand_from_below has.one; small = omega (arith, has.same) }
+inside_form at free number (forms.Function Double operand) is has =
+    record { one = operand_from_below has.one; small = omega (arith, has.same) }
 inside_form at free number (forms.Function High operand) is has = record { one = is; small = omega arith }
 inside_form at free number form is has = record { one = is; small = omega arith }
 
@@ -55,18 +58,21 @@ placed_after {tree = tree} {source = source} {free = free} distance is = by is.n
         → TypesHoldInReference source.typed source.within part
         → 2 * height_of_reference part ≤ free
         → Places tree source free (reference_after reference distance)
-    by {bound = bound} (IsPart {object = object} {offset = offset} {member = member} {subscript = subscript} {member_subscript = member_subscript} one two) types room = record {
-      bound = bound;
-      part = PartOf object subscript member (offset % 65536 + distance) member_subscript;
-      node = IsPart one two;
-      types = types;
-      room = room;
-    }
+    by {bound = bound}
+        (IsPart {object = object} {offset = offset} {member = member} {subscript = subscript}
+        {member_subscript = member_subscript} one two) types room = record {
+          bound = bound;
+          part = PartOf object subscript member (offset % 65536 + distance) member_subscript;
+          node = IsPart one two;
+          types = types;
+          room = room;
+        }
 
 word_form : (at : Ground) (free : ℕ) (number : ExpressionNumber) (form : ExpressionForm) (scalar : ScalarType)
     → HasParts at free number form
     → IfSome (word_of form scalar) (IsInMemory at free number)
-word_form at free number (forms.Value reference) scalars.Address has = record { place = has.place; small = omega (arith, has.same) }
+word_form at free number (forms.Value reference) scalars.Address has =
+    record { place = has.place; small = omega (arith, has.same) }
 word_form at free number (forms.Value reference) scalars.Byte has = tt
 word_form at free number form scalar has = tt
 
@@ -100,7 +106,8 @@ high_is_in_memory at free number is = by (word_in_memory at.site number) (word_i
 high_form : (at : Ground) (free : ℕ) (number : ExpressionNumber) (form : ExpressionForm) (scalar : ScalarType)
     → HasParts at free number form
     → IfSome (high_of form scalar) (IsInMemory at free number)
-high_form at free number (forms.Value reference) scalars.Address has = record { place = placed_after 1 has.place; small = omega (arith, has.same) }
+high_form at free number (forms.Value reference) scalars.Address has =
+    record { place = placed_after 1 has.place; small = omega (arith, has.same) }
 high_form at free number (forms.Value reference) scalars.Byte has = tt
 high_form at free number form scalar has = tt
 
@@ -123,15 +130,18 @@ pub memory_inside :
     → beside at.site other ≤ beside at.site number
     → IfSome found (IsInMemory at free other)
     → IfSome found (IsInMemory at free number)
-memory_inside at free number other (Some reference) small has = record { place = has.place; small = omega (arith, has.small, small) }
+memory_inside at free number other (Some reference) small has =
+    record { place = has.place; small = omega (arith, has.small, small) }
 memory_inside at free number other None small has = tt
 
 plain_form : (at : Ground) (free : ℕ) (number : ExpressionNumber) (form : ExpressionForm)
     → HasParts at free number form
     → IfSome (form_in_memory at.site form) (IsInMemory at free number)
-plain_form at free number (forms.Value reference) has = record { place = has.place; small = omega (arith, has.same) }
+plain_form at free number (forms.Value reference) has =
+    record { place = has.place; small = omega (arith, has.same) }
 plain_form at free number (forms.Function High operand) has =
-    memory_inside at free number operand (high_in_memory at.site operand) (omega (arith, has.same)) (high_of_operand at free operand (operand_from_below has.one))
+    memory_inside at free number operand (high_in_memory at.site operand) (omega (arith, has.same))
+    (high_of_operand at free operand (operand_from_below has.one))
 plain_form at free number (forms.Function Low operand) has = tt
 plain_form at free number (forms.Function Double operand) has = tt
 plain_form at free number form has = tt
@@ -157,10 +167,12 @@ pub is_in_memory :
 unfolding memory
 is_in_memory at free number is =
     let once : IsInside at free number (same_low_byte at.site number) = same_low at free number is in
-    let twice : IsInside at free (same_low_byte at.site number) (same_low_byte at.site (same_low_byte at.site number)) =
+    let twice : IsInside at free (same_low_byte at.site number)
+    (same_low_byte at.site (same_low_byte at.site number)) =
     same_low at free (same_low_byte at.site number) once.one in
     memory_inside at free number (same_low_byte at.site (same_low_byte at.site number))
-    (plain_in_memory at.site (same_low_byte at.site (same_low_byte at.site number))) (omega (arith, once.small, twice.small))
+    (plain_in_memory at.site (same_low_byte at.site (same_low_byte at.site number)))
+    (omega (arith, once.small, twice.small))
     (plain_is_in_memory at free (same_low_byte at.site (same_low_byte at.site number)) twice.one)
 
 pub operand_is_in_memory :
@@ -176,7 +188,9 @@ operand_is_in_memory at free number is = by (memory at.site number) (is_in_memor
     chosen false reference has = tt
 
     by : (found : Option Reference) → IfSome found (IsInMemory at free number)
-        → IfSome (option_and_then (λ reference. if (keeps_of_address at.site reference).a then Some reference else None) found)
+        → IfSome
+        (option_and_then (λ reference. if (keeps_of_address at.site reference).a then Some
+        reference else None) found)
         (IsInMemory at free number)
     by (Some reference) has = chosen (keeps_of_address at.site reference).a reference has
     by None has = tt

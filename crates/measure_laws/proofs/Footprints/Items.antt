@@ -1,13 +1,13 @@
--- The items of steps, as the footprint of the steps says: they find room, they have no more bytes, and they refer to
--- labels that may be referred to. These are the laws of sizes, of heights and of labels.
-use Rattle.measure_laws.proofs.Prelude.{◌≡◌, inl, inr, ℕ, ◌+◌, ◌-◌, ◌≤◌, Bool, true, false, List, [], ◌∷◌, ◌++◌, Option, Some, None, if◌then◌else◌, refl, subst, slice_get, arith, Instr, Sp, size_of_instruction, Item, WordForm, size_of_items, Routine, TreeModule, ProcedureKind, TreeProcedure, Place, Number, Facts, LabelNumber, Part, Step, Task, jump_item, word_item, Site, AreWritten, CallWritten, ChangeWritten, HoldsWritten, IsWritten, JumpWritten, MarkWritten, NoneWritten, PartWritten, PlainWritten, RoutineWritten, TestWritten, WordWritten, call_items, has_routine, items_of_call, knowing, label_of_routine, test_items, test_of_a, steps_of, task_steps, BranchThere, ByteDropped, CallThere, FindsRoom, HaltThere, InstructionThere, JumpThere, LabelThere, NothingThere, PopThere, PushThere, ReturnThere, RoutineThere, TableJumpThere, WordThere, GoesOn, GoesOnWithLabel, GoesOnWithWord, size_of_steps, ItemGoes, ItemsBind, ItemsGo, StepsBind, size_in_parts, taken_by, Source, StepsGo, TaskGoes}
+-- The items of steps, as the footprint of the steps says: they find room, they have no more bytes, and they
+-- refer to labels that may be referred to. These are the laws of sizes, of heights and of labels.
+use Rattle.measure_laws.proofs.Prelude.{◌≡◌, inl, inr, ℕ, ◌+◌, ◌-◌, ◌≤◌, Bool, true, false, List, [], ◌∷◌, ◌++◌, Option, Some, None, if◌then◌else◌, refl, subst, slice_get, arith, Instr, Sp, size_of_instruction, Item, WordForm, size_of_items, Routine, TreeModule, ProcedureKind, TreeProcedure, Place, Number, Facts, LabelNumber, Part, Step, Task, jump_item, word_item, Site, AreWritten, CallWritten, ChangeWritten, HoldsWritten, IsWritten, JumpWritten, MarkWritten, NoneWritten, PartWritten, PlainWritten, RoutineWritten, TestWritten, WordWritten, call_items, items_of_call, knowing, test_items, test_of_a, steps_of, task_steps, BranchThere, ByteDropped, CallThere, FindsRoom, HaltThere, InstructionThere, JumpThere, LabelThere, NothingThere, PopThere, PushThere, ReturnThere, RoutineThere, TableJumpThere, WordThere, GoesOn, GoesOnWithLabel, GoesOnWithWord, size_of_steps, ItemGoes, ItemsBind, ItemsGo, Knows, StepsBind, size_in_parts, taken_by, Source}
 use Rattle.isa8080.specs.declared.instr.Instr.TheVariants as instructions
 use Rattle.asm8080.specs.declared.item.Item.TheVariants as items
 use Rattle.asm8080.specs.declared.item.WordForm.TheVariants as word_forms
 use Rattle.treecode.specs.declared.procedure.ProcedureKind.TheVariants as kinds
 use Rattle.steps8080.specs.declared.step.Task.TheVariants as tasks
 use Rattle.exprgen8080.specs.internal.Emission.{Planned}
-use Rattle.measure_laws.specs.internal.Footprints.{Footprint, Go, Ground, IsOfTree, StepsHave, TaskIsOf, anywhere, bytes_of_task}
+use Rattle.measure_laws.specs.internal.Footprints.{Footprint, Go, Ground, IsOfTree, bytes_of_task}
 use Rattle.measure_laws.proofs.{Footprints.Addresses.{address_footprint}, Footprints.Calls.{call_footprint, effects_footprint}, Footprints.Relations.{branch_footprint}, Footprints.Stores.{store_footprint}, Footprints.Values.{byte_footprint, word_footprint}, Heights.Rooms.{room_joined}}
 
 -- what is known of items: these are what a footprint says of the steps that they are written for
@@ -64,12 +64,13 @@ plain_measured {free = free} i is go =
     let rest = go free is in put _ (InstructionThere refl rest.room) tt (omega arith) rest
 
 -- an instruction with a word
-word_goes : (ok : ℕ → Type 0) (form : WordForm) (place : Place) → ItemGoes ok (word_item form place)
+pub word_goes : (ok : ℕ → Type 0) (form : WordForm) (place : Place) → ItemGoes ok (word_item form place)
 word_goes ok form (Number number) = tt
 word_goes ok form other = tt
 
 word_measured :
-    {at : Ground} {free after size : ℕ} {more : List Item} (form : WordForm) (place : Place) {Rest : ℕ → Type 0}
+    {at : Ground} {free after size : ℕ} {more : List Item} (form : WordForm)
+    (place : Place) {Rest : ℕ → Type 0}
     → GoesOnWithWord free form Rest
     → ((left : ℕ) → Rest left → Measured at left more after size)
     → Measured at free (word_item form place ∷ more) after (3 + size)
@@ -83,7 +84,8 @@ word_measured {at = at} {free = free} form place is go =
 
 -- an instruction with a label
 label_measured :
-    {at : Ground} {free after size : ℕ} {more : List Item} (form : WordForm) (label : LabelNumber) {Rest : ℕ → Type 0}
+    {at : Ground} {free after size : ℕ} {more : List Item} (form : WordForm)
+    (label : LabelNumber) {Rest : ℕ → Type 0}
     → at.ok label.index
     → GoesOnWithLabel at.level free form Rest
     → ((left : ℕ) → Rest left → Measured at left more after size)
@@ -100,7 +102,8 @@ label_measured {free = free} form label to is go =
 
 -- items after others
 pub items_both :
-    (ok : ℕ → Type 0) (first others : List Item) → ItemsGo ok first → ItemsGo ok others → ItemsGo ok (first ++ others)
+    (ok : ℕ → Type 0) (first others : List Item) → ItemsGo ok first → ItemsGo ok others
+    → ItemsGo ok (first ++ others)
 items_both ok [] others one two = two
 items_both ok (item ∷ first) others one two = (one.0, items_both ok first others one.1 two)
 
@@ -116,10 +119,6 @@ both_measured {at = at} first more begun rest = record {
 }
 
 -- the test of A
-test_goes : (ok : ℕ → Type 0) (shown : Bool) → ItemsGo ok (if shown then [] else items.Plain test_of_a ∷ [])
-test_goes ok true = tt
-test_goes ok false = (tt, tt)
-
 test_measured :
     {at : Ground} {free after size : ℕ} {more : List Item} (shown : Bool)
     → Measured at free more after size
@@ -141,20 +140,23 @@ size_of_call site procedure = by (slice_get site.tree.now.procedures.items proce
     by None = omega arith
 
 -- labels that items bind
-pub bound_first : (label : ℕ) (first others : List Item) → ItemsBind label first → ItemsBind label (first ++ others)
+pub bound_first : (label : ℕ) (first others : List Item) → ItemsBind label first
+    → ItemsBind label (first ++ others)
 bound_first label [] others is = absurd is
 bound_first label (item ∷ first) others is = elim is [
   | inl here ↦ inl here
   | inr later ↦ inr (bound_first label first others later)
 ]
 
-pub bound_after : (label : ℕ) (first others : List Item) → ItemsBind label others → ItemsBind label (first ++ others)
+pub bound_after : (label : ℕ) (first others : List Item) → ItemsBind label others
+    → ItemsBind label (first ++ others)
 bound_after label [] others is = is
 bound_after label (item ∷ first) others is = inr (bound_after label first others is)
 
 -- labels that steps bind are bound by their items
 pub steps_bound :
-    (label : ℕ) {site : Site} {called : List Bool} {facts last : Facts} {planned : List Step} {list : List Item}
+    (label : ℕ) {site : Site} {called : List Bool} {facts last : Facts}
+    {planned : List Step} {list : List Item}
     → AreWritten site called facts planned list last
     → StepsBind label planned
     → ItemsBind label list
@@ -175,11 +177,6 @@ steps_bound label (HoldsWritten rest) is = steps_bound label rest is
 steps_bound label (ChangeWritten rest) is = steps_bound label rest is
 steps_bound label (PartWritten {first = first} {more = more} one rest) is =
     bound_after label first more (steps_bound label rest is)
-
--- the routines that are called, and procedures, are among the labels
-pub record Knows (ok : ℕ → Type 0) (site : Site) (called : List Bool) : Type 0 where
-  pub routines : (routine : Routine) → has_routine called routine ≡ true → ok (label_of_routine site routine).index
-  pub calls : (procedure : ℕ) → ItemsGo ok (call_items site procedure)
 
 -- the ground with these facts about the registers
 abbrev on : Ground → Facts → Ground
@@ -202,7 +199,8 @@ task_footprint at free facts part label (tasks.Effects number) is own =
 task_footprint at free facts part label (tasks.Address reference) is own =
     address_footprint {at = on at facts} reference part.pushed is
 task_footprint at free facts part label (tasks.Branch condition target sense) is own =
-    subst (λ n. Footprint (on at facts) n (steps_of (knowing at.site facts) (tasks.Branch condition target sense) part.pushed label) n
+    subst (λ n. Footprint (on at facts) n
+    (steps_of (knowing at.site facts) (tasks.Branch condition target sense) part.pushed label) n
     (bytes_of_task at.site.tree.now (tasks.Branch condition target sense)))
     is.1 (branch_footprint {at = on at facts} condition target sense part.pushed label is.0 is.2 own)
 task_footprint at free facts part label (tasks.Store target is_wanted) is own =
@@ -214,7 +212,8 @@ part_footprint :
     (at : Ground) (free : ℕ) (facts : Facts) (part : Part) (label : ℕ)
     → IsOfTree at free part.task
     → ((other : ℕ) → StepsBind other (task_steps (knowing at.site facts) part label) → at.ok other)
-    → Footprint at free (task_steps (knowing at.site facts) part label) free (bytes_of_task at.site.tree.now part.task)
+    → Footprint at free (task_steps (knowing at.site facts) part label) free
+    (bytes_of_task at.site.tree.now part.task)
 unfolding task_steps
 part_footprint at free facts part label is own =
     let footprint = task_footprint at free facts part label part.task is own in
@@ -232,7 +231,8 @@ mutual
       → AreWritten site called facts planned list last
       → Go (ground site source level ok) free planned after
       → ((label : ℕ) → ItemsBind label list → ok label)
-      → Measured (ground site source level ok) free list after (size_of_steps (bytes_of_task site.tree.now) planned)
+      → Measured (ground site source level ok) free list after
+      (size_of_steps (bytes_of_task site.tree.now) planned)
   steps_measured site source level ok called free after knows NoneWritten same own = record {
     room = subst (λ n. FindsRoom site.tree.now level free [] n) same NothingThere;
     small = omega arith;
@@ -240,28 +240,44 @@ mutual
   }
   steps_measured site source level ok called free after knows (PlainWritten {i = i} rest) go own =
       plain_measured {at = ground site source level ok} i go
-      (λ left is. steps_measured site source level ok called left after knows rest is (λ label bound. own label (inr bound)))
-  steps_measured site source level ok called free after knows (WordWritten {form = form} {place = place} rest) go own =
+      (λ left is. steps_measured site source level ok called left after knows rest is
+      (λ label bound. own label (inr bound)))
+  steps_measured site source level ok called free after knows
+      (WordWritten {form = form} {place = place} rest) go own =
       word_measured {at = ground site source level ok} form place go
-      (λ left is. steps_measured site source level ok called left after knows rest is (λ label bound. own label (inr bound)))
-  steps_measured site source level ok called free after knows (JumpWritten {form = form} {label = label} rest) go own =
+      (λ left is. steps_measured site source level ok called left after knows rest is
+      (λ label bound. own label (inr bound)))
+  steps_measured site source level ok called free after knows
+      (JumpWritten {form = form} {label = label} rest) go own =
       label_measured {at = ground site source level ok} form label go.0 go.1
-      (λ left is. steps_measured site source level ok called left after knows rest is (λ other bound. own other (inr bound)))
+      (λ left is. steps_measured site source level ok called left after knows rest is
+      (λ other bound. own other (inr bound)))
   steps_measured site source level ok called free after knows (MarkWritten rest) go own =
-      let more = steps_measured site source level ok called level after knows rest go.1 (λ label bound. own label (inr bound)) in
+      let more =
+      steps_measured site source level ok called level after knows rest go.1
+      (λ label bound. own label (inr bound)) in
       put {at = ground site source level ok} _ (LabelThere go.0 more.room) tt (omega arith) more
-  steps_measured site source level ok called free after knows (RoutineWritten {routine = routine} has rest) go own =
-      let more = steps_measured site source level ok called free after knows rest go.1 (λ label bound. own label (inr bound)) in
-      put {at = ground site source level ok} _ (RoutineThere routine go.0 more.room) (knows.routines routine has) (omega arith) more
-  steps_measured site source level ok called free after knows (CallWritten {procedure = procedure} {more = others} rest) go own =
-      let more = steps_measured site source level ok called (free + taken_by site.tree.now procedure) after knows rest go.1
+  steps_measured site source level ok called free after knows
+      (RoutineWritten {routine = routine} has rest) go own =
+      let more =
+      steps_measured site source level ok called free after knows rest go.1
+      (λ label bound. own label (inr bound)) in
+      put {at = ground site source level ok} _ (RoutineThere routine go.0 more.room)
+      (knows.routines routine has) (omega arith) more
+  steps_measured site source level ok called free after knows
+      (CallWritten {procedure = procedure} {more = others} rest) go own =
+      let more =
+      steps_measured site source level ok called (free + taken_by site.tree.now procedure)
+      after knows rest go.1
       (λ label bound. own label (bound_after label (call_items site procedure) others bound)) in
       record {
         room = CallThere procedure go.0 more.room;
-        small = omega (arith, more.small, size_of_call site procedure, size_in_parts (call_items site procedure) others);
+        small = omega
+            (arith, more.small, size_of_call site procedure, size_in_parts (call_items site procedure) others);
         goes = items_both ok (call_items site procedure) others (knows.calls procedure) more.goes;
       }
-  steps_measured site source level ok called free after knows (TestWritten {facts = facts} {more = others} rest) go own =
+  steps_measured site source level ok called free after knows
+      (TestWritten {facts = facts} {more = others} rest) go own =
       test_measured {at = ground site source level ok} facts.zero_shows_a
       (steps_measured site source level ok called free after knows rest go
       (λ label bound. own label (bound_after label (test_items facts) others bound)))
@@ -271,69 +287,27 @@ mutual
   steps_measured site source level ok called free after knows (ChangeWritten rest) go own =
       let more = steps_measured site source level ok called free after knows rest go own in
       record { room = more.room; small = omega (arith, more.small); goes = more.goes }
-  steps_measured site source level ok called free after knows (PartWritten {first = first} {more = others} one rest) go own =
+  steps_measured site source level ok called free after knows
+      (PartWritten {first = first} {more = others} one rest) go own =
       both_measured {at = ground site source level ok} first others
-      (part_measured site source level ok called free knows one go.0 (λ label bound. own label (bound_first label first others bound)))
+      (part_measured site source level ok called free knows one go.0
+      (λ label bound. own label (bound_first label first others bound)))
       (steps_measured site source level ok called free after knows rest go.1
       (λ label bound. own label (bound_after label first others bound)))
 
   -- the items of a part
   pub part_measured :
-      (site : Site) (source : Source site.tree.now) (level : ℕ) (ok : ℕ → Type 0) (called : List Bool) (free : ℕ)
+      (site : Site) (source : Source site.tree.now) (level : ℕ) (ok : ℕ → Type 0)
+      (called : List Bool) (free : ℕ)
       {facts last : Facts} {part : Part} {list : List Item}
       → Knows ok site called
       → IsWritten site called facts part list last
       → IsOfTree (ground site source level ok) free part.task
       → ((label : ℕ) → ItemsBind label list → ok label)
       → Measured (ground site source level ok) free list free (bytes_of_task site.tree.now part.task)
-  part_measured site source level ok called free {facts = facts} {last = last} {part = part} {list = list} knows (Planned label written) is own =
+  part_measured site source level ok called free {facts = facts} {last = last} {part = part} {list = list}
+      knows (Planned label written) is own =
       let footprint = part_footprint (ground site source level ok) free facts part label is
       (λ other bound. own other (steps_bound other written bound)) in
       let all = steps_measured site source level ok called free free knows written footprint.go own in
       record { room = all.room; small = omega (arith, all.small, footprint.small); goes = all.goes }
-
--- a branch goes to a label that may be referred to
-task_goes_there :
-    (tree : TreeModule) (source : Source tree) (level free : ℕ) (ok : ℕ → Type 0) (task : Task)
-    → TaskIsOf tree source level anywhere free task
-    → TaskGoes ok task
-    → TaskIsOf tree source level ok free task
-task_goes_there tree source level free ok (tasks.Branch condition label sense) is goes = (is.0, is.1, goes)
-task_goes_there tree source level free ok task is goes = is
-
--- the items of steps that refer only to these labels, with parts for trees of any source
-pub steps_go :
-    (ok : ℕ → Type 0) (site : Site) (called : List Bool) {facts last : Facts} {planned : List Step} {list : List Item}
-    → Knows ok site called
-    → AreWritten site called facts planned list last
-    → StepsGo ok planned
-    → StepsHave site.tree.now planned
-    → ((label : ℕ) → ItemsBind label list → ok label)
-    → ItemsGo ok list
-steps_go ok site called knows NoneWritten goes have own = tt
-steps_go ok site called knows (PlainWritten rest) goes have own =
-    (tt, steps_go ok site called knows rest goes have (λ label is. own label (inr is)))
-steps_go ok site called knows (WordWritten {form = form} {place = place} rest) goes have own =
-    (word_goes ok form place, steps_go ok site called knows rest goes have (λ label is. own label (inr is)))
-steps_go ok site called knows (JumpWritten rest) goes have own =
-    (goes.0, steps_go ok site called knows rest goes.1 have (λ label is. own label (inr is)))
-steps_go ok site called knows (MarkWritten rest) goes have own =
-    (tt, steps_go ok site called knows rest goes have (λ label is. own label (inr is)))
-steps_go ok site called knows (RoutineWritten {routine = routine} has rest) goes have own =
-    (knows.routines routine has, steps_go ok site called knows rest goes have (λ label is. own label (inr is)))
-steps_go ok site called knows (CallWritten {procedure = procedure} {more = more} rest) goes have own =
-    items_both ok (call_items site procedure) more (knows.calls procedure)
-    (steps_go ok site called knows rest goes have
-    (λ label is. own label (bound_after label (call_items site procedure) more is)))
-steps_go ok site called knows (TestWritten {facts = facts} {more = more} rest) goes have own =
-    items_both ok (test_items facts) more (test_goes ok facts.zero_shows_a)
-    (steps_go ok site called knows rest goes have (λ label is. own label (bound_after label (test_items facts) more is)))
-steps_go ok site called knows (HoldsWritten rest) goes have own = steps_go ok site called knows rest goes have own
-steps_go ok site called knows (ChangeWritten rest) goes have own = steps_go ok site called knows rest goes have own
-steps_go ok site called knows (PartWritten {part = part} {first = first} {more = more} one rest) goes have own =
-    let of = have.0 in
-    items_both ok first more
-    (part_measured site of.source of.level ok called of.free knows one
-    (task_goes_there site.tree.now of.source of.level of.free ok part.task of.is goes.0)
-    (λ label is. own label (bound_first label first more is))).goes
-    (steps_go ok site called knows rest goes.1 have.1 (λ label is. own label (bound_after label first more is)))

@@ -123,8 +123,10 @@ both_go at (steps.CallRoutine routine ∷ first) others free middle after one tw
     (one.0, both_go at first others free middle after one.1 two)
 both_go at (steps.CallProcedure procedure ∷ first) others free middle after one two =
     (one.0, both_go at first others (free + taken_by at.site.tree.now procedure) middle after one.1 two)
-both_go at (steps.TestA ∷ first) others free middle after one two = both_go at first others free middle after one two
-both_go at (steps.Holds held ∷ first) others free middle after one two = both_go at first others free middle after one two
+both_go at (steps.TestA ∷ first) others free middle after one two =
+    both_go at first others free middle after one two
+both_go at (steps.Holds held ∷ first) others free middle after one two =
+    both_go at first others free middle after one two
 both_go at (steps.MemoryChanged ∷ first) others free middle after one two =
     both_go at first others free middle after one two
 both_go at (steps.Part part ∷ first) others free middle after one two =
@@ -144,10 +146,12 @@ pub joined :
     → Footprint at free first middle one → Footprint at middle others after two
     → one + two ≤ size
     → Footprint at free (first ++ others) after size
-joined {at = at} {free = free} {middle = middle} {after = after} {first = first} {others = others} one two before last small = record {
-  go = both_go at first others free middle after before.go last.go;
-  small = omega (arith, sizes_joined (bytes_of_task at.site.tree.now) first others, before.small, last.small, small);
-}
+joined {at = at} {free = free} {middle = middle} {after = after} {first = first} {others = others} one two
+    before last small = record {
+      go = both_go at first others free middle after before.go last.go;
+      small = omega
+          (arith, sizes_joined (bytes_of_task at.site.tree.now) first others, before.small, last.small, small);
+    }
 
 -- steps after a part
 pub after_part :
@@ -219,7 +223,8 @@ by_asking false one two = two refl
 
 -- whether a value is found or not
 pub by_finding :
-    {A : Type 0} {at : Ground} {free after size : ℕ} {some : A → List Step} {none : List Step} (found : Option A)
+    {A : Type 0} {at : Ground} {free after size : ℕ} {some : A → List Step}
+    {none : List Step} (found : Option A)
     → ((x : A) → found ≡ Some x → Footprint at free (some x) after size)
     → (found ≡ None → Footprint at free none after size)
     → Footprint at free (elim found [ Some x ↦ some x | None ↦ none ]) after size

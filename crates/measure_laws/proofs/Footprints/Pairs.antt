@@ -9,12 +9,18 @@ pair_form_footprint :
     → IsBelow at free left → IsBelow at free right
     → Footprint at free (form_steps form left right pushed) free
     (155 + 128 * beside at.site left + 128 * beside at.site right)
-pair_form_footprint (RightKnown place) left right pushed one two = counted (operand_from_below one, refl) (omega arith)
-pair_form_footprint (LeftKnown place) left right pushed one two = counted (operand_from_below two, refl) (omega arith)
-pair_form_footprint RightKeeps left right pushed one two = counted (operand_from_below one, (operand_from_below two, refl)) (omega arith)
-pair_form_footprint LeftKeeps left right pushed one two = counted (operand_from_below two, (operand_from_below one, refl)) (omega arith)
-pair_form_footprint RightFree left right pushed one two = counted (operand_from_below one, (operand_from_below two, refl)) (omega arith)
-pair_form_footprint LeftFree left right pushed one two = counted (operand_from_below two, (operand_from_below one, refl)) (omega arith)
+pair_form_footprint (RightKnown place) left right pushed one two =
+    counted (operand_from_below one, refl) (omega arith)
+pair_form_footprint (LeftKnown place) left right pushed one two =
+    counted (operand_from_below two, refl) (omega arith)
+pair_form_footprint RightKeeps left right pushed one two =
+    counted (operand_from_below one, (operand_from_below two, refl)) (omega arith)
+pair_form_footprint LeftKeeps left right pushed one two =
+    counted (operand_from_below two, (operand_from_below one, refl)) (omega arith)
+pair_form_footprint RightFree left right pushed one two =
+    counted (operand_from_below one, (operand_from_below two, refl)) (omega arith)
+pair_form_footprint LeftFree left right pushed one two =
+    counted (operand_from_below two, (operand_from_below one, refl)) (omega arith)
 pair_form_footprint Pushed left right pushed one two =
     counted (operand_from_below one, (two_free two, (lowered two, restored two))) (omega arith)
 

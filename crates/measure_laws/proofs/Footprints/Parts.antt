@@ -1,11 +1,11 @@
 -- The code of a part of an expression where labels do not count.
-use Rattle.measure_laws.proofs.Prelude.{ℕ, Bool, List, [], ◌∷◌, Item, Facts, Part, Site, IsWritten, call_items, ItemGoes, ItemsGo, Source}
+use Rattle.measure_laws.proofs.Prelude.{ℕ, Bool, List, [], ◌∷◌, Item, Facts, Part, Site, IsWritten, call_items, ItemGoes, ItemsGo, Knows, Source}
 use Rattle.asm8080.specs.declared.item.Item.TheVariants as items
 use Rattle.asm8080.specs.declared.item.Reference.{Reference}
 use Rattle.asm8080.specs.declared.item.Reference.TheVariants.{AtLabel, AtNumber, AtTarget}
 use Rattle.measure_laws.specs.internal.Footprints.{Ground, TaskIsOf, anywhere, bytes_of_task}
 use Rattle.measure_laws.specs.internal.ItemLabels.{ReferenceGoes}
-use Rattle.measure_laws.proofs.{Footprints.Items.{Knows, Measured, part_measured}}
+use Rattle.measure_laws.proofs.{Footprints.Items.{Measured, part_measured}}
 
 reference_anywhere : (reference : Reference) → ReferenceGoes anywhere reference
 reference_anywhere (AtLabel label) = tt
@@ -36,4 +36,5 @@ pub part_written :
     → TaskIsOf site.tree.now source level anywhere free part.task
     → Measured (plain_ground site source level) free list free (bytes_of_task site.tree.now part.task)
 part_written site source called level free written is =
-    part_measured site source level anywhere called free (knows_anywhere site called) written is (λ label bound. tt)
+    part_measured site source level anywhere called free (knows_anywhere site called) written
+    is (λ label bound. tt)

@@ -167,7 +167,8 @@ relation_value_footprint {at = at} {free = free} number pushed is =
         (value_footprint (relation_outcome at.site relation)) (omega (arith, has.small))
 
 -- a label that the later steps bind is bound
-bound_later : (label : ℕ) (first others : List Step) → StepsBind label others → StepsBind label (first ++ others)
+bound_later : (label : ℕ) (first others : List Step) → StepsBind label others
+    → StepsBind label (first ++ others)
 bound_later label [] others is = is
 bound_later label (steps.Mark other ∷ first) others is = inr (bound_later label first others is)
 bound_later label (step ∷ first) others is = bound_later label first others is
@@ -183,14 +184,16 @@ known_branch_footprint :
     → at.ok branch.label.index
     → Footprint at at.level (known_branch_steps branch answer) at.level 3
 known_branch_footprint branch answer to =
-    by_test (agree answer branch.sense) (counted (to, (omega arith, refl)) (omega arith)) (counted refl (omega arith))
+    by_test (agree answer branch.sense) (counted (to, (omega arith, refl)) (omega arith))
+    (counted refl (omega arith))
 
 outcome_branch_footprint :
     {at : Ground} (branch : Branch) (outcome : Outcome)
     → at.ok branch.label.index
     → Footprint at at.level (outcome_branch_steps branch outcome) at.level 3
 outcome_branch_footprint branch (outcomes.Known answer) to = known_branch_footprint branch answer to
-outcome_branch_footprint branch (outcomes.Where condition) to = counted (to, (omega arith, refl)) (omega arith)
+outcome_branch_footprint branch (outcomes.Where condition) to =
+    counted (to, (omega arith, refl)) (omega arith)
 
 -- part of the tree of a number
 pub record IsWithin (at : Ground) (free : ℕ) (number inner : ExpressionNumber) : Type 0 where
@@ -300,7 +303,8 @@ low_difference_footprint DeAndHl = counted refl (omega arith)
 jump_footprint :
     {at : Ground} (label : LabelNumber) (words : Words)
     → at.ok label.index
-    → Footprint at at.level (steps.Jump (word_forms.JumpWhere conditions.NotZero) label ∷ high_difference_steps words)
+    → Footprint at at.level
+    (steps.Jump (word_forms.JumpWhere conditions.NotZero) label ∷ high_difference_steps words)
     at.level 7
 jump_footprint label (PlaceAndHl place) to = counted (to, (omega arith, refl)) (omega arith)
 jump_footprint label DeAndHl to = counted (to, (omega arith, refl)) (omega arith)
@@ -322,11 +326,14 @@ equality_by words branch first true to own =
     joined 7 3
     (jump_footprint (label_of first) words
     (own first
-    (bound_later first (steps.Jump (word_forms.JumpWhere conditions.NotZero) (label_of first) ∷ high_difference_steps words)
-    (steps.Jump (word_forms.JumpWhere conditions.Zero) branch.label ∷ steps.Mark (label_of first) ∷ []) (inl refl))))
+    (bound_later first (steps.Jump (word_forms.JumpWhere conditions.NotZero) (label_of first)
+    ∷ high_difference_steps words)
+    (steps.Jump (word_forms.JumpWhere conditions.Zero) branch.label ∷ steps.Mark (label_of first) ∷ [])
+    (inl refl))))
     (counted (to, (omega arith, (omega arith, refl))) (omega arith)) (omega arith)
 equality_by words branch first false to own =
-    joined 7 3 (jump_footprint branch.label words to) (counted (to, (omega arith, refl)) (omega arith)) (omega arith)
+    joined 7 3 (jump_footprint branch.label words to)
+    (counted (to, (omega arith, refl)) (omega arith)) (omega arith)
 
 equality_footprint :
     {at : Ground} (comparison : Comparison) (is_equal : Bool) (branch : Branch) (first : ℕ)
@@ -342,7 +349,8 @@ equality_footprint {at = at} comparison is_equal branch first one two to own =
     (equality_by (words_of at.site comparison) branch first is_equal to
     (λ label is. own label
     (bound_later label
-    (words_steps at.site comparison branch.pushed ++ low_difference_steps (words_of at.site comparison)) _ is)))
+    (words_steps at.site comparison branch.pushed ++ low_difference_steps (words_of at.site comparison)) _
+    is)))
     (omega arith)
 
 -- two ADDRESSes that are tested for equality are those that are compared
@@ -390,7 +398,8 @@ relation_branch_by :
     → at.ok branch.label.index
     → Closed at
     (elim found [
-      | Some comparison ↦ equality_steps at.site comparison (agree branch.sense relation.holds_if) branch first
+      | Some comparison ↦ equality_steps at.site comparison
+          (agree branch.sense relation.holds_if) branch first
       | None ↦
           relation_steps at.site relation (branch_setting branch.pushed)
           ++ outcome_branch_steps branch (relation_outcome at.site relation)
@@ -458,14 +467,17 @@ shape_footprint {at = at} (Joined junction) condition branch first is has to own
     (joined_by junction branch first (agree branch.sense junction.deciding) has.one has.two to own)
     (omega (arith, has.same))
 shape_footprint {at = at} Other condition branch first is has to own =
-    other_by condition branch first (relation_of at.site condition) is (relation_is at at.level condition is) to own
+    other_by condition branch first (relation_of at.site condition) is
+    (relation_is at at.level condition is) to own
 
 -- a jump on a condition
 pub branch_footprint :
     {at : Ground} (condition : ExpressionNumber) (label : LabelNumber) (sense : Bool) (pushed first : ℕ)
     → IsOperand at at.level condition
     → at.ok label.index
-    → Closed at (branch_steps at.site condition label sense pushed first) (80 + 128 * beside at.site condition)
+    → Closed at (branch_steps at.site condition label sense pushed first)
+    (80 + 128 * beside at.site condition)
 branch_footprint {at = at} condition label sense pushed first is to own =
     shape_footprint (shape_of at.site condition) condition
-    (record { label = label; sense = sense; pushed = pushed }) first is (shape_is at at.level condition is) to own
+    (record { label = label; sense = sense; pushed = pushed }) first is
+    (shape_is at at.level condition is) to own

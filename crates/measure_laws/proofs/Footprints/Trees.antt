@@ -1,4 +1,5 @@
--- The parts of the tree with this number need no more bytes than the tree, and weigh as much as it less 1 for each.
+-- The parts of the tree with this number need no more bytes than the tree, and weigh as much as it less 1 for
+-- each.
 use Rattle.measure_laws.proofs.Prelude.{◌≡◌, ℕ, ◌+◌, ◌-◌, ◌*◌, ◌≤◌, List, length, Option, Some, None, IsSomeAnd, slice_get, refl, sym, ap, subst, ◌∙◌, arith, same_Some, ScalarType, count_of_arguments, height_of, height_of_arguments, height_of_reference, height_of_subscript, type_of, weight_of_expression, SentTo, StoredIn, TypedArguments, TypedExpression, TypedModule, TypedProcedure, TypedReference, TypedTarget, Takes, TypesHold, TypesHoldInArguments, TypesHoldInReference, TypesHoldInSubscript, TypesHoldInTarget, Within, types_of, Storage, Expression, ExpressionForm, ExpressionNumber, Range, TreeModule, Reference, IndexNode, AreArguments, AreMore, AreNone, IsAbsent, IsBinary, IsCallOf, IsConstantList, IsConversion, IsEmbedded, IsExpression, IsForm, IsFunction, IsIndex, IsInput, IsLocation, IsNode, IsNumber, IsPart, IsReference, IsShift, IsSubscript, IsUnary, IsValue, Nodes, nodes_of, traits_at, expression, beside, beside_at, more_for_byte, more_for_word, taken_by, weight_in_form, AimHolds, Source, types_count}
 use Rattle.trees.specs.declared.declaration.ScalarType.TheVariants as scalars
 use Rattle.typed_trees.specs.TypedTrees.{Subscript}
@@ -41,22 +42,24 @@ call_takes {tree = tree} source procedure result {count = count} {trees = trees}
     by None there is = absurd is
 
 pub gives :
-    {tree : TreeModule} {source : Source tree} {free bound procedure : ℕ} {range : Range} (result : Option ScalarType)
+    {tree : TreeModule} {source : Source tree} {free bound procedure : ℕ} {range : Range}
+    (result : Option ScalarType)
     {trees : TypedArguments}
     → AreArguments (nodes_of tree) source.storage bound range.first range.count trees
     → Takes source.typed procedure result trees
     → TypesHoldInArguments source.typed source.within trees
     → 2 * (1 + count_of_arguments trees + height_of_arguments trees) ≤ free
     → Gives tree source free procedure range
-gives {tree = tree} {source = source} {bound = bound} {procedure = procedure} {range = range} result {trees = trees} are takes types room = record {
-  bound = bound;
-  trees = trees;
-  node = are;
-  types = types;
-  takes = call_takes source procedure result are takes;
-  room = let counted : range.count ≡ count_of_arguments trees = count_is (nodes_of tree) source.storage are in
-      omega (arith, room, counted);
-}
+gives {tree = tree} {source = source} {bound = bound} {procedure = procedure} {range = range} result
+    {trees = trees} are takes types room = record {
+      bound = bound;
+      trees = trees;
+      node = are;
+      types = types;
+      takes = call_takes source procedure result are takes;
+      room = let counted : range.count ≡ count_of_arguments trees = count_is (nodes_of tree) source.storage are in
+          omega (arith, room, counted);
+    }
 
 pub aim_holds :
     (typed : TypedModule) (within : Within) (scalar : ScalarType) (to : TypedTarget)
@@ -92,7 +95,8 @@ needs {tree = tree} {bound = bound} {number = number} {whole = whole} node types
 }
 
 parts_of_form :
-    (at : Ground) (free : ℕ) (number : ExpressionNumber) {bound : ℕ} {form : ExpressionForm} {whole : TypedExpression}
+    (at : Ground) (free : ℕ) (number : ExpressionNumber) {bound : ℕ} {form : ExpressionForm}
+    {whole : TypedExpression}
     → beside at.site number
     ≡ weight_in_form (beside_at (nodes_of at.site.tree.now)) at.site.tree.now.arguments.items form
     → IsForm (nodes_of at.site.tree.now) at.source.storage bound form whole
@@ -107,17 +111,18 @@ parts_of_form at free number {bound = bound} same (IsLocation {part = part} one)
 parts_of_form at free number same IsConstantList types room = tt
 parts_of_form at free number same (IsConversion one) types room =
     record { one = needs {source = at.source} one types (omega (arith, room)); same = same }
-parts_of_form at free number {bound = bound} same (IsEmbedded {to = to} {tree = value} aim one) types room = record {
-  to = record {
-    bound = bound;
-    to = to;
-    node = aim;
-    types = aim_holds at.source.typed at.source.within (type_of value) to types.1;
-    room = omega (arith, room);
-  };
-  one = needs {source = at.source} one types.0 (omega (arith, room));
-  same = same;
-}
+parts_of_form at free number {bound = bound} same (IsEmbedded {to = to} {tree = value} aim one) types room =
+    record {
+      to = record {
+        bound = bound;
+        to = to;
+        node = aim;
+        types = aim_holds at.source.typed at.source.within (type_of value) to types.1;
+        room = omega (arith, room);
+      };
+      one = needs {source = at.source} one types.0 (omega (arith, room));
+      same = same;
+    }
 parts_of_form at free number same (IsUnary one) types room =
     record { one = needs {source = at.source} one types.0 (omega (arith, room)); same = same }
 parts_of_form at free number same (IsBinary one two) types room = record {
@@ -137,20 +142,24 @@ parts_of_form at free number same (IsShift one two) types room = record {
 parts_of_form at free number same IsInput types room = tt
 
 parts_of_node :
-    (at : Ground) (free : ℕ) (number : ExpressionNumber) (found : Expression) {bound : ℕ} {whole : TypedExpression}
+    (at : Ground) (free : ℕ) (number : ExpressionNumber) (found : Expression) {bound : ℕ}
+    {whole : TypedExpression}
     → IsExpression (nodes_of at.site.tree.now) at.source.storage bound number.index whole
     → TypesHold at.source.typed at.source.within whole
     → 2 * height_of whole ≤ free
     → expression at.site number ≡ Some found
     → HasParts at free number found.form
 unfolding expression
-parts_of_node at free number found {bound = bound} {whole = whole} (IsNode {expression = entry} below there scalar form) types room is =
+parts_of_node at free number found {bound = bound} {whole = whole}
+    (IsNode {expression = entry} below there scalar form) types room is =
     let all : 1 + beside at.site number ≡ weight_of_expression whole =
     weighs_at (nodes_of at.site.tree.now) at.source.storage bound bound number.index whole (omega arith)
     (IsNode below there scalar form) in
-    let parts : 1 + weight_in_form (beside_at (nodes_of at.site.tree.now)) at.site.tree.now.arguments.items entry.form
+    let parts : 1 + weight_in_form (beside_at (nodes_of at.site.tree.now))
+    at.site.tree.now.arguments.items entry.form
     ≡ weight_of_expression whole =
-    form_weighs (nodes_of at.site.tree.now) at.source.storage number.index (beside_at (nodes_of at.site.tree.now))
+    form_weighs (nodes_of at.site.tree.now) at.source.storage number.index
+    (beside_at (nodes_of at.site.tree.now))
     (weighs_at (nodes_of at.site.tree.now) at.source.storage number.index) (omega arith) form in
     subst (λ (one : Expression). HasParts at free number one.form) (same_Some entry found (sym there ∙ is))
     (parts_of_form at free number (omega (arith, all, parts)) form types room)

@@ -136,7 +136,8 @@ word_form_footprint {at = at} number (forms.Binary operands operator left right)
     (omega (arith, has.same))
 word_form_footprint {at = at} number (forms.Shift function value count) pushed has =
     within (157 + 128 * beside at.site value + 128 * beside at.site count)
-    (word_shift_footprint (record { function = function; value = value; count = count }) pushed has.one has.two)
+    (word_shift_footprint (record { function = function; value = value; count = count })
+    pushed has.one has.two)
     (omega (arith, has.same))
 word_form_footprint {at = at} number (forms.Assignment target value) pushed has =
     within

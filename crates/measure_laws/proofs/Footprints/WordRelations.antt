@@ -19,9 +19,11 @@ high_byte_footprint :
 unfolding high_byte_steps
 high_byte_footprint {at = at} {free = free} operand pushed is =
     by_finding (high_byte_in_memory at.site operand)
-    (λ reference there. by_test (is_word_in_hl at.site operand) (counted (operand_from_below is, refl) (omega arith))
+    (λ reference there. by_test (is_word_in_hl at.site operand)
+    (counted (operand_from_below is, refl) (omega arith))
     (in_memory reference
-    (of_found (IsInMemory at free operand) (high_is_in_memory at free operand (operand_from_below is)) there)))
+    (of_found (IsInMemory at free operand)
+    (high_is_in_memory at free operand (operand_from_below is)) there)))
     (λ none. counted (operand_from_below is, refl) (omega arith))
   where
     in_memory : (reference : Reference) → IsInMemory at free operand reference
@@ -90,7 +92,8 @@ unfolding masked
 masked_is at free operand is = by (expression at.site operand) refl
   where
     by : (found : Option Expression) → expression at.site operand ≡ found
-        → IfSome (elim found [ Some one ↦ masked_form at.site one.form | None ↦ None ]) (IsMasked at free operand)
+        → IfSome (elim found [ Some one ↦ masked_form at.site one.form | None ↦ None ])
+        (IsMasked at free operand)
     by (Some one) there = masked_form_is at free operand one.form (has_parts at (operand_from_below is) there)
     by None there = tt
 
@@ -104,7 +107,8 @@ word_is_zero_footprint {at = at} {free = free} operand setting is =
     (λ found there. by_test (nat_lt found.1 256 || found.1 % 256 == 0)
     (inner found (of_found (IsMasked at free operand) (masked_is at free operand is) there))
     (after_part 6 (operand_from_below is) (word_is_footprint 0) (omega arith)))
-    (λ none. after_part 2 (operand_from_below is) (within 2 (counted refl (omega arith)) (omega arith)) (omega arith))
+    (λ none. after_part 2 (operand_from_below is)
+    (within 2 (counted refl (omega arith)) (omega arith)) (omega arith))
   where
     inner :
         (found : ExpressionNumber × ℕ)

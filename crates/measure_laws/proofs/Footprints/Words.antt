@@ -30,7 +30,8 @@ shifted_left_footprint {at = at} value count pushed is =
     (within (count - 8) (repeated (Dad Hl) (count - 8) refl refl) (omega (arith, leb-false 16 count few)))
     (omega arith)) (omega arith)) (omega arith))
     (λ fewer. after_part 7 (operand_from_below is)
-    (within count (repeated (Dad Hl) count refl refl) (omega (arith, leb-false 8 count fewer))) (omega arith)))
+    (within count (repeated (Dad Hl) count refl refl) (omega (arith, leb-false 8 count fewer)))
+    (omega arith)))
 
 half_footprint : {at : Ground} {free : ℕ} → Footprint at free shifted_half_steps free 7
 unfolding shifted_half_steps
@@ -178,12 +179,14 @@ difference_footprint :
 unfolding difference_steps
 difference_footprint {at = at} operands pushed one two =
     by_finding (number_of at.site operands.right)
-    (λ number there. after_part 4 (operand_from_below one) (addition_footprint (Number ((65536 - number) % 65536)))
+    (λ number there. after_part 4 (operand_from_below one)
+    (addition_footprint (Number ((65536 - number) % 65536)))
     (omega arith))
     (λ none. by_finding (number_of at.site operands.left)
     (λ number there. after_part 8 (operand_from_below two) (taken_from_footprint number) (omega arith))
     (λ neither. by_finding (left_word at.site operands)
-    (λ place there. after_part 10 (operand_from_below two) (with_word_footprint place Subtract SubtractWithBorrow)
+    (λ place there. after_part 10 (operand_from_below two)
+    (with_word_footprint place Subtract SubtractWithBorrow)
     (omega arith)) (λ no_place. paired_footprint operands Subtract SubtractWithBorrow pushed one two)))
 
 through_a_footprint :
@@ -337,7 +340,8 @@ logic_with_simple_footprint :
     (154 + 128 * beside at.site value + 128 * most)
 unfolding logic_with_simple_steps logic_with_byte_steps
 logic_with_simple_footprint operation value (simple.Byte byte) most pushed one two =
-    counted (operand_from_below one, (operand_from_below two.0, refl)) (omega (arith, two.1, two.0.byte_small))
+    counted (operand_from_below one, (operand_from_below two.0, refl))
+    (omega (arith, two.1, two.0.byte_small))
 logic_with_simple_footprint operation value (simple.Word place) most pushed one two =
     after_part 10 (operand_from_below one) (with_word_footprint place operation operation) (omega arith)
 

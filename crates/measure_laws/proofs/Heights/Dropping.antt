@@ -22,7 +22,8 @@ same_first :
     → Plain one ∷ first ≡ Plain other ∷ more
     → is_counted other ≡ false
     → is_counted one ≡ false
-same_first {one = one} {other = other} same plain = let first : one ≡ other = cc in ap is_counted first ∙ plain
+same_first {one = one} {other = other} same plain =
+    let first : one ≡ other = cc in ap is_counted first ∙ plain
 
 -- the items of a call are empty, or a CALL
 abbrev AreOfCall : List Item → Type 0

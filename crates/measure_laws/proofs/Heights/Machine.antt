@@ -73,7 +73,8 @@ inx_gives_one script s = refl
 
 -- the same for each instruction of a form that keeps the stack pointer with any word
 pub word_keeps_stack :
-    (form : WordForm) (word : ℕ) → keeps_stack_with form ≡ true → keeps_stack (instruction_with form word) ≡ true
+    (form : WordForm) (word : ℕ) → keeps_stack_with form ≡ true
+    → keeps_stack (instruction_with form word) ≡ true
 word_keeps_stack (forms.LoadPair Sp) word kept = absurd (false≢true kept)
 word_keeps_stack forms.Jump word kept = absurd (false≢true kept)
 word_keeps_stack (forms.JumpWhere condition) word kept = absurd (false≢true kept)

@@ -1,5 +1,5 @@
 -- The code of a module pushes at most what heights and charges allow.
-use Rattle.measure_laws.proofs.Prelude.{◌≡◌, ℕ, suc, ◌+◌, ◌-◌, ◌*◌, ◌<◌, ◌≤◌, ◌⊎◌, inl, inr, get_or, Bool, true, false, List, [], ◌∷◌, ◌++◌, length, Option, Some, None, slice_get, refl, sym, ap, subst, ◌∙◌, arith, slice_get_cases, slice_get_within, option_map_or, ScalarType, FRAME_LIMIT, charge_of, count_of_arguments, height_of, height_of_arguments, height_of_list, height_of_reference, height_of_statement, height_of_target, AreParameters, FramesFit, ParametersFit, home_of_parameters, TypedModule, TypedProcedure, IsWellTyped, TypesHoldInList, TypesHoldInProcedure, Within, WithinMain, WithinProcedure, Storage, Item, Range, TreeModule, ProcedureKind, TreeProcedure, StatementNumber, HasBody, IsLowered, IsProcedure, labels_numbered_in_list, nodes_of, has_frame, parameter_count, frame_fits, has_parameters, numbered_at, Facts, Part, Task, Site, IsWritten, Body, Here, IsCarriedOut, IsListCarriedOut, IsEndCode, IsFrameOf, FindsRoom, NothingThere, PushesAtMost, taken_by, Source}
+use Rattle.measure_laws.proofs.Prelude.{◌≡◌, ℕ, suc, ◌+◌, ◌-◌, ◌*◌, ◌<◌, ◌≤◌, ◌⊎◌, inl, inr, get_or, Bool, true, false, List, [], ◌∷◌, ◌++◌, length, Option, Some, None, slice_get, refl, sym, ap, subst, ◌∙◌, arith, slice_get_cases, slice_get_within, option_map_or, ScalarType, FRAME_LIMIT, charge_of, count_of_arguments, height_of, height_of_arguments, height_of_list, height_of_reference, height_of_statement, height_of_target, AreParameters, FramesFit, ParametersFit, home_of_parameters, TypedModule, TypedProcedure, IsWellTyped, TypesHoldInList, TypesHoldInProcedure, Within, WithinMain, WithinProcedure, Storage, Item, Range, TreeModule, ProcedureKind, TreeProcedure, StatementNumber, HasBody, IsLowered, IsProcedure, labels_numbered_in_list, nodes_of, has_frame, parameter_count, frame_fits, has_parameters, numbered_at, Facts, Part, Task, Site, IsWritten, Body, Here, IsCarriedOut, IsListCarriedOut, IsEndCode, IsFrameOf, FindsRoom, NothingThere, PushesAtMost, taken_by, Source, BodyGround, IsList, TypedList}
 use Rattle.typed_trees.specs.TypedTrees.{Home}
 use Rattle.treecode.specs.declared.procedure.ProcedureKind.TheVariants as kinds
 use Rattle.frames.specs.Calls.{call_bytes}
@@ -69,7 +69,8 @@ setting_of source = record { typed = source.typed; storage = source.storage; wit
 
 task_pushes :
     (site : Site) (source : Source site.tree.now) (task : Task) (list : List Item)
-    → ((free : ℕ) → TaskIsOf site.tree.now source free anywhere free task → PushesAtMost site.tree.now free list)
+    → ((free : ℕ) → TaskIsOf site.tree.now source free anywhere free task
+    → PushesAtMost site.tree.now free list)
     → TaskPushes site.tree.now (setting_of source) task list
 task_pushes site source (tasks.Branch condition label sense) list pushes = λ bound expression node types.
     pushes (2 * height_of expression)
@@ -103,7 +104,38 @@ pub part_pushes :
 part_pushes typed storage within site called {part = part} {list = list} fit lowered written =
     task_pushes site (source_of typed storage site.tree.now fit lowered within) part.task list
     (λ free is.
-    (part_written site (source_of typed storage site.tree.now fit lowered within) called free free written is).room)
+    (part_written site (source_of typed storage site.tree.now fit lowered within) called free
+    free written is).room)
+
+-- the ground of a body where only pushes count
+abbrev pushing : (body : Body) (called : List Bool) → Source body.tree.now → (level : ℕ) → BodyGround
+pushing body called source level = record {
+  body = body;
+  called = called;
+  source = source;
+  level = level;
+  ok = anywhere;
+  counts = ⊥;
+  pushes = Unit {0};
+  knows = λ none. absurd none;
+}
+
+list_room :
+    (body : Body) (source : Source body.tree.now) (called : List Bool) (level : ℕ)
+    (labels : List ℕ) (range : Range)
+    {bound : ℕ} {statements : TypedList} {before : Facts} {after : Here} {list : List Item}
+    → body.frame.now.variable_bytes ≤ FRAME_LIMIT
+    → IsList (nodes_of body.tree.now) source.storage labels bound range statements
+    → TypesHoldInList source.typed source.within statements
+    → 2 + 2 * height_of_list statements ≤ level
+    → IsListCarriedOut body called before range list after
+    → PushesAtMost body.tree.now level list
+list_room body source called level labels range small node types room done =
+    ((whole_list_fits (pushing body called source level) (λ none. absurd none) small labels
+    (λ none. absurd none) range []
+    node types (λ none. absurd none) (λ none. absurd none)
+    (λ number label named any none. absurd none) room).fits done
+    (λ label bound none. absurd none)).room tt
 
 -- a statement
 pub statement_pushes :
@@ -114,10 +146,14 @@ pub statement_pushes :
     → IsLowered typed storage body.tree.now
     → IsCarriedOut body called before number list after
     → StatementPushes body (record { typed = typed; storage = storage; within = within }) number list
-statement_pushes typed storage within body called number small fit lowered done = λ labels bound statement node types.
-    (statement_fits body called (source_of typed storage body.tree.now fit lowered within)
-    (2 + 2 * height_of_statement statement) ⊥ (λ none. absurd none) small labels number node types
-    (λ none. absurd none) (omega arith)).run.room done
+statement_pushes typed storage within body called number small fit lowered done =
+    λ labels bound statement node types.
+    ((statement_fits (pushing body called (source_of typed storage body.tree.now fit lowered within)
+    (2 + 2 * height_of_statement statement))
+    (λ none. absurd none) small labels (λ none. absurd none) number [] node types (λ none. absurd none)
+    (λ none. absurd none)
+    (λ number label named any none. absurd none) (omega arith)).fits done
+    (λ label bound none. absurd none)).measured.room tt
 
 -- a list of statements
 pub list_pushes :
@@ -129,10 +165,11 @@ pub list_pushes :
     → IsLowered typed storage body.tree.now
     → IsListCarriedOut body called before range list after
     → ListPushes body (record { typed = typed; storage = storage; within = within }) range list
-list_pushes typed storage within body called range small fit lowered done = λ labels bound statements node types.
-    (whole_list_fits body called (source_of typed storage body.tree.now fit lowered within)
-    (2 + 2 * height_of_list statements) ⊥ (λ none. absurd none) small labels range node types (λ none. absurd none)
-    (omega arith)).run.room done
+list_pushes typed storage within body called range small fit lowered done =
+    λ labels bound statements node types.
+    list_room body (source_of typed storage body.tree.now fit lowered within) called
+    (2 + 2 * height_of_list statements) labels
+    range small node types (omega arith) done
 
 -- a body with its end
 end_room :
@@ -142,7 +179,8 @@ end_room :
     → body.frame.now.variable_bytes ≤ FRAME_LIMIT
     → IsEndCode body called here is_reached list
     → FindsRoom body.tree.now level level list level
-end_room body source called level here true list small is = (end_fits body called source level ⊥ small).run.room is.1
+end_room body source called level here true list small is =
+    ((end_fits (pushing body called source level) small).fits is.1 (λ label bound none. absurd none)).room tt
 end_room body source called level here false list small is =
     subst (λ (items : List Item). FindsRoom body.tree.now level level items level) (sym is) NothingThere
 
@@ -159,12 +197,12 @@ body_room :
     → IsListCarriedOut body called before procedure.body statements last
     → IsEndCode body called last is_reached ending
     → PushesAtMost body.tree.now bytes (statements ++ ending)
-body_room typed storage within body called bytes procedure heading is_reached ending {last = last} small fit lowered has types room written ends =
+body_room typed storage within body called bytes procedure heading is_reached ending {last = last} small fit
+    lowered has types room written ends =
     let source = source_of typed storage body.tree.now fit lowered within in
     room_joined
-    ((whole_list_fits body called source bytes ⊥ (λ none. absurd none) small (labels_numbered_in_list heading.body)
-    procedure.body has.body types (λ none. absurd none) room).run.room
-    written)
+    (list_room body source called bytes (labels_numbered_in_list heading.body) procedure.body small
+    has.body types room written)
     (end_room body source called bytes last is_reached ending small ends)
 
 -- the frame of a body has at most as many bytes as a typed procedure may have
@@ -177,7 +215,8 @@ pub frame_is_small :
     → IsProcedure typed (nodes_of tree) storage number procedure heading
     → IsFrameOf procedure body.frame.now
     → body.frame.now.variable_bytes ≤ FRAME_LIMIT
-frame_is_small typed storage tree number procedure heading body frames fit stands is frame = by procedure.kind refl
+frame_is_small typed storage tree number procedure heading body frames fit stands is frame =
+    by procedure.kind refl
   where
     none : (procedure.kind ≡ kinds.Reentrant → ⊥) → body.frame.now.variable_bytes ≤ FRAME_LIMIT
     none other = omega (arith, (frame.empty other).variable_bytes)
@@ -186,7 +225,8 @@ frame_is_small typed storage tree number procedure heading body frames fit stand
     by kinds.Reentrant same =
         omega (
           arith,
-          (frame.planned same (has_frame typed (nodes_of tree) storage number procedure heading fit frames stands is)).variable_bytes,
+          (frame.planned same (has_frame typed (nodes_of tree) storage number procedure heading fit frames
+              stands is)).variable_bytes,
           is.frame_bytes,
           (frame_fits typed number heading frames stands).bytes,
         )
@@ -194,7 +234,8 @@ frame_is_small typed storage tree number procedure heading body frames fit stand
     by (kinds.External name) same = none (λ other. cc)
 
 -- a procedure, and the main program
-enough_charged : (heading : TypedProcedure) → 2 + 2 * height_of_list heading.body ≤ charge_of heading - call_bytes heading
+enough_charged : (heading : TypedProcedure)
+    → 2 + 2 * height_of_list heading.body ≤ charge_of heading - call_bytes heading
 unfolding charge_of
 enough_charged heading = omega arith
 
@@ -213,7 +254,8 @@ pushes_within_charges typed storage tree types frames fit lowered = record {
   procedures = λ called number procedure heading list there stands code.
       subst (λ (one : TreeModule). IsLowered typed storage one
       → HasBody (nodes_of one) storage procedure heading
-      → PushesAtMost one (charge_of heading - call_bytes heading) (code.statements ++ code.ending)) code.tree_is
+      → PushesAtMost one (charge_of heading - call_bytes heading)
+      (code.statements ++ code.ending)) code.tree_is
       (λ lowered_one has.
       body_room typed storage (WithinProcedure number heading.result) code.body called
       (charge_of heading - call_bytes heading) procedure heading procedure.reaches_its_end code.ending
@@ -227,9 +269,10 @@ pushes_within_charges typed storage tree types frames fit lowered = record {
       → HasBody (nodes_of one) storage tree.main typed.main
       → PushesAtMost one (charge_of typed.main) code.statements) code.tree_is
       (λ lowered has.
-      (whole_list_fits code.body called (source_of typed storage code.body.tree.now fit lowered WithinMain)
-      (charge_of typed.main) ⊥ (λ none. absurd none) (omega (arith, code.frame.variable_bytes))
-      (labels_numbered_in_list typed.main.body) tree.main.body has.body types.main (λ none. absurd none)
-      (main_charged typed.main)).run.room code.written)
+      list_room code.body (source_of typed storage code.body.tree.now fit lowered WithinMain) called
+      (charge_of typed.main)
+      (labels_numbered_in_list typed.main.body) tree.main.body
+      (omega (arith, code.frame.variable_bytes)) has.body types.main
+      (main_charged typed.main) code.written)
       lowered lowered.main;
 }

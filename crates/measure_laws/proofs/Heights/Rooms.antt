@@ -10,7 +10,8 @@ pub room_joined :
 room_joined NothingThere two = two
 room_joined (PushThere enough one) two = PushThere enough (room_joined one two)
 room_joined (PopThere one) two = PopThere (room_joined one two)
-room_joined {tree = tree} {level = level} {free = free} {after = after} {more = more} (CallThere {others = others} procedure enough one) two =
+room_joined {tree = tree} {level = level} {free = free} {after = after} {more = more}
+    (CallThere {others = others} procedure enough one) two =
     subst (λ (list : List Item). FindsRoom tree level free list after)
     (sym (append_assoc (module_call_items tree procedure) others more))
     (CallThere procedure enough (room_joined one two))

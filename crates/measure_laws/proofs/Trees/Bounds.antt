@@ -18,7 +18,8 @@ module _
           arith,
           parameter_count typed number heading (nodes_of tree).homes procedure.parameters.items
               (has_parameters typed number heading parameters stands) is.has_body.parameters,
-          body_weighs (nodes_of tree) storage (labels_numbered_in_list heading.body) procedure.body heading.body
+          body_weighs (nodes_of tree) storage (labels_numbered_in_list heading.body)
+              procedure.body heading.body
               is.has_body.body,
         )
 
@@ -30,7 +31,8 @@ module _
         → slice_get procedures index ≡ Some procedure
         → slice_get headings index ≡ Some heading
         → weight_of_procedure (nodes_of tree) procedure ≡ typed_weight.weight_of_procedure heading)
-        → sum_by (weight_of_procedure (nodes_of tree)) procedures ≡ sum_by typed_weight.weight_of_procedure headings
+        → sum_by (weight_of_procedure (nodes_of tree)) procedures
+        ≡ sum_by typed_weight.weight_of_procedure headings
     procedures_weigh [] [] same weigh = refl
     procedures_weigh [] (heading ∷ headings) same weigh = absurd (omega (arith, same))
     procedures_weigh (procedure ∷ procedures) [] same weigh = absurd (omega (arith, same))
@@ -56,7 +58,8 @@ weight_is typed storage tree parameters lowered =
       arith,
       procedures_weigh typed storage tree parameters lowered tree.procedures.items typed.procedures
           lowered.procedure_count (procedure_weighs typed storage tree parameters lowered),
-      body_weighs (nodes_of tree) storage (labels_numbered_in_list typed.main.body) tree.main.body typed.main.body
+      body_weighs (nodes_of tree) storage (labels_numbered_in_list typed.main.body)
+          tree.main.body typed.main.body
           lowered.main.body,
     )
 

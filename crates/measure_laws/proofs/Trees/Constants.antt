@@ -1,4 +1,5 @@
--- The constants of tree code take as many bytes as the objects with DATA and the constant lists of the module.
+-- The constants of tree code take as many bytes as the objects with DATA and the constant lists of the
+-- module.
 use Rattle.measure_laws.proofs.Prelude.{◌≡◌, ℕ, suc, ◌+◌, ◌-◌, ◌≤◌, ◌==◌, Bool, true, false, ◌&&◌, min, if◌then◌else◌, nat_le, nat_lt, List, [], ◌∷◌, ◌++◌, length, map, slice_get, Option, Some, None, refl, sym, subst, ◌∙◌, arith, filter_map, sum_by, AllByRecursion, cons_option, enumerate_from, option_map_or, eqb-true, recursion_from_All, sum_by-append, sum_by-cons, same_Some, ConstantItem, ConstantObject, ConstantList, InitialValue, ByteValue, WordValue, LocationValue, size_of_object, IsStorable, bytes_filled, constant_number, numbered_constant, object_in, size_of_value, TypedHome, InData, InConstants, Placed, BasedOn, Elsewhere, Nowhere, InFrame, TypedObject, TypedModule, constant_bytes, size_of_constant, Storage, bytes_in_constants, Content, Word, Gap, Home, constant_object, constants_from, constants_of, content_of, bytes_of_value, with_constant, with_gap, with_gap_if_any, with_object, constant_small, size_of_content, size_of_contents, same_sizes}
 use Rattle.layout.proofs.Segments.{of_all}
 use Rattle.treecode.specs.declared.module.Content.TheVariants.{Byte}
@@ -11,7 +12,8 @@ joined_size :
 joined_size gap count true = omega arith
 joined_size gap count false = omega arith
 
-gap_size : (before : List Content) (count : ℕ) → size_of_contents (with_gap before count) ≡ size_of_contents before + count
+gap_size : (before : List Content) (count : ℕ)
+    → size_of_contents (with_gap before count) ≡ size_of_contents before + count
 gap_size [] count = omega arith
 gap_size (Gap gap ∷ []) count =
     let size = joined_size gap count (nat_lt 0 gap && nat_le (gap + count) 65535) in omega (arith, size)
@@ -49,7 +51,8 @@ gap_if_any_size before count = by (count == 0) refl
     by false is = gap_size before count
 
 -- the values of DATA
-value_size : (starts : List Home) (value : InitialValue) → size_of_content (content_of starts value) ≡ size_of_value value
+value_size : (starts : List Home) (value : InitialValue)
+    → size_of_content (content_of starts value) ≡ size_of_value value
 value_size starts (ByteValue byte) = refl
 value_size starts (WordValue word) = refl
 value_size starts (LocationValue object offset) = refl
@@ -79,7 +82,8 @@ object_takes :
     (starts : List Home) (object : TypedObject) (values : List InitialValue) (before : List Content)
     → sum_by size_of_value values ≤ size_of_object object
     → size_of_object object ≤ 65535
-    → size_of_contents (with_object starts object values before) ≡ size_of_contents before + size_of_object object
+    → size_of_contents (with_object starts object values before)
+    ≡ size_of_contents before + size_of_object object
 object_takes starts object values before filled small =
     let same = same_sizes values in
     omega (
@@ -106,11 +110,13 @@ constant_object_takes starts object other before filled small = omega arith
 -- an object among the constants has all its bytes there
 abbrev IsWhole : (at : ℕ → Option TypedObject) → (number : ℕ) → Type 0
 IsWhole at number =
-    (object : TypedObject) → at number ≡ Some object → bytes_in_constants object.home object ≡ size_of_object object
+    (object : TypedObject) → at number ≡ Some object
+    → bytes_in_constants object.home object ≡ size_of_object object
 
 numbers_whole :
     (at : ℕ → Option TypedObject) (first : ℕ) (objects : List TypedObject)
-    → ((index number : ℕ) (object : TypedObject) → number ≡ first + index → slice_get objects index ≡ Some object
+    → ((index number : ℕ) (object : TypedObject) → number ≡ first + index
+    → slice_get objects index ≡ Some object
     → at number ≡ Some object)
     → AllByRecursion (IsWhole at) (filter_map numbered_constant (enumerate_from first objects))
 numbers_whole at first [] are = tt
@@ -124,14 +130,16 @@ numbers_whole at first (here ∷ others) are =
         → here.home ≡ home
         → AllByRecursion (IsWhole at) (filter_map numbered_constant (enumerate_from (first + 1) others))
         → AllByRecursion (IsWhole at)
-        (cons_option (constant_number first home) (filter_map numbered_constant (enumerate_from (first + 1) others)))
+        (cons_option (constant_number first home)
+        (filter_map numbered_constant (enumerate_from (first + 1) others)))
     by (InConstants values) home_is rest = (itself, rest)
       where
         itself : IsWhole at first
         itself object found =
             subst (λ (one : TypedObject). bytes_in_constants one.home one ≡ size_of_object one)
             (same_Some here object (sym (are 0 first here (omega arith) refl) ∙ found))
-            (subst (λ (home : TypedHome). bytes_in_constants home here ≡ size_of_object here) (sym home_is) refl)
+            (subst (λ (home : TypedHome). bytes_in_constants home here ≡ size_of_object here) (sym home_is)
+            refl)
     by (InData values) home_is rest = rest
     by (Placed address) home_is rest = rest
     by (BasedOn base) home_is rest = rest
@@ -149,7 +157,8 @@ module _
         → slice_get typed.objects number ≡ found
         → IsWhole (slice_get typed.objects) number
         → size_of_contents
-        (option_map_or (λ (object : TypedObject). constant_object starts object object.home before) found before)
+        (option_map_or (λ (object : TypedObject). constant_object starts object object.home before) found
+        before)
         ≡ size_of_contents before + option_map_or size_of_object found 0
     found_takes number before None is whole = omega arith
     found_takes number before (Some object) is whole =
@@ -157,8 +166,10 @@ module _
           arith,
           whole object is,
           constant_object_takes starts object object.home before
-              (of_all (λ (one : TypedObject). bytes_filled one.home ≤ size_of_object one) typed.objects number object
-              (recursion_from_All (λ (one : TypedObject). bytes_filled one.home ≤ size_of_object one) typed.objects
+              (of_all (λ (one : TypedObject). bytes_filled one.home ≤ size_of_object one)
+              typed.objects number object
+              (recursion_from_All (λ (one : TypedObject). bytes_filled one.home ≤ size_of_object one)
+              typed.objects
               storable.filled) is)
               (λ values home_is. constant_small typed storage number object values stored is home_is),
         )
@@ -202,7 +213,8 @@ module _
     pub constants_take : size_of_contents (constants_of typed starts) ≡ constant_bytes typed
     unfolding constants_of
     constants_take =
-        let whole : AllByRecursion (IsWhole (slice_get typed.objects)) (filter_map object_in typed.constants.items) =
+        let whole : AllByRecursion (IsWhole (slice_get typed.objects))
+        (filter_map object_in typed.constants.items) =
         subst (AllByRecursion (IsWhole (slice_get typed.objects))) (sym storable.objects)
         (numbers_whole (slice_get typed.objects) 0 typed.objects
         (λ index number object number_is found.

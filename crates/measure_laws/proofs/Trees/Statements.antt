@@ -24,7 +24,8 @@ module _ (nodes : Nodes) (storage : Storage) where
       → IsExpressionIn nodes storage number tree
       → weight_of_expression nodes number ≡ typed.weight_of_expression tree
   expression_weighs number tree is =
-      weighs_at nodes storage (length nodes.expressions) (length nodes.expressions) number.index tree (omega arith) is
+      weighs_at nodes storage (length nodes.expressions) (length nodes.expressions) number.index
+      tree (omega arith) is
 
   optional_weighs :
       (number : Option ExpressionNumber) (tree : Option TypedExpression)
@@ -44,9 +45,11 @@ module _ (nodes : Nodes) (storage : Storage) where
   targets_weigh :
       (first count : ℕ) (trees : List TypedTarget)
       → AreTargets nodes storage first count trees
-      → sum_by (weight_of_target nodes) (take count (drop first nodes.targets)) ≡ sum_by typed.weight_of_target trees
+      → sum_by (weight_of_target nodes) (take count (drop first nodes.targets))
+      ≡ sum_by typed.weight_of_target trees
   targets_weigh first count trees NoTargets = refl
-  targets_weigh first count trees (MoreTargets {count = fewer} {target = target} {tree = tree} {others = others} there one more) =
+  targets_weigh first count trees
+      (MoreTargets {count = fewer} {target = target} {tree = tree} {others = others} there one more) =
       let this : weight_of_target nodes target ≡ typed.weight_of_target tree =
       target_weighs nodes storage (length nodes.expressions) (beside_at nodes)
       (weighs_at nodes storage (length nodes.expressions)) (omega arith) one in
@@ -60,7 +63,8 @@ module _ (nodes : Nodes) (storage : Storage) where
       → IsExpressionIn nodes storage number tree
       → (traits_at nodes number).scalar ≡ type_of tree
   scalar_is number tree (IsNode below there scalar form) =
-      ap (λ (entry : Option Expression). (option_map_or (λ (one : Expression). one.traits) entry no_traits).scalar) there
+      ap (λ (entry : Option Expression). (option_map_or (λ (one : Expression). one.traits) entry
+      no_traits).scalar) there
       ∙ scalar
 
   iteration_weighs :
@@ -68,7 +72,9 @@ module _ (nodes : Nodes) (storage : Storage) where
       → IsIteration nodes storage head tree
       → weight_of_iteration nodes head ≡ typed.weight_of_iteration tree
   iteration_weighs head tree is =
-      let from = ap (λ scalar. typed.weight_of_storing scalar head.scalar) (scalar_is head.first tree.first is.first) in
+      let from =
+      ap (λ scalar. typed.weight_of_storing scalar head.scalar)
+      (scalar_is head.first tree.first is.first) in
       let to = ap (λ scalar. typed.weight_of_storing (type_of tree.first) scalar) is.scalar in
       omega (
         arith,
@@ -95,10 +101,14 @@ module _ (nodes : Nodes) (storage : Storage) where
         → sum_by (λ (one : StatementNumber). weight one.index) (take count (drop first nodes.lists))
         ≡ typed.weight_of_statements trees
     row_weighs limit weight bound first count trees weighs enough AreNoStatements = refl
-    row_weighs limit weight bound first count trees weighs enough (AreMoreStatements {count = fewer} {number = number} {tree = tree} {others = others} there one more) =
-        let this : weight number.index ≡ typed.weight_of_statement tree = weighs bound number.index tree enough one in
+    row_weighs limit weight bound first count trees weighs enough
+        (AreMoreStatements {count = fewer} {number = number} {tree = tree} {others = others} there one more) =
+        let this : weight number.index ≡ typed.weight_of_statement tree =
+        weighs bound number.index tree enough one in
         let rest = row_weighs limit weight bound (suc first) fewer others weighs enough more in
-        let here = entries_weigh (λ (one : StatementNumber). weight one.index) nodes.lists first fewer number there in
+        let here =
+        entries_weigh (λ (one : StatementNumber). weight one.index) nodes.lists first
+        fewer number there in
         omega (arith, this, rest, here)
 
     list_weighs :
@@ -117,7 +127,8 @@ module _ (nodes : Nodes) (storage : Storage) where
         → IsElse nodes storage labels bound number tree
         → option_map_or (λ (one : StatementNumber). weight one.index) number 0 ≡ typed.weight_of_else tree
     else_weighs limit weight bound number tree weighs enough IsNoElse = refl
-    else_weighs limit weight bound number tree weighs enough (IsSomeElse {number = other} {tree = statement} is) =
+    else_weighs limit weight bound number tree weighs enough
+        (IsSomeElse {number = other} {tree = statement} is) =
         weighs bound other.index statement enough is
 
     -- a statement, by its form
@@ -127,35 +138,44 @@ module _ (nodes : Nodes) (storage : Storage) where
         → bound ≤ limit
         → IsStatementForm nodes storage labels bound statement tree
         → weight_of_statement weight nodes statement ≡ typed.weight_of_statement tree
-    form_weighs limit weight bound statement tree weighs enough (IsAssignment {range = range} {value = value} {trees = trees} {tree = from} are is) =
+    form_weighs limit weight bound statement tree weighs enough
+        (IsAssignment {range = range} {value = value} {trees = trees} {tree = from} are is) =
         let to = targets_weigh range.first range.count trees are in
         let one = expression_weighs value from is in
         omega (arith, to, one)
     form_weighs limit weight bound statement tree weighs enough (IsCall {range = range} {trees = trees} are) =
         ap (λ n. 1 + n) (given_weigh range trees are)
-    form_weighs limit weight bound statement tree weighs enough (IsMove {count = count} {source = source} {destination = destination} {bytes = bytes} {from = from} {to = to} one two three) =
+    form_weighs limit weight bound statement tree weighs enough
+        (IsMove {count = count} {source = source} {destination = destination} {bytes = bytes} {from = from}
+        {to = to} one two three) =
         let first = expression_weighs count bytes one in
         let second = expression_weighs source from two in
         let third = expression_weighs destination to three in
         omega (arith, first, second, third)
-    form_weighs limit weight bound statement tree weighs enough (IsReturn {value = value} {tree = result} is) =
+    form_weighs limit weight bound statement tree weighs enough
+        (IsReturn {value = value} {tree = result} is) =
         ap (λ n. 1 + n) (optional_weighs value result is)
-    form_weighs limit weight bound statement tree weighs enough (IsIf {condition = condition} {body = body} {otherwise = otherwise} {test = test} {then_tree = then_tree} {else_tree = else_tree} one two three) =
+    form_weighs limit weight bound statement tree weighs enough
+        (IsIf {condition = condition} {body = body} {otherwise = otherwise} {test = test}
+        {then_tree = then_tree} {else_tree = else_tree} one two three) =
         let first = expression_weighs condition test one in
         let second = weighs bound body.index then_tree enough two in
         let third = else_weighs limit weight bound otherwise else_tree weighs enough three in
         omega (arith, first, second, third)
     form_weighs limit weight bound statement tree weighs enough (IsDo {range = range} {list = list} is) =
         ap (λ n. 1 + n) (list_weighs limit weight bound range list weighs enough is)
-    form_weighs limit weight bound statement tree weighs enough (IsWhile {condition = condition} {range = range} {test = test} {list = list} one two) =
+    form_weighs limit weight bound statement tree weighs enough
+        (IsWhile {condition = condition} {range = range} {test = test} {list = list} one two) =
         let first = expression_weighs condition test one in
         let second = list_weighs limit weight bound range list weighs enough two in
         omega (arith, first, second)
-    form_weighs limit weight bound statement tree weighs enough (IsIterate {head = head} {range = range} {tree = from} {list = list} one two) =
+    form_weighs limit weight bound statement tree weighs enough
+        (IsIterate {head = head} {range = range} {tree = from} {list = list} one two) =
         let first = iteration_weighs head from one in
         let second = list_weighs limit weight bound range list weighs enough two in
         omega (arith, first, second)
-    form_weighs limit weight bound statement tree weighs enough (IsCase {choice = choice} {range = range} {tree = from} {trees = trees} one two) =
+    form_weighs limit weight bound statement tree weighs enough
+        (IsCase {choice = choice} {range = range} {tree = from} {trees = trees} one two) =
         let first = expression_weighs choice from one in
         let second = row_weighs limit weight bound range.first range.count trees weighs enough two in
         omega (arith, first, second)
@@ -163,8 +183,10 @@ module _ (nodes : Nodes) (storage : Storage) where
 
     -- with levels for all numbers below a bound
     within_weighs : (levels : ℕ) → Weighs levels (weight_within nodes levels)
-    within_weighs zero bound number tree enough (IsStatementNode below there form) = absurd (omega (arith, enough, below))
-    within_weighs (suc levels) bound number tree enough (IsStatementNode {statement = found} below there form) =
+    within_weighs zero bound number tree enough (IsStatementNode below there form) =
+        absurd (omega (arith, enough, below))
+    within_weighs (suc levels) bound number tree enough
+        (IsStatementNode {statement = found} below there form) =
         ap (λ (entry : Option Statement).
         option_map_or (weight_of_statement (weight_within nodes levels) nodes) entry 0) there
         ∙ form_weighs levels (weight_within nodes levels) number found tree (within_weighs levels)
@@ -175,5 +197,6 @@ module _ (nodes : Nodes) (storage : Storage) where
         → IsList nodes storage labels (length nodes.statements) body list
         → weight_of_body nodes body ≡ typed.weight_of_list list
     body_weighs body list is =
-        list_weighs (length nodes.statements) (weight_within nodes (length nodes.statements)) (length nodes.statements)
+        list_weighs (length nodes.statements) (weight_within nodes (length nodes.statements))
+        (length nodes.statements)
         body list (within_weighs (length nodes.statements)) (omega arith) is

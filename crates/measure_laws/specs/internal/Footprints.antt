@@ -273,18 +273,6 @@ Goes tree source level ok free (steps.Part part ∷ others) after =
 abbrev pub Go : (at : Ground) (free : ℕ) → List Step → (after : ℕ) → Type 0
 Go at free planned after = Goes at.site.tree.now at.source at.level at.ok free planned after
 
--- a task is for a tree, whatever its source, and whatever is free
-pub record PartIsOf (tree : TreeModule) (task : Task) : Type 0 where
-  pub source : Source tree
-  pub level : ℕ
-  pub free : ℕ
-  pub is : TaskIsOf tree source level anywhere free task
-
-abbrev pub StepsHave : TreeModule → List Step → Type 0
-StepsHave tree [] = Unit {0}
-StepsHave tree (steps.Part part ∷ others) = PartIsOf tree part.task × StepsHave tree others
-StepsHave tree (step ∷ others) = StepsHave tree others
-
 -- the greatest size of a step in bytes, from those of the tasks of parts
 abbrev pub size_of_step : (Task → ℕ) → Step → ℕ
 size_of_step size (steps.Plain i) = size_of_instruction i

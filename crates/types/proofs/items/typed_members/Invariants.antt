@@ -1,6 +1,6 @@
 use Rattle.types.proofs.Prelude.{◌≡◌, [], drop}
 use Rattle.typing.specs.internal.ItemChecks as checks
-use Rattle.types.proofs.checks.typed_members.Given as goal
+use Rattle.types.proofs.items.typed_members.Given as goal
 
 -- the members that are left decide
 abbrev pub invariant-loop-member : goal.invariant-loop-member

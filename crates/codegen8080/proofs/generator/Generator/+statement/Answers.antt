@@ -1,5 +1,5 @@
 use Rattle.codegen8080.proofs.Prelude.{refl, sym, subst, ◌∙◌, arith, true, Planned, CarriesOut, Generator}
-use Rattle.codegen8080.proofs.Driving.{carrying_ends, holds_none, list_carried, listing_begins, listing_ends, none_passed, statement_added_if, statement_carried, statement_passed, step_carried_if, step_passed}
+use Rattle.codegen8080.proofs.Driving.{carrying_begins, carrying_ends, holds_none, list_carried, listing_begins, listing_ends, none_passed, statement_added_if, statement_carried, statement_passed, step_carried_if, step_passed}
 use Rattle.codegen8080.proofs.generator.Generator.+statement.Goals.{planned-in-Some+in_ok-waiting, planned-in_default}
 use Rattle.codegen8080.proofs.generator.Generator.+statement.Goals as goal
 
@@ -39,6 +39,9 @@ pub list-returns-clause-code : goal.list-returns-clause-code
 list-returns-clause-code t c =
     listing_ends c.args.body.now c.args.list c.args.self.now c.loop-index.self c.loop-index.index
     c.loop-index.invariant c.loop-index-test.false
+
+pub planned-loop-index-init : goal.planned-loop-index-init
+planned-loop-index-init t c = carrying_begins c.args.body.now c.args.self.now c.args.start
 
 pub planned-loop-index-preserved : goal.planned-loop-index-preserved
 planned-loop-index-preserved t c = elim c.match-get.branch [
