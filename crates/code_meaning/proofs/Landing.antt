@@ -1,5 +1,5 @@
 -- Runs of a machine, one after another.
-use Rattle.code_meaning.proofs.Prelude.{◌≡◌, ℕ, zero, suc, ◌+◌, ◌-◌, ◌<◌, ◌≤◌, ◌==◌, Bool, true, false, List, if◌then◌else◌, refl, sym, ap, ◌∙◌, arith, SourceState, Stop, Ended, More, Outside, Outcome, Gave, Stopped, then_do, taking_one, State, step_of, state_after, Running, Comes, comes_on, step_then, same_after, Lands, IsLeft, Told, Does}
+use Rattle.code_meaning.proofs.Prelude.{◌≡◌, ℕ, zero, suc, ◌+◌, ◌-◌, ◌<◌, ◌≤◌, ◌==◌, Bool, true, false, List, if◌then◌else◌, refl, sym, ap, ◌∙◌, arith, SourceState, Stop, Ended, More, Outside, Outcome, Gave, Stopped, then_do, taking_one, State, step_of, state_after, Running, Comes, comes_on, step_then, same_after, Lands, IsLeft, Told, Loaded, Does}
 
 paid_on :
     (budget second more other left j k middle : ℕ)
@@ -34,20 +34,21 @@ lands_on {script = script} {budget = budget} {more = more} {from = from} {middle
 
 -- the run for an outcome after another run is a run from the start of that one
 pub told_on :
-    {A : Type 0} {script : List (List ℕ)} {budget more : ℕ} {from : State} {middle : ℕ}
+    {A : Type 0} (loaded : Loaded) {budget more : ℕ} {from : State} {middle : ℕ}
     {First : State → Type 0}
-    (one : Lands script budget more from middle First)
+    (one : Lands loaded.program.script budget more from middle First)
     (second other : ℕ) (outcome : Outcome A) (Good : A → SourceState → State → Type 0)
     → second ≤ middle
     → middle ≤ second + more
-    → Told script second other one.end outcome Good
-    → Told script budget other from outcome Good
-told_on one second other (Gave found t) Good less enough two =
+    → Told loaded second other one.end outcome Good
+    → Told loaded budget other from outcome Good
+told_on loaded one second other (Gave found t) Good less enough two =
     lands_on one second other t.budget less enough two
-told_on one second other (Stopped Ended t) Good less enough two =
+told_on loaded one second other (Stopped Ended t) Good less enough two =
     lands_on one second 0 t.budget less enough two
-told_on one second other (Stopped More t) Good less enough two = lands_on one second 0 0 less enough two
-told_on one second other (Stopped (Outside reason) t) Good less enough two = tt
+told_on loaded one second other (Stopped More t) Good less enough two =
+    lands_on one second 0 0 less enough two
+told_on loaded one second other (Stopped (Outside reason) t) Good less enough two = tt
 
 -- no step
 pub landed :
@@ -79,58 +80,61 @@ one_step script budget from to same = record {
 
 -- the given value, without a step
 pub does_without_step :
-    {A : Type 0} {script : List (List ℕ)} {found : A} {t : SourceState} {from : State}
+    {A : Type 0} {loaded : Loaded} {found : A} {t : SourceState} {from : State}
     {Good : A → SourceState → State → Type 0}
     → Good found t from
-    → Does script t.budget 0 from (Gave found t) Good
-does_without_step {A = A} {script = script} {found = found} {t = t} {from = from} {Good = Good} good =
-    record { told = landed script t.budget from (Good found t) good }
+    → Does loaded t.budget 0 from (Gave found t) Good
+does_without_step {A = A} {loaded = loaded} {found = found} {t = t} {from = from} {Good = Good} good =
+    record { told = landed loaded.program.script t.budget from (Good found t) good }
 
 -- first a step
 pub after_step :
-    {A : Type 0} {script : List (List ℕ)} {budget more : ℕ} {from to : State} {outcome : Outcome A}
+    {A : Type 0} {loaded : Loaded} {budget more : ℕ} {from to : State} {outcome : Outcome A}
     {Good : A → SourceState → State → Type 0}
-    → step_of script from ≡ to
-    → Does script budget more to outcome Good
-    → Does script budget more from outcome Good
+    → step_of loaded.program.script from ≡ to
+    → Does loaded budget more to outcome Good
+    → Does loaded budget more from outcome Good
 unfolding one_step
-after_step {A = A} {script = script} {budget = budget} {more = more} {from = from} {to = to}
+after_step {A = A} {loaded = loaded} {budget = budget} {more = more} {from = from} {to = to}
     {outcome = outcome} {Good = Good} same rest =
-    record { told = told_on (one_step script budget from to same) budget more outcome Good (omega arith) (omega arith) rest.told }
+    let first = one_step loaded.program.script budget from to same in
+    record { told = told_on loaded first budget more outcome Good (omega arith) (omega arith) rest.told }
 
 -- first a step, which pays for one unit of the budget
 pub after_paid_step :
-    {A : Type 0} {script : List (List ℕ)} {budget more : ℕ} {from to : State} {outcome : Outcome A}
+    {A : Type 0} {loaded : Loaded} {budget more : ℕ} {from to : State} {outcome : Outcome A}
     {Good : A → SourceState → State → Type 0}
-    → step_of script from ≡ to
-    → Does script budget more to outcome Good
-    → Does script (suc budget) more from outcome Good
+    → step_of loaded.program.script from ≡ to
+    → Does loaded budget more to outcome Good
+    → Does loaded (suc budget) more from outcome Good
 unfolding one_step
-after_paid_step {A = A} {script = script} {budget = budget} {more = more} {from = from} {to = to}
+after_paid_step {A = A} {loaded = loaded} {budget = budget} {more = more} {from = from} {to = to}
     {outcome = outcome} {Good = Good} same rest =
-    let first = one_step script (suc budget) from to same in
-    record { told = told_on first budget more outcome Good (omega arith) (omega arith) rest.told }
+    let first = one_step loaded.program.script (suc budget) from to same in
+    record { told = told_on loaded first budget more outcome Good (omega arith) (omega arith) rest.told }
 
 -- a part that gives a value, then others
 pub then_does :
-    {A B : Type 0} {script : List (List ℕ)} {budget other : ℕ} {from : State} {outcome : Outcome A}
+    {A B : Type 0} {loaded : Loaded} {budget other : ℕ} {from : State} {outcome : Outcome A}
     {go : A → SourceState → Outcome B}
     {Middle : A → SourceState → State → Type 0} {Good : B → SourceState → State → Type 0}
-    → Does script budget 0 from outcome Middle
+    → Does loaded budget 0 from outcome Middle
     → ((found : A) (t : SourceState) (end : State) → Middle found t end → t.budget ≤ budget
-    → Does script t.budget other end (go found t) Good)
-    → Does script budget other from (then_do outcome go) Good
-then_does {A = A} {B = B} {script = script} {budget = budget} {other = other} {from = from}
+    → Does loaded t.budget other end (go found t) Good)
+    → Does loaded budget other from (then_do outcome go) Good
+then_does {A = A} {B = B} {loaded = loaded} {budget = budget} {other = other} {from = from}
     {outcome = Gave found t} {go = go} {Middle = Middle} {Good = Good} one rest =
-    let first : Lands script budget 0 from t.budget (Middle found t) = one.told in
+    let first : Lands loaded.program.script budget 0 from t.budget (Middle found t) = one.told in
     let second = rest found t first.end first.is_good first.spent in
-    record { told = told_on first t.budget other (go found t) Good (omega arith) (omega arith) second.told }
-then_does {A = A} {B = B} {script = script} {budget = budget} {other = other} {from = from}
+    record {
+      told = told_on loaded first t.budget other (go found t) Good (omega arith) (omega arith) second.told;
+    }
+then_does {A = A} {B = B} {loaded = loaded} {budget = budget} {other = other} {from = from}
     {outcome = Stopped Ended t} {go = go} {Middle = Middle} {Good = Good} one rest =
     record { told = one.told }
-then_does {A = A} {B = B} {script = script} {budget = budget} {other = other} {from = from}
+then_does {A = A} {B = B} {loaded = loaded} {budget = budget} {other = other} {from = from}
     {outcome = Stopped More t} {go = go} {Middle = Middle} {Good = Good} one rest =
     record { told = one.told }
-then_does {A = A} {B = B} {script = script} {budget = budget} {other = other} {from = from}
+then_does {A = A} {B = B} {loaded = loaded} {budget = budget} {other = other} {from = from}
     {outcome = Stopped (Outside reason) t} {go = go} {Middle = Middle} {Good = Good} one rest =
     record { told = tt }

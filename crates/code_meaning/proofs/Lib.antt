@@ -4,6 +4,7 @@ pub mod Outcomes
 pub mod Landing
 pub mod Standing
 pub mod FirstItems
+pub mod Halting
 pub mod Owning
 pub mod Stores
 pub mod Pushes

@@ -1,6 +1,23 @@
 -- Words that are pushed, and are still there after other code has run.
-use Rattle.code_meaning.proofs.Prelude.{◌≡◌, ℕ, ◌+◌, ◌-◌, ◌<◌, ◌≤◌, inl, inr, List, length, slice_set, refl, ◌∙◌, arith, MEMORY_SIZE, HoldBytes, Registers, high_byte, low_byte, wrap, Keeps, IsPushed, pushed, pushed_is_memory, pushed_is_pushed, pushed_keeps, Activation, FrameLies, IsReady, LiesWell, Owns, Shares}
+use Rattle.code_meaning.proofs.Prelude.{◌≡◌, ℕ, ◌+◌, ◌-◌, ◌<◌, ◌≤◌, inl, inr, List, length, slice_set, refl, ◌∙◌, arith, MEMORY_SIZE, HoldBytes, Registers, high_byte, low_byte, wrap, Keeps, IsPushed, pushed, pushed_is_memory, pushed_is_pushed, pushed_keeps, Activation, FrameLies, IsReady, LiesWell, MayChange, Owns, Shares}
 use Rattle.code_meaning.proofs.Owning.{keeps_all, keeps_both, keeps_wider, owns_more, pushed_is_not_owned}
+
+-- a word that is pushed changes two bytes
+pub keeps_pushed :
+    (Own : ℕ → Type 0) (top word : ℕ) (base memory : List ℕ)
+    → Own (top - 1)
+    → Own (top - 2)
+    → Keeps Own base memory
+    → Keeps Own base (pushed top word memory)
+keeps_pushed Own top word base memory high low kept = record {
+  size =
+      Rattle.std.proofs.lemmas.List.length-set (slice_set memory (top - 1) (high_byte word)) (top - 2)
+      (low_byte word)
+      ∙ Rattle.std.proofs.lemmas.List.length-set memory (top - 1) (high_byte word) ∙ kept.size;
+  bytes = λ address outside.
+      pushed_keeps top word memory address (λ same. outside (rw same high)) (λ same. outside (rw same low))
+      ∙ kept.bytes address outside;
+}
 
 -- bytes of the stack below a level may be written
 pushed_shares :
@@ -34,6 +51,9 @@ pushed_shares activation top word source memory lies room below small shares =
           (λ same. apart address there.0 there.1 (omega (arith, same, room, bottom))
           (omega (arith, same, room, below, above)))
           ∙ shares.code address there;
+      others = keeps_pushed (MayChange activation.around.program) top word activation.image memory
+          (inr (omega (arith, room, bottom), omega (arith, room, below, above)))
+          (inr (omega (arith, room, bottom), omega (arith, room, below, above))) shares.others;
     }
 
 pushed_frame :

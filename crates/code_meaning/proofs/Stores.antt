@@ -1,5 +1,5 @@
 -- An activation that is ready remains so if a variable, or a byte of its frame, is changed on both sides.
-use Rattle.code_meaning.proofs.Prelude.{◌≡◌, ◌≢◌, ℕ, ◌+◌, ◌-◌, ◌<◌, ◌≤◌, ◌==◌, ◌⊎◌, inl, inr, Bool, true, false, List, length, slice_set, refl, sym, ap, ◌∙◌, arith, length-set, eqb-true, eqb-false, MEMORY_SIZE, IsMemory, byte_at, Program, is_declared, is_constant, frame_bytes, Registers, AgreesIn, Keeps, byte_kept, byte_put, memory_put, Activation, FrameLies, IsReady, IsVariable, LiesWell, Owns, Shares}
+use Rattle.code_meaning.proofs.Prelude.{◌≡◌, ◌≢◌, ℕ, ◌+◌, ◌-◌, ◌<◌, ◌≤◌, ◌==◌, ◌⊎◌, inl, inr, Bool, true, false, List, length, slice_set, refl, sym, ap, ◌∙◌, arith, length-set, eqb-true, eqb-false, MEMORY_SIZE, IsMemory, byte_at, Program, is_declared, is_constant, frame_bytes, Registers, AgreesIn, Keeps, byte_kept, byte_put, memory_put, Activation, FrameLies, IsReady, IsVariable, LiesWell, MayChange, Owns, Shares}
 use Rattle.code_meaning.proofs.Owning.{keeps_both}
 
 -- a byte of one memory that is written to another at the same address
@@ -53,6 +53,7 @@ variable_shared program image source memory address value free variable inside s
           byte_kept memory address other value
           (λ same. free address variable (rw (sym same) there.0) (rw (sym same) there.1))
           ∙ shares.code other there;
+      others = keeps_put (MayChange program) image memory address value (inl variable) shares.others;
     }
 
 -- a frame does not change if a byte outside it changes

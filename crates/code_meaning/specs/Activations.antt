@@ -10,7 +10,7 @@ use Rattle.asm8080.specs.declared.item.Item.{Item}
 use Rattle.asm8080.specs.Items.{Layout, Stands}
 use Rattle.asm8080.specs.Standing.{Keeps}
 use Rattle.code_meaning.specs.Landing.{at_place}
-pub use Rattle.code_meaning.specs.Sharing.{IsVariable, Shares}
+pub use Rattle.code_meaning.specs.Sharing.{IsOfStack, IsVariable, Loaded, MayChange, Shares}
 
 -- An activation: its surroundings; the labels and targets of its module's code; the memory as it was loaded,
 -- with which all code is compared; the lowest byte of the stack that it may change; the stack pointer when
@@ -26,6 +26,10 @@ pub record Activation : Type 0 where
   pub size : (object : ℕ) → ℕ
   pub back : ℕ
   pub whole : ℕ
+
+-- the program that it is of, as it is loaded
+abbrev pub loaded_of : Activation → Loaded
+loaded_of activation = record { program = activation.around.program; image = activation.image }
 
 -- a byte of the stack that an activation may change when the stack pointer is at a level: one from its floor
 -- up to there, or one below the caller's stack that is neither pushed nor part of the return address

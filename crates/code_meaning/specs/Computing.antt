@@ -4,7 +4,7 @@ use Rattle.meaning.specs.Outcomes.{State as SourceState, Outcome}
 use Rattle.isa8080.specs.State.{Registers}
 use Rattle.asm8080.specs.declared.item.Item.{Item}
 use Rattle.code_meaning.specs.Landing.{Does, at_place}
-use Rattle.code_meaning.specs.Activations.{Activation, Arrives, HasRoom, IsReady, IsThere}
+use Rattle.code_meaning.specs.Activations.{Activation, Arrives, HasRoom, IsReady, IsThere, loaded_of}
 
 -- Take items at any place, with `pushed` bytes pushed and room for `need` bytes. A machine that is ready, and
 -- for which `Known` holds, does what is meant. It is ready at their end, where `Holds` holds for the value.
@@ -17,5 +17,5 @@ Computes activation pushed need Known items meant Holds =
     → HasRoom activation top pushed need
     → IsReady activation top base s.memory s.frame r memory
     → Known r memory
-    → Does activation.around.program.script s.budget 0 (at_place from r memory s.events) (meant s)
+    → Does (loaded_of activation) s.budget 0 (at_place from r memory s.events) (meant s)
     (Arrives activation top base to Holds)

@@ -1,5 +1,5 @@
-pub mod Landing
 pub mod Sharing
+pub mod Landing
 pub mod Activations
 pub mod Computing
 pub mod Holding

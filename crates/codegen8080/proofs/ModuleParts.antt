@@ -1,5 +1,5 @@
 -- The code of a module, from the code of its parts.
-use Rattle.codegen8080.proofs.Prelude.{◌≡◌, ℕ, zero, suc, ◌+◌, inl, inr, Bool, true, false, List, length-replicate, replicate, slice_index_or, [], ◌∷◌, ◌++◌, Option, Some, None, Result, Ok, Err, OnOk, slice_get, length, take, drop, ◌-◌, ◌<◌, arith, refl, sym, ap, subst, ◌∙◌, append_assoc, append-nil, add-one, option_map, none-some, Item, Routine, Content, TreeModule, ProcedureKind, TreeProcedure, Extends, entry, no_facts, label_after, Written, Writes, in_front, items_stay, writes_nothing, writes_then, has_routine, index_of_routine, module_routine_label, HasAll, IsEmpty, NotesCalled, has_itself, none_noted, notes_then, Generator, LabelledList, LabelledSteps, AreRoutines, IsCodeOfRoutine, IsCodeWritten, IsMainCode, IsMainLabelled, IsOwnCode, IsProcedureCode, IsProcedureLabelled, all_routines, content_items, contents_items, has_main, entry_labels, entry_steps, AddsCalled, AddsCodeOfMain, AddsMain, AddsOwnCode, AddsProcedure, AddsProcedures, AddsRoutineIf, AddsRoutines, LabelledCode, LabelledCodeOfMain, LabelledEnd, LabelledProcedure, LabelledProcedures, same_Some}
+use Rattle.codegen8080.proofs.Prelude.{◌≡◌, ℕ, zero, suc, ◌+◌, inl, inr, Bool, true, false, List, length-replicate, replicate, slice_index_or, [], ◌∷◌, ◌++◌, Option, Some, None, Result, Ok, Err, OnOk, slice_get, length, take, drop, ◌-◌, ◌<◌, arith, refl, sym, ap, subst, ◌∙◌, append_assoc, append-nil, add-one, option_map, none-some, Item, Routine, Content, TreeModule, ProcedureKind, TreeProcedure, Extends, entry, no_facts, label_after, Written, Writes, in_front, items_stay, writes_nothing, writes_then, has_routine, index_of_routine, module_routine_label, HasAll, IsEmpty, NotesCalled, has_itself, none_noted, notes_then, Generator, LabelledList, LabelledSteps, AreRoutines, IsCodeOfRoutine, IsCodeWritten, IsMainCode, IsMainLabelled, IsOwnCode, IsProcedureCode, IsProcedureLabelled, all_routines, content_items, contents_items, has_main, entry_labels, entry_steps, AddsCalled, AddsCodeOfMain, AddsMain, AddsOwnCode, AddsProcedure, AddsProcedures, AddsRoutineIf, AddsRoutines, LabelledCode, LabelledCodeOfMain, LabelledEnd, LabelledProcedure, LabelledProcedures, same_Some, nothing_there}
 use Rattle.asm8080.specs.declared.item.Item.TheVariants as items
 use Rattle.treecode.specs.declared.procedure.ProcedureKind.TheVariants as kinds
 use Rattle.codegen8080.proofs.BodyParts.{end_kept}
@@ -498,13 +498,7 @@ routines_then tree called routines others before between after first second = re
   count = second.count ∙ first.count;
 }
 
--- if no name has a number, no number is found
-no_number : (count name number : ℕ) → entry (replicate count None) name ≡ Some number → ⊥
-no_number zero name number given = none-some number given
-no_number (suc count) zero number given = none-some number given
-no_number (suc count) (suc name) number given = no_number count name number given
-
--- and no routine is called
+-- no routine is called
 no_flag : (count index : ℕ) → slice_index_or (replicate count false) index false ≡ true → ⊥
 no_flag zero index given = let no : false ≡ true = given in cc
 no_flag (suc count) zero given = let no : false ≡ true = given in cc
@@ -550,7 +544,7 @@ code_written tree start before between called written after none own called_is w
           ∙ length-replicate (length tree.externals.items) None;
       names = λ name number given.
           elim (own.writes.names name number (routines.no_names name number given)) [
-            | inl old ↦ absurd (no_number (length tree.externals.items) name number
+            | inl old ↦ absurd (nothing_there (length tree.externals.items) name number
                 (ap (λ (written : Written). entry written.externals name) (sym none.items) ∙ old))
             | inr used ↦ used
           ];

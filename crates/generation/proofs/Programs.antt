@@ -1,5 +1,5 @@
 -- Object modules that are soundly made of the modules of a program make the program.
-use Rattle.generation.proofs.Prelude.{List, [], ◌∷◌, ObjectModule, TypedModule, segment_is_within_its_bound, are_storable, as_many_lengths, each_holds_constants, have_image, hold_constants, is_in_memory, has_names, has_segments, is_object_of, NumbersFitInModule, AreSoundlyMade, IsSoundlyMade, are_made, made_program_does, generated_does, AllZip, KeepsBound, KeepsContract}
+use Rattle.generation.proofs.Prelude.{List, [], ◌∷◌, ObjectModule, TypedModule, segment_is_within_its_bound, are_storable, as_many_lengths, each_holds_constants, have_image, hold_constants, is_in_memory, has_names, has_segments, is_object_of, NumbersFitInModule, AreSoundlyMade, IsSoundlyMade, are_made, made_program_does, made_program_ends, generated_does, AllZip, KeepsBound, KeepsContract}
 use Rattle.image_laws.proofs.Memory.Starting.{starts_as_its_source}
 use Rattle.generation.specs.internal.Programs.{MakeTheProgram}
 use Rattle.generation.proofs.Bounding.{sound_for_bounds}
@@ -64,6 +64,11 @@ make_the_program modules objects made =
           loaded.placed loaded.loaded loaded.size);
       does = λ plan merged image before after script events registers loaded is_memory is_script bytes never.
           made_program_does plan modules objects merged image before after loaded.joined made
+          loaded.lawful loaded.merge
+          loaded.placed loaded.loaded loaded.size is_memory script events registers is_script bytes never;
+      memory =
+          λ plan merged image before after script events registers loaded is_memory is_script bytes never.
+          made_program_ends plan modules objects merged image before after loaded.joined made
           loaded.lawful loaded.merge
           loaded.placed loaded.loaded loaded.size is_memory script events registers is_script bytes never;
     }

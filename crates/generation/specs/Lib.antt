@@ -1,4 +1,5 @@
 pub use Rattle.program_laws.specs.Agreement
+pub use Rattle.program_laws.specs.MemoryAtEnd
 pub mod Bounded
 pub mod Kept
 pub mod internal

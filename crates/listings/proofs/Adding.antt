@@ -1,6 +1,5 @@
 -- Texts that are added step by step.
 use Rattle.listings.proofs.Prelude.{◌≡◌, ℕ, suc, ◌-◌, ◌≤◌, List, [], ◌∷◌, ◌++◌, Result, Ok, Err, OnOk, drop, get_or, length, take, ap, sym, subst, ◌∙◌, arith, append-nil, append_assoc, take_all, Adds, IsBegun}
-pub use Rattle.literally.proofs.ExpansionTexts.{no_element as none_left}
 
 pub text_begun : {A : Type 0} (IsText : A → List ℕ → Type 0) (all : A) (old : List ℕ)
     → IsBegun IsText all all old old

@@ -1,6 +1,5 @@
 -- Names that are added.
 use Rattle.listings.proofs.{Prelude.{◌≡◌, inl, inr, ℕ, zero, suc, ◌-◌, ◌<◌, ◌≤◌, Bool, true, false, cond, List, [], ◌∷◌, ◌++◌, Contains, drop, filter, flat_map, get_or, length, take, map, filter_map, zip, slice_get, Option, Some, None, option_map, refl, ap, sym, subst, ◌∙◌, arith, append-nil, append_assoc, map-append, Contains-append_left, Contains-append_right, none-some, same_Some, slice_get-map, AllByRecursion, cons_option, option_to_list, Symbol, Public, Routine, TypedModule, TypedProcedure, object_view, procedure_view, constant_bytes, CodeObject, CodeProcedure, IsInCode, code_address, is_private, names_in_code, object_symbol, procedure_symbol, public_place, routine_names, symbol_of, NameText, Declared, Named, ModuleView, AddsNames, AddsNamesSoFar, HasNames, IsNameAmong, IsNameIn, code_size, object_names, public_names, typed_of, named_view, named_with, routine_name, text_of_name}, Adding.{split_first}}
-use Rattle.call_graphs.proofs.Elements.{at_head as contains_first, in_tail as contains_later}
 use Rattle.runtime8080.specs.declared.routine.Routine.TheVariants as routines
 
 -- what stands at a place is an element
@@ -22,12 +21,12 @@ name_contained procedures procedure number e =
 -- that of a private one
 kept_first : (p : TypedProcedure) (others : List TypedProcedure) (t : Bool) → t ≡ true
     → Contains (cond t (p ∷ others) others) p
-kept_first p others true e = contains_first p others
+kept_first p others true e = contains_at (p ∷ others) zero p refl
 kept_first p others false e = cc
 
 kept_later : (first p : TypedProcedure) (others : List TypedProcedure) (t : Bool) → Contains others p
     → Contains (cond t (first ∷ others) others) p
-kept_later first p others true found = contains_later first others p found
+kept_later first p others true found = Contains-append_right (first ∷ []) others p found
 kept_later first p others false found = found
 
 private_at : (procedures : List TypedProcedure) (procedure : TypedProcedure) (number : ℕ)

@@ -1,5 +1,5 @@
 -- The names that the proofs of this crate cite, passed on from one place. Declares nothing.
-pub use Rattle.std.proofs.{Common.{All, Bool, Contains, Err, List, None, Ok, OnOk, Option, Result, Some, [], ap, arith, codes, cond, decimal, drop, false, filter, filter_map, flat_map, get_or, if◌then◌else◌, inl, inr, length, map, min, nat_lt, option_map, refl, replicate, slice_get, slice_index, subst, suc, sum_by, sym, take, true, unwrap_or, zero, zip, ℕ, ⊎_elim, ◌%◌, ◌&&◌, ◌++◌, ◌+◌, ◌-◌, ◌/◌, ◌<◌, ◌==◌, ◌^◌, ◌||◌, ◌∙◌, ◌∷◌, ◌≡◌, ◌≤◌}, lemmas.{Bool.{and_parts, cases_lt, eq-eqb, eqb-true, ltb-true, true≢false}, Fmt.{decimal_digit, decimal_step}, Grind.{flat_map-append}, List.{append-nil, append_assoc, drop_all, length-append, length-drop, length-map, length-take, map-append, take-append-le, take_all, Elements.{All-from_recursion, Contains-append_left, Contains-append_right}, Kept.{AllPairs-cons}}, Option.{none-some, same_Some, slice_get-map}}}
+pub use Rattle.std.proofs.{Common.{All, Bool, Contains, Err, List, None, Ok, OnOk, Option, Result, Some, [], ap, arith, codes, cond, decimal, drop, false, filter, filter_map, flat_map, get_or, if◌then◌else◌, inl, inr, length, map, min, nat_lt, option_map, refl, replicate, slice_get, slice_index, subst, suc, sum_by, sym, take, true, unwrap_or, zero, zip, ℕ, ⊎_elim, ◌%◌, ◌&&◌, ◌++◌, ◌+◌, ◌-◌, ◌/◌, ◌<◌, ◌==◌, ◌^◌, ◌||◌, ◌∙◌, ◌∷◌, ◌≡◌, ◌≤◌}, lemmas.{Bool.{and_parts, cases_lt, eq-eqb, eqb-true, ltb-true, true≢false}, Fmt.{decimal_digit, decimal_step}, Grind.{flat_map-append}, List.{append-nil, append_assoc, drop_all, length-append, length-drop, length-map, length-take, map-append, nil_from_length, take-append-le, take_all, Elements.{All-from_recursion, Contains-append_left, Contains-append_right}, Kept.{AllPairs-cons}}, Option.{none-some, same_Some, slice_get-map}}}
 pub use Rattle.std.specs.{Fmt.{digits_output, format_spec, styled_digits_output, ◌++?◌}, Io.KnownBytes.{Appends}, List.{AllByRecursion, AllPairs, cons_option, list_any}, Prelude.{IfOk, IfSome, option_to_list}}
 unfoldable pub use Rattle.std.specs.Fmt.{digits}
 pub use Rattle.mem80.specs.declared.{memory.TheConstants.{MEMORY_SIZE}, range.Piece.{Piece}}

@@ -1,5 +1,5 @@
 -- The listing of a program.
-use Rattle.listings.proofs.{Prelude.{◌≡◌, inl, inr, ℕ, ◌+◌, ◌-◌, ◌<◌, ◌≤◌, List, [], ◌∷◌, ◌++◌, All, drop, flat_map, get_or, length, map, take, zip, refl, ap, sym, subst, ◌∙◌, All-from_recursion, AllByRecursion, ModulePlacement, Piece, Symbol, range_at, ObjectModule, fixes_in, Code, program_modules, Construction, TypedModule, constant_bytes, ListsModule, AreNamesOf, IsCodeName, IsCodeNameAmong, module_symbols, procedure_symbols, public_symbols, AreListed, ListsProgram, next_module, no_module, Named, ModuleView, Adds, IsBegun, AreViews, Follow, HasNames, IsListingOf, IsNameAmong, ListsView, ListsViews, code_size, data_size, next_view, no_view, object_names, object_of, pair_of, placed_of, public_names, text_of, typed_of, named_view}, Adding.{text_ended, gone_on, none_left, split_first}}
+use Rattle.listings.proofs.{Prelude.{◌≡◌, inl, inr, ℕ, ◌+◌, ◌-◌, ◌<◌, ◌≤◌, List, [], ◌∷◌, ◌++◌, All, drop, flat_map, get_or, length, nil_from_length, map, take, zip, refl, arith, ap, sym, subst, ◌∙◌, All-from_recursion, AllByRecursion, ModulePlacement, Piece, Symbol, range_at, ObjectModule, fixes_in, Code, program_modules, Construction, TypedModule, constant_bytes, ListsModule, AreNamesOf, IsCodeName, IsCodeNameAmong, module_symbols, procedure_symbols, public_symbols, AreListed, ListsProgram, next_module, no_module, Named, ModuleView, Adds, IsBegun, AreViews, Follow, HasNames, IsListingOf, IsNameAmong, ListsView, ListsViews, code_size, data_size, next_view, no_view, object_names, object_of, pair_of, placed_of, public_names, text_of, typed_of, named_view}, Adding.{text_ended, gone_on, split_first}}
 
 -- one module more
 pub view_listed : (names : List Symbol) (pieces : List Piece) (all left : List ModuleView)
@@ -21,7 +21,7 @@ pub views_listed : (names : List Named) (pieces : List Piece) (all left : List M
 views_listed names pieces all left lines each so_far none =
     let whole = text_ended (ListsViews (map named_view names) pieces) all left [] lines so_far
     (subst (λ (views : List ModuleView). ListsViews (map named_view names) pieces views [])
-    (sym (none_left left none)) no_view) in
+    (sym (nil_from_length left (omega (arith, none)))) no_view) in
     record {
       names = map named_view names;
       each = each;

@@ -1,5 +1,5 @@
 -- What parts are shown as.
-use Rattle.listings.proofs.{Prelude.{◌≡◌, inl, inr, ℕ, suc, ◌+◌, ◌-◌, ◌<◌, ◌≤◌, ◌==◌, ◌||◌, nat_lt, min, drop, filter, get_or, length, take, arith, Bool, true, false, cond, List, [], ◌∷◌, ◌++◌, All, flat_map, map, slice_index, codes, Result, OnOk, Option, Some, None, refl, ap, sym, subst, ◌∙◌, append-nil, append_assoc, take_all, All-from_recursion, none-some, AllByRecursion, byte_digits, Instr, part_line, Piece, Symbol, fixes_in, Fix, Code, constant_bytes, IsShown, ShownPart, ShowsByte, cells_in, cells_of, instr_text, margin, name_line, part_lines, parts_beside, parts_in, parts_text, CodeSegment, Part, ModuleView, AddsParts, IsCodePart, IsGood, IsGoodBy, IsKindBy, IsLone, IsNamedBy, IsPartOf, bytes_shown, kept_cells, lined, lines_if, part_view, text_for, IsPartOfCode, code_size, object_of, typed_of}, Adding.{none_left, weaken_on_ok, split_first}}
+use Rattle.listings.proofs.{Prelude.{◌≡◌, inl, inr, ℕ, suc, ◌+◌, ◌-◌, ◌<◌, ◌≤◌, ◌==◌, ◌||◌, nat_lt, min, drop, filter, get_or, length, nil_from_length, take, arith, Bool, true, false, cond, List, [], ◌∷◌, ◌++◌, All, flat_map, map, slice_index, codes, Result, OnOk, Option, Some, None, refl, ap, sym, subst, ◌∙◌, append-nil, append_assoc, take_all, All-from_recursion, none-some, AllByRecursion, byte_digits, Instr, part_line, Piece, Symbol, fixes_in, Fix, Code, constant_bytes, IsShown, ShownPart, ShowsByte, cells_in, cells_of, instr_text, margin, name_line, part_lines, parts_beside, parts_in, parts_text, CodeSegment, Part, ModuleView, AddsParts, IsCodePart, IsGood, IsGoodBy, IsKindBy, IsLone, IsNamedBy, IsPartOf, bytes_shown, kept_cells, lined, lines_if, part_view, text_for, IsPartOfCode, code_size, object_of, typed_of}, Adding.{weaken_on_ok, split_first}}
 
 -- the same bytes
 pub cells_lined : (name_at : ℕ → Option Symbol) (parts : List Part)
@@ -231,7 +231,7 @@ pub none_shown : (name_at : ℕ → Option Symbol) (test : ℕ × ShownPart → 
 none_shown name_at test parts now all none so_far =
     sym (append-nil now)
     ∙ subst (λ (left : List Part). now ++ parts_text name_at (filter test (map (lined name_at) left))
-    ≡ all) (none_left parts none) so_far
+    ≡ all) (nil_from_length parts (omega (arith, none))) so_far
 
 -- a byte alone, after the name of its address
 lone_line : (name_at : ℕ → Option Symbol) (part : Part) (old named margined new : List ℕ) → part.instr ≡ None

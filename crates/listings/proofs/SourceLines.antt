@@ -1,5 +1,5 @@
 -- The lines of a source, one after another.
-use Rattle.listings.proofs.{Prelude.{◌≡◌, ℕ, suc, ◌+◌, ◌<◌, ◌≤◌, ◌==◌, Bool, true, false, cond, if◌then◌else◌, List, [], ◌∷◌, ◌++◌, Option, get_or, ◌-◌, drop, length, take, refl, ap, sym, subst, ◌∙◌, arith, eqb-true, append-nil, append_assoc, drop_all, length-drop, length-take, Symbol, before_lines, lines_of, listed_from, numbered_line, parts_in, parts_text, first_length}, Adding.{none_left as no_more, split_first}}
+use Rattle.listings.proofs.{Prelude.{◌≡◌, ℕ, suc, ◌+◌, ◌<◌, ◌≤◌, ◌==◌, Bool, true, false, cond, if◌then◌else◌, List, [], ◌∷◌, ◌++◌, Option, get_or, ◌-◌, drop, length, nil_from_length, take, refl, ap, sym, subst, ◌∙◌, arith, eqb-true, append-nil, append_assoc, drop_all, length-drop, length-take, Symbol, before_lines, lines_of, listed_from, numbered_line, parts_in, parts_text, first_length}, Adding.{split_first}}
 use Rattle.listings.specs.Listing.{Part}
 
 -- after the last byte nothing is left
@@ -66,7 +66,7 @@ length_here text byte d count total some is feed so_far =
 pub length_done : (text : List ℕ) (count total : ℕ) → length text < 1
     → count + first_length text ≡ total → count ≡ total
 length_done text count total none so_far =
-    let left : first_length text ≡ 0 = ap first_length (no_more text none) in
+    let left : first_length text ≡ 0 = ap first_length (nil_from_length text (omega (arith, none))) in
     omega (arith, left, so_far)
 
 -- a line more
@@ -127,10 +127,11 @@ pub lines_done : (name_at : ℕ → Option Symbol) (number : ℕ) (text : List �
 lines_done name_at number text parts now all none so_far =
     sym (append-nil now)
     ∙ subst (λ (left : List ℕ). now ++ listed_from number name_at (lines_of left) parts ≡ all)
-    (no_more text none) so_far
+    (nil_from_length text (omega (arith, none))) so_far
 
 pub count_done : (number total : ℕ) (text : List ℕ) → length text < 1
     → number + length (lines_of text) ≡ total → number ≡ total
 count_done number total text none so_far =
-    let left : length (lines_of text) ≡ 0 = ap (λ (l : List ℕ). length (lines_of l)) (no_more text none) in
+    let left : length (lines_of text) ≡ 0 =
+    ap (λ (l : List ℕ). length (lines_of l)) (nil_from_length text (omega (arith, none))) in
     omega (arith, left, so_far)

@@ -1,5 +1,5 @@
 -- The symbols of a program.
-use Rattle.listings.proofs.{Prelude.{◌≡◌, inl, inr, ℕ, ◌+◌, ◌-◌, ◌<◌, ◌≤◌, Bool, true, false, cond, List, [], ◌∷◌, ◌++◌, drop, flat_map, get_or, length, map, slice_get, take, zip, codes, min, Option, Some, None, refl, ap, sym, subst, ◌∙◌, arith, append-nil, append_assoc, All-from_recursion, AllPairs-cons, none-some, AllByRecursion, AllPairs, IfSome, ModulePlacement, PieceKind, kind_of, address_digits, range_line, ObjectModule, Construction, size_of_object, TypedModule, TypedObject, TypedProcedure, object_view, procedure_view, constant_bytes, CodeObject, CodeProcedure, code_address, AreCodeOf, AreOwnersOf, HasSymbols, HaveSymbols, IsCodeOf, IsOwnerBy, IsOwnerOf, SymbolsOfProgram, is_own, line_if, next_symbols, no_symbols, object_line, procedure_line, procedure_with, source_line, ModuleView, Adds, IsBegun, AreViews, Follow, code_size, data_size, object_of, placed_of, typed_of, HasLine, HasObjectLines, HasProcedureLines, HasSourceLines, HasSymbolsOf, HaveSymbolsOf, IsPlaceIn, Rises, has_kind, line_of, own_of, owner_text, procedure_names}, Adding.{text_ended, gone_on, none_left, split_first}, NamesAdded.{name_contained}}
+use Rattle.listings.proofs.{Prelude.{◌≡◌, inl, inr, ℕ, ◌+◌, ◌-◌, ◌<◌, ◌≤◌, Bool, true, false, cond, List, [], ◌∷◌, ◌++◌, drop, flat_map, get_or, length, nil_from_length, map, slice_get, take, zip, codes, min, Option, Some, None, refl, ap, sym, subst, ◌∙◌, arith, append-nil, append_assoc, All-from_recursion, AllPairs-cons, none-some, AllByRecursion, AllPairs, IfSome, ModulePlacement, PieceKind, kind_of, address_digits, range_line, ObjectModule, Construction, size_of_object, TypedModule, TypedObject, TypedProcedure, object_view, procedure_view, constant_bytes, CodeObject, CodeProcedure, code_address, AreCodeOf, AreOwnersOf, HasSymbols, HaveSymbols, IsCodeOf, IsOwnerBy, IsOwnerOf, SymbolsOfProgram, is_own, line_if, next_symbols, no_symbols, object_line, procedure_line, procedure_with, source_line, ModuleView, Adds, IsBegun, AreViews, Follow, code_size, data_size, object_of, placed_of, typed_of, HasLine, HasObjectLines, HasProcedureLines, HasSourceLines, HasSymbolsOf, HaveSymbolsOf, IsPlaceIn, Rises, has_kind, line_of, own_of, owner_text, procedure_names}, Adding.{text_ended, gone_on, split_first}, NamesAdded.{name_contained}}
 use Rattle.listings.specs.internal.Symbols.{no_view}
 use Rattle.listings.specs.internal.Symbols.{next_view}
 use Rattle.std.specs.Fmt.{decimal}
@@ -130,7 +130,7 @@ pub procedures_ended : (view : ModuleView) (all : List TypedProcedure) (left : L
 procedures_ended view all left old now so_far none =
     text_ended (HasProcedureLines view) all (map procedure_view left) old now so_far
     (subst (λ (procedures : List CodeProcedure). HasProcedureLines view (map procedure_view procedures) [])
-    (sym (none_left left none))
+    (sym (nil_from_length left (omega (arith, none))))
     (record { places = []; each = tt; text_is = refl }))
 
 -- owners
@@ -283,7 +283,7 @@ pub objects_ended : (typed : TypedModule) (all : ℕ × (List TypedObject × Lis
 objects_ended typed all number objects addresses old now so_far none =
     text_ended (HasObjectLines typed) all (number, (map object_view objects, addresses)) old now so_far
     (subst (λ (left : List CodeObject). HasObjectLines typed (number, (map object_view left, addresses)) [])
-    (sym (none_left objects none)) (record { owners = []; each = tt; text_is = refl }))
+    (sym (nil_from_length objects (omega (arith, none)))) (record { owners = []; each = tt; text_is = refl }))
 
 pub addresses_ended : (typed : TypedModule) (all : ℕ × (List TypedObject × List ℕ)) (number : ℕ)
     (objects : List CodeObject) (addresses old now : List ℕ)
@@ -292,7 +292,8 @@ pub addresses_ended : (typed : TypedModule) (all : ℕ × (List TypedObject × L
 addresses_ended typed all number objects addresses old now so_far none =
     text_ended (HasObjectLines typed) all (number, (map object_view objects, addresses)) old now so_far
     (subst (λ (left : List ℕ). HasObjectLines typed (number, (map object_view objects, left)) [])
-    (sym (none_left addresses none)) (no_addresses typed number (map object_view objects)))
+    (sym (nil_from_length addresses (omega (arith, none))))
+    (no_addresses typed number (map object_view objects)))
 
 -- lines of the source
 pub line_added : (view : ModuleView) (number place : ℕ) (old new : List ℕ) → IsPlaceIn view place
@@ -403,7 +404,8 @@ pub modules_ended : (views left : List ModuleView) (lines : List ℕ)
     → IsBegun HaveSymbolsOf views left [] lines → length left < 1 → HaveSymbolsOf views lines
 modules_ended views left lines so_far none =
     let whole = text_ended HaveSymbolsOf views left [] lines so_far
-    (subst (λ (rest : List ModuleView). HaveSymbolsOf rest []) (sym (none_left left none)) no_view) in
+    (subst (λ (rest : List ModuleView). HaveSymbolsOf rest [])
+    (sym (nil_from_length left (omega (arith, none)))) no_view) in
     subst (HaveSymbolsOf views) (sym whole.added) whole.holds
 
 -- the program

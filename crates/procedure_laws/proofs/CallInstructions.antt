@@ -1,5 +1,5 @@
 -- The CALL instruction: where the code from entries on does what calls mean, so does code from a CALL on.
-use Rattle.procedure_laws.proofs.Prelude.{◌≡◌, ℕ, suc, ◌+◌, ◌-◌, ◌*◌, ◌<◌, ◌≤◌, ◌==◌, inl, inr, Bool, true, false, if◌then◌else◌, List, [], ◌∷◌, length, slice_set, nat_lt, Option, refl, sym, ap, subst, ◌∙◌, arith, ltb-false, option_map_or, eqb-true, eqb-false, MEMORY_SIZE, byte_at, Event, ScalarType, Byte, Address, charge_of, TypedModule, TypedProcedure, Within, InProgram, Stack, Surroundings, called, called_for, callee_in, charged, entered, later_by, procedure_at, SourceState, More, Outside, Outcome, Gave, Stopped, taking_one, Call, Running, act, Registers, State, high_byte, low_byte, two_less, wrap, running, step_of, CallTo, word_of, Keeps, one_below, pushed, pushed_is_pushed, pushed_keeps, two_below, Bor, FramePlan, Activation, Arrives, IsReady, IsThere, LiesWell, Owns, FrameLies, Does, IsLeft, Lands, at_place, word_step, after_paid_step, does_without_step, landed, keeps_both, keeps_wider, owns_more, ready_after_push, ArgumentsLie, CallsDo, InRegister, InWord, ResultLies, bytes_pushed, does_same, gives_then, CallsAreKnown, ComesBack, Entries, IsOfCall, ReturnLies, Shape, activation_in, context_in, ModuleCode, ModuleLies, surroundings_in, push_keeps}
+use Rattle.procedure_laws.proofs.Prelude.{◌≡◌, ℕ, suc, ◌+◌, ◌-◌, ◌*◌, ◌<◌, ◌≤◌, ◌==◌, inl, inr, Bool, true, false, if◌then◌else◌, List, [], ◌∷◌, length, slice_set, nat_lt, Option, refl, sym, ap, subst, ◌∙◌, arith, ltb-false, option_map_or, eqb-true, eqb-false, MEMORY_SIZE, byte_at, Event, ScalarType, Byte, Address, charge_of, TypedModule, TypedProcedure, Within, InProgram, Stack, Surroundings, called, called_for, callee_in, charged, entered, later_by, procedure_at, SourceState, More, Outside, Outcome, Gave, Stopped, taking_one, Call, Running, act, Registers, State, high_byte, low_byte, two_less, wrap, running, step_of, CallTo, word_of, Keeps, one_below, pushed, pushed_is_pushed, pushed_keeps, two_below, Bor, FramePlan, Activation, Arrives, IsReady, IsThere, LiesWell, Owns, FrameLies, Does, Loaded, IsLeft, Lands, at_place, word_step, after_paid_step, does_without_step, landed, keeps_both, keeps_wider, owns_more, ready_after_push, ArgumentsLie, CallsDo, InRegister, InWord, ResultLies, bytes_pushed, does_same, gives_then, CallsAreKnown, ComesBack, Entries, IsOfCall, ReturnLies, Shape, activation_in, context_in, ModuleCode, loaded_by, ModuleLies, surroundings_in, push_keeps}
 use Rattle.meaning.proofs.AgreementStatements.{call_is}
 use Rattle.asm8080.specs.declared.item.Item.TheVariants as items
 use Rattle.procedure_laws.proofs.Callees.{IsCallee, callee_of}
@@ -68,48 +68,48 @@ call_does script word entry place top r memory events same pointer limit room =
 
 -- a part that takes one of the budget: what follows may be paid by a step
 taking_does :
-    {A : Type 0} {script : List (List ℕ)} {Good : A → SourceState → State → Type 0} (from : ℕ) (r : Registers)
+    {A : Type 0} {loaded : Loaded} {Good : A → SourceState → State → Type 0} (from : ℕ) (r : Registers)
     (memory : List ℕ) (s : SourceState) (go : SourceState → Outcome A)
     → ((b : ℕ) → suc b ≡ s.budget
-    → Does script (suc b) 0 (at_place from r memory s.events) (go (record s { budget = b })) Good)
-    → Does script s.budget 0 (at_place from r memory s.events) (taking_one s go) Good
-taking_does {A = A} {script = script} {Good = Good} from r memory s go rest =
+    → Does loaded (suc b) 0 (at_place from r memory s.events) (go (record s { budget = b })) Good)
+    → Does loaded s.budget 0 (at_place from r memory s.events) (taking_one s go) Good
+taking_does {A = A} {loaded = loaded} {Good = Good} from r memory s go rest =
     by_test (s.budget == 0) refl
   where
     by_test : (test : Bool) → (s.budget == 0) ≡ test
-        → Does script s.budget 0 (at_place from r memory s.events)
+        → Does loaded s.budget 0 (at_place from r memory s.events)
         (if test then Stopped More s else go (record s { budget = s.budget - 1 })) Good
     by_test true none =
         let zero : s.budget ≡ 0 = eqb-true s.budget 0 none in
         record {
           told =
               subst (λ (budget : ℕ).
-              Lands script budget 0 (at_place from r memory s.events) 0
+              Lands loaded.program.script budget 0 (at_place from r memory s.events) 0
               (IsLeft Running s.events))
               (sym zero)
-              (landed script 0 (at_place from r memory s.events)
+              (landed loaded.program.script 0 (at_place from r memory s.events)
               (IsLeft Running s.events)
               (record { status_is = refl; events_are = refl }));
         }
     by_test false some =
         let paid = after_one_less s.budget (eqb-false s.budget 0 some) in
         subst (λ (budget : ℕ).
-        Does script budget 0 (at_place from r memory s.events) (go (record s { budget = s.budget - 1 })) Good)
+        Does loaded budget 0 (at_place from r memory s.events) (go (record s { budget = s.budget - 1 })) Good)
         paid (rest (s.budget - 1) paid)
 
 -- where a charge finds room
 pub charged_does :
-    {A : Type 0} {script : List (List ℕ)} {budget : ℕ} {from : State}
+    {A : Type 0} {loaded : Loaded} {budget : ℕ} {from : State}
     {Good : A → SourceState → State → Type 0}
     (charge : ℕ) (around : Surroundings) (s : SourceState) (go : Surroundings → SourceState → Outcome A)
-    → (charge ≤ around.room → Does script budget 0 from
+    → (charge ≤ around.room → Does loaded budget 0 from
     (go (record around { room = around.room - charge }) s) Good)
-    → Does script budget 0 from (charged charge around s go) Good
-charged_does {A = A} {script = script} {budget = budget} {from = from} {Good = Good} charge around s go rest =
+    → Does loaded budget 0 from (charged charge around s go) Good
+charged_does {A = A} {loaded = loaded} {budget = budget} {from = from} {Good = Good} charge around s go rest =
     by_test (nat_lt around.room charge) refl
   where
     by_test : (test : Bool) → nat_lt around.room charge ≡ test
-        → Does script budget 0 from
+        → Does loaded budget 0 from
         (if test then Stopped (Outside Stack) s else go (record around { room = around.room - charge }) s)
         Good
     by_test true less = record { told = tt }
@@ -289,7 +289,7 @@ calls_do code entries within frame bound number room shape lies known bounded we
     same_top fits = let low = top_low fits in omega (arith, low)
 
     entry : (b : ℕ) → b < number → charge_of callee.found ≤ room
-        → Does code.program.script b 0
+        → Does (loaded_by code) b 0
         (at_place (entries callee.at) (record r { sp = wrap (top - 2) })
         (pushed top (wrap (from + 3)) memory) s.events)
         (entered (later_by bound) callee.typed (callee.at).number callee.found values

@@ -1,5 +1,5 @@
 -- A call from three parts: how its procedure begins, its statements, and how it returns.
-use Rattle.procedure_laws.proofs.Prelude.{◌≡◌, ℕ, ◌+◌, ◌-◌, ◌*◌, ◌<◌, ◌≤◌, ◌⊎◌, inl, inr, Bool, true, false, List, [], length, Option, refl, sym, ap, subst, ◌∙◌, arith, ScalarType, height_of_list, ListStands, TypedProcedure, TypesHoldInList, done_list, entered, value_of_flow, Flow, Gave, Jumped, Onward, Outcome, Returned, SourceState, then_do, Registers, State, wrap, Item, Keeps, Range, IsList, Activation, IsReady, IsThere, LiesWell, Owns, Arrives, Does, at_place, then_does, keeps_both, keeps_wider, Facts, Here, ResultLies, bytes_pushed, nodes_in, then_does_where, BodyContext, ComesToReturn, GoesOn, Leaves, ReturnStands, ListDoes, ComesBack, IsEntered, IsOfCall, ReturnLies, IsEndCode, BeginDoes, HasReturned, ReturnDoes, no_jump}
+use Rattle.procedure_laws.proofs.Prelude.{◌≡◌, ℕ, ◌+◌, ◌-◌, ◌*◌, ◌<◌, ◌≤◌, ◌⊎◌, inl, inr, Bool, true, false, List, [], length, Option, refl, sym, ap, subst, ◌∙◌, arith, ScalarType, height_of_list, ListStands, TypedProcedure, TypesHoldInList, done_list, entered, value_of_flow, Flow, Gave, Jumped, Onward, Outcome, Returned, SourceState, then_do, Registers, State, wrap, Item, Keeps, Range, IsList, Activation, IsReady, IsThere, LiesWell, Owns, Arrives, Does, loaded_of, at_place, then_does, keeps_both, keeps_wider, Facts, Here, ResultLies, bytes_pushed, nodes_in, then_does_where, BodyContext, ComesToReturn, GoesOn, Leaves, ReturnStands, ListDoes, ComesBack, IsEntered, IsOfCall, ReturnLies, IsEndCode, BeginDoes, HasReturned, ReturnDoes, no_jump}
 use Rattle.procedure_laws.proofs.Ends.{end_does}
 use Rattle.procedure_laws.proofs.Ways.{IsLeftBy, LeavesBy, Ways}
 
@@ -111,7 +111,7 @@ pub entered_does :
     → IsEntered at.context.activation.around.program at.context.activation.image room
     found.parameter_types values
     top back s r memory
-    → Does at.context.activation.around.program.script s.budget 0 (at_place entry r memory s.events)
+    → Does (loaded_of at.context.activation) s.budget 0 (at_place entry r memory s.events)
     (entered at.context.later at.context.typed number found values at.context.activation.around s)
     (ComesBack at.context.activation.around.program at.context.activation.image found.result
     at.context.activation.floor
@@ -122,7 +122,7 @@ entered_does at number found range room entry middle end_place to top bound fact
     then_does (begins back values s r memory enters)
     (λ given t end begun spent.
     subst (λ (state : State).
-    Does activation.around.program.script t.budget 0 state
+    Does (loaded_of activation) t.budget 0 state
     (then_do (done_list at.context.later activation.around found.body t)
     (λ flow u. Gave (value_of_flow flow) (record u { frame = s.frame }))) Good)
     (sym begun.is_at)
@@ -156,7 +156,7 @@ entered_does at number found range room entry middle end_place to top bound fact
         → ReturnLies (activation.level + activation.back) back before
         → IsReady activation activation.level before u.memory u.frame now ended
         → ResultLies at.body.procedure.now.result value now ended
-        → Does activation.around.program.script u.budget 0 (at_place place now ended u.events)
+        → Does (loaded_of activation) u.budget 0 (at_place place now ended u.events)
         (Gave value (record u { frame = s.frame })) Good
     comes_back before value u place now ended kept stands_there return_lies ready lie =
         let came =
@@ -216,12 +216,12 @@ entered_does at number found range room entry middle end_place to top bound fact
         before
         → ReturnLies (activation.level + activation.back) back before
         → GoesOn at before end_place last u state
-        → Does activation.around.program.script u.budget 0 state (Gave 0 (record u { frame = s.frame })) Good
+        → Does (loaded_of activation) u.budget 0 state (Gave 0 (record u { frame = s.frame })) Good
     by_reaches false before u state is_reached is_end kept return_lies goes = let bad : ⊥ = cc in absurd bad
     by_reaches true before u state is_reached is_end kept return_lies goes =
         let comes = goes.comes in
         subst (λ (state : State).
-        Does activation.around.program.script u.budget 0 state (Gave 0 (record u { frame = s.frame })) Good)
+        Does (loaded_of activation) u.budget 0 state (Gave 0 (record u { frame = s.frame })) Good)
         (sym comes.is_at)
         (end_does at last is_end.0 ends end_place to comes.r lies is_end.1 there comes.ready
         (λ place now stands_there ready lie.
@@ -234,13 +234,13 @@ entered_does at number found range room entry middle end_place to top bound fact
         before
         → ReturnLies (activation.level + activation.back) back before
         → Leaves at before end_place last t.budget flow u state
-        → Does activation.around.program.script u.budget 0 state
+        → Does (loaded_of activation) u.budget 0 state
         (Gave (value_of_flow flow) (record u { frame = s.frame })) Good
     by_flow Onward t u state by_way begun_registers before kept return_lies leaves =
         by_reaches reaches before u state by_way end_is kept return_lies leaves
     by_flow (Returned value) t u state by_way begun_registers before kept return_lies leaves =
         subst (λ (state : State).
-        Does activation.around.program.script u.budget 0 state
+        Does (loaded_of activation) u.budget 0 state
         (Gave value (record u { frame = s.frame })) Good)
         (sym comes_of.is_at)
         (comes_back before value u returning.place comes_of.r comes_of.memory kept

@@ -1,5 +1,5 @@
 -- The end of a procedure that is reached: its result is 0, and it returns.
-use Rattle.procedure_laws.proofs.Prelude.{◌≡◌, ℕ, ◌+◌, List, [], ◌∷◌, ◌++◌, Option, Some, None, bit_xor, refl, sym, ap, subst, arith, xor_self, Event, ScalarType, Byte, Address, SourceState, Outcome, Instr, Lxi, ExclusiveOr, Hl, operate, Registers, State, Item, size_of_instruction, IsReady, IsThere, LiesWell, Does, at_place, plain_first, after_plain, Facts, clear_a, AreWritten, NoneWritten, PlainWritten, Planned, plain, Here, AreCarriedOut, StepCarriedOut, carried_steps, here_after, site_of, waiting_after, end_steps, return_steps, zero_result_steps, ResultLies, ready_with_registers, BodyContext, ReturnStands}
+use Rattle.procedure_laws.proofs.Prelude.{◌≡◌, ℕ, ◌+◌, List, [], ◌∷◌, ◌++◌, Option, Some, None, bit_xor, refl, sym, ap, subst, arith, xor_self, Event, ScalarType, Byte, Address, SourceState, Outcome, Instr, Lxi, ExclusiveOr, Hl, operate, Registers, State, Item, size_of_instruction, IsReady, IsThere, LiesWell, Does, loaded_of, at_place, plain_first, after_plain, Facts, clear_a, AreWritten, NoneWritten, PlainWritten, Planned, plain, Here, AreCarriedOut, StepCarriedOut, carried_steps, here_after, site_of, waiting_after, end_steps, return_steps, zero_result_steps, ResultLies, ready_with_registers, BodyContext, ReturnStands}
 use Rattle.asm8080.specs.declared.item.Item.TheVariants as items
 use Rattle.steps8080.specs.declared.step.Step.TheVariants as steps
 
@@ -44,9 +44,9 @@ pub end_does :
     → ((place : ℕ) (now : Registers) → ReturnStands at place
     → IsReady at.context.activation at.context.activation.level base source frame now memory
     → ResultLies at.body.procedure.now.result 0 now memory
-    → Does at.context.activation.around.program.script budget 0
+    → Does (loaded_of at.context.activation) budget 0
     (at_place place now memory events) outcome Good)
-    → Does at.context.activation.around.program.script budget 0 (at_place from r memory events) outcome Good
+    → Does (loaded_of at.context.activation) budget 0 (at_place from r memory events) outcome Good
 unfolding end_steps zero_result_steps
 end_does {A = A} {outcome = outcome} {Good = Good} {budget = budget} {base = base} {source = source}
     {frame = frame} {memory = memory} {events = events} at here last list from to r lies written
@@ -56,7 +56,7 @@ end_does {A = A} {outcome = outcome} {Good = Good} {budget = budget} {base = bas
     by_result : (result : Option ScalarType) → at.body.procedure.now.result ≡ result
         → AreCarriedOut at.body at.context.called here None
         (zero_result_steps result ++ return_steps at.body) list last
-        → Does at.context.activation.around.program.script budget 0
+        → Does (loaded_of at.context.activation) budget 0
         (at_place from r memory events) outcome Good
     by_result None same written =
         return from r

@@ -1,5 +1,5 @@
 -- The main program, from its start on.
-use Rattle.procedure_laws.proofs.Prelude.{◌≡◌, ℕ, suc, ◌+◌, ◌-◌, ◌*◌, ◌≤◌, Bool, true, false, List, [], ◌∷◌, ◌++◌, length, refl, sym, ap, subst, arith, frame_bytes, InSegment, charge_of, height_of_list, TypedProcedure, WithinMain, done_list, later_by, Ended, Flow, Gave, Jumped, More, Onward, Outcome, Outside, Returned, SourceState, Stopped, main_done, run_of, Hlt, Sp, Halted, Running, HoldBytes, Registers, State, wrap, AtTarget, LoadPair, word_of, TreeModule, HasBody, reaches_end_of_list, nodes_of, IsReady, IsThere, LiesWell, Owns, Shares, Does, IsLeft, Lands, at_place, plain_first, word_first, does_without_step, keeps_all, AreThere, both_there, place_at, no_facts_hold, no_facts, IsListCarriedOut, then_does_where, BodyContext, IsSoundBody, Leaves, CallsAreKnown, Entries, activation_in, body_in, main_shape, MainStands, ModuleCode, ModuleLies, surroundings_in, with_tree, CallsOfModuleFit, ListsAreDone, no_jump, given_again}
+use Rattle.procedure_laws.proofs.Prelude.{◌≡◌, ℕ, suc, ◌+◌, ◌-◌, ◌*◌, ◌≤◌, Bool, true, false, List, [], ◌∷◌, ◌++◌, length, refl, sym, ap, subst, arith, frame_bytes, InSegment, charge_of, height_of_list, TypedProcedure, WithinMain, done_list, later_by, Ended, Flow, Gave, Jumped, More, Onward, Outcome, Outside, Returned, SourceState, Stopped, main_done, Hlt, Sp, Running, HoldBytes, Registers, State, wrap, AtTarget, LoadPair, word_of, TreeModule, HasBody, reaches_end_of_list, nodes_of, IsReady, IsThere, LiesWell, Loaded, Owns, Shares, Does, IsHalted, IsLeft, Lands, at_place, plain_first, word_first, does_without_step, keeps_all, AreThere, both_there, place_at, no_facts_hold, no_facts, IsListCarriedOut, then_does_where, BodyContext, IsSoundBody, Leaves, CallsAreKnown, Entries, activation_in, body_in, main_shape, MainStands, ModuleCode, ModuleLies, loaded_by, surroundings_in, with_tree, CallsOfModuleFit, ListsAreDone, no_jump, given_again}
 use Rattle.object_modules.specs.declared.segment.Segment.TheVariants.{Stack}
 use Rattle.asm8080.specs.declared.item.Item.TheVariants as items
 use Rattle.code_meaning.proofs.Standing.{after_word}
@@ -11,22 +11,22 @@ use Rattle.procedure_laws.proofs.ProcedureCalls.{charge_is}
 use Rattle.procedure_laws.proofs.Soundness.{body_sound, context_sound, main_planned, static_lies, there_in}
 use Rattle.procedure_laws.proofs.Ways.{IsLeftBy, LeavesBy, body_left}
 
--- the machine halted after the events of the source
-abbrev pub IsHalted : Flow → SourceState → State → Type 0
-IsHalted flow t end = IsLeft Halted t.events end
+-- the machine halted where the source ended
+abbrev pub HasHalted : (loaded : Loaded) → Flow → SourceState → State → Type 0
+HasHalted loaded flow t end = IsHalted loaded t end
 
 -- what follows a part knows what the part gave
 gives_where :
-    {A : Type 0} {script : List (List ℕ)} {budget : ℕ} {from : State} (outcome : Outcome A)
+    {A : Type 0} {loaded : Loaded} {budget : ℕ} {from : State} (outcome : Outcome A)
     {Middle Good : A → SourceState → State → Type 0}
-    → Does script budget 0 from outcome Middle
+    → Does loaded budget 0 from outcome Middle
     → ((found : A) (t : SourceState) (end : State) → outcome ≡ Gave found t
     → Middle found t end → t.budget ≤ budget
-    → Does script t.budget 0 end (Gave found t) Good)
-    → Does script budget 0 from outcome Good
-gives_where {A = A} {script = script} {budget = budget} {from = from} outcome {Middle = Middle}
+    → Does loaded t.budget 0 end (Gave found t) Good)
+    → Does loaded budget 0 from outcome Good
+gives_where {A = A} {loaded = loaded} {budget = budget} {from = from} outcome {Middle = Middle}
     {Good = Good} one rest =
-    subst (λ (given : Outcome A). Does script budget 0 from given Good) (given_again outcome)
+    subst (λ (given : Outcome A). Does loaded budget 0 from given Good) (given_again outcome)
     (then_does_where outcome {go = λ found t. Gave found t} one rest)
 
 end_word : (address level : ℕ) → wrap address ≡ wrap level → wrap (0 + address) ≡ wrap level
@@ -46,8 +46,8 @@ main_goes :
     → room ≤ code.program.placement.stack.len
     → Shares code.program code.image s.memory memory
     → HoldBytes r
-    → Does code.program.script s.budget 0 (at_place start r memory s.events)
-    (main_done budget code.typed (surroundings_in code room) s) IsHalted
+    → Does (loaded_by code) s.budget 0 (at_place start r memory s.events)
+    (main_done budget code.typed (surroundings_in code room) s) (HasHalted (loaded_by code))
 main_goes code entries start budget room s r memory lies known lists fit stands one_tree below no_frame
     enough shares bytes =
     charged_does (charge_of code.typed.main) (surroundings_in code room) s
@@ -60,16 +60,16 @@ main_goes code entries start budget room s r memory lies known lists fit stands 
     level = code.program.placement.stack.start + code.program.placement.stack.len
 
     runs : charge_of code.typed.main ≤ room
-        → Does code.program.script s.budget 0 (at_place start r memory s.events)
+        → Does (loaded_by code) s.budget 0 (at_place start r memory s.events)
         (done_list (later_by (suc budget)) (surroundings_in code (room - charge_of code.typed.main))
         code.typed.main.body s)
-        IsHalted
+        (HasHalted (loaded_by code))
     runs fits =
         word_first r well shares.code at_start
         (subst (λ (word : ℕ).
-        Does code.program.script s.budget 0 (at_place (start + 3) (record r { sp = word }) memory s.events)
+        Does (loaded_by code) s.budget 0 (at_place (start + 3) (record r { sp = word }) memory s.events)
         (done_list (later_by (suc budget)) (surroundings_in code (room - charge_of code.typed.main))
-        code.typed.main.body s) IsHalted) (sym word_is)
+        code.typed.main.body s) (HasHalted (loaded_by code))) (sym word_is)
         (gives_where
         (done_list (later_by (suc budget)) (surroundings_in code (room - charge_of code.typed.main))
         code.typed.main.body s)
@@ -201,13 +201,17 @@ main_goes code entries start budget room s r memory lies known lists fit stands 
             (main_shape code.program.placement.stack.start
             (code.program.placement.stack.start + code.program.placement.stack.len)))
             memory parts.middle stands.last s.budget flow t end
-            → Does code.program.script t.budget 0 end (Gave flow t) IsHalted
+            → Does (loaded_by code) t.budget 0 end (Gave flow t) (HasHalted (loaded_by code))
         by_flow Onward t end by_way leaves =
             let comes = leaves.comes in
-            subst (λ (state : State). Does code.program.script t.budget 0 state (Gave Onward t) IsHalted)
+            subst (λ (state : State).
+            Does (loaded_by code) t.budget 0 state (Gave Onward t) (HasHalted (loaded_by code)))
             (sym comes.is_at)
             (plain_first comes.r well comes.ready.shares.code parts.second
-            (does_without_step (record { status_is = refl; events_are = refl })))
+            (does_without_step (record {
+              left = record { status_is = refl; events_are = refl };
+              shares = comes.ready.shares;
+            })))
         by_flow (Returned value) t end by_way leaves = let bad : false ≡ true = by_way in absurd cc
         by_flow (Jumped label) t end by_way leaves = absurd (no_jump label by_way)
 
@@ -225,8 +229,8 @@ pub main_does :
     → room ≤ code.program.placement.stack.len
     → Shares code.program code.image s.memory memory
     → HoldBytes r
-    → Does code.program.script s.budget 0 (at_place start r memory s.events)
-    (main_done budget code.typed (surroundings_in code room) s) IsHalted
+    → Does (loaded_by code) s.budget 0 (at_place start r memory s.events)
+    (main_done budget code.typed (surroundings_in code room) s) (HasHalted (loaded_by code))
 main_does code entries start budget room s r memory lies known lists fit stands below no_frame
     enough shares bytes =
     main_goes (with_tree code stands.body.tree) entries start budget room s r memory
@@ -250,20 +254,20 @@ main_does code entries start budget room s r memory lies known lists fit stands 
 
 -- the machine ends as the source does, by what is done
 pub ends_as :
-    (script : List (List ℕ)) (budget : ℕ) (from : State) (outcome : Outcome Flow)
-    → Does script budget 0 from outcome IsHalted
-    → EndsAs script budget from (run_of outcome).end (run_of outcome).events
-ends_as script budget from (Gave flow t) does =
-    let told : Lands script budget 0 from t.budget (IsLeft Halted t.events) = does.told in
+    (loaded : Loaded) (budget : ℕ) (from : State) (outcome : Outcome Flow)
+    → Does loaded budget 0 from outcome (HasHalted loaded)
+    → EndsAs loaded budget from outcome
+ends_as loaded budget from (Gave flow t) does =
+    let told : Lands loaded.program.script budget 0 from t.budget (IsHalted loaded t) = does.told in
     record { count = told.count; end = told.end; run = told.run; enough = omega arith; is_good = told.is_good }
-ends_as script budget from (Stopped Ended t) does =
-    let told : Lands script budget 0 from t.budget (IsLeft Halted t.events) = does.told in
+ends_as loaded budget from (Stopped Ended t) does =
+    let told : Lands loaded.program.script budget 0 from t.budget (IsHalted loaded t) = does.told in
     record { count = told.count; end = told.end; run = told.run; enough = omega arith; is_good = told.is_good }
-ends_as script budget from (Stopped More t) does =
-    let told : Lands script budget 0 from 0 (IsLeft Running t.events) = does.told in
+ends_as loaded budget from (Stopped More t) does =
+    let told : Lands loaded.program.script budget 0 from 0 (IsLeft Running t.events) = does.told in
     let paid = told.paid in
     record { count = told.count; end = told.end; run = told.run; enough = omega (arith, paid); is_good = told.is_good }
-ends_as script budget from (Stopped (Outside reason) t) does = tt
+ends_as loaded budget from (Stopped (Outside reason) t) does = tt
 
 -- For each budget the machine ends as the source does.
 pub main_runs :
@@ -279,16 +283,15 @@ pub main_runs :
     → room ≤ code.program.placement.stack.len
     → Shares code.program code.image s.memory memory
     → HoldBytes r
-    → EndsAs code.program.script budget (at_place start r memory s.events)
-    (run_of (main_done budget code.typed (surroundings_in code room) s)).end
-    (run_of (main_done budget code.typed (surroundings_in code room) s)).events
+    → EndsAs (loaded_by code) budget (at_place start r memory s.events)
+    (main_done budget code.typed (surroundings_in code room) s)
 main_runs code entries start budget room s r memory lies known lists fit stands is no_frame
     enough shares bytes =
-    ends_as code.program.script budget (at_place start r memory s.events)
+    ends_as (loaded_by code) budget (at_place start r memory s.events)
     (main_done budget code.typed (surroundings_in code room) s)
     (subst (λ (left : ℕ).
-    Does code.program.script left 0 (at_place start r memory s.events)
-    (main_done budget code.typed (surroundings_in code room) s) IsHalted) is
+    Does (loaded_by code) left 0 (at_place start r memory s.events)
+    (main_done budget code.typed (surroundings_in code room) s) (HasHalted (loaded_by code))) is
     (main_does code entries start budget room s r memory lies known lists fit stands
     (omega (arith, is)) no_frame enough
     shares bytes))

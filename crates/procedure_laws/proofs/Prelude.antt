@@ -27,15 +27,15 @@ pub use Rattle.exprgen8080.specs.internal.Emission.{AreWritten, HoldsWritten, Ju
 pub use Rattle.statements8080.specs.{Plans.{holds, jump, mark, plain}, declared.body.Body.{Body}, declared.plan.Planned.{Planned}}
 pub use Rattle.statement_laws.specs.{internal.Generated.{AreCarriedOut, IsListCarriedOut, NoneCarriedOut, StepCarriedOut, site_of}, internal.GeneratedModules.{IsEndCode}, internal.GeneratedProcedures.{argument_facts, argument_step, entry_steps, is_address, pair_of, popped_argument_steps, return_steps, store_argument, with_argument}, Here.{Here}}
 unfoldable pub use Rattle.statement_laws.specs.{internal.Generated.{carried_steps, here_after, waiting_after}, internal.GeneratedProcedures.{below_return_steps, drop_steps, end_steps, entry_steps_by, exchanged_steps, frame_entry_steps, kept_steps, known_at, known_from, last_argument_facts, last_argument_steps, odd_byte_steps, popped_at, popped_from, pops_steps, push_loop_steps, pushed_arguments_steps, pushes_steps, return_of_frame_steps, return_over_any_steps, return_over_steps, return_steps_by, static_entry_steps, stores_steps, zero_result_steps, zeros_steps}}
-pub use Rattle.code_meaning.proofs.{Facts.After.{facts_after, facts_after_word}, Facts.Changes.{no_facts_hold, with_facts_hold}, Facts.Steady.{declared_is_steady, push_asks}, FirstItems.{jump_passed, jump_taken, plain_first, plain_step, word_first, word_step}, Landing.{after_paid_step, after_step, does_without_step, landed, then_does}, Numbers.{byte_as_low, differs_from_next, high_of_sum, high_of_two, low_of_sum, low_of_two}, Outcomes.{given_again}, Owning.{keeps_all, keeps_both, keeps_wider, owns_more}, Pushes.{push_keeps, ready_after_push}, Sequences.{AreThere, both_there}, Standing.{after_mark, after_plain, mark_lies}, Stores.{keeps_put, ready_with_variable}}
-pub use Rattle.code_meaning.specs.{Activations.{Activation, Arrives, FrameLies, IsReady, IsThere, IsVariable, LiesWell, Owns, PlacementLies, Shares}, Asking.{Asks, WordAsks}, Holding.{AddressHolds, ByteHolds, Distances, FactsHold, IsByteAt, IsSteady, IsWordAt, WordHolds, ZeroHolds, location_at, place_at}, Landing.{Does, IsLeft, Lands, at_place}}
+pub use Rattle.code_meaning.proofs.{Facts.After.{facts_after, facts_after_word}, Facts.Changes.{no_facts_hold, with_facts_hold}, Facts.Steady.{declared_is_steady, push_asks}, FirstItems.{jump_passed, jump_taken, plain_first, plain_step, word_first, word_step}, Landing.{after_paid_step, after_step, does_without_step, landed, then_does}, Numbers.{byte_as_low, differs_from_next, high_of_sum, high_of_two, low_of_sum, low_of_two}, Outcomes.{given_again}, Owning.{keeps_all, keeps_both, keeps_wider, owns_more}, Pushes.{keeps_pushed, push_keeps, ready_after_push}, Sequences.{AreThere, both_there}, Standing.{after_mark, after_plain, mark_lies}, Stores.{keeps_put, ready_with_variable}}
+pub use Rattle.code_meaning.specs.{Activations.{Activation, Arrives, FrameLies, IsReady, IsThere, IsVariable, LiesWell, Loaded, MayChange, Owns, PlacementLies, Shares, loaded_of}, Asking.{Asks, WordAsks}, Holding.{AddressHolds, ByteHolds, Distances, FactsHold, IsByteAt, IsSteady, IsWordAt, WordHolds, ZeroHolds, location_at, place_at}, Landing.{Does, IsHalted, IsLeft, Lands, at_place}}
 pub use Rattle.statement_laws.proofs.{CarriedOut.{carry_out}, Machine.Rules.{bytes_at_place, popped_bytes, ready_with_registers, word_acts}, Machine.SiteNodes.{have_operands, place_of_number}, Machine.Stages.{does_same, gives_then, then_does_where}, Ranges.NumbersOfTrees.{IsTypedCode, has_types}, Ranges.RangesOfCalls.{calls_fit}, Ranges.RangesOfStatements.{dropped_types}, Stores.Writing.{no_bytes_past_frame, sized_in_frame}}
 pub use Rattle.statement_laws.specs.{internal.CodeContexts.{ArgumentsLie, CallsDo, CallsFit, Context, FrameIsPlanned, InRegister, InWord, IsSound, ResultLies, RoutineIsAt, bytes_pushed, distances_in, nodes_in}, ProgramTypes.{HasTypes}, internal.Tasks.{Know}}
 pub use Rattle.statement_laws.proofs.{Together.{statements_do}, StatementItems.{list_stands}}
 pub use Rattle.statement_laws.specs.{internal.Bodies.{BodyContext, ComesToReturn, GoesOn, IsSoundBody, IsWithin, Leaves, ReturnStands}, internal.Statements.{ListDoes}}
 pub use Rattle.procedure_laws.specs.Calls.{CallsAreKnown, ComesBack, Entries, EntryDoes, IsEntered, IsOfCall, ReturnLies}
 pub use Rattle.procedure_laws.specs.internal.Contexts.{Shape, activation_in, body_in, context_in, frame_shape, main_shape, size_in_frame, static_shape}
-pub use Rattle.procedure_laws.specs.internal.Modules.{MainStands, ModuleCode, ModuleLies, ProcedureStands, at_start, bare, surroundings_in}
+pub use Rattle.procedure_laws.specs.internal.Modules.{MainStands, ModuleCode, ModuleLies, ProcedureStands, at_start, bare, loaded_by, surroundings_in}
 pub use Rattle.procedure_laws.specs.OneModule.{AllCallsAreKnown, CallsFollow, ModuleDoes, OtherCallsAreKnown, OwnCallsAreKnown, in_module}
 pub use Rattle.procedure_laws.specs.internal.Premises.{Anywhere, CallsOfModuleFit, IsBodyOf, ListsAreDone, ReentrantBegins, ReentrantReturns, StaticBegins, StaticReturns, frame_level, reentrant_body, static_body, static_level, with_tree}
 pub use Rattle.procedure_laws.specs.internal.Procedures.{BeginDoes, HasBegun, HasReturned, ReturnDoes}

@@ -1,5 +1,5 @@
 -- A module's own procedures do what calls of them mean, where calls of all procedures do so in runs of less.
-use Rattle.procedure_laws.proofs.Prelude.{◌≡◌, ◌≢◌, ℕ, zero, suc, ◌+◌, ◌-◌, ◌*◌, ◌<◌, ◌≤◌, ◌⊎◌, inl, inr, Bool, true, false, List, [], ◌∷◌, ◌++◌, length, slice_get, Some, refl, sym, ap, subst, ◌∙◌, arith, Bor, ScalarType, Visibility, charge_of, height_of_list, AreParameters, HasParameters, home_of_parameters, BodyIsSound, Home, TypedModule, TypedProcedure, TypesHoldInList, TypesHoldInProcedure, WithinProcedure, done_list, entered, later_by, SourceState, Registers, State, running, TreeModule, ProcedureKind, TreeProcedure, kind_of, IsProcedure, nodes_of, FramePlan, return_distance, return_of, parameter_count, has_parameters, numbered_at, IsThere, LiesWell, Does, at_place, AreThere, both_there, place_at, ArgumentsLie, FrameIsPlanned, bytes_pushed, BodyContext, IsSoundBody, CallsAreKnown, ComesBack, Entries, EntryDoes, IsEntered, Shape, activation_in, body_in, context_in, frame_shape, static_shape, ModuleCode, ModuleLies, ProcedureStands, bare, surroundings_in, Anywhere, with_tree, CallsOfModuleFit, IsBodyOf, ListsAreDone, ReentrantBegins, ReentrantReturns, StaticBegins, StaticReturns, frame_level, static_level, BeginDoes, ReturnDoes, holds_for_item}
+use Rattle.procedure_laws.proofs.Prelude.{◌≡◌, ◌≢◌, ℕ, zero, suc, ◌+◌, ◌-◌, ◌*◌, ◌<◌, ◌≤◌, ◌⊎◌, inl, inr, Bool, true, false, List, [], ◌∷◌, ◌++◌, length, slice_get, Some, refl, sym, ap, subst, ◌∙◌, arith, Bor, ScalarType, Visibility, charge_of, height_of_list, AreParameters, HasParameters, home_of_parameters, BodyIsSound, Home, TypedModule, TypedProcedure, TypesHoldInList, TypesHoldInProcedure, WithinProcedure, done_list, entered, later_by, SourceState, Registers, State, running, TreeModule, ProcedureKind, TreeProcedure, kind_of, IsProcedure, nodes_of, FramePlan, return_distance, return_of, parameter_count, has_parameters, numbered_at, IsThere, LiesWell, Does, at_place, AreThere, both_there, place_at, ArgumentsLie, FrameIsPlanned, bytes_pushed, BodyContext, IsSoundBody, CallsAreKnown, ComesBack, Entries, EntryDoes, IsEntered, Shape, activation_in, body_in, context_in, frame_shape, static_shape, ModuleCode, loaded_by, ModuleLies, ProcedureStands, bare, surroundings_in, Anywhere, with_tree, CallsOfModuleFit, IsBodyOf, ListsAreDone, ReentrantBegins, ReentrantReturns, StaticBegins, StaticReturns, frame_level, static_level, BeginDoes, ReturnDoes, holds_for_item}
 use Rattle.typed_trees.specs.declared.parts.Visibility.TheVariants as visibilities
 use Rattle.treecode.specs.declared.procedure.ProcedureKind.TheVariants as kinds
 use Rattle.procedure_laws.proofs.Trees.{lies_anywhere}
@@ -147,7 +147,7 @@ module _ (code : ModuleCode) (entries : Entries) (bound number : ℕ) (lies : Mo
         → s.budget < suc number
         → bytes_pushed values ≡ 2 * (length found.parameter_types - 1)
         → IsEntered code.program code.image room found.parameter_types values top back s r memory
-        → Does code.program.script s.budget 0 (at_place (code.layout.place_of index) r memory s.events)
+        → Does (loaded_by code) s.budget 0 (at_place (code.layout.place_of index) r memory s.events)
         (entered (later_by bound) code.typed index found values
         (surroundings_in code (room - charge_of found)) s)
         (ComesBack code.program code.image found.result shape.floor
@@ -237,7 +237,7 @@ module _ (code : ModuleCode) (entries : Entries) (bound number : ℕ) (lies : Mo
         → charge_of found ≤ room
         → IsEntered code.program code.image room found.parameter_types values top back s r memory
         → EntryFits code found room top values
-        → Does code.program.script s.budget 0 (at_place (code.layout.place_of index) r memory s.events)
+        → Does (loaded_by code) s.budget 0 (at_place (code.layout.place_of index) r memory s.events)
         (entered (later_by bound) code.typed index found values
         (surroundings_in code (room - charge_of found)) s)
         (ComesBack code.program code.image found.result (top + 2 - room)
@@ -279,7 +279,7 @@ module _ (code : ModuleCode) (entries : Entries) (bound number : ℕ) (lies : Mo
         → charge_of found ≤ room
         → IsEntered code.program code.image room found.parameter_types values top back s r memory
         → EntryFits code found room top values
-        → Does code.program.script s.budget 0 (at_place (code.layout.place_of index) r memory s.events)
+        → Does (loaded_by code) s.budget 0 (at_place (code.layout.place_of index) r memory s.events)
         (entered (later_by bound) code.typed index found values
         (surroundings_in code (room - charge_of found)) s)
         (ComesBack code.program code.image found.result (top + 2 - room)
@@ -357,7 +357,7 @@ module _ (code : ModuleCode) (entries : Entries) (bound number : ℕ) (lies : Mo
     own_does begins returns frame_begins frame_returns kind room top back values s r memory below
         charge_fits enters =
         subst (λ (state : State).
-        Does code.program.script s.budget 0 state
+        Does (loaded_by code) s.budget 0 state
         (entered (later_by bound) code.typed index found values
         (surroundings_in code (room - charge_of found)) s)
         (ComesBack code.program code.image found.result (top + 2 - room)
@@ -368,7 +368,7 @@ module _ (code : ModuleCode) (entries : Entries) (bound number : ℕ) (lies : Mo
       where
         by_kind : ((procedure.kind ≡ kinds.Static) × (found.is_reentrant ≡ false))
             ⊎ (procedure.kind ≡ kinds.Reentrant)
-            → Does code.program.script s.budget 0 (at_place (code.layout.place_of index) r memory s.events)
+            → Does (loaded_by code) s.budget 0 (at_place (code.layout.place_of index) r memory s.events)
             (entered (later_by bound) code.typed index found values
             (surroundings_in code (room - charge_of found)) s)
             (ComesBack code.program code.image found.result (top + 2 - room)

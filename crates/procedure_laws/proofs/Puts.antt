@@ -1,5 +1,5 @@
 -- Values that are put into memory one after another, in either order.
-use Rattle.procedure_laws.proofs.Prelude.{◌≡◌, ℕ, zero, suc, ◌+◌, ◌/◌, ◌%◌, ◌<◌, ◌⊎◌, inl, inr, Bool, true, false, if◌then◌else◌, List, [], ◌∷◌, length, map, slice_get, slice_set, Some, refl, sym, ap, subst, ◌∙◌, arith, length-set, set_comm, MEMORY_SIZE, byte_at, ScalarType, Byte, Address, Surroundings, InMemory, is_constant, is_declared, place_of, write_scalar, Reason, UndeclaredByte, Constant, parameters_set, Gave, Outcome, Outside, Program, SourceState, Stopped, then_do, State, wrap, byte_kept, byte_put, Place, IsVariable, Does, differs_from_next}
+use Rattle.procedure_laws.proofs.Prelude.{◌≡◌, ℕ, zero, suc, ◌+◌, ◌/◌, ◌%◌, ◌<◌, ◌⊎◌, inl, inr, Bool, true, false, if◌then◌else◌, List, [], ◌∷◌, length, map, slice_get, slice_set, Some, refl, sym, ap, subst, ◌∙◌, arith, length-set, set_comm, MEMORY_SIZE, byte_at, ScalarType, Byte, Address, Surroundings, InMemory, is_constant, is_declared, place_of, write_scalar, Reason, UndeclaredByte, Constant, parameters_set, Gave, Outcome, Outside, Program, SourceState, Stopped, then_do, State, wrap, byte_kept, byte_put, Place, IsVariable, Does, Loaded, differs_from_next}
 
 -- a parameter in memory: its type, its object, its place and where that lies
 pub record Slot : Type 0 where
@@ -269,23 +269,23 @@ is_written program Address at value s =
 -- Parameters are set: where the meaning does not go outside, their bytes are variables, and the memory is
 -- this.
 pub set_does :
-    {script : List (List ℕ)} {budget : ℕ} {from : State} {Good : Unit {0} → SourceState → State → Type 0}
+    {loaded : Loaded} {budget : ℕ} {from : State} {Good : Unit {0} → SourceState → State → Type 0}
     (around : Surroundings) (slots : List Slot) (values : List ℕ) (s : SourceState)
     → AreMeant around slots
     → length values ≡ length slots
     → (AreVariables around.program slots
-    → Does script budget 0 from (Gave tt (record s { memory = set_all slots values s.memory })) Good)
-    → Does script budget 0 from
+    → Does loaded budget 0 from (Gave tt (record s { memory = set_all slots values s.memory })) Good)
+    → Does loaded budget 0 from
     (parameters_set around (map (λ (slot : Slot). slot.scalar) slots)
     (map (λ (slot : Slot). slot.object) slots) values s)
     Good
 set_does around [] [] s meant many rest = rest tt
 set_does around [] (value ∷ values) s meant many rest = absurd (omega (arith, many))
 set_does around (slot ∷ slots) [] s meant many rest = absurd (omega (arith, many))
-set_does {script = script} {budget = budget} {from = from} {Good = Good} around (slot ∷ slots)
+set_does {loaded = loaded} {budget = budget} {from = from} {Good = Good} around (slot ∷ slots)
     (value ∷ values) s meant many rest =
     subst (λ (outcome : Outcome (Unit {0})).
-    Does script budget 0 from
+    Does loaded budget 0 from
     (then_do outcome
     (λ _ t.
     parameters_set around (map (λ (slot : Slot). slot.scalar) slots)
@@ -300,12 +300,12 @@ set_does {script = script} {budget = budget} {from = from} {Good = Good} around 
   where
     by_written : {outcome : Outcome (Unit {0})}
         → (((address : ℕ) → IsPart slot.scalar slot.at address → IsVariable around.program address)
-        → Does script budget 0 from
+        → Does loaded budget 0 from
         (parameters_set around (map (λ (slot : Slot). slot.scalar) slots)
         (map (λ (slot : Slot). slot.object) slots) values
         (record s { memory = put slot.scalar slot.at value s.memory })) Good)
         → IsWritten around.program slot.scalar slot.at value s outcome
-        → Does script budget 0 from
+        → Does loaded budget 0 from
         (then_do outcome
         (λ _ t.
         parameters_set around (map (λ (slot : Slot). slot.scalar) slots)
@@ -314,7 +314,7 @@ set_does {script = script} {budget = budget} {from = from} {Good = Good} around 
         Good
     by_written go (inl given) =
         subst (λ (outcome : Outcome (Unit {0})).
-        Does script budget 0 from
+        Does loaded budget 0 from
         (then_do outcome
         (λ _ t.
         parameters_set around (map (λ (slot : Slot). slot.scalar) slots)
@@ -324,7 +324,7 @@ set_does {script = script} {budget = budget} {from = from} {Good = Good} around 
         (go given.0)
     by_written go (inr stopped) =
         subst (λ (outcome : Outcome (Unit {0})).
-        Does script budget 0 from
+        Does loaded budget 0 from
         (then_do outcome
         (λ _ t.
         parameters_set around (map (λ (slot : Slot). slot.scalar) slots)

@@ -1,5 +1,5 @@
 -- Zeros are pushed for the variables of a frame; A and HL stay as they are.
-use Rattle.procedure_laws.proofs.Prelude.{◌≡◌, ◌≢◌, ℕ, zero, suc, ◌+◌, ◌-◌, ◌*◌, ◌/◌, ◌%◌, ◌<◌, ◌≤◌, ◌==◌, nat_le, nat_eq, Bool, true, false, if◌then◌else◌, List, [], ◌∷◌, ◌++◌, replicate, refl, sym, ap, subst, ◌∙◌, arith, eqb-true, eqb-false, leb-false, append_assoc, MEMORY_SIZE, IsMemory, byte_at, Event, SourceState, Outcome, NotZero, Dcr, Inx, Lxi, Mvi, Push, Of, De, Sp, B, StackDe, act, decrement_of, HoldBytes, Registers, State, word, wrap, JumpWhere, AgreesIn, pushed, pushed_is_memory, pushed_is_pushed, pushed_keeps, counted_out, counts_on, one_less_is, push_does, LiesWell, Does, at_place, LabelNumber, Planned, jump, mark, plain, Here, label_of, odd_byte_steps, push_loop_steps, pushes_steps, zeros_steps, BodyContext, at_start}
+use Rattle.procedure_laws.proofs.Prelude.{◌≡◌, ◌≢◌, ℕ, zero, suc, ◌+◌, ◌-◌, ◌*◌, ◌/◌, ◌%◌, ◌<◌, ◌≤◌, ◌==◌, nat_le, nat_eq, Bool, true, false, if◌then◌else◌, List, [], ◌∷◌, ◌++◌, replicate, refl, sym, ap, subst, ◌∙◌, arith, eqb-true, eqb-false, leb-false, append_assoc, MEMORY_SIZE, IsMemory, byte_at, Event, SourceState, Outcome, NotZero, Dcr, Inx, Lxi, Mvi, Push, Of, De, Sp, B, StackDe, act, decrement_of, HoldBytes, Registers, State, word, wrap, JumpWhere, AgreesIn, pushed, pushed_is_memory, pushed_is_pushed, pushed_keeps, counted_out, counts_on, one_less_is, push_does, LiesWell, Does, loaded_of, at_place, LabelNumber, Planned, jump, mark, plain, Here, label_of, odd_byte_steps, push_loop_steps, pushes_steps, zeros_steps, BodyContext, at_start}
 use Rattle.procedure_laws.proofs.Frames.FramesSteps.{StepsLie, jump_goes, jump_stays, mark_goes, plain_goes}
 
 -- The bytes from one address to another are zeros, and the stack pointer is at the lower one; A and HL are as
@@ -160,7 +160,7 @@ GoesOnAfter at last others budget outcome Good events count low high to r memory
     (place : ℕ) (now : Registers) (ended : List ℕ)
     → StepsLie at at_start last others place to
     → AreZeros count low high r memory now ended
-    → Does at.context.activation.around.program.script budget 0 (at_place place now ended events) outcome Good
+    → Does (loaded_of at.context.activation) budget 0 (at_place place now ended events) outcome Good
 
 -- another number in B
 renumbered :
@@ -292,13 +292,13 @@ module _ {A : Type 0} {budget : ℕ} {outcome : Outcome A}
       → StepsLie at at_start last (plain (Push StackDe) ∷ others) from to
       → AreZeros count low high r memory now ended
       → GoesOnAfter at last others budget outcome Good events count (low - 2) high to r memory
-      → Does at.context.activation.around.program.script budget 0
+      → Does (loaded_of at.context.activation) budget 0
       (at_place from now ended events) outcome Good
   word_pushed count low from now ended others room below stand are rest =
       plain_goes at (Push StackDe) others now lies
       (code_stays at lies (omega (arith, room)) limit are agrees) stand
       (λ more.
-      subst (λ (state : State). Does at.context.activation.around.program.script budget 0 state outcome Good)
+      subst (λ (state : State). Does (loaded_of at.context.activation) budget 0 state outcome Good)
       (sym (does (from + 1)))
       (rest (from + 1) (record now { sp = wrap (low - 2) }) (pushed low 0 ended) more
       (one_word low (omega (arith, room)) in_memory below are)))
@@ -324,7 +324,7 @@ module _ {A : Type 0} {budget : ℕ} {outcome : Outcome A}
       → StepsLie at at_start last (replicate words (plain (Push StackDe)) ++ others) from to
       → AreZeros count low high r memory now ended
       → GoesOnAfter at last others budget outcome Good events count (low - 2 * words) high to r memory
-      → Does at.context.activation.around.program.script budget 0
+      → Does (loaded_of at.context.activation) budget 0
       (at_place from now ended events) outcome Good
   words_pushed zero count low from now ended others room below stand are rest =
       rest from now ended stand
@@ -354,7 +354,7 @@ module _ {A : Type 0} {budget : ℕ} {outcome : Outcome A}
       → StepsLie at at_start last (plain (Push StackDe) ∷ plain (Inx Sp) ∷ others) from to
       → AreZeros count low high r memory now ended
       → GoesOnAfter at last others budget outcome Good events count (low - 1) high to r memory
-      → Does at.context.activation.around.program.script budget 0
+      → Does (loaded_of at.context.activation) budget 0
       (at_place from now ended events) outcome Good
   odd_pushed count low from now ended others room below stand are rest =
       pushed_there
@@ -375,20 +375,20 @@ module _ {A : Type 0} {budget : ℕ} {outcome : Outcome A}
           ∙ ap (λ (n : ℕ). at_place place (record now { sp = wrap (low - 2) }) (pushed low n ended) events)
           (zero_word now.d now.e are.d are.e)
 
-      pushed_there : Does at.context.activation.around.program.script budget 0
+      pushed_there : Does (loaded_of at.context.activation) budget 0
           (at_place from now ended events) outcome Good
       pushed_there =
           plain_goes at (Push StackDe) (plain (Inx Sp) ∷ others) now lies
           (code_stays at lies (omega (arith, room)) limit are agrees) stand
           (λ more.
-          subst (λ (state : State). Does at.context.activation.around.program.script budget
+          subst (λ (state : State). Does (loaded_of at.context.activation) budget
           0 state outcome Good)
           (sym (does (from + 1)))
           (plain_goes at (Inx Sp) others (record now { sp = wrap (low - 2) }) lies
           (code_stays at lies (omega (arith, room)) limit
           (one_word low (omega (arith, room)) in_memory below are) agrees) more
           (λ last_one.
-          subst (λ (n : ℕ). Does at.context.activation.around.program.script budget 0
+          subst (λ (n : ℕ). Does (loaded_of at.context.activation) budget 0
           (at_place (from + 1 + 1) (record now { sp = n }) (pushed low 0 ended) events) outcome Good)
           (sym (up low (omega (arith, room)) in_memory))
           (rest (from + 1 + 1) (record now { sp = wrap (low - 1) }) (pushed low 0 ended) last_one
@@ -403,7 +403,7 @@ module _ {A : Type 0} {budget : ℕ} {outcome : Outcome A}
       → StepsLie at at_start last (turn_steps again others) from to
       → AreZeros (suc turns) low high r memory now ended
       → GoesOnAfter at last others budget outcome Good events 0 (low - 8 * suc turns) high to r memory
-      → Does at.context.activation.around.program.script budget 0
+      → Does (loaded_of at.context.activation) budget 0
       (at_place from now ended events) outcome Good
   turns_pushed zero low from now ended again others place few room below stand are rest =
       words_pushed 4 1 low from now ended (plain (Dcr (Of B)) ∷ jump (JumpWhere NotZero) again ∷ others)
@@ -432,7 +432,7 @@ module _ {A : Type 0} {budget : ℕ} {outcome : Outcome A}
       (record after { b = (after.b + 254 + 1) % 256; flags = (decrement_of after.b after.flags).flags }) lies
       (code_stays at lies (omega (arith, room)) limit are_after agrees) more
       (counts_on after.b turns are_after.b (omega (arith, few)))
-      (subst (λ (n : ℕ). Does at.context.activation.around.program.script budget 0
+      (subst (λ (n : ℕ). Does (loaded_of at.context.activation) budget 0
       (at_place n
       (record after { b = (after.b + 254 + 1) % 256; flags = (decrement_of after.b after.flags).flags })
       last_memory events) outcome Good)
@@ -458,7 +458,7 @@ module _ {A : Type 0} {budget : ℕ} {outcome : Outcome A}
       → AreZeros count low high r memory now ended
       → ((count : ℕ) → GoesOnAfter at last others budget outcome Good events count
       (low - 2 * words) high to r memory)
-      → Does at.context.activation.around.program.script budget 0
+      → Does (loaded_of at.context.activation) budget 0
       (at_place from now ended events) outcome Good
   unfolding pushes_steps push_loop_steps
   pushes_go words first count low from now ended others few room below stand are rest =
@@ -477,7 +477,7 @@ module _ {A : Type 0} {budget : ℕ} {outcome : Outcome A}
           else push_loop_steps (words / 4 % 256) (label_of first)
           ++ replicate (words % 4) (plain (Push StackDe)))
           ++ others) from to
-          → Does at.context.activation.around.program.script budget 0
+          → Does (loaded_of at.context.activation) budget 0
           (at_place from now ended events) outcome Good
       by_test true at_most stand =
           words_pushed words count low from now ended others room below stand are (rest count)
@@ -517,7 +517,7 @@ module _ {A : Type 0} {budget : ℕ} {outcome : Outcome A}
       → StepsLie at at_start last (odd_byte_steps bytes ++ others) from to
       → AreZeros count low high r memory now ended
       → GoesOnAfter at last others budget outcome Good events count (low - bytes % 2) high to r memory
-      → Does at.context.activation.around.program.script budget 0
+      → Does (loaded_of at.context.activation) budget 0
       (at_place from now ended events) outcome Good
   unfolding odd_byte_steps
   odd_goes bytes count low from now ended others room below least stand are rest =
@@ -526,7 +526,7 @@ module _ {A : Type 0} {budget : ℕ} {outcome : Outcome A}
       by_test : (test : Bool) → nat_eq (bytes % 2) 1 ≡ test
           → StepsLie at at_start last
           ((if test then plain (Push StackDe) ∷ plain (Inx Sp) ∷ [] else []) ++ others) from to
-          → Does at.context.activation.around.program.script budget 0
+          → Does (loaded_of at.context.activation) budget 0
           (at_place from now ended events) outcome Good
       by_test true same stand =
           let odd : bytes % 2 ≡ 1 = eqb-true (bytes % 2) 1 same in
@@ -551,9 +551,9 @@ module _ {A : Type 0} {budget : ℕ} {outcome : Outcome A}
       → ((place : ℕ) (now : Registers) (ended : List ℕ)
       → StepsLie at at_start last others place to
       → IsFilled (high - bytes) high r memory now ended
-      → Does at.context.activation.around.program.script budget 0
+      → Does (loaded_of at.context.activation) budget 0
       (at_place place now ended events) outcome Good)
-      → Does at.context.activation.around.program.script budget 0 (at_place from r memory events) outcome Good
+      → Does (loaded_of at.context.activation) budget 0 (at_place from r memory events) outcome Good
   unfolding zeros_steps
   zeros_go bytes first from others few room bytes_held pointer is_memory stand rest =
       by_test (nat_eq bytes 0) refl stand
@@ -569,7 +569,7 @@ module _ {A : Type 0} {budget : ℕ} {outcome : Outcome A}
           ((if test then [] else plain (Lxi De 0) ∷ (pushes_steps (bytes / 2) first ++ odd_byte_steps bytes))
           ++ others)
           from to
-          → Does at.context.activation.around.program.script budget 0
+          → Does (loaded_of at.context.activation) budget 0
           (at_place from r memory events) outcome Good
       by_test true same stand =
           rest from r memory stand (record {

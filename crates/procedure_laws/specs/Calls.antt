@@ -60,7 +60,7 @@ EntryDoes program image later number at typed found entry =
     → s.budget < number
     → charge_of found ≤ room
     → IsEntered program image room found.parameter_types values top back s r memory
-    → Does program.script s.budget 0 (at_place entry r memory s.events)
+    → Does (record { program = program; image = image }) s.budget 0 (at_place entry r memory s.events)
     (entered later typed at.number found values
     (record { program = program; number_of_module = at.number_of_module; room = room - charge_of found }) s)
     (ComesBack program image found.result (top + 2 - room) (top + 2 + bytes_pushed values) back s memory)

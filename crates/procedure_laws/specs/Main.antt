@@ -1,11 +1,11 @@
 -- Runs of the main program on the machine.
 use Rattle.std.specs.Prelude.{ℕ, ◌≤◌, List}
-use Rattle.ports.specs.declared.event.Event.{Event}
-use Rattle.meaning.specs.Outcomes.{Ended, More, Outside, Stop}
-use Rattle.isa8080.specs.declared.registers.Status.TheVariants.{Halted, Running}
+use Rattle.meaning.specs.Outcomes.{Ended, Flow, Gave, More, Outcome, Outside, Stopped}
+use Rattle.isa8080.specs.declared.registers.Status.TheVariants.{Running}
 use Rattle.isa8080.specs.State.{State}
 use Rattle.asm8080.specs.Runs.{Comes}
-use Rattle.code_meaning.specs.Landing.{IsLeft}
+use Rattle.code_meaning.specs.Sharing.{Loaded}
+use Rattle.code_meaning.specs.Landing.{IsHalted, IsLeft}
 
 -- a run of at least so many steps that comes to what holds
 pub record ComesTo (script : List (List ℕ)) (least : ℕ) (from : State) (Good : State → Type 0) : Type 0 where
@@ -15,10 +15,12 @@ pub record ComesTo (script : List (List ℕ)) (least : ℕ) (from : State) (Good
   pub enough : least ≤ count
   pub is_good : Good end
 
--- Beside what a run of the source with a budget comes to: where that ended the machine halts with its events, and where
--- it wants more budget the machine still runs, after as many steps as the budget and with the same events. Of a run that
--- goes outside nothing is said.
-abbrev pub EndsAs : (script : List (List ℕ)) → (budget : ℕ) → (from : State) → Stop → List Event → Type 0
-EndsAs script budget from Ended events = ComesTo script 0 from (IsLeft Halted events)
-EndsAs script budget from More events = ComesTo script budget from (IsLeft Running events)
-EndsAs script budget from (Outside reason) events = Unit {0}
+-- Beside what a run of the source with a budget comes to: where that ended the machine halts with its events
+-- and its memory, and where it wants more budget the machine still runs, after as many steps as the budget
+-- and with the same events. Of a run that goes outside nothing is said.
+abbrev pub EndsAs : Loaded → (budget : ℕ) → (from : State) → Outcome Flow → Type 0
+EndsAs loaded budget from (Gave flow t) = ComesTo loaded.program.script 0 from (IsHalted loaded t)
+EndsAs loaded budget from (Stopped Ended t) = ComesTo loaded.program.script 0 from (IsHalted loaded t)
+EndsAs loaded budget from (Stopped More t) =
+    ComesTo loaded.program.script budget from (IsLeft Running t.events)
+EndsAs loaded budget from (Stopped (Outside reason) t) = Unit {0}

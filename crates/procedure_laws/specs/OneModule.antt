@@ -6,7 +6,7 @@ use Rattle.layout.specs.Joined.{InProgram, is_main}
 use Rattle.meaning.specs.Access.{Surroundings}
 use Rattle.meaning.specs.Meaning.{Later, later_by, procedure_at}
 use Rattle.meaning.specs.Outcomes.{Program, State as SourceState}
-use Rattle.meaning.specs.Run.{main_done, run_of}
+use Rattle.meaning.specs.Run.{main_done}
 use Rattle.isa8080.specs.State.{HoldBytes, Registers}
 use Rattle.code_meaning.specs.Sharing.{Shares}
 use Rattle.code_meaning.specs.Landing.{at_place}
@@ -59,7 +59,8 @@ CallsFollow program image entries number_of_module typed bound AreKnown =
 
 -- What the code of one module does on the machine, where calls are known as told: calls of its own procedures do what they
 -- mean with one more of the budget; and from its start, where it is the main module, the machine ends as its main program
--- does with that budget, for each memory that has what is declared as the source has it.
+-- does with that budget, for each memory that has what is declared as the source has it, and is else as it
+-- was loaded but for variables and the stack.
 pub record ModuleDoes
     (program : Program) (image : List ℕ) (entries : Entries) (number_of_module : ℕ) (typed : TypedModule)
     (start : ℕ) (AreKnown : Later → (number : ℕ) → Type 0) : Type 0 where
@@ -73,6 +74,5 @@ pub record ModuleDoes
       → room ≤ program.placement.stack.len
       → Shares program image s.memory memory
       → HoldBytes r
-      → EndsAs program.script budget (at_place start r memory s.events)
-      (run_of (main_done budget typed (around_in program number_of_module room) s)).end
-      (run_of (main_done budget typed (around_in program number_of_module room) s)).events
+      → EndsAs (record { program = program; image = image }) budget (at_place start r memory s.events)
+      (main_done budget typed (around_in program number_of_module room) s)

@@ -1,8 +1,8 @@
 -- A program whose object modules are made of its modules, linked, placed and loaded, does what its source
 -- does.
-use Rattle.program_laws.proofs.Prelude.{◌≡◌, ℕ, zero, suc, List, [], ◌∷◌, Option, Some, None, Ok, length, refl, sym, subst, ◌∙◌, slice_get, none-some, same_Some, MEMORY_SIZE, IsMemory, Event, IsScript, Image, image_of, merge_of, ObjectModule, IsLoaded, TypedModule, IsJoined, IsLawful, PlacingPlan, NeverOutside, source_run, HoldBytes, Registers, running, state_after, plan_of, IsInMemory, placement_of, is_linked, AreMadeOf, Agrees, ModulesAre, ModuleIs, AreSoundlyMade, IsSoundlyMade}
+use Rattle.program_laws.proofs.Prelude.{◌≡◌, ℕ, zero, suc, List, [], ◌∷◌, Option, Some, None, Ok, length, refl, sym, subst, ◌∙◌, slice_get, none-some, same_Some, MEMORY_SIZE, IsMemory, Event, IsScript, Image, image_of, merge_of, ObjectModule, IsLoaded, TypedModule, IsJoined, IsLawful, PlacingPlan, NeverOutside, source_outcome, source_run, HoldBytes, Registers, running, state_after, plan_of, IsInMemory, placement_of, is_linked, AreMadeOf, Agrees, EndsAlike, ModulesAre, ModuleIs, AreSoundlyMade, IsSoundlyMade}
 use Rattle.program_laws.proofs.Made.{is_in_memory}
-use Rattle.program_laws.proofs.Programs.{program_does}
+use Rattle.program_laws.proofs.Programs.{program_does, program_ends}
 
 -- without what is known of their types and words
 pub are_made : (modules : List TypedModule) (objects : List ObjectModule)
@@ -76,57 +76,55 @@ module _
       all = λ number typed found. all_at number typed (slice_get modules number) refl found;
     }
 
-    in_memory_does :
-        (script : List (List ℕ)) (events : List Event) (r : Registers)
-        → IsScript script
-        → IsMemory after
-        → HoldBytes r
-        → NeverOutside
-        (λ (budget : ℕ).
-        source_run modules (placement_of plan modules objects) (placement_of plan modules objects).stack.len
-        before script events
-        budget)
-        → Agrees
+module _
+    (plan : PlacingPlan) (modules : List TypedModule) (objects : List ObjectModule) (merged : ObjectModule)
+    (image : Image) (before after : List ℕ)
+    (joined : IsJoined modules)
+    (made : AreSoundlyMade modules objects)
+    (lawful : IsLawful modules (placement_of plan modules objects))
+    (merge : merge_of objects ≡ Ok merged)
+    (placed : image_of (plan_of plan) merged ≡ Ok image)
+    (loaded : IsLoaded image.byte_at before after)
+    (size : length before ≡ MEMORY_SIZE)
+    (is_memory : IsMemory after)
+    (script : List (List ℕ)) (events : List Event) (r : Registers)
+    (bytes : IsScript script)
+    (registers : HoldBytes r)
+    (never : NeverOutside
+    (λ (budget : ℕ).
+    source_run modules (placement_of plan modules objects) (placement_of plan modules objects).stack.len
+    before script events
+    budget))
+  where
+    in_memory : IsInMemory plan modules objects merged image before after
+    in_memory =
+        is_in_memory plan modules objects merged image before after joined (are_made modules objects made)
+        lawful merge placed loaded size
+
+    -- The machine performs exactly the port reads and writes of the source, in order and with the same
+    -- values, and halts exactly if the source ends, for every starting memory and every script.
+    pub made_program_does :
+        Agrees
         (λ (budget : ℕ).
         source_run modules (placement_of plan modules objects) (placement_of plan modules objects).stack.len
         before script events
         budget)
         (λ (steps : ℕ). state_after script steps (running (record r { pc = image.start }) after events))
-    in_memory_does script events r bytes is_memory registers never =
-        program_does plan modules objects merged image before after is script bytes is_memory modules_are
+    made_program_does =
+        program_does plan modules objects merged image before after in_memory script bytes is_memory
+        (modules_are plan modules objects merged image before after made in_memory)
         events r registers never
 
--- The machine performs exactly the port reads and writes of the source, in order and with the same values,
--- and halts exactly if the source ends, for every starting memory and every script.
-pub made_program_does :
-    (plan : PlacingPlan) (modules : List TypedModule) (objects : List ObjectModule) (merged : ObjectModule)
-    (image : Image) (before after : List ℕ)
-    → IsJoined modules
-    → AreSoundlyMade modules objects
-    → IsLawful modules (placement_of plan modules objects)
-    → merge_of objects ≡ Ok merged
-    → image_of (plan_of plan) merged ≡ Ok image
-    → IsLoaded image.byte_at before after
-    → length before ≡ MEMORY_SIZE
-    → IsMemory after
-    → (script : List (List ℕ)) (events : List Event) (r : Registers)
-    → IsScript script
-    → HoldBytes r
-    → NeverOutside
-    (λ (budget : ℕ).
-    source_run modules (placement_of plan modules objects) (placement_of plan modules objects).stack.len
-    before script events
-    budget)
-    → Agrees
-    (λ (budget : ℕ).
-    source_run modules (placement_of plan modules objects) (placement_of plan modules objects).stack.len
-    before script events
-    budget)
-    (λ (steps : ℕ). state_after script steps (running (record r { pc = image.start }) after events))
-made_program_does plan modules objects merged image before after joined made lawful merge placed loaded size
-    is_memory script events r bytes registers never =
-    in_memory_does plan modules objects merged image before after made
-    (is_in_memory plan modules objects merged image before after joined
-    (are_made modules objects made) lawful merge
-    placed loaded size)
-    script events r bytes is_memory registers never
+    -- And it ends with the memory of the source.
+    pub made_program_ends :
+        EndsAlike modules (placement_of plan modules objects)
+        (λ (budget : ℕ).
+        source_outcome modules (placement_of plan modules objects)
+        (placement_of plan modules objects).stack.len
+        before script events
+        budget)
+        (λ (steps : ℕ). state_after script steps (running (record r { pc = image.start }) after events))
+    made_program_ends =
+        program_ends plan modules objects merged image before after in_memory script bytes is_memory
+        (modules_are plan modules objects merged image before after made in_memory)
+        events r registers never

@@ -1,5 +1,5 @@
 -- The object module of a module does on the machine what the module says, wherever it lies, by what calls do.
-use Rattle.program_laws.proofs.Prelude.{◌≡◌, ℕ, suc, ◌+◌, Bool, true, List, [], Option, Some, None, refl, sym, ap, subst, ◌∙◌, arith, length, nat_lt, if◌then◌else◌, option_map_or, lt-ltb, Target, InSegment, ObjectModule, TypedModule, TypedList, TypedStatements, ListOf, NoStatements, MoreStatements, has_statement, is_main, Storage, Program, main_done, run_of, at_place, Range, TreeModule, AreMoreStatements, AreNoStatements, AreStatements, HasBody, IsList, IsListOf, labels_numbered_in_list, nodes_of, place_of_label, has_main, numbers_of_lowered, Entries, EndsAs, ModuleCode, AllCallsAreKnown, ModuleDoes, OtherCallsAreKnown, around_in, does_by_others, module_does, AreEntered, DoesWhereItLies, LiesInMemory, start_place, IsSoundlyMade}
+use Rattle.program_laws.proofs.Prelude.{◌≡◌, ℕ, suc, ◌+◌, Bool, true, List, [], Option, Some, None, refl, sym, ap, subst, ◌∙◌, arith, length, nat_lt, if◌then◌else◌, option_map_or, lt-ltb, Target, InSegment, ObjectModule, TypedModule, TypedList, TypedStatements, ListOf, NoStatements, MoreStatements, has_statement, is_main, Storage, Program, main_done, at_place, Range, TreeModule, AreMoreStatements, AreNoStatements, AreStatements, HasBody, IsList, IsListOf, labels_numbered_in_list, nodes_of, place_of_label, has_main, numbers_of_lowered, Entries, EndsAs, ModuleCode, AllCallsAreKnown, ModuleDoes, OtherCallsAreKnown, around_in, does_by_others, module_does, AreEntered, DoesWhereItLies, LiesInMemory, start_place, IsSoundlyMade}
 use Rattle.object_modules.specs.declared.segment.Segment.TheVariants as segments
 use Rattle.program_laws.proofs.Labels.{start_lies}
 use Rattle.program_laws.proofs.ModuleLies.{module_lies}
@@ -98,9 +98,8 @@ module _
       calls = at_label.calls;
       main = λ budget room s r rest is known same no_frame enough shares bytes.
           subst (λ (start : ℕ).
-          EndsAs program.script budget (at_place start r rest s.events)
-          (run_of (main_done budget typed (around_in program number room) s)).end
-          (run_of (main_done budget typed (around_in program number room) s)).events) (sym (start_is is))
+          EndsAs (record { program = program; image = memory }) budget (at_place start r rest s.events)
+          (main_done budget typed (around_in program number room) s)) (sym (start_is is))
           (at_label.main budget room s r rest is known same no_frame enough shares bytes);
     }
 

@@ -6,10 +6,10 @@ pub use Rattle.mem80.specs.{Memory.{IsMemory, byte_at}, Pieces.{IsLoaded}, decla
 pub use Rattle.ports.proofs.Beginnings.{begins_itself}
 pub use Rattle.ports.specs.{Events.{IsBeginning}, Input.{IsScript}, declared.event.Event.{Event}}
 pub use Rattle.typed_trees.specs.{Globals.{IsHereIfPublic, ListsGlobals, global_procedure, is_global, is_shared, shared_object, shared_procedure}, Sizes.{size_of_object}, Storable.{HasPlace, IsStorable}, TypedTrees.{BasedOn, Elsewhere, Home as TypedHome, InConstants, InData, InFrame, ListOf, MoreStatements, NoStatements, Nowhere, Placed, TypedList, TypedModule, TypedObject, TypedProcedure, TypedStatements}, Weight.{constant_bytes}, declared.parts.ConstantItem.{ConstantItem, TheVariants.{ConstantList, ConstantObject}}, declared.parts.GlobalItem.{GlobalItem, TheVariants.{GlobalObject, GlobalProcedure}}, declared.parts.InitialValue.{InitialValue, TheVariants.{ByteValue, LocationValue, WordValue}}, declared.parts.Visibility.{Visibility}}
-pub use Rattle.layout.proofs.{Declared.{Decides-declared}, Locations.{location_is}, Mains.{main_counted}, Meant.{first_position}, PlacedLocations.{lies_at_location}, Placements.{HoldConstants}, Segments.{constants_length, of_all}, StartingBytes.{starts_as}}
+pub use Rattle.layout.proofs.{Declared.{Decides-declared, writable_told}, Locations.{location_is}, Mains.{main_counted}, Meant.{first_position}, PlacedLocations.{lies_at_location}, Placements.{HoldConstants}, Segments.{constants_length, of_all}, StartingBytes.{starts_as}}
 pub use Rattle.layout.specs.{Following.{Bases, address_of_slot, base_of}, Joined.{Global, InProgram, IsJoined, first_found, global_object, global_of, has_statement, is_main, is_public_procedure, object_meant, procedure_meant, public_procedure_in}, Lawful.{HasAddresses, IsLawful, LiesWhereAtSays}, Placement.{ModulePlacement}, Placing.{Plan as PlacingPlan, bases_from, stack_range}, Segments.{After, ExternalName as Named, Location, Places, SegmentByte, SegmentStart, address_of_location, constant_places, data_places, location_by_home, location_of, locations_after}, StartingMemory.{address_in, address_of_object}, Storage.{Storage, bytes_in_data, data_bytes, slot_of_list, storage_with}, declared.slot.Segment.TheVariants.{Data}, declared.slot.Slot.{Slot}}
 unfoldable pub use Rattle.layout.specs.{Placing.{placement_by, placing_refusal}, StartingMemory.{starting_memory}}
-pub use Rattle.meaning.specs.{Access.{InMemory, Surroundings, address_of as object_address, home_in, home_of}, Meaning.{address_of_list, based_place, callee_in, later_by}, Outcomes.{Ended, Gave, More, Onward, Outside, Program, State as SourceState, Stop}, Run.{NeverOutside, Run, main_done, number_of_main, run_of}}
+pub use Rattle.meaning.specs.{Access.{InMemory, Surroundings, address_of as object_address, home_in, home_of}, Meaning.{address_of_list, based_place, callee_in, later_by}, Outcomes.{Ended, Flow, Gave, More, Onward, Outcome, Outside, Program, State as SourceState, Stop, Stopped}, Run.{EndsIn, NeverOutside, Run, main_done, number_of_main, run_of, source_outcome}}
 unfoldable pub use Rattle.meaning.specs.Run.{source_run}
 pub use Rattle.object_modules.specs.{Displacements.{linked_modules, public_named}, Image.{Image, image_of}, Module.{Fixup, IsObjectModule, ObjectModule, Places as ObjectPlaces, Public, SetByte, is_among, is_page, is_target, is_valid_byte, is_valid_segment, words_are_whole}, Moving.{after_fixup, bytes_resolved, first_byte_moved, moved_after, value_after, value_moved}, Runs.{fixup_at}, declared.segment.Fix.{Fix}, declared.segment.FixKind.{FixKind, TheVariants.{Both, High, Low}}, declared.segment.Segment.{Segment}, declared.segment.Target.{Target, TheVariants.{External, InSegment}}, declared.segment.TheConstants.{SEGMENT_LIMIT}}
 unfoldable pub use Rattle.object_modules.specs.Merge.{merge_of}
@@ -28,16 +28,17 @@ pub use Rattle.frames.specs.Frames.{HasFrame}
 pub use Rattle.steps8080.specs.{Externals.{Extends, entry}, Instructions.{high, low}, Writer.{Written, in_front, known_label, numbered, numbered_reference, place_of_known, place_of_label, stack_end_item}}
 pub use Rattle.procedure_laws.specs.{internal.GeneratedModules.{AreCodeOf, ArePublicsOf, AreRoutines, AreTargets, IsAtPlace, IsCodeOf, IsCodeOfMain, IsCodeOfRoutine, IsGenerated, IsMainCode, IsNamed, IsOwnCode, IsProcedureCode, IsPublicOf, IsRoutineCode, IsSegmentOf, all_routines, contents_items, has_main, used_names}, Targets.{retargeted}}
 pub use Rattle.code_meaning.proofs.{Lawful.{placement_lies}, Sequences.{both_there}}
-pub use Rattle.code_meaning.specs.{Activations.{Activation, IsThere, Shares}, Holding.{place_at}, Landing.{IsLeft, at_place}}
+pub use Rattle.code_meaning.specs.{Activations.{Activation, IsThere, Loaded, MayChange, Shares}, Holding.{place_at}, Landing.{IsHalted, IsLeft, at_place}}
 pub use Rattle.procedure_laws.proofs.{SiteNodes.{have_operands}, NumbersOfTrees.{IsTypedCode, has_types, numbers_of_lowered}}
 pub use Rattle.procedure_laws.specs.{internal.CodeContexts.{RoutineIsAt}, ProgramTypes.{HasTypes}}
 pub use Rattle.procedure_laws.proofs.{KnownCalls.{calls_known}, OneModule.{does_by_others, module_does}}
 pub use Rattle.procedure_laws.specs.{Calls.{Entries}, Main.{ComesTo as Arrived, EndsAs}, internal.Modules.{MainStands, ModuleCode, ModuleLies, ProcedureStands, VariablesAreApart, bare}, OneModule.{AllCallsAreKnown, CallsFollow, ModuleDoes, OtherCallsAreKnown, around_in, in_module}}
 pub use Rattle.program_laws.specs.Agreement.{Agrees}
+pub use Rattle.program_laws.specs.MemoryAtEnd.{EndsAlike, HoldsAtEnd, MayBeChanged}
 pub use Rattle.program_laws.specs.internal.Made.{AreMadeOf, IsMadeOf}
 pub use Rattle.program_laws.specs.OneModule.{AreEntered, DoesWhereItLies, LiesInMemory, ShowsProcedures, bases_at, start_place}
 pub use Rattle.program_laws.specs.internal.Typed.{AreSoundlyMade, IsSoundlyMade}
 pub use Rattle.program_laws.specs.internal.Entering.{ModulesAre, entries_of}
 pub use Rattle.program_laws.specs.internal.Layouts.{address_for, module_layout, written_layout}
 pub use Rattle.program_laws.specs.internal.Linked.{ModuleIs, layout_of, made_of, public_address, targets_of}
-pub use Rattle.program_laws.specs.internal.Performing.{ComesTo, Performs}
+pub use Rattle.program_laws.specs.internal.Performing.{ComesTo, ComesToHalt, Performs}

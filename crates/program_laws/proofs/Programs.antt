@@ -1,9 +1,10 @@
 -- A program on the machine does what its source does.
-use Rattle.program_laws.proofs.Prelude.{◌≡◌, ℕ, suc, ◌+◌, ◌%◌, ◌<◌, ◌≤◌, Bool, true, false, not, cond, List, [], ◌∷◌, length, Option, Some, None, refl, sym, ap, subst, ◌∙◌, arith, All, IfSome, slice_get, find, count_by, if◌then◌else◌, position_or_len, option_map_or, lt-ltb, find_at, sum_by-cons, same_Some, recursion_from_All, IsMemory, MEMORY_SIZE, Image, ObjectModule, Event, IsScript, TypedModule, is_main, linked_modules, StartsAt, piece_base, main_starts, starting_memory, Decides-declared, of_all, starts_as, plan_of, IsInMemory, placement_of, starts_as_its_source, Program, Shares, HoldBytes, Registers, wrap, HasTypes, IsTypedCode, has_types, Surroundings, later_by, AllCallsAreKnown, CallsFollow, ModuleDoes, around_in, calls_known, start_place, ModulesAre, entries_of, ModuleIs, made_of, public_address, targets_of, PlacingPlan, Gave, Onward, Stop, SourceState, NeverOutside, Run, main_done, number_of_main, run_of, source_run, running, state_after, Status, State, Arrived, EndsAs, IsLeft, Agrees, ComesTo, Performs, zero-add, main_counted}
+use Rattle.program_laws.proofs.Prelude.{◌≡◌, ℕ, suc, ◌+◌, ◌%◌, ◌<◌, ◌≤◌, Bool, true, false, not, cond, List, [], ◌∷◌, length, Option, Some, None, refl, sym, ap, subst, ◌∙◌, arith, All, IfSome, slice_get, find, count_by, if◌then◌else◌, position_or_len, option_map_or, lt-ltb, find_at, sum_by-cons, same_Some, recursion_from_All, IsMemory, MEMORY_SIZE, Image, ObjectModule, Event, IsScript, TypedModule, is_main, linked_modules, StartsAt, piece_base, main_starts, starting_memory, Decides-declared, of_all, starts_as, plan_of, IsInMemory, placement_of, starts_as_its_source, Program, Loaded, MayChange, Shares, HoldBytes, Registers, wrap, HasTypes, IsTypedCode, has_types, Surroundings, later_by, AllCallsAreKnown, CallsFollow, ModuleDoes, around_in, calls_known, start_place, ModulesAre, entries_of, ModuleIs, made_of, public_address, targets_of, PlacingPlan, Flow, Gave, Onward, Outcome, Stopped, Ended, More, Outside, SourceState, NeverOutside, main_done, number_of_main, source_outcome, source_run, running, state_after, Status, State, Arrived, EndsAs, IsHalted, IsLeft, Agrees, EndsAlike, ComesTo, ComesToHalt, Performs, zero-add, main_counted}
+use Rattle.code_meaning.proofs.Owning.{keeps_all}
 use Rattle.object_modules.specs.declared.segment.Segment.TheVariants as segments
 use Rattle.program_laws.proofs.OneModule.{object_does, started}
 use Rattle.program_laws.proofs.Linked.{are_entered, lies_in_memory, program_of}
-use Rattle.program_laws.proofs.Agreeing.{agrees}
+use Rattle.program_laws.proofs.Agreeing.{agrees, ends_alike}
 
 -- the first of a list that passes a test
 record FirstThat {X : Type 0} (passes : X → Bool) (all : List X) : Type 0 where
@@ -56,15 +57,41 @@ came script least start status events arrived = record {
   events_are = ap (λ (state : State). state.events) (sym arrived.run) ∙ arrived.is_good.events_are;
 }
 
+halts :
+    (loaded : Loaded) (start : State) (t : SourceState)
+    → Arrived loaded.program.script 0 start (IsHalted loaded t)
+    → ComesToHalt loaded start t
+halts loaded start t arrived = record {
+  count = arrived.count;
+  is_halted = subst (IsHalted loaded t) arrived.run arrived.is_good;
+}
+
+halts_in :
+    (loaded : Loaded) (start : State) (s t : SourceState)
+    → Arrived loaded.program.script 0 start (IsHalted loaded s)
+    → s ≡ t
+    → ComesToHalt loaded start t
+halts_in loaded start s t arrived is = subst (ComesToHalt loaded start) is (halts loaded start s arrived)
+
 performs :
-    (script : List (List ℕ)) (start : State) (budget : ℕ) (run : Run)
-    → EndsAs script budget start run.end run.events
-    → Performs script start budget run
-performs script start budget run ends = record {
-  ended = λ is. came script 0 start _ run.events
-      (subst (λ (stop : Stop). EndsAs script budget start stop run.events) is ends);
-  more = λ is. came script budget start _ run.events
-      (subst (λ (stop : Stop). EndsAs script budget start stop run.events) is ends);
+    (loaded : Loaded) (start : State) (budget : ℕ) (outcome : Outcome Flow)
+    → EndsAs loaded budget start outcome
+    → Performs loaded start budget outcome
+performs loaded start budget (Gave flow s) ends = record {
+  ended = λ t is. halts_in loaded start s t ends is;
+  more = λ is. let bad : Ended ≡ More = is in absurd cc;
+}
+performs loaded start budget (Stopped Ended s) ends = record {
+  ended = λ t is. halts_in loaded start s t ends is;
+  more = λ is. let bad : Ended ≡ More = is in absurd cc;
+}
+performs loaded start budget (Stopped More s) ends = record {
+  ended = λ t is. absurd is;
+  more = λ is. came loaded.program.script budget start _ s.events ends;
+}
+performs loaded start budget (Stopped (Outside reason) s) ends = record {
+  ended = λ t is. absurd is;
+  more = λ is. let bad : Outside reason ≡ More = is in absurd cc;
 }
 
 module _
@@ -76,6 +103,9 @@ module _
   where
     abbrev program : Program
     program = program_of plan modules objects merged image before after is script
+
+    abbrev loaded : Loaded
+    loaded = record { program = program; image = after }
 
     -- each module is typed, and it is tree code
     typed_code : (number : ℕ) (typed : TypedModule)
@@ -129,6 +159,7 @@ module _
           starts_as_its_source plan modules objects merged image before after is address
           ((Decides-declared modules (placement_of plan modules objects) address).0 declared);
       code = λ address inside. refl;
+      others = keeps_all (MayChange program) after;
     }
 
     -- where the image starts
@@ -171,20 +202,24 @@ module _
       budget = budget;
     }
 
-    abbrev runs : (budget : ℕ) → Run
-    runs budget =
-        source_run modules (placement_of plan modules objects) (placement_of plan modules objects).stack.len
+    -- what the source comes to, for each budget
+    abbrev outcomes : (budget : ℕ) → Outcome Flow
+    outcomes budget =
+        source_outcome modules (placement_of plan modules objects)
+        (placement_of plan modules objects).stack.len
         before script events
         budget
+
+    abbrev start : State
+    start = running (record r { pc = image.start }) after events
 
     -- what the main program is carried out in, by a number of its module
     abbrev around : (number : ℕ) → Surroundings
     around number = around_in program number (placement_of plan modules objects).stack.len
 
     -- for each budget
-    each_run : (budget : ℕ)
-        → Performs script (running (record r { pc = image.start }) after events) budget (runs budget)
-    unfolding source_run start_state
+    each_run : (budget : ℕ) → Performs loaded start budget (outcomes budget)
+    unfolding start_state
     each_run budget =
         let number : ℕ = position_or_len is_main modules in
         let one = modules_are.all number main.one main_at in
@@ -196,29 +231,45 @@ module _
         let ends = (does_at number module_is one.1).main budget (placement_of plan modules objects).stack.len
         (start_state budget) r after is_main_module (all_known (suc budget) budget (omega arith)) refl refl
         (omega arith) shares registers in
-        let run_is : runs budget
-        ≡ run_of (main_done budget module_is.typed (around number) (start_state budget)) =
+        let outcome_is : outcomes budget
+        ≡ main_done budget module_is.typed (around number) (start_state budget) =
         ap (λ (found : Option TypedModule).
-        run_of (option_map_or (λ (typed : TypedModule). main_done budget typed
+        option_map_or (λ (typed : TypedModule). main_done budget typed
         (around (number_of_main modules)) (start_state budget))
-        found (Gave Onward (start_state budget))))
+        found (Gave Onward (start_state budget)))
         (main.found ∙ ap (λ (typed : TypedModule). Some typed) same)
-        ∙ ap (λ (at : ℕ). run_of (main_done budget module_is.typed (around at) (start_state budget)))
+        ∙ ap (λ (at : ℕ). main_done budget module_is.typed (around at) (start_state budget))
         number_is in
-        performs script (running (record r { pc = image.start }) after events) budget (runs budget)
-        (subst (λ (run : Run). EndsAs script budget (running (record r { pc = image.start }) after events)
-        run.end run.events) (sym run_is)
+        performs loaded start budget (outcomes budget)
+        (subst (EndsAs loaded budget start) (sym outcome_is)
         (subst (λ (pc : ℕ).
-        EndsAs script budget (running (record r { pc = pc }) after events)
-        (run_of (main_done budget module_is.typed (around number) (start_state budget))).end
-        (run_of (main_done budget module_is.typed (around number) (start_state budget))).events)
+        EndsAs loaded budget (running (record r { pc = pc }) after events)
+        (main_done budget module_is.typed (around number) (start_state budget)))
         (sym (starts number module_is is_main_module)) ends))
 
-    -- The image on the machine performs exactly the source's port reads and writes, and halts exactly if the
-    -- source ends.
-    pub program_does :
-        NeverOutside runs
-        → Agrees runs
-        (λ (steps : ℕ). state_after script steps (running (record r { pc = image.start }) after events))
-    program_does never =
-        agrees script (running (record r { pc = image.start }) after events) runs each_run never
+    module _
+        (never : NeverOutside
+        (λ (budget : ℕ).
+        source_run modules (placement_of plan modules objects) (placement_of plan modules objects).stack.len
+        before script events
+        budget))
+      where
+        -- The image on the machine performs exactly the source's port reads and writes, and halts exactly if
+        -- the source ends.
+        pub program_does :
+            Agrees
+            (λ (budget : ℕ).
+            source_run modules (placement_of plan modules objects)
+            (placement_of plan modules objects).stack.len
+            before script events
+            budget)
+            (λ (steps : ℕ). state_after script steps start)
+        unfolding source_run
+        program_does = agrees loaded start outcomes each_run never
+
+        -- And it ends with the memory of the source.
+        pub program_ends :
+            EndsAlike modules (placement_of plan modules objects) outcomes
+            (λ (steps : ℕ). state_after script steps start)
+        unfolding source_run
+        program_ends = ends_alike loaded start outcomes each_run never refl

@@ -1,3 +1,4 @@
 pub mod Agreement
+pub mod MemoryAtEnd
 pub mod OneModule
 pub mod internal

@@ -98,11 +98,12 @@ ShowsProcedures typed object begins =
 abbrev pub start_place : (address_of : Target → ℕ) → ObjectModule → ℕ
 start_place address_of object = option_map_or (λ offset. address_of (InSegment Code) + offset) object.start 0
 
--- What code is generated for. Each procedure of a module begins somewhere in the code segment of its object module, and
--- its numbers are words, as every module of a program asks of the others. In every program that the module is one of, for
--- every lawful placement, and wherever its object module then lies: where calls of all procedures are known in runs of less
--- than a number, those of its own are in runs of one more, and the main program runs as the source does; and so, for each
--- number, where calls of the procedures of other modules alone are known.
+-- What code is generated for. Each procedure of a module begins somewhere in the code segment of its object
+-- module, and its numbers are words, as every module of a program asks of the others. In every program that
+-- the module is one of, for every lawful placement, and wherever its object module then lies: where calls of
+-- all procedures are known in runs of less than a number, those of its own are in runs of one more, and the
+-- main program runs as the source does and ends with its memory; and so, for each number, where calls of the
+-- procedures of other modules alone are known.
 pub record DoesWhereItLies (typed : TypedModule) (object : ObjectModule) : Type 0 where
   pub begins : (index : ℕ) → ℕ
   pub shown : ShowsProcedures typed object begins

@@ -1,5 +1,5 @@
 -- IF.
-use Rattle.statement_laws.proofs.Prelude.{◌≡◌, ℕ, ◌+◌, ◌*◌, ◌%◌, ◌<◌, ◌≤◌, ◌==◌, max, Bool, true, false, not, if◌then◌else◌, nat_eq, List, [], ◌∷◌, ◌++◌, slice_get, Option, Some, None, refl, sym, ap, subst, ◌∙◌, arith, same_Some, height_of, height_of_else, height_of_statement, ListsStand, ListsStandInElse, TypedExpression, TypedStatement, GotoStatement, TypedElse, NoElse, ElseStatement, TypesHold, TypesHoldIn, TypesHoldInElse, done, done_else, value, SourceState, Outcome, Gave, then_do, Flow, Onward, Returned, Jumped, is_true, Registers, State, AtLabel, Jump, ExpressionNumber, Statement, StatementNumber, IsElse, IsExpressionIn, IsGoto, IsIf, IsNoElse, IsSomeElse, IsStatement, IsStatementForm, IsStatementNode, statement, HasRoom, IsReady, IsThere, Does, at_place, word_step, after_step, does_without_step, then_does, no_facts_hold, Facts, LabelNumber, no_facts, label_of, jump_item, Site, number, knowing, Planned, body_label, both_steps, branch, computed_if_steps, goto_label, goto_label_of, has_one_jump, if_steps, statement_if_any, tested_if_steps, then_steps, nth_label, Here, jump_on_steps, known_here, site_of, statement_steps, nodes_in, jumps_once, StepsStand, JumpThere, MarkThere, NoneThere, BranchDoes, Goes, Know, PartDoes, Parts, Passes, number_means, does_same, gives_then, script_of, BodyContext, IsSoundBody, Leaves, StatementDoes, StatementStands, room_for}
+use Rattle.statement_laws.proofs.Prelude.{◌≡◌, ℕ, ◌+◌, ◌*◌, ◌%◌, ◌<◌, ◌≤◌, ◌==◌, max, Bool, true, false, not, if◌then◌else◌, nat_eq, List, [], ◌∷◌, ◌++◌, slice_get, Option, Some, None, refl, sym, ap, subst, ◌∙◌, arith, same_Some, height_of, height_of_else, height_of_statement, ListsStand, ListsStandInElse, TypedExpression, TypedStatement, GotoStatement, TypedElse, NoElse, ElseStatement, TypesHold, TypesHoldIn, TypesHoldInElse, done, done_else, value, SourceState, Outcome, Gave, then_do, Flow, Onward, Returned, Jumped, is_true, Registers, State, AtLabel, Jump, ExpressionNumber, Statement, StatementNumber, IsElse, IsExpressionIn, IsGoto, IsIf, IsNoElse, IsSomeElse, IsStatement, IsStatementForm, IsStatementNode, statement, HasRoom, IsReady, IsThere, Does, at_place, word_step, after_step, does_without_step, then_does, no_facts_hold, Facts, LabelNumber, no_facts, label_of, jump_item, Site, number, knowing, Planned, body_label, both_steps, branch, computed_if_steps, goto_label, goto_label_of, has_one_jump, if_steps, statement_if_any, tested_if_steps, then_steps, nth_label, Here, jump_on_steps, known_here, site_of, statement_steps, nodes_in, jumps_once, StepsStand, JumpThere, MarkThere, NoneThere, BranchDoes, Goes, Know, PartDoes, Parts, Passes, number_means, does_same, gives_then, loaded_in, script_of, BodyContext, IsSoundBody, Leaves, StatementDoes, StatementStands, room_for}
 use Rattle.treecode.specs.declared.statement.Statement.TheVariants as statements
 use Rattle.steps8080.specs.declared.step.Step.TheVariants as steps
 use Rattle.statement_laws.proofs.FirstSteps.{Stand, steps_ended, going, jumped_first, meet_first, part_first, statement_first, turn_first}
@@ -11,25 +11,25 @@ use Rattle.statement_laws.proofs.Simple.{FormDoes}
 pub statement_then :
     {at : BodyContext} {base : List ℕ} {place to before budget : ℕ} {middle last : Here} {from : State}
     {outcome : Outcome Flow}
-    → Does (script_of at.context) budget 0 from outcome (Leaves at base place middle before)
+    → Does (loaded_in at.context) budget 0 from outcome (Leaves at base place middle before)
     → ((u : SourceState) (r : Registers) (memory : List ℕ)
     → u.budget ≤ budget
     → middle.goes_on ≡ true
     → IsReady at.context.activation at.context.activation.level base u.memory u.frame r memory
     → Know at.context middle.facts r memory
-    → Does (script_of at.context) u.budget 0 (at_place place r memory u.events) (Gave Onward u)
+    → Does (loaded_in at.context) u.budget 0 (at_place place r memory u.events) (Gave Onward u)
     (Leaves at base to last before))
-    → Does (script_of at.context) budget 0 from outcome (Leaves at base to last before)
+    → Does (loaded_in at.context) budget 0 from outcome (Leaves at base to last before)
 statement_then {at = at} {base = base} {place = place} {to = to} {before = before} {budget = budget}
     {middle = middle} {last = last} {outcome = outcome} does rest =
     gives_then outcome does (λ flow u end leaves less. by flow u end less leaves)
   where
     by : (flow : Flow) (u : SourceState) (end : State) → u.budget ≤ budget
         → Leaves at base place middle before flow u end
-        → Does (script_of at.context) u.budget 0 end (Gave flow u) (Leaves at base to last before)
+        → Does (loaded_in at.context) u.budget 0 end (Gave flow u) (Leaves at base to last before)
     by Onward u end less leaves =
         let comes = leaves.comes in
-        subst (λ (s : State). Does (script_of at.context) u.budget 0 s (Gave Onward u)
+        subst (λ (s : State). Does (loaded_in at.context) u.budget 0 s (Gave Onward u)
         (Leaves at base to last before)) (sym comes.is_at)
         (rest u comes.r comes.memory less leaves.goes_on comes.ready comes.holds)
     by (Returned found) u end less leaves = does_without_step leaves
@@ -89,11 +89,11 @@ pub goes_out :
     → Rattle.isa8080.specs.Step.step_of (script_of at.context) end ≡ there
     → there ≡ at_place (at.context.activation.layout.place_of label.index) r memory t.events
     → IsReady at.context.activation at.context.activation.level base t.memory t.frame r memory
-    → Does (script_of at.context) t.budget 0 end (done at.context.later at.context.activation.around tree t)
+    → Does (loaded_in at.context) t.budget 0 end (done at.context.later at.context.activation.around tree t)
     (Leaves at base to last before)
 goes_out {at = at} {base = base} {to = to} {before = before} {last = last} {t = t} {end = end} {r = r}
     {memory = memory} goto less step is_there ready =
-    subst (λ (one : TypedStatement). Does (script_of at.context) t.budget 0 end
+    subst (λ (one : TypedStatement). Does (loaded_in at.context) t.budget 0 end
     (done at.context.later at.context.activation.around one t) (Leaves at base to last before)) (sym goto.is)
     (taking_does t (λ u. Gave (Jumped goto.name) u)
     (step ∙ is_there
@@ -143,7 +143,7 @@ module _
     -- a machine after the condition
     abbrev Comes : (holds : Bool) (t : SourceState) (end : State) → Type 0
     Comes holds t end =
-        Does (script_of at.context) t.budget 0 end (chosen holds t) (Leaves at base to last s.budget)
+        Does (loaded_in at.context) t.budget 0 end (chosen holds t) (Leaves at base to last s.budget)
 
     -- what is known after the condition of a machine
     stage : (t : SourceState) (known : Facts) (r : Registers) (memory : List ℕ)
@@ -166,9 +166,9 @@ module _
         → h.goes_on ≡ true
         → IsReady at.context.activation at.context.activation.level base u.memory u.frame now kept
         → Know at.context h.facts now kept
-        → Does (script_of at.context) u.budget 0 (at_place middle now kept u.events) (Gave Onward u)
+        → Does (loaded_in at.context) u.budget 0 (at_place middle now kept u.events) (Gave Onward u)
         (Leaves at base to last s.budget))
-        → Does (script_of at.context) t.budget 0 (at_place from r memory t.events)
+        → Does (loaded_in at.context) t.budget 0 (at_place from r memory t.events)
         (done at.context.later at.context.activation.around then_tree t) (Leaves at base to last s.budget)
     then_goes known from middle h t r memory does less ready knows rest =
         statement_then
@@ -195,9 +195,9 @@ module _
         → h.goes_on ≡ true
         → IsReady at.context.activation at.context.activation.level base u.memory u.frame now kept
         → Know at.context h.facts now kept
-        → Does (script_of at.context) u.budget 0 (at_place middle now kept u.events) (Gave Onward u)
+        → Does (loaded_in at.context) u.budget 0 (at_place middle now kept u.events) (Gave Onward u)
         (Leaves at base to last s.budget))
-        → Does (script_of at.context) t.budget 0 (at_place from r memory t.events)
+        → Does (loaded_in at.context) t.budget 0 (at_place from r memory t.events)
         (done_else at.context.later at.context.activation.around else_tree t)
         (Leaves at base to last s.budget)
     else_goes else_number else_statement known from middle h t r memory same else_is does
@@ -207,7 +207,7 @@ module _
         let lists_there : ListsStandInElse (ElseStatement else_statement) =
         subst (λ (one : TypedElse). ListsStandInElse one) same else_lists in
         let high : height_of_else else_tree ≡ height_of_statement else_statement = ap height_of_else same in
-        subst (λ (one : TypedElse). Does (script_of at.context) t.budget 0 (at_place from r memory t.events)
+        subst (λ (one : TypedElse). Does (loaded_in at.context) t.budget 0 (at_place from r memory t.events)
         (done_else at.context.later at.context.activation.around one t)
         (Leaves at base to last s.budget)) (sym same)
         (statement_then
@@ -226,7 +226,7 @@ module _
         → t.budget ≤ s.budget
         → IsReady at.context.activation at.context.activation.level base t.memory t.frame r memory
         → Know at.context known r memory
-        → Does (script_of at.context) t.budget 0 (at_place from r memory t.events)
+        → Does (loaded_in at.context) t.budget 0 (at_place from r memory t.events)
         (done_else at.context.later at.context.activation.around else_tree t)
         (Leaves at base to last s.budget)
     any_else_goes known from t r memory else_is stand less ready knows =
@@ -236,11 +236,11 @@ module _
             → else_tree ≡ tree
             → IsElse (nodes_in at.context) at.context.storage at.labels bound part tree
             → Stand at (going true known) None from (statement_if_any part) last to
-            → Does (script_of at.context) t.budget 0 (at_place from r memory t.events)
+            → Does (loaded_in at.context) t.budget 0 (at_place from r memory t.events)
             (done_else at.context.later at.context.activation.around else_tree t)
             (Leaves at base to last s.budget)
         by None tree same IsNoElse ends =
-            subst (λ (one : TypedElse). Does (script_of at.context) t.budget 0
+            subst (λ (one : TypedElse). Does (loaded_in at.context) t.budget 0
             (at_place from r memory t.events)
             (done_else at.context.later at.context.activation.around one t)
             (Leaves at base to last s.budget)) (sym same)
@@ -272,7 +272,7 @@ module _
         → IsReady at.context.activation at.context.activation.level base t.memory t.frame now kept
         → Know at.context known now kept
         → Comes (not sense) t (at_place middle now kept t.events))
-        → Does (script_of at.context) s.budget 0 (at_place from r memory s.events)
+        → Does (loaded_in at.context) s.budget 0 (at_place from r memory s.events)
         (then_do (value at.context.later at.context.activation.around test s) (λ n t. chosen (is_true n) t))
         (Leaves at base to last s.budget)
     by_condition label sense from middle known r memory does ready knows goes passes =
@@ -307,7 +307,7 @@ module _
 
     abbrev Goal : (from : ℕ) (r : Registers) (memory : List ℕ) → Type 0
     Goal from r memory =
-        Does (script_of at.context) s.budget 0 (at_place from r memory s.events)
+        Does (loaded_in at.context) s.budget 0 (at_place from r memory s.events)
         (then_do (value at.context.later at.context.activation.around test s) (λ n t. chosen (is_true n) t))
         (Leaves at base to last s.budget)
 
@@ -327,7 +327,7 @@ module _
         let once : Bool = has_one_jump (knowing (site_of at.body) facts) condition in
         by_condition (label_of label) false from tested.middle tested.known r memory tested.does ready knows
         (λ t end there now kept less step is_there there_ready single.
-        subst (λ (one : TypedElse). Does (script_of at.context) t.budget 0 end
+        subst (λ (one : TypedElse). Does (loaded_in at.context) t.budget 0 end
         (done_else at.context.later at.context.activation.around one t)
         (Leaves at base to last s.budget)) (sym no_else)
         (after_step (step ∙ is_there ∙ ap (λ (place : ℕ). at_place place now kept t.events) meets.lies)
@@ -410,7 +410,7 @@ module _
         let first = statement_first tested.rest in
         by_condition label false from tested.middle tested.known r memory tested.does ready knows
         (λ t end there now kept less step is_there there_ready single.
-        subst (λ (one : TypedElse). Does (script_of at.context) t.budget 0 end
+        subst (λ (one : TypedElse). Does (loaded_in at.context) t.budget 0 end
         (done_else at.context.later at.context.activation.around one t)
         (Leaves at base to last s.budget)) (sym same)
         (goes_out goto less step is_there there_ready))
@@ -514,7 +514,7 @@ module _
             → Stand at (going true facts) None from
             (if holds then Rattle.statements8080.specs.declared.plan.Planned.TheVariants.Statement then_part
             ∷ [] else statement_if_any else_part) last to
-            → Does (script_of at.context) s.budget 0 (at_place from r memory s.events) (chosen holds s)
+            → Does (loaded_in at.context) s.budget 0 (at_place from r memory s.events) (chosen holds s)
             (Leaves at base to last s.budget)
         by true stand =
             let first = statement_first stand in

@@ -1,5 +1,5 @@
 -- A list whose statements do what they say does so: with jumps that go on at its labels.
-use Rattle.statement_laws.proofs.Prelude.{◌≡◌, ◌≢◌, ℕ, zero, suc, ◌+◌, ◌*◌, ◌<◌, ◌≤◌, ◌⊎◌, inl, inr, max, true, List, [], ◌∷◌, length, slice_get, slice_index_or, AllPairs, Option, Some, None, refl, sym, ap, subst, ◌∙◌, arith, cases_lt, same_Some, height_of_statement, height_of_statements, ListStands, ListsStandInStatements, TypedStatement, LabelStatement, TypedStatements, NoStatements, MoreStatements, ListOf, TypesHoldInStatements, Later, caught_in, done_all, dropped, going_on, later_by, rest_from, rest_of, SourceState, Outcome, then_do, Flow, Onward, Returned, Jumped, onto_is, rest_at, Registers, State, Range, Statement, StatementNumber, AreStatements, AreNoStatements, AreMoreStatements, IsListOf, IsStatement, IsStatementNode, IsLabel, HasRoom, IsReady, Does, at_place, does_without_step, then_does, no_facts_hold, Facts, no_facts, body_label, Here, nodes_in, Know, does_same, script_of, BodyContext, ComesToLabel, IsSoundBody, LabelLies, Leaves, ListDoes, StatementDoes, room_for}
+use Rattle.statement_laws.proofs.Prelude.{◌≡◌, ◌≢◌, ℕ, zero, suc, ◌+◌, ◌*◌, ◌<◌, ◌≤◌, ◌⊎◌, inl, inr, max, true, List, [], ◌∷◌, length, slice_get, slice_index_or, AllPairs, Option, Some, None, refl, sym, ap, subst, ◌∙◌, arith, cases_lt, same_Some, height_of_statement, height_of_statements, ListStands, ListsStandInStatements, TypedStatement, LabelStatement, TypedStatements, NoStatements, MoreStatements, ListOf, TypesHoldInStatements, Later, caught_in, done_all, dropped, going_on, later_by, rest_from, rest_of, SourceState, Outcome, then_do, Flow, Onward, Returned, Jumped, onto_is, rest_at, Registers, State, Range, Statement, StatementNumber, AreStatements, AreNoStatements, AreMoreStatements, IsListOf, IsStatement, IsStatementNode, IsLabel, HasRoom, IsReady, Does, at_place, does_without_step, then_does, no_facts_hold, Facts, no_facts, body_label, Here, nodes_in, Know, does_same, loaded_in, BodyContext, ComesToLabel, IsSoundBody, LabelLies, Leaves, ListDoes, StatementDoes, room_for}
 use Rattle.meaning.specs.Meaning.{landed}
 use Rattle.treecode.specs.declared.statement.Statement.TheVariants as statements
 use Rattle.treecode_laws.proofs.Labels.{same_number}
@@ -35,12 +35,12 @@ pub goes_then :
     → middle.goes_on ≡ true
     → IsReady at.context.activation at.context.activation.level base t.memory t.frame r memory
     → Know at.context middle.facts r memory
-    → Does (script_of at.context) t.budget 0 (at_place place r memory t.events) (go t)
+    → Does (loaded_in at.context) t.budget 0 (at_place place r memory t.events) (go t)
     (Leaves at base to last before))
-    → Does (script_of at.context) t.budget 0 end (going_on flow go t) (Leaves at base to last before)
+    → Does (loaded_in at.context) t.budget 0 end (going_on flow go t) (Leaves at base to last before)
 goes_then at base middle place last to before go Onward t end less leaves rest =
     let comes = leaves.comes in
-    subst (λ (s : State). Does (script_of at.context) t.budget 0 s (go t) (Leaves at base to last before))
+    subst (λ (s : State). Does (loaded_in at.context) t.budget 0 s (go t) (Leaves at base to last before))
     (sym comes.is_at)
     (rest comes.r comes.memory leaves.goes_on comes.ready comes.holds)
 goes_then at base middle place last to before go (Returned value) t end less leaves rest =
@@ -63,7 +63,7 @@ pub all_do :
     → here.goes_on ≡ true
     → 2 + 2 * height_of_statements trees ≤ need
     → Between at need base s here.facts r memory
-    → Does (script_of at.context) s.budget 0 (at_place from r memory s.events)
+    → Does (loaded_in at.context) s.budget 0 (at_place from r memory s.events)
     (done_all at.context.later at.context.activation.around trees s) (Leaves at base to last s.budget)
 all_do at NoneDo AreNoStatements types lists need base s r memory goes_on fits stage =
     does_without_step (record {
@@ -224,7 +224,7 @@ module _
         → (from : ℕ) → LabelLies at label from
         → t.budget < fuel
         → Between at need base t no_facts r memory
-        → Does (script_of at.context) t.budget 0 (at_place from r memory t.events)
+        → Does (loaded_in at.context) t.budget 0 (at_place from r memory t.events)
         (then_do (done_all at.context.later at.context.activation.around others t) caught)
         (Leaves at base to last t.budget)
 
@@ -237,7 +237,7 @@ module _
         → t.budget ≤ before
         → HasRoom at.context.activation at.context.activation.level 0 need
         → ComesToLabel at base before label t end
-        → Does (script_of at.context) t.budget 0 end
+        → Does (loaded_in at.context) t.budget 0 end
         (landed at.context.later at.context.activation.around
         (ListOf first_label places statements) label rest t)
         (Leaves at base to last before)
@@ -248,16 +248,16 @@ module _
         found.dropped_is ∙ found.begins in
         let bound = sound.number in
         let there = comes.comes in
-        let goes : Does (script_of at.context) t.budget 0 end
+        let goes : Does (loaded_in at.context) t.budget 0 end
         (rest_of (later_by sound.bound) (ListOf first_label places statements)
         (MoreStatements (LabelStatement label) found.others) at.context.activation.around t)
         (Leaves at base to last before) =
-        subst (λ (later : Later). Does (script_of at.context) t.budget 0 end
+        subst (λ (later : Later). Does (loaded_in at.context) t.budget 0 end
         (rest_of later (ListOf first_label places statements)
         (MoreStatements (LabelStatement label) found.others) at.context.activation.around t)
         (Leaves at base to last before))
         sound.later
-        (subst (λ (s : State). Does (script_of at.context) t.budget 0 s
+        (subst (λ (s : State). Does (loaded_in at.context) t.budget 0 s
         (then_do (done_all at.context.later at.context.activation.around found.others t) caught)
         (Leaves at base to last before))
         (sym there.is_at)
@@ -271,10 +271,10 @@ module _
           ready = there.ready;
           known = no_facts_hold;
         })))) in
-        subst (λ (one : TypedStatements). Does (script_of at.context) t.budget 0 end
+        subst (λ (one : TypedStatements). Does (loaded_in at.context) t.budget 0 end
         (at.context.later.onto (ListOf first_label places statements) one at.context.activation.around t)
         (Leaves at base to last before)) (sym found.begins)
-        (subst (λ (later : Later). Does (script_of at.context) t.budget 0 end
+        (subst (λ (later : Later). Does (loaded_in at.context) t.budget 0 end
         (later.onto (ListOf first_label places statements)
         (MoreStatements (LabelStatement label) found.others)
         at.context.activation.around t) (Leaves at base to last before)) (sym sound.later)
@@ -292,7 +292,7 @@ module _
         → t.budget ≤ before
         → HasRoom at.context.activation at.context.activation.level 0 need
         → Leaves at base to last before flow t end
-        → Does (script_of at.context) t.budget 0 end (caught flow t) (Leaves at base to last before)
+        → Does (loaded_in at.context) t.budget 0 end (caught flow t) (Leaves at base to last before)
     catching fuel before Onward t end labels below less fewer room leaves = does_without_step leaves
     catching fuel before (Returned value) t end labels below less fewer room leaves = does_without_step leaves
     catching fuel before (Jumped label) t end labels below less fewer room leaves =
@@ -313,7 +313,7 @@ module _
         → here.goes_on ≡ true
         → height_of_statements trees ≤ height_of_statements statements
         → Between at need base s here.facts r memory
-        → Does (script_of at.context) s.budget 0 (at_place from r memory s.events)
+        → Does (loaded_in at.context) s.budget 0 (at_place from r memory s.events)
         (then_do (done_all at.context.later at.context.activation.around trees s) caught)
         (Leaves at base to last s.budget)
     statements_do fuel labels each are types stand s r memory less goes_on lower stage =
@@ -325,7 +325,7 @@ module _
     from_labels : (fuel : ℕ) → FromLabels fuel
     from_labels zero label others t r memory is from lies less stage = absurd (omega (arith, less))
     from_labels (suc fuel) label others t r memory is from lies less stage =
-        subst (λ (place : ℕ). Does (script_of at.context) t.budget 0 (at_place place r memory t.events)
+        subst (λ (place : ℕ). Does (loaded_in at.context) t.budget 0 (at_place place r memory t.events)
         (then_do (done_all at.context.later at.context.activation.around others t) caught)
         (Leaves at base to last t.budget))
         (same_place at label is.from from sound is.lies lies)

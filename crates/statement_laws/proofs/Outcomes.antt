@@ -1,5 +1,5 @@
 -- Ways out of statements, and what follows them.
-use Rattle.statement_laws.proofs.Prelude.{◌≡◌, ℕ, suc, ◌-◌, ◌<◌, ◌≤◌, ◌==◌, Bool, true, false, if◌then◌else◌, List, slice_get, Some, refl, sym, subst, arith, eqb-true, eqb-false, SourceState, Ended, More, Outside, Outcome, Gave, Stopped, taking_one, Flow, Onward, Returned, Jumped, Running, Registers, State, step_of, Does, IsLeft, Lands, at_place, IsReady, after_paid_step, after_step, does_without_step, landed, Facts, body_label, Here, Stage, script_of, BodyContext, Leaves}
+use Rattle.statement_laws.proofs.Prelude.{◌≡◌, ℕ, suc, ◌-◌, ◌<◌, ◌≤◌, ◌==◌, Bool, true, false, if◌then◌else◌, List, slice_get, Some, refl, sym, subst, arith, eqb-true, eqb-false, SourceState, Ended, More, Outside, Outcome, Gave, Stopped, taking_one, Flow, Onward, Returned, Jumped, Running, Registers, State, step_of, Does, Loaded, IsLeft, Lands, at_place, IsReady, after_paid_step, after_step, does_without_step, landed, Facts, body_label, Here, Stage, loaded_in, BodyContext, Leaves}
 use Rattle.statement_laws.proofs.FirstSteps.{Ends}
 
 -- a machine of a body may go on between statements, of which this is known
@@ -11,11 +11,11 @@ Between at need base t facts r memory =
 
 -- what is told of an outcome is told of another predicate that follows
 pub does_good :
-    {A : Type 0} {script : List (List ℕ)} {budget more : ℕ} {from : State} {outcome : Outcome A}
+    {A : Type 0} {loaded : Loaded} {budget more : ℕ} {from : State} {outcome : Outcome A}
     {Good Other : A → SourceState → State → Type 0}
     → ((found : A) (t : SourceState) (end : State) → t.budget ≤ budget → Good found t end → Other found t end)
-    → Does script budget more from outcome Good
-    → Does script budget more from outcome Other
+    → Does loaded budget more from outcome Good
+    → Does loaded budget more from outcome Other
 does_good {outcome = Gave found t} follows does =
     let lands = does.told in
     record {
@@ -50,44 +50,45 @@ pub does_later :
     {at : BodyContext} {base : List ℕ} {to before budget more : ℕ} {after : Here} {from : State}
     {outcome : Outcome Flow} (other : ℕ)
     → before ≤ other
-    → Does (script_of at.context) budget more from outcome (Leaves at base to after before)
-    → Does (script_of at.context) budget more from outcome (Leaves at base to after other)
+    → Does (loaded_in at.context) budget more from outcome (Leaves at base to after before)
+    → Does (loaded_in at.context) budget more from outcome (Leaves at base to after other)
 does_later {at = at} {base = base} {to = to} {before = before} {after = after} other less does =
     does_good (λ flow t end spent leaves. leaves_later at base to after before other flow t end less leaves)
     does
 
 -- one of the budget, where the next step leads to what follows
 pub taking_does :
-    {A : Type 0} {script : List (List ℕ)} {from to : State} {Good : A → SourceState → State → Type 0}
+    {A : Type 0} {loaded : Loaded} {from to : State} {Good : A → SourceState → State → Type 0}
     (t : SourceState) (go : SourceState → Outcome A)
-    → step_of script from ≡ to
+    → step_of loaded.program.script from ≡ to
     → to.status ≡ Running
     → to.events ≡ t.events
     → (suc (t.budget - 1) ≡ t.budget
-    → Does script (t.budget - 1) 0 to (go (record t { budget = t.budget - 1 })) Good)
-    → Does script t.budget 0 from (taking_one t go) Good
-taking_does {A = A} {script = script} {from = from} {to = to} {Good = Good} t go step runs events rest =
+    → Does loaded (t.budget - 1) 0 to (go (record t { budget = t.budget - 1 })) Good)
+    → Does loaded t.budget 0 from (taking_one t go) Good
+taking_does {A = A} {loaded = loaded} {from = from} {to = to} {Good = Good} t go step runs events rest =
     by (t.budget == 0) refl
   where
-    none : t.budget ≡ 0 → Does script t.budget 0 from (Stopped More t) Good
+    none : t.budget ≡ 0 → Does loaded t.budget 0 from (Stopped More t) Good
     none zero_is =
         after_step step
         (record {
-          told = subst (λ (n : ℕ). Lands script n 0 to 0 (IsLeft Running t.events)) (sym zero_is)
-              (landed script 0 to (IsLeft Running t.events)
+          told =
+              subst (λ (n : ℕ). Lands loaded.program.script n 0 to 0 (IsLeft Running t.events)) (sym zero_is)
+              (landed loaded.program.script 0 to (IsLeft Running t.events)
               (record { status_is = runs; events_are = events }));
         })
 
-    some : (t.budget == 0) ≡ false → Does script t.budget 0 from
+    some : (t.budget == 0) ≡ false → Does loaded t.budget 0 from
         (go (record t { budget = t.budget - 1 })) Good
     some not_zero =
         let differs = eqb-false t.budget 0 not_zero in
         let is : suc (t.budget - 1) ≡ t.budget = omega (arith, differs) in
-        subst (λ (n : ℕ). Does script n 0 from (go (record t { budget = t.budget - 1 })) Good) is
+        subst (λ (n : ℕ). Does loaded n 0 from (go (record t { budget = t.budget - 1 })) Good) is
         (after_paid_step step (rest is))
 
     by : (test : Bool) → (t.budget == 0) ≡ test
-        → Does script t.budget 0 from
+        → Does loaded t.budget 0 from
         (if test then Stopped More t else go (record t { budget = t.budget - 1 })) Good
     by true is = none (eqb-true t.budget 0 is)
     by false is = some is
@@ -98,7 +99,7 @@ pub onward :
     {memory : List ℕ}
     → after.goes_on ≡ true
     → Between at need base t after.facts r memory
-    → Does (script_of at.context) t.budget 0 (at_place to r memory t.events) (Gave Onward t)
+    → Does (loaded_in at.context) t.budget 0 (at_place to r memory t.events) (Gave Onward t)
     (Leaves at base to after before)
 onward {r = r} {memory = memory} goes_on stage =
     does_without_step (record {
@@ -114,14 +115,14 @@ pub ends_onward :
     → Ends here from after to
     → here.goes_on ≡ true
     → Between at need base t here.facts r memory
-    → Does (script_of at.context) t.budget 0 (at_place from r memory t.events) (Gave Onward t)
+    → Does (loaded_in at.context) t.budget 0 (at_place from r memory t.events) (Gave Onward t)
     (Leaves at base to after before)
 ends_onward {at = at} {base = base} {from = from} {to = to} {before = before} {here = here} {after = after}
     {t = t} {r = r} {memory = memory} ends goes_on stage =
-    subst (λ (last : Here). Does (script_of at.context) t.budget 0
+    subst (λ (last : Here). Does (loaded_in at.context) t.budget 0
     (at_place from r memory t.events) (Gave Onward t)
     (Leaves at base to last before)) (sym ends.same)
-    (subst (λ (place : ℕ). Does (script_of at.context) t.budget 0
+    (subst (λ (place : ℕ). Does (loaded_in at.context) t.budget 0
     (at_place place r memory t.events) (Gave Onward t)
     (Leaves at base to here before)) ends.place
     (onward goes_on stage))
@@ -133,7 +134,7 @@ pub to_label :
     → slice_get at.labels number ≡ Some label
     → t.budget < before
     → IsReady at.context.activation at.context.activation.level base t.memory t.frame r memory
-    → Does (script_of at.context) t.budget 0
+    → Does (loaded_in at.context) t.budget 0
     (at_place (at.context.activation.layout.place_of (body_label at.body number).index) r memory t.events)
     (Gave (Jumped label) t) (Leaves at base to after before)
 to_label {at = at} {r = r} {memory = memory} number label names spent ready =

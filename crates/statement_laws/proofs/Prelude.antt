@@ -27,9 +27,9 @@ unfoldable pub use Rattle.statements8080.specs.{internal.Branches.{has_one_jump_
 pub use Rattle.statements8080.proofs.Targets.{none_passes}
 pub use Rattle.codegen8080.specs.{internal.Generated.{AreAllCarriedOut, AreCarriedOut, IsCarriedOut, IsListCarriedOut, ListCarriedOut, NoneCarriedOut, StatementCarriedOut, StepCarriedOut, arriving, byte_at_address_steps, byte_at_steps, byte_in_a, common, common_location, jump_on_steps, known_here, met, site_of, word_at_steps, word_in_hl}, internal.Procedures.{return_steps}, internal.Statements.{returned_value_steps}, declared.meeting.Here.{Here}}
 unfoldable pub use Rattle.codegen8080.specs.{internal.Generated.{carried_steps, here_after, load_byte_steps, load_word_steps, waiting_after}, internal.Procedures.{drop_steps, kept_steps, pops_steps, return_of_frame_steps, return_over_any_steps, return_over_steps, return_steps_by}, internal.Statements.{return_of_steps, statement_steps}}
-pub use Rattle.code_meaning.proofs.{ByteResults.{borrow_shows, borrow_shows_more, carry_shows, count_shows, same_test, word_borrow}, Facts.Changes.{no_facts_hold}, Facts.Places.{same_locations}, Facts.Steady.{address_asks, declared_is_steady}, Facts.Uses.{byte_in_a_is, word_in_hl_is}, FirstItems.{jump_passed, plain_step, word_step}, Landing.{after_paid_step, after_step, does_without_step, landed, then_does, told_on}, Numbers.{as_type_fits, differs_from_next, halves_joined, high_is_byte, high_of_halves, low_of_byte, low_of_halves, next_is_other, next_word, suc_moved, two_bytes_fit, value_is_word, word_from_halves}, Outcomes.{same_both, same_given}, Sequences.{both_there}, Standing.{stands_now}, Stores.{ready_with_variable}}
-pub use Rattle.code_meaning.specs.{Activations.{Activation, Arrives, HasRoom, IsReady, IsThere, IsVariable, LiesWell}, Asking.{Asks, IsSteadyByte}, Holding.{AddressHolds, AllHold, ByteHolds, Distances, IsByteAt, IsSteady, IsWordAt, WordHolds, ZeroHolds, location_at, place_at}, Landing.{Does, IsLeft, Lands, Told, at_place}}
-pub use Rattle.task_laws.proofs.{Bytes.BytesAsked.{WordAtPlace}, Bytes.HighBytesAsked.{words_at_places}, Calls.Arguments.{scalar_is}, Loads.Loads.{lies_there}, Machine.Effects.{then_again}, Machine.KnownOperands.{known_small, number_small}, Machine.Nodes.{node_of}, Machine.RegisterCode.{AreOnRegisters, effect}, Machine.RoutineCalls.{in_memory, machine_is, ready_after_routine, twice_wrapped}, Machine.Rules.{bytes_at_place, plain_goes, ready_with_registers, registers_go, room_for, word_goes}, Machine.SiteNodes.{free_is, known_means, number_means, quiet_is, value_in}, Machine.Stages.{Stage, stage_with_a, at_byte, at_carried, at_effects, at_end, at_instructions, at_load_a, at_pop, at_push, at_registers, at_word, does_same, gives_then, script_of, then_does_where}, Machine.StoredValues.{at_store, at_value, without_more}, Machine.StepItems.{CarryOut, steps_stand}, Places.Bases.{begins_there, has_some, home_there, not_based}, Places.Fitting.{located_fits, refers_is_referred}, Places.Homes.{Begins, BeginsAtBase, BeginsInFrame, BeginsInMemory}, Places.Located.{located_in}, Places.LocationWords.{set_same, word_at_hl_goes, word_known}, Places.ReadPlaces.{does_outside}, Places.Reading.{FitsIn, byte_read, frame_is, frame_next, of_frame, word_read}, Relations.PlaceComparisons.{read_then}, Stores.Stores.{plain_gains}, Stores.WordWriting.{first_fits, next_address, second_fits, word_written}, Stores.Writing.{byte_written}}
+pub use Rattle.code_meaning.proofs.{ByteResults.{borrow_shows, borrow_shows_more, carry_shows, count_shows, same_test, word_borrow}, Facts.Changes.{no_facts_hold}, Facts.Places.{same_locations}, Facts.Steady.{address_asks, declared_is_steady}, Facts.Uses.{byte_in_a_is, word_in_hl_is}, FirstItems.{jump_passed, plain_step, word_step}, Halting.{halts}, Landing.{after_paid_step, after_step, does_without_step, landed, then_does, told_on}, Numbers.{as_type_fits, differs_from_next, halves_joined, high_is_byte, high_of_halves, low_of_byte, low_of_halves, next_is_other, next_word, suc_moved, two_bytes_fit, value_is_word, word_from_halves}, Outcomes.{same_both, same_given}, Sequences.{both_there}, Standing.{stands_now}, Stores.{ready_with_variable}}
+pub use Rattle.code_meaning.specs.{Activations.{Activation, Arrives, HasRoom, IsReady, IsThere, IsVariable, LiesWell, Loaded, MayChange, loaded_of}, Asking.{Asks, IsSteadyByte}, Holding.{AddressHolds, AllHold, ByteHolds, Distances, IsByteAt, IsSteady, IsWordAt, WordHolds, ZeroHolds, location_at, place_at}, Landing.{Does, IsHalted, IsLeft, Lands, Told, at_place}}
+pub use Rattle.task_laws.proofs.{Bytes.BytesAsked.{WordAtPlace}, Bytes.HighBytesAsked.{words_at_places}, Calls.Arguments.{scalar_is}, Loads.Loads.{lies_there}, Machine.Effects.{then_again}, Machine.KnownOperands.{known_small, number_small}, Machine.Nodes.{node_of}, Machine.RegisterCode.{AreOnRegisters, effect}, Machine.RoutineCalls.{in_memory, machine_is, ready_after_routine, twice_wrapped}, Machine.Rules.{bytes_at_place, plain_goes, ready_with_registers, registers_go, room_for, word_goes}, Machine.SiteNodes.{free_is, known_means, number_means, quiet_is, value_in}, Machine.Stages.{Stage, stage_with_a, at_byte, at_carried, at_effects, at_end, at_instructions, at_load_a, at_pop, at_push, at_registers, at_word, does_same, gives_then, loaded_in, script_of, then_does_where}, Machine.StoredValues.{at_store, at_value, without_more}, Machine.StepItems.{CarryOut, steps_stand}, Places.Bases.{begins_there, has_some, home_there, not_based}, Places.Fitting.{located_fits, refers_is_referred}, Places.Homes.{Begins, BeginsAtBase, BeginsInFrame, BeginsInMemory}, Places.Located.{located_in}, Places.LocationWords.{set_same, word_at_hl_goes, word_known}, Places.ReadPlaces.{does_outside}, Places.Reading.{FitsIn, byte_read, frame_is, frame_next, of_frame, word_read}, Relations.PlaceComparisons.{read_then}, Stores.Stores.{plain_gains}, Stores.WordWriting.{first_fits, next_address, second_fits, word_written}, Stores.Writing.{byte_written}}
 pub use Rattle.task_laws.specs.{Conditions.{is_plain, jumps_once}, internal.Contexts.{Context, InRegister, IsSound, ResultLies, RoutineIsAt, distances_in, nodes_in}, internal.Steps.{CallThere, ChangeThere, HoldsThere, JumpThere, MarkThere, NoneThere, PartThere, PlainThere, RoutineThere, StepsStand, TestThere, WordThere}, internal.Tasks.{AddressDoes, AddressIsGiven, BranchDoes, ByteIsGiven, Goes, IsReferred, Know, Left, PartDoes, Parts, Passes, StoreDoes, TaskDoes, WordIsGiven, address_on_machine}}
 pub use Rattle.statement_laws.specs.internal.Bodies.{Behaves, BodyContext, ComesToLabel, IsSoundBody, IsWithin, LabelLies, Leaves}
 pub use Rattle.statement_laws.specs.internal.Statements.{ListDoes, ListPlanned, NonePlanned, PlannedStand, StatementDoes, StatementPlanned, StatementStands, StatementsDo, StepPlanned}

@@ -1,5 +1,5 @@
 -- RETURN.
-use Rattle.statement_laws.proofs.Prelude.{◌≡◌, ℕ, zero, suc, ◌+◌, ◌-◌, ◌*◌, ◌/◌, ◌%◌, ◌≤◌, Bool, true, false, if◌then◌else◌, nat_eq, List, [], ◌∷◌, ◌++◌, replicate, Option, Some, None, refl, sym, ap, subst, ◌∙◌, arith, ScalarType, height_of_optional, TypedExpression, IsReturned, TypesHold, Within, WithinMain, WithinProcedure, returned, SourceState, Gave, Returned, Instr, Registers, Item, size_of_instruction, ExpressionNumber, ProcedureKind, IsNoValue, IsOptional, IsReturn, IsSomeValue, IsThere, Does, at_place, does_without_step, Facts, value_task, NoneWritten, PlainWritten, Body, Planned, all, part, Here, AreCarriedOut, NoneCarriedOut, StepCarriedOut, carried_steps, here_after, waiting_after, drop_steps, kept_steps, pops_steps, return_of_frame_steps, return_over_any_steps, return_over_steps, return_steps, return_steps_by, return_of_steps, returned_value_steps, statement_steps, ResultLies, nodes_in, at_value, script_of, BodyContext, IsSoundBody, IsWithin, Leaves, StatementStands, at_most_more}
+use Rattle.statement_laws.proofs.Prelude.{◌≡◌, ℕ, zero, suc, ◌+◌, ◌-◌, ◌*◌, ◌/◌, ◌%◌, ◌≤◌, Bool, true, false, if◌then◌else◌, nat_eq, List, [], ◌∷◌, ◌++◌, replicate, Option, Some, None, refl, sym, ap, subst, ◌∙◌, arith, ScalarType, height_of_optional, TypedExpression, IsReturned, TypesHold, Within, WithinMain, WithinProcedure, returned, SourceState, Gave, Returned, Instr, Registers, Item, size_of_instruction, ExpressionNumber, ProcedureKind, IsNoValue, IsOptional, IsReturn, IsSomeValue, IsThere, Does, at_place, does_without_step, Facts, value_task, NoneWritten, PlainWritten, Body, Planned, all, part, Here, AreCarriedOut, NoneCarriedOut, StepCarriedOut, carried_steps, here_after, waiting_after, drop_steps, kept_steps, pops_steps, return_of_frame_steps, return_over_any_steps, return_over_steps, return_steps, return_steps_by, return_of_steps, returned_value_steps, statement_steps, ResultLies, nodes_in, at_value, loaded_in, BodyContext, IsSoundBody, IsWithin, Leaves, StatementStands, at_most_more}
 use Rattle.trees.specs.declared.declaration.ScalarType.TheVariants as scalars
 use Rattle.asm8080.specs.declared.item.Item.TheVariants as items
 use Rattle.treecode.specs.declared.procedure.ProcedureKind.TheVariants as kinds
@@ -168,7 +168,7 @@ returns :
     → Stand at here None from (return_steps at.body ++ others) last to
     → ResultLies at.body.procedure.now.result found r memory
     → Between at need base t known r memory
-    → Does (script_of at.context) t.budget 0 (at_place from r memory t.events) (Gave (Returned found) t)
+    → Does (loaded_in at.context) t.budget 0 (at_place from r memory t.events) (Gave (Returned found) t)
     (Leaves at base to last before)
 returns {at = at} {from = from} {here = here} {r = r} {memory = memory} others found stand lies stage =
     let are = some_instructions_there at others (return_are at.body.procedure.now.kind at.body)
@@ -208,7 +208,7 @@ return_does at before given label from after to sound stands bound _ (IsReturn {
         → Stand at (going true before) None from
         (returned_value_steps of at.body.procedure.now.result
         ++ (return_steps at.body ++ (planned.Reaches false ∷ []))) after to
-        → Does (script_of at.context) s.budget 0 (at_place from r memory s.events)
+        → Does (loaded_in at.context) s.budget 0 (at_place from r memory s.events)
         (returned at.context.later at.context.activation.around one s) (Leaves at base to after s.budget)
     by (WithinProcedure number None) None None same IsNoValue is types fits stand =
         returns (planned.Reaches false ∷ []) 0

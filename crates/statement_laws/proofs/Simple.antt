@@ -1,5 +1,5 @@
 -- Labels, null statements, calls, HALT, GOTO and DO.
-use Rattle.statement_laws.proofs.Prelude.{◌≡◌, ℕ, ◌+◌, ◌*◌, [], slice_get, Some, refl, sym, subst, ◌∙◌, arith, same_Some, count_of_arguments, height_of_arguments, height_of_statement, ListsStand, TypedStatement, DoStatement, TypesHoldIn, called_for, callee_in, done, values, Gave, Onward, Jumped, Hlt, Halted, State, AtLabel, Jump, Range, Statement, StatementNumber, IsCall, IsDo, IsGoto, IsHalt, IsLabel, IsNull, IsStatementForm, IsStatementNode, Does, IsLeft, at_place, plain_step, word_step, after_step, landed, then_does, no_facts_hold, Facts, body_label, Here, statement_steps, nodes_in, then_again, does_same, script_of, Behaves, BodyContext, IsSoundBody, Leaves, StatementDoes, StatementStands, room_for}
+use Rattle.statement_laws.proofs.Prelude.{◌≡◌, ℕ, ◌+◌, ◌*◌, [], slice_get, Some, refl, sym, subst, ◌∙◌, arith, same_Some, count_of_arguments, height_of_arguments, height_of_statement, ListsStand, TypedStatement, DoStatement, TypesHoldIn, called_for, callee_in, done, values, Gave, Onward, Jumped, State, AtLabel, Jump, Range, Statement, StatementNumber, IsCall, IsDo, IsGoto, IsHalt, IsLabel, IsNull, IsStatementForm, IsStatementNode, Does, at_place, word_step, halts, then_does, no_facts_hold, Facts, body_label, Here, statement_steps, nodes_in, then_again, does_same, loaded_in, script_of, Behaves, BodyContext, IsSoundBody, Leaves, StatementDoes, StatementStands, room_for}
 use Rattle.treecode.specs.declared.statement.Statement.TheVariants as statements
 use Rattle.statement_laws.proofs.FirstSteps.{steps_ended, jump_first, list_first, mark_first, part_first, plain_first}
 use Rattle.statement_laws.proofs.Outcomes.{ends_onward, taking_does, to_label}
@@ -71,7 +71,7 @@ call_does at before procedure arguments label from after to stands bound _ (IsCa
     (room_for (2 * (1 + count_of_arguments trees + height_of_arguments trees)) (omega arith) room) ready
     known tt)
     (λ found t end arrives less.
-    subst (λ (there : State). Does (script_of at.context) t.budget 0 there (Gave Onward t)
+    subst (λ (there : State). Does (loaded_in at.context) t.budget 0 there (Gave Onward t)
     (Leaves at base to after s.budget))
     (sym arrives.is_at)
     (ends_onward (steps_ended first.rest) refl
@@ -87,10 +87,8 @@ unfolding statement_steps
 halt_does at before label from after to sound stands bound _ IsHalt types lists base s r memory
     below room ready known =
     let first = plain_first stands in
-    after_step
-    (plain_step (script_of at.context) at.context.activation Hlt [] from (from + 1) r memory s.events sound.sound.lies
-    ready.shares.code first.there)
-    (record { told = landed (script_of at.context) s.budget _ (IsLeft Halted s.events) (record { status_is = refl; events_are = refl }) })
+    halts at.context.activation [] from (from + 1) at.context.activation.level base s r memory
+    sound.sound.lies first.there ready
 
 -- GOTO
 pub goto_does :
@@ -119,10 +117,10 @@ do_does at before list label from after to stands bound _ (IsDo {list = body} is
     below room ready known =
     let first = list_first stands in
     let ends = steps_ended first.rest in
-    subst (λ (last : Here). Does (script_of at.context) s.budget 0 (at_place from r memory s.events)
+    subst (λ (last : Here). Does (loaded_in at.context) s.budget 0 (at_place from r memory s.events)
     (done at.context.later at.context.activation.around (DoStatement body) s)
     (Leaves at base to last s.budget)) (sym ends.same)
-    (subst (λ (place : ℕ). Does (script_of at.context) s.budget 0 (at_place from r memory s.events)
+    (subst (λ (place : ℕ). Does (loaded_in at.context) s.budget 0 (at_place from r memory s.events)
     (done at.context.later at.context.activation.around (DoStatement body) s)
     (Leaves at base place first.after s.budget)) (sym ends.place)
     (first.does bound body is types lists base s r memory below room ready known))

@@ -1,5 +1,5 @@
 -- Targets that get a value that is in a register, one after another.
-use Rattle.statement_laws.proofs.Prelude.{◌≡◌, ℕ, suc, ◌+◌, ◌-◌, ◌*◌, ◌%◌, ◌<◌, ◌≤◌, Bool, true, false, if◌then◌else◌, nat_lt, List, [], ◌∷◌, ◌++◌, slice_get, Option, Some, None, refl, sym, ap, subst, ◌∙◌, arith, option_and_then, lt-ltb, ScalarType, Byte, Address, height_of, height_of_target, height_of_targets, type_of, TypedExpression, TypedTarget, StoredIn, SentTo, TypesHold, TypesHoldInTarget, TypesHoldInTargets, write_scalar, located, stored, stored_in_each, value, SourceState, Outcome, Gave, then_do, Onward, as_type, values_of, Registers, State, write_event, ExpressionNumber, Range, Target, AreTargets, IsExpression, IsSent, IsStored, IsTarget, MoreTargets, NoTargets, target_at, Does, at_place, Facts, Site, value_task, Planned, from_type, store_at, takes_word, part, steps_from, Here, InRegister, nodes_in, ByteIsGiven, StoreDoes, TaskDoes, WordIsGiven, then_again, at_byte, at_word, does_same, script_of, at_store, BodyContext, IsSoundBody, Leaves, low_of_byte, value_is_word}
+use Rattle.statement_laws.proofs.Prelude.{◌≡◌, ℕ, suc, ◌+◌, ◌-◌, ◌*◌, ◌%◌, ◌<◌, ◌≤◌, Bool, true, false, if◌then◌else◌, nat_lt, List, [], ◌∷◌, ◌++◌, slice_get, Option, Some, None, refl, sym, ap, subst, ◌∙◌, arith, option_and_then, lt-ltb, ScalarType, Byte, Address, height_of, height_of_target, height_of_targets, type_of, TypedExpression, TypedTarget, StoredIn, SentTo, TypesHold, TypesHoldInTarget, TypesHoldInTargets, write_scalar, located, stored, stored_in_each, value, SourceState, Outcome, Gave, then_do, Onward, as_type, values_of, Registers, State, write_event, ExpressionNumber, Range, Target, AreTargets, IsExpression, IsSent, IsStored, IsTarget, MoreTargets, NoTargets, target_at, Does, at_place, Facts, Site, value_task, Planned, from_type, store_at, takes_word, part, steps_from, Here, InRegister, nodes_in, ByteIsGiven, StoreDoes, TaskDoes, WordIsGiven, then_again, at_byte, at_word, does_same, loaded_in, at_store, BodyContext, IsSoundBody, Leaves, low_of_byte, value_is_word}
 use Rattle.steps8080.specs.declared.step.Task.TheVariants as tasks
 use Rattle.statement_laws.proofs.FirstSteps.{Stand, steps_ended, going, part_first}
 use Rattle.statement_laws.proofs.Outcomes.{Between, ends_onward}
@@ -63,8 +63,8 @@ pub target_stored :
     → ((u : SourceState) (now : Registers) (memory_now : List ℕ)
     → (is_wanted ≡ true → InRegister there other now)
     → Between at need base u found now memory_now
-    → Does (script_of at.context) u.budget more (at_place middle now memory_now u.events) (go tt u) Good)
-    → Does (script_of at.context) t.budget more (at_place from r memory t.events)
+    → Does (loaded_in at.context) u.budget more (at_place middle now memory_now u.events) (go tt u) Good)
+    → Does (loaded_in at.context) t.budget more (at_place from r memory t.events)
     (then_do (stored at.context.later at.context.activation.around tree number t) go) Good
 target_stored {need = need} {bound = bound} {t = t} at scalar there from middle number other target tree go
     does is types suits small fits has stage rest =
@@ -100,8 +100,8 @@ pub at_any_value :
     → as_register there found < values_of there
     → found < values_of (type_of tree)
     → Between at need base u found_facts now memory_now
-    → Does (script_of at.context) u.budget more (at_place middle now memory_now u.events) (go found u) Good)
-    → Does (script_of at.context) t.budget more (at_place from r memory t.events)
+    → Does (loaded_in at.context) u.budget more (at_place middle now memory_now u.events) (go found u) Good)
+    → Does (loaded_in at.context) t.budget more (at_place from r memory t.events)
     (then_do (value at.context.later at.context.activation.around tree t) go) Good
 unfolding value_task
 at_any_value {found_facts = found_facts} {r = r} {memory = memory} {tree = tree} at Byte from middle of does
@@ -173,7 +173,7 @@ pub targets_stored :
     → here.goes_on ≡ true
     → Stand at here None from (steps_from (store_at at.body targets there) index left) last to
     → Between at need base t here.facts r memory
-    → Does (script_of at.context) t.budget 0 (at_place from r memory t.events)
+    → Does (loaded_in at.context) t.budget 0 (at_place from r memory t.events)
     (then_do (stored_in_each at.context.later at.context.activation.around trees number t)
     (λ _ u. Gave Onward u))
     (Leaves at base to last before)

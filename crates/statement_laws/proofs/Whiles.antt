@@ -1,5 +1,5 @@
 -- DO WHILE.
-use Rattle.statement_laws.proofs.Prelude.{◌≡◌, ℕ, zero, suc, ◌+◌, ◌-◌, ◌*◌, ◌%◌, ◌<◌, ◌≤◌, max, Bool, true, false, if◌then◌else◌, nat_eq, nat_lt, List, [], ◌∷◌, ◌++◌, Option, Some, None, refl, sym, ap, subst, ◌∙◌, arith, ltb-false, height_of, height_of_list, ListStands, TypedExpression, TypedList, TypedStatements, ListOf, WhileStatement, TypesHold, TypesHoldInList, Later, WhileTurn, after_turn, done, done_list, going_on, value, SourceState, Outcome, Gave, then_do, taking_one, Flow, Onward, Returned, Jumped, is_true, again_is, Nop, Registers, State, AtLabel, Jump, ExpressionNumber, Range, AreNoStatements, AreStatements, IsExpressionIn, IsList, IsListOf, IsWhile, HasRoom, IsReady, IsThere, Does, at_place, plain_step, word_step, after_step, does_without_step, then_does, no_facts_hold, Facts, LabelNumber, after_form, no_facts, label_of, jump_item, Site, number, knowing, branch, forever_steps, tested_while_steps, jump, mark, nth_label, Here, jump_on_steps, site_of, statement_steps, nodes_in, StepsStand, JumpThere, NoneThere, BranchDoes, Goes, Know, PartDoes, Parts, Passes, number_means, does_same, script_of, Behaves, BodyContext, IsSoundBody, Leaves, ListDoes, StatementStands, room_for}
+use Rattle.statement_laws.proofs.Prelude.{◌≡◌, ℕ, zero, suc, ◌+◌, ◌-◌, ◌*◌, ◌%◌, ◌<◌, ◌≤◌, max, Bool, true, false, if◌then◌else◌, nat_eq, nat_lt, List, [], ◌∷◌, ◌++◌, Option, Some, None, refl, sym, ap, subst, ◌∙◌, arith, ltb-false, height_of, height_of_list, ListStands, TypedExpression, TypedList, TypedStatements, ListOf, WhileStatement, TypesHold, TypesHoldInList, Later, WhileTurn, after_turn, done, done_list, going_on, value, SourceState, Outcome, Gave, then_do, taking_one, Flow, Onward, Returned, Jumped, is_true, again_is, Nop, Registers, State, AtLabel, Jump, ExpressionNumber, Range, AreNoStatements, AreStatements, IsExpressionIn, IsList, IsListOf, IsWhile, HasRoom, IsReady, IsThere, Does, at_place, plain_step, word_step, after_step, does_without_step, then_does, no_facts_hold, Facts, LabelNumber, after_form, no_facts, label_of, jump_item, Site, number, knowing, branch, forever_steps, tested_while_steps, jump, mark, nth_label, Here, jump_on_steps, site_of, statement_steps, nodes_in, StepsStand, JumpThere, NoneThere, BranchDoes, Goes, Know, PartDoes, Parts, Passes, number_means, does_same, loaded_in, script_of, Behaves, BodyContext, IsSoundBody, Leaves, ListDoes, StatementStands, room_for}
 use Rattle.treecode.specs.declared.statement.Statement.TheVariants as statements
 use Rattle.statements8080.specs.declared.plan.Planned.TheVariants as planned
 use Rattle.statement_laws.proofs.FirstSteps.{Stand, steps_ended, going, jump_first, jump_on_first, list_first, mark_first, part_first, plain_first, reaches_first}
@@ -37,24 +37,24 @@ module _
         → middle.goes_on ≡ true
         → IsReady at.context.activation at.context.activation.level base v.memory v.frame r memory
         → Know at.context middle.facts r memory
-        → Does (script_of at.context) v.budget 0 (at_place place r memory v.events) (loop v)
+        → Does (loaded_in at.context) v.budget 0 (at_place place r memory v.events) (loop v)
         (Leaves at base to last before))
-        → Does (script_of at.context) v.budget 0 end
+        → Does (loaded_in at.context) v.budget 0 end
         (after_turn at.context.later at.context.activation.around (WhileTurn tree body) flow v)
         (Leaves at base to last before)
     turn_ends middle place before Onward v end below less leaves rest =
         let comes = leaves.comes in
         let number = sound.number in
-        subst (λ (later : Later). Does (script_of at.context) v.budget 0 end
+        subst (λ (later : Later). Does (loaded_in at.context) v.budget 0 end
         (later.again (WhileTurn tree body) at.context.activation.around v)
         (Leaves at base to last before)) (sym sound.later)
         (does_same _
         (again_is sound.bound (WhileTurn tree body) at.context.activation.around v
         (omega (arith, less, below, number)))
-        (subst (λ (later : Later). Does (script_of at.context) v.budget 0 end
+        (subst (λ (later : Later). Does (loaded_in at.context) v.budget 0 end
         (done later at.context.activation.around (WhileStatement tree body) v)
         (Leaves at base to last before)) sound.later
-        (subst (λ (s : State). Does (script_of at.context) v.budget 0 s (loop v)
+        (subst (λ (s : State). Does (loaded_in at.context) v.budget 0 s (loop v)
         (Leaves at base to last before)) (sym comes.is_at)
         (rest comes.r comes.memory leaves.goes_on comes.ready comes.holds))))
     turn_ends middle place before (Returned found) v end below less leaves rest = does_without_step leaves
@@ -68,7 +68,7 @@ module _
         (branch_does : BranchDoes at.context no_facts condition label true 0 pt found pe)
         (ends : (r : Registers) (memory : List ℕ) (before : ℕ) (t : SourceState)
         → Between at need base t found r memory
-        → Does (script_of at.context) t.budget 0 (at_place pe r memory t.events) (Gave Onward t)
+        → Does (loaded_in at.context) t.budget 0 (at_place pe r memory t.events) (Gave Onward t)
         (Leaves at base to last before))
       where
         -- from the test on, in runs of less than a number
@@ -78,7 +78,7 @@ module _
             → s.budget < fuel
             → s.budget < at.context.number
             → IsReady at.context.activation at.context.activation.level base s.memory s.frame r memory
-            → Does (script_of at.context) s.budget 0 (at_place pt r memory s.events) (loop s)
+            → Does (loaded_in at.context) s.budget 0 (at_place pt r memory s.events) (loop s)
             (Leaves at base to last s.budget)
 
         -- a turn, of which the budget was taken already
@@ -89,7 +89,7 @@ module _
             → before < at.context.number
             → u.budget < before
             → IsReady at.context.activation at.context.activation.level base u.memory u.frame r memory
-            → Does (script_of at.context) u.budget 0 (at_place from r memory u.events) (turn u)
+            → Does (loaded_in at.context) u.budget 0 (at_place from r memory u.events) (turn u)
             (Leaves at base to last before)
         turns fuel before u r memory test less below fewer ready =
             then_does
@@ -110,10 +110,10 @@ module _
             → before < at.context.number
             → t.budget ≤ before
             → Parts at.context found tree label true at.context.activation.level base pe n t end
-            → Does (script_of at.context) t.budget 0 end
+            → Does (loaded_in at.context) t.budget 0 end
             (if is_true n then taking_one t turn else Gave Onward t) (Leaves at base to last before)
         tested fuel before n t end test less below fewer (Goes there holds step arrives) =
-            subst (λ (b : Bool). Does (script_of at.context) t.budget 0 end
+            subst (λ (b : Bool). Does (loaded_in at.context) t.budget 0 end
             (if b then taking_one t turn else Gave Onward t) (Leaves at base to last before)) (sym holds)
             (taking_does t turn
             (step ∙ arrives.is_at ∙ ap (λ (place : ℕ). at_place place arrives.r arrives.memory t.events) lies)
@@ -123,9 +123,9 @@ module _
             (omega (arith, one_less, fewer))
             arrives.ready))
         tested fuel before n t end test less below fewer (Passes holds arrives) =
-            subst (λ (b : Bool). Does (script_of at.context) t.budget 0 end
+            subst (λ (b : Bool). Does (loaded_in at.context) t.budget 0 end
             (if b then taking_one t turn else Gave Onward t) (Leaves at base to last before)) (sym holds)
-            (subst (λ (s : State). Does (script_of at.context) t.budget 0 s (Gave Onward t)
+            (subst (λ (s : State). Does (loaded_in at.context) t.budget 0 s (Gave Onward t)
             (Leaves at base to last before)) (sym arrives.is_at)
             (ends arrives.r arrives.memory before t
             (record { below = omega (arith, fewer, below); room = room; ready = arrives.ready; known = arrives.holds })))
@@ -164,7 +164,7 @@ module _
             → before < at.context.number
             → u.budget < before
             → IsReady at.context.activation at.context.activation.level base u.memory u.frame r memory
-            → Does (script_of at.context) u.budget 0 (at_place from r memory u.events) (turn u)
+            → Does (loaded_in at.context) u.budget 0 (at_place from r memory u.events) (turn u)
             (Leaves at base to last before)
         from_top zero before u r memory less below fewer ready = absurd (omega (arith, less))
         from_top (suc fuel) before u r memory less below fewer ready =
@@ -240,13 +240,13 @@ tested_does at before condition list label from after to sound stands bound _
         → ((u : SourceState) (now : Registers) (kept : List ℕ)
         → u.budget ≤ s.budget
         → IsReady at.context.activation at.context.activation.level base u.memory u.frame now kept
-        → Does (script_of at.context) u.budget 0 (at_place pt now kept u.events)
+        → Does (loaded_in at.context) u.budget 0 (at_place pt now kept u.events)
         (done at.context.later at.context.activation.around (WhileStatement test body) u)
         (Leaves at base to after s.budget))
-        → Does (script_of at.context) s.budget 0 (at_place from r memory s.events)
+        → Does (loaded_in at.context) s.budget 0 (at_place from r memory s.events)
         (done at.context.later at.context.activation.around (WhileStatement test body) s)
         (Leaves at base to after s.budget))
-        → Does (script_of at.context) s.budget 0 (at_place from r memory s.events)
+        → Does (loaded_in at.context) s.budget 0 (at_place from r memory s.events)
         (done at.context.later at.context.activation.around (WhileStatement test body) s)
         (Leaves at base to after s.budget)
     from_list here place goes stand rest =
@@ -271,7 +271,7 @@ tested_does at before condition list label from after to sound stands bound _
         ++ (mark (label_of label) ∷ planned.List list ∷ mark (nth_label label 1)
         ∷ branch condition (label_of label) true
         ∷ planned.Reaches true ∷ [])) after to
-        → Does (script_of at.context) s.budget 0 (at_place from r memory s.events)
+        → Does (loaded_in at.context) s.budget 0 (at_place from r memory s.events)
         (done at.context.later at.context.activation.around (WhileStatement test body) s)
         (Leaves at base to after s.budget)
     by true some stand =
@@ -287,7 +287,7 @@ tested_does at before condition list label from after to sound stands bound _
     by false none stand =
         from_list (going true before) from refl stand
         (λ pt h lies list_does test_does.
-        subst (λ (given : Outcome Flow). Does (script_of at.context) s.budget 0
+        subst (λ (given : Outcome Flow). Does (loaded_in at.context) s.budget 0
         (at_place from r memory s.events)
         (then_do given
         (λ flow t. going_on flow (λ u. done at.context.later at.context.activation.around
@@ -362,7 +362,7 @@ while_does at before condition list label from after to sound stands bound _
         → number (knowing (site_of at.body) before) condition ≡ Some n
         → is_true n ≡ holds
         → Stand at (going true before) None from (if holds then forever_steps list label else []) after to
-        → Does (script_of at.context) s.budget 0 (at_place from r memory s.events)
+        → Does (loaded_in at.context) s.budget 0 (at_place from r memory s.events)
         (done at.context.later at.context.activation.around (WhileStatement test body) s)
         (Leaves at base to after s.budget)
     by_number n true same holds stand =
@@ -390,7 +390,7 @@ while_does at before condition list label from after to sound stands bound _
           | Some n ↦ if nat_eq (n % 2) 1 then forever_steps list label else []
           | None ↦ tested_while_steps condition list label
         ]) after to
-        → Does (script_of at.context) s.budget 0 (at_place from r memory s.events)
+        → Does (loaded_in at.context) s.budget 0 (at_place from r memory s.events)
         (done at.context.later at.context.activation.around (WhileStatement test body) s)
         (Leaves at base to after s.budget)
     by (Some n) same stand = by_number n (is_true n) same refl stand

@@ -69,7 +69,10 @@ fn tree_of(alloc: Global) -> Option<TreeModule>
     ensures { IfSome result (λ tree. NumbersRise (nodes_of tree)) }
 {
     match read_source(alloc, TEXT) {
-        Ok(source) => lower(alloc, &source.typed, &source.storage).ok(),
+        Ok(source) => match lower(alloc, &source.typed, &source.storage) {
+            Ok(tree) => Some(tree),
+            Err(_) => None,
+        },
         Err(_) => None,
     }
 }

@@ -33,7 +33,7 @@ unfoldable pub use Rattle.operands8080.specs.{internal.Branches.{shape_of}, inte
 pub use Rattle.exprgen8080.specs.{internal.Emission.{AreWritten, CallWritten, ChangeWritten, HoldsWritten, IsWritten, JumpWritten, MarkWritten, NoneWritten, PartWritten, PlainWritten, Planned, RoutineWritten, TestWritten, WordWritten, after_test, call_items, has_routine, items_of_call, knowing, label_of_routine, test_items, test_of_a}, internal.Emitted.{Emits, HasAll}, declared.byte_operators.ByteForm.{ByteForm, TheVariants.{LeftFree, LeftInMemory, Pushed, RightFree, RightInMemory}}, declared.byte_operators.Operands.{Operands}, declared.byte_shifts.Shifted.{Shifted}, declared.emission.Emission.{Emission}, declared.word_operators.Simple.{Simple}}
 unfoldable pub use Rattle.exprgen8080.specs.{internal.ByteOperators.{added_steps, byte_binary_steps, byte_operation_steps, commutes, form_after_right, form_from_register, form_of, form_with_left, form_without_memory, from_number_steps, immediate_steps, in_form_steps, number_of_two, product_byte_steps, quotient_byte_steps, remainder_byte_steps, with_e_steps, with_memory_steps, with_number_steps, with_stack_steps}, internal.ByteShifts.{by_number_steps, byte_routine, byte_shift_steps, byte_shifted_right_steps, count_in_memory_steps, kept_bits, low_byte_shifted_right_steps, middle_byte_steps, operands_steps, right_shift_steps, rotation_steps, shifted_left_steps, turned_right_steps, zero_steps as byte_zero_steps, zero_steps}, internal.Bytes.{byte_form_steps, byte_function_steps, byte_of_two_steps, byte_steps, byte_unary_steps, called_byte_steps, embedded_steps, known_byte_steps, low_of_value_steps}, internal.Calls.{argument_steps, arguments_steps, call_steps, last_argument_steps, push_of, pushed_argument_steps, value_task}, internal.Effects.{both_effects_steps, effects_steps, form_effects_steps, reference_effects_steps, subscript_effects_steps}, internal.Forms.{steps_of, task_steps}, internal.Halves.{byte_number_steps, high_byte_steps, low_of_word_steps}, internal.Routines.{computed_product_steps, division_steps, product_order}, internal.WordOperators.{and_with_number_steps, both_halves_steps, computed_logic_steps, difference_steps, exchanged_operand, first_and_simple, half_steps, half_through_a_steps, high_half_steps, is_of_bytes, left_word, logic_steps, logic_with_byte_steps, logic_with_number_steps, logic_with_simple_steps, paired_steps, product_word_steps, quotient_steps, remainder_steps, simple_operand, sum_steps, taken_from_number_steps, with_simple, with_word_steps, word_binary_steps}, internal.WordShifts.{computed_count_steps, count_beside_word_steps, quarter_steps, shifted_right_little_steps, word_by_number_steps, word_routine, word_shift_steps, word_shifted_right_steps}, internal.Words.{computed_word_steps, extended_byte_steps, word_form_steps, word_function_steps, word_of_two_steps, word_steps, word_unary_steps}}
 pub use Rattle.code_meaning.proofs.{Access.{outside_does}, ByteResults.{borrow_shows, borrow_shows_more, count_shows, same_test, word_borrow, zero_shows}, Facts.After.{facts_after, facts_after_word}, Facts.Changes.{no_facts_hold, with_facts_hold, without_hl_holds, without_memory_holds}, Facts.Places.{after_before, location_after_is}, Facts.Steady.{address_asks, declared_is_steady, push_asks}, Facts.Uses.{address_in_hl_is, byte_in_a_is, byte_in_h_is, word_in_hl_is}, FirstItems.{jump_passed, jump_taken, plain_first, plain_step, word_first, word_step}, Landing.{after_step, does_without_step, then_does, told_on}, Numbers.{as_type_fits, byte_as_low, differs_from_next, halves_joined, high_is_byte, high_of_halves, high_of_two, low_of_byte, low_of_halves, low_of_two, next_is_other, next_word, suc_moved, two_bytes_fit, value_is_word, word_from_halves, word_high_byte, word_low_byte}, Outcomes.{given_again, same_both, same_given}, Owning.{keeps_all, keeps_both, keeps_wider, owns_more, pushed_is_not_owned}, Pushes.{ready_after_pop, ready_after_push, still_pushed}, Sequences.{both_there}, Standing.{after_mark, mark_lies, stands_now}, Stores.{keeps_put, ready_with_variable}}
-pub use Rattle.code_meaning.specs.{Activations.{Activation, Arrives, FrameLies, HasRoom, IsReady, IsThere, LiesWell, Owns}, Asking.{Asks, IsSteadyByte, WordAsks}, Holding.{FactsHold, IsSteady, ZeroHolds, location_at, place_at}, Landing.{Does, Lands, at_place}}
+pub use Rattle.code_meaning.specs.{Activations.{Activation, Arrives, FrameLies, HasRoom, IsReady, IsThere, LiesWell, Loaded, MayChange, Owns, loaded_of}, Asking.{Asks, IsSteadyByte, WordAsks}, Holding.{FactsHold, IsSteady, ZeroHolds, location_at, place_at}, Landing.{Does, Lands, at_place}}
 pub use Rattle.task_laws.specs.Conditions.{jumps_once}
 pub use Rattle.task_laws.specs.internal.Contexts.{AreOfTypes, ArgumentsLie, CallsFit, Context, InRegister, InWord, IsOfResult, IsSound, ResultLies, RoutineIsAt, SourceFits, bytes_pushed, distances_in, nodes_in}
 pub use Rattle.task_laws.specs.ProgramTypes.{HasTypes}

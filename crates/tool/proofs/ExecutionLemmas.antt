@@ -1,11 +1,11 @@
--- What a run of the machine says of its source.
-use Rattle.tool.proofs.Prelude.{◌≡◌, ℕ, List, Option, sym, ap, ◌∙◌, subst, Appends, End, Machine, IsOnlyHalt, IsRun, Absolute, started, IsFaithful, Agrees, machine_run}
+-- What a run of the machine says of its source, and of the memory that this ends with.
+use Rattle.tool.proofs.Prelude.{◌≡◌, ℕ, List, Option, sym, ap, ◌∙◌, subst, Appends, End, Machine, IsOnlyHalt, IsRun, Absolute, loaded, program_modules, HasMemoryOf, started, IsFaithful, Agrees, EndsAlike, HoldsAtEnd, machine_run}
 use Rattle.printing.specs.{Report.{report_of}, Printing.{PrintsRun, end_word}}
-use Rattle.tool.specs.Printed.{PrintsEnded}
+use Rattle.tool.specs.{Construction.{Construction}, Printed.{PrintsEnded}}
 use Rattle.ports.specs.{declared.event.Event.{Event}, Events.{IsBeginning}}
 use Rattle.isa8080.specs.{declared.registers.Status.TheVariants.{Halted}, State.{State}, Step.{state_after}}
 use Rattle.cpu8080.specs.declared.machine.End.TheVariants as end
-use Rattle.meaning.specs.{Outcomes.{Ended}, Run.{Run}}
+use Rattle.meaning.specs.{Outcomes.{Ended, Flow, Outcome}, Run.{Run}}
 
 module _ (image : Absolute) (memory : List ℕ) (script : List (List ℕ)) (events : List Event) (failures : ℕ)
     (source : ℕ → Run) (agrees : Agrees source (machine_run image memory script events)) where
@@ -44,6 +44,35 @@ module _ (image : Absolute) (memory : List ℕ) (script : List (List ℕ)) (even
       record { begins = begins_at limit new run.state; ended = λ e. absurd (cc) }
   is_faithful limit end.PortFault new run halt =
       record { begins = begins_at run.0 new run.2.state; ended = λ e. absurd (cc) }
+
+-- a machine of a built program that halted has the memory of the source where that ended
+pub has_memory_of : (built : Construction) (memory : List ℕ) (script : List (List ℕ)) (events : List Event)
+    (failures : ℕ) (source : ℕ → Outcome Flow)
+    → EndsAlike (program_modules built.program) built.placement source
+    (machine_run built.image memory script events)
+    → (limit : ℕ) (why : End) (new : Machine)
+    → why ≡ end.Halted
+    → IsRun limit (started built.image memory script events failures) why new
+    → HasMemoryOf built memory source new
+unfolding machine_run state_after
+has_memory_of built memory script events failures source alike limit why new halted run =
+    let start : State = (started built.image memory script events failures).state in
+    let ran =
+    subst (λ (one : End). IsRun limit (started built.image memory script events failures) one new) halted
+    run in
+    let here : (state_after script limit start).status ≡ Halted =
+    sym (ap (λ (s : State). s.status) ran.state) ∙ ran.status_is in
+    let found = alike.when_halted limit here in
+    record {
+      budget = found.0;
+      end = found.1;
+      ended = found.2;
+      events = ap (λ (s : State). s.events) ran.state ∙ found.3;
+      holds =
+          subst (λ (s : State).
+          HoldsAtEnd (program_modules built.program) built.placement (loaded built.image.pieces memory)
+          (found.1).memory s.memory) (sym ran.state) found.4;
+    }
 
 -- what is printed of a run that halted is what the source does
 pub prints_ended : (quiet : List ℕ) (image : Absolute) (memory : List ℕ) (script : List (List ℕ))

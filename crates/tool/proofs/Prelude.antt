@@ -13,11 +13,11 @@ pub use Rattle.locate.specs.{Loading.{GivesItsImage}, Locating.{Absolute, IsPlac
 pub use Rattle.file_laws.proofs.FileImages.{files_give_the_image}
 pub use Rattle.cpu8080.specs.{Machine.{Machine}, Runs.{IsOnlyHalt, IsRun}, declared.machine.End.{End, TheVariants.{Halted}}}
 pub use Rattle.generation.proofs.Programs.{keeps_contract, make_the_program, numbers_fit}
-pub use Rattle.generation.specs.{Agreement.{Agrees}, Kept.{KeepsContract}, internal.Modules.{IsSoundTreeCode, MakesNone}, internal.Typed.{AreSoundlyMade, IsSoundlyMade}, internal.Names.{HaveImage}, internal.Programs.{AreLoaded}}
+pub use Rattle.generation.specs.{Agreement.{Agrees}, Kept.{KeepsContract}, MemoryAtEnd.{EndsAlike, HoldsAtEnd}, internal.Modules.{IsSoundTreeCode, MakesNone}, internal.Typed.{AreSoundlyMade, IsSoundlyMade}, internal.Names.{HaveImage}, internal.Programs.{AreLoaded}}
 unfoldable pub use Rattle.generation.specs.internal.Modules.{OfItsModule}
 pub use Rattle.sources.specs.{Causes.{HasReadCause}, Programs.{AreSourcesOf, IsPlacedBy, IsProgramOf, program_modules, text_of, texts_of}, Reading.{IsSourceOf}, declared.placed.Placed.{Placed}, declared.read.ReadFault.{ReadFault}}
-pub use Rattle.tool.specs.Execution.{IsFaithful, started}
-pub use Rattle.tool.specs.Headline.{DoesWhatItSays}
+pub use Rattle.tool.specs.Execution.{HasMemoryOf, IsFaithful, started}
+pub use Rattle.tool.specs.Headline.{DoesWhatItSays, EndsWithItsMemory}
 unfoldable pub use Rattle.tool.specs.Image.{machine_run}
 pub use Rattle.tool.specs.Made.{IsCompiledTo, IsImageOfFiles, IsImageOfObjects, StartsAsItsSource, code_lengths}
 pub use Rattle.tool.specs.Sources.{AreWithoutFault, HasCause, HasNoObject, IsInOrder, IsRefusedAlone, IsWithoutFault, sources_before}

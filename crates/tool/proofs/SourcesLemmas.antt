@@ -1,5 +1,5 @@
 -- Programs of sources that are compiled.
-use Rattle.tool.proofs.Prelude.{◌≡◌, ℕ, zero, suc, ◌<◌, ◌≤◌, ◌⊎◌, inl, inr, List, [], ◌∷◌, length, map, Some, None, All, arith, refl, sym, ap, ◌∙◌, subst, ⊎_elim, cases_lt, All-cons, All-from_recursion, All-nil, AllByRecursion, AllZip, TypedModule, Typed, JumpsAreSound, module_view, Layout, IsJoined, IsLawful, IsSoundlyTyped, Placement, placement_by, placing_refusal, storage_with, layout_view, IsObjectModule, ObjectModule, length_of, Plan, HaveStorage, ReadFault, HasReadCause, Absolute, files_give_the_image, KeepsContract, AreSoundlyMade, make_the_program, numbers_fit, HaveImage, Placed, AreSourcesOf, IsPlacedBy, IsProgramOf, program_modules, text_of, Compiled, ToolFault, TooManySources, Source, Code, Program, Link, Locate, DoesWhatItSays, IsImageOfFiles, IsImageOfObjects, StartsAsItsSource, code_lengths, GivesImageOfObjects, AreWithoutFault, HasCause, IsInOrder, IsWithoutFault, sources_before, AreCompiled, HasBuildCause, IsBuiltFrom, module_in}
+use Rattle.tool.proofs.Prelude.{◌≡◌, ℕ, zero, suc, ◌<◌, ◌≤◌, ◌⊎◌, inl, inr, List, [], ◌∷◌, length, map, Some, None, All, arith, refl, sym, ap, ◌∙◌, subst, ⊎_elim, cases_lt, All-cons, All-from_recursion, All-nil, AllByRecursion, AllZip, TypedModule, Typed, JumpsAreSound, module_view, Layout, IsJoined, IsLawful, IsSoundlyTyped, Placement, placement_by, placing_refusal, storage_with, layout_view, IsObjectModule, ObjectModule, length_of, Plan, HaveStorage, ReadFault, HasReadCause, Absolute, files_give_the_image, KeepsContract, AreSoundlyMade, make_the_program, numbers_fit, HaveImage, Placed, AreSourcesOf, IsPlacedBy, IsProgramOf, program_modules, text_of, Compiled, ToolFault, TooManySources, Source, Code, Program, Link, Locate, DoesWhatItSays, EndsWithItsMemory, IsImageOfFiles, IsImageOfObjects, StartsAsItsSource, code_lengths, GivesImageOfObjects, AreWithoutFault, HasCause, IsInOrder, IsWithoutFault, sources_before, AreCompiled, HasBuildCause, IsBuiltFrom, module_in}
 use Rattle.words.specs.declared.limits.TheConstants.{LONGEST_SOURCE}
 use Rattle.object_modules.specs.declared.segment.Segment.TheVariants as segments
 use Rattle.locate.specs.Locating as of_locating
@@ -7,7 +7,7 @@ use Rattle.placing.specs.Views as of_placement
 use Rattle.sources.specs.declared.read.ReadFault.TheVariants as read_faults
 use Rattle.sources.specs.declared.fault.ProgramFault.TheVariants as program_faults
 use Rattle.tool.specs.{Construction.{Construction, IsTyped}, Refusals.{IsRefusal}, internal.Inside.{IsMadeConstruction, construction_with}}
-use Rattle.tool.proofs.Headline.{declared_bytes_start, does_what_it_says}
+use Rattle.tool.proofs.Headline.{declared_bytes_start, does_what_it_says, ends_with_its_memory}
 
 length_mapped : {A B : Type 0} (f : A → B) (items : List A) → length (map f items) ≡ length items
 length_mapped f [] = refl
@@ -211,6 +211,10 @@ is_construction plan modules lengths placed objects image is its made linked giv
     let does : DoesWhatItSays modules (of_placement.placement_view placed.placement) plan.stack_size image =
     subst (λ (placement : Placement). DoesWhatItSays modules placement plan.stack_size image) (sym as_planned)
     (does_what_it_says plan modules objects image is.joined made lies linked gives) in
+    let memory : EndsWithItsMemory modules (of_placement.placement_view placed.placement) plan.stack_size
+    image =
+    subst (λ (placement : Placement). EndsWithItsMemory modules placement plan.stack_size image)
+    (sym as_planned) (ends_with_its_memory plan modules objects image is.joined made lies linked gives) in
     let starts : StartsAsItsSource modules (of_placement.placement_view placed.placement) image =
     subst (λ (placement : Placement). StartsAsItsSource modules placement image) (sym as_planned)
     (declared_bytes_start plan modules objects image is.joined made lies linked gives) in (
@@ -221,6 +225,9 @@ is_construction plan modules lengths placed objects image is its made linked giv
         headline =
             subst (λ ms. DoesWhatItSays ms (of_placement.placement_view placed.placement) plan.stack_size
             image) (sym is.program) does;
+        memory =
+            subst (λ ms. EndsWithItsMemory ms (of_placement.placement_view placed.placement) plan.stack_size
+            image) (sym is.program) memory;
         linked = linked;
         files = is_image_of_files plan modules objects image made linked;
         joined = subst IsJoined (sym is.program) is.joined;

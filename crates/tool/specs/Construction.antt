@@ -20,7 +20,7 @@ use Rattle.object_modules.specs.Module.{ObjectModule}
 use Rattle.locate.specs.Locating.{Absolute}
 use Rattle.generation.specs.Kept.{KeepsContract}
 use Rattle.sources.specs.Programs.{program_modules}
-use Rattle.tool.specs.Headline.{DoesWhatItSays}
+use Rattle.tool.specs.Headline.{DoesWhatItSays, EndsWithItsMemory}
 use Rattle.tool.specs.Made.{IsImageOfFiles, IsImageOfObjects, StartsAsItsSource, code_lengths}
 
 -- the joined program, the plan, the placement, the object modules of the modules, and the image
@@ -36,14 +36,16 @@ pub record Construction : Type 0 where
 abbrev pub IsTyped : TypedModule → Type 0
 IsTyped typed = IsWellTyped typed × NumbersFitInModule typed × ListsGlobals typed × FramesFit typed
 
--- The image does what the program says, with the stack of the plan; where it is loaded each declared byte
--- begins as the program has it; it is the merge of the object modules, placed by the plan, and their files, linked
--- and placed by hand, give it too. The modules make a program, which is well typed, whose jumps go to labels that
--- are known, and whose storage fits; there is an object module for each, which keeps what `generate` promises: it does
--- what its module says, and is within the code bound. The plan is not refused for their code segments, and the program
--- lies lawfully where it puts it.
+-- The image does what the program says, with the stack of the plan, and ends with its memory; where it is
+-- loaded each declared byte begins as the program has it; it is the merge of the object modules, placed by
+-- the plan, and their files, linked and placed by hand, give it too. The modules make a program, which is
+-- well typed, whose jumps go to labels that are known, and whose storage fits; there is an object module for
+-- each, which keeps what `generate` promises: it does what its module says, and is within the code bound. The
+-- plan is not refused for their code segments, and the program lies lawfully where it puts it.
 pub record IsConstruction (built : Construction) : Type 0 where
   pub headline : DoesWhatItSays (program_modules built.program) built.placement built.plan.stack_size built.image
+  pub memory :
+      EndsWithItsMemory (program_modules built.program) built.placement built.plan.stack_size built.image
   pub starts : StartsAsItsSource (program_modules built.program) built.placement built.image
   pub linked : IsImageOfObjects built.plan built.objects built.image
   pub files : IsImageOfFiles built.plan built.objects built.image

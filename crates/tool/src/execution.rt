@@ -6,7 +6,9 @@ ghost use Rattle.isa8080.specs.Step.{initial_state};
 ghost use Rattle.cpu8080.specs.Runs.{IsRun};
 ghost use Rattle.printing.specs.Printing.{BeginsRun, PrintsRun};
 ghost use Rattle.generation.specs.Agreement.{Agrees};
-ghost use Rattle.tool.specs.Execution.{IsFaithful, source_of, started};
+ghost use Rattle.generation.specs.MemoryAtEnd.{EndsAlike};
+ghost use Rattle.sources.specs.Programs.{program_modules};
+ghost use Rattle.tool.specs.Execution.{HasMemoryOf, IsFaithful, outcomes_of, source_of, started};
 ghost use Rattle.tool.specs.Image.{machine_run};
 ghost use Rattle.tool.specs.Printed.{PrintsEnded};
 
@@ -47,6 +49,10 @@ pub(crate) fn machine_of<P: Ports>(
     ensures agrees { let source = source_of built.now memory (P.script ports) (P.events ports) in
         NeverOutside source
         → Agrees source (machine_run built.now.image memory (P.script ports) (P.events ports)) }
+    ensures alike { NeverOutside (source_of built.now memory (P.script ports) (P.events ports))
+        → EndsAlike (program_modules built.now.program) built.now.placement
+        (outcomes_of built.now memory (P.script ports) (P.events ports))
+        (machine_run built.now.image memory (P.script ports) (P.events ports)) }
 {
     let image = built.image();
     let mut memory = memory;
@@ -68,6 +74,10 @@ fn executed<P: Ports>(
     ensures script { result.1.script ≡ P.script ports }
     ensures faithful { let source = source_of built.now memory (P.script ports) (P.events ports) in
         NeverOutside source → IsFaithful source result.0 result.1 }
+    ensures memory { NeverOutside (source_of built.now memory (P.script ports) (P.events ports))
+        → result.0 ≡ End.Halted
+        → HasMemoryOf built.now memory (outcomes_of built.now memory (P.script ports) (P.events ports))
+        result.1 }
 {
     let mut machine = machine_of(built, memory, ports, table);
     let end = machine.run(limit);
@@ -76,7 +86,7 @@ fn executed<P: Ports>(
 
 /// Loads the image of a program into a memory, and runs it on an 8080 with these ports for at most so many steps. Where
 /// the program never goes outside, the events are a beginning of those of its source, and a machine that halted has them
-/// all.
+/// all, and the memory of its source where that ended.
 pub fn execute<P: Ports>(built: &Built, memory: Memory, ports: P, limit: u64) -> (End, Machine<P>)
     ensures run { IsRun limit
         (started built.now.image memory (P.script ports) (P.events ports) (P.failures ports))
@@ -84,6 +94,10 @@ pub fn execute<P: Ports>(built: &Built, memory: Memory, ports: P, limit: u64) ->
     ensures script { result.1.script ≡ P.script ports }
     ensures faithful { let source = source_of built.now memory (P.script ports) (P.events ports) in
         NeverOutside source → IsFaithful source result.0 result.1 }
+    ensures memory { NeverOutside (source_of built.now memory (P.script ports) (P.events ports))
+        → result.0 ≡ End.Halted
+        → HasMemoryOf built.now memory (outcomes_of built.now memory (P.script ports) (P.events ports))
+        result.1 }
 {
     executed(built, memory, ports, None, limit)
 }
@@ -102,6 +116,10 @@ pub fn execute_with<P: Ports>(
     ensures script { result.1.script ≡ P.script ports }
     ensures faithful { let source = source_of built.now memory (P.script ports) (P.events ports) in
         NeverOutside source → IsFaithful source result.0 result.1 }
+    ensures memory { NeverOutside (source_of built.now memory (P.script ports) (P.events ports))
+        → result.0 ≡ End.Halted
+        → HasMemoryOf built.now memory (outcomes_of built.now memory (P.script ports) (P.events ports))
+        result.1 }
 {
     executed(built, memory, ports, Some(table), limit)
 }

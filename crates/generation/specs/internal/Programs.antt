@@ -20,11 +20,12 @@ use Rattle.layout.specs.Lawful.{IsLawful}
 use Rattle.layout.specs.Placement.{AgreesOnDeclared}
 use Rattle.layout.specs.Placing.{Plan, placing_refusal}
 use Rattle.layout.specs.StartingMemory.{starting_memory}
-use Rattle.meaning.specs.Run.{NeverOutside, source_run}
+use Rattle.meaning.specs.Run.{NeverOutside, source_outcome, source_run}
 use Rattle.image_laws.specs.internal.AtPlans.{code_lengths_of, plan_of}
 use Rattle.image_laws.specs.internal.ProgramInMemory.{placement_of}
 use Rattle.image_laws.specs.internal.Names.{HaveImage}
 use Rattle.program_laws.specs.Agreement.{Agrees}
+use Rattle.program_laws.specs.MemoryAtEnd.{EndsAlike}
 use Rattle.generation.specs.Kept.{KeepsContract}
 
 -- The object modules of a joined program are merged, placed by a plan at which it lies lawfully, and put into a memory.
@@ -74,5 +75,21 @@ pub record MakeTheProgram (modules : List TypedModule) (objects : List ObjectMod
       → Agrees
       (source_run modules (placement_of plan modules objects) (placement_of plan modules objects).stack.len before
       script events)
+      (λ (steps : ℕ).
+      state_after script steps (running (record registers { pc = image.start }) after events))
+  -- and ends with the memory of the source
+  pub memory :
+      (plan : Plan) (merged : ObjectModule) (image : Image) (before after : List ℕ)
+      (script : List (List ℕ)) (events : List Event) (registers : Registers)
+      → AreLoaded plan modules objects merged image before after
+      → IsMemory after
+      → IsScript script
+      → HoldBytes registers
+      → NeverOutside
+      (source_run modules (placement_of plan modules objects)
+      (placement_of plan modules objects).stack.len before script events)
+      → EndsAlike modules (placement_of plan modules objects)
+      (source_outcome modules (placement_of plan modules objects)
+      (placement_of plan modules objects).stack.len before script events)
       (λ (steps : ℕ).
       state_after script steps (running (record registers { pc = image.start }) after events))

@@ -4,7 +4,7 @@ use Rattle.steps8080.specs.declared.step.Task.TheVariants as tasks
 use Rattle.statements8080.specs.internal.Assignments.{stores_steps}
 use Rattle.measure_laws.proofs.{Bounds.KnownValues.{known_byte_small, known_word_small}, Bounds.ExpressionParts.{target_weighs, weight_beside}, Bounds.Singles.{ValueFits, single_fits}, Bounds.Targets.{EachFits, targets_fit}, Bounds.Ranges.{item_there}}
 use Rattle.measure_laws.proofs.Footprints.Trees.{aim_holds}
-use Rattle.measure_laws.proofs.{Bounds.Fitting.{asking_fits, both_fit, less_fits, none_fit}, Bounds.Planning.{byte_fits, store_fits, word_fits}}
+use Rattle.measure_laws.proofs.{Bounds.Fitting.{both_fit, less_fits, none_fit}, Bounds.Planning.{byte_fits, store_fits, word_fits}}
 
 -- a number is known at every site
 pub number_anywhere :
@@ -261,8 +261,8 @@ module _ (at : BodyGround) where
             scalar site value ≡ of
             → (one : Bool) → nat_eq targets.count 1 ≡ one
             → PlanFootprint at
-            (if one then each_steps at.body site targets value else several_steps at.body
-            site targets value) most
+            (if one then each_steps at.body site targets value else several_steps at.body site targets value)
+            most
         assigned_fits type_is true is_one = only_fits (eqb-true targets.count 1 is_one)
         assigned_fits type_is false is_one =
             several_fits (any_target takes_byte at.body targets 0 targets.count)

@@ -1,5 +1,5 @@
 -- DO CASE.
-use Rattle.measure_laws.proofs.Prelude.{◌≡◌, ℕ, zero, suc, ◌+◌, ◌-◌, ◌*◌, ◌%◌, ◌<◌, ◌≤◌, inl, inr, Bool, true, false, if◌then◌else◌, nat_eq, nat_lt, List, [], ◌∷◌, ◌++◌, slice_get, Option, Some, None, refl, sym, ap, subst, ◌∙◌, arith, option_and_then, eq-eqb, same_Some, NoCarry, AccumulateImmediate, Dad, Pchl, Xchg, Compare, De, Hl, A, D, E, Jump, JumpWhere, LoadPair, ScalarType, Byte, Address, ListsStandInCases, TypedExpression, TypedStatement, TypedStatements, weight_of_expression, weight_of_statement, weight_of_statements, ExpressionNumber, Range, TreeStatement, StatementNumber, item, statement, LabelNumber, copy, set, label_of, Site, scalar, number, Planned, JumpOn, Reaches, Statement, body_label, goto_label_of, case_steps, cases_end_steps, choice_at_steps, entry_of, entry_of_statement, into_table_steps, known_case_steps, number_in_de_steps, statement_at, statements_steps, table_at, table_steps, all, jump, label_at, mark, nth_label, plain, steps_from, less_steps, bytes_for, at_or_after, BodyGround, IsWithinLevel, MayGo, PlanBinds, PlanFootprint, StatementFootprint}
+use Rattle.measure_laws.proofs.Prelude.{◌≡◌, ℕ, zero, suc, ◌+◌, ◌-◌, ◌*◌, ◌%◌, ◌<◌, ◌≤◌, inl, inr, Bool, true, false, if◌then◌else◌, nat_eq, nat_lt, List, [], ◌∷◌, slice_get, Option, Some, None, refl, sym, ap, subst, ◌∙◌, arith, option_and_then, eq-eqb, same_Some, NoCarry, AccumulateImmediate, Dad, Pchl, Xchg, Compare, De, Hl, A, D, E, Jump, JumpWhere, LoadPair, ScalarType, Byte, Address, ListsStandInCases, TypedExpression, TypedStatement, TypedStatements, weight_of_expression, weight_of_statement, weight_of_statements, ExpressionNumber, Range, TreeStatement, StatementNumber, item, statement, LabelNumber, copy, set, label_of, Site, scalar, number, Planned, JumpOn, Reaches, Statement, body_label, goto_label_of, case_steps, cases_end_steps, choice_at_steps, entry_of, entry_of_statement, into_table_steps, number_in_de_steps, statement_at, statements_steps, table_at, table_steps, all, jump, label_at, mark, nth_label, plain, steps_from, bytes_for, at_or_after, BodyGround, IsWithinLevel, MayGo, PlanBinds, PlanFootprint, StatementFootprint}
 use Rattle.treecode.specs.declared.statement.Statement.TheVariants as statements
 use Rattle.steps8080.specs.declared.step.Step.TheVariants as steps
 use Rattle.measure_laws.proofs.{Bounds.Fitting.{both_fit, closed_fit, either_fit, finding_fits, less_fits, less_if, none_fit, then_fit}, Bounds.Iterations.{less_steps_fit}, Bounds.Lists.{AllFit, MoreFit, NoneFit, case_step_fits, no_label_weighs, statement_step_fits}, Bounds.Planning.{byte_fits, code_fits, effects_fit, plain_fits, plains_fit, word_fits}, Bounds.Ranges.{item_there, stands_at}, Labels.Binding.{plan_at, plan_first, plan_later}}
@@ -82,7 +82,8 @@ module _
               | None ↦ []
             ])) (sym there)
             (at_bound index one
-            (nat_eq (entry_of at.body list index (label_at first index) end).index (label_at first index).index)
+            (nat_eq (entry_of at.body list index (label_at first index) end).index
+            (label_at first index).index)
             (ap (λ (given : LabelNumber). nat_eq given.index (label_at first index).index) entry
             ∙ eq-eqb (label_at first index).index (label_at first index).index refl))
 
@@ -213,7 +214,8 @@ module _
             statements_from_fit (suc index) (omega (arith, same)) (omega (arith, count))
             (λ c. (stand c).2) others in
             let is : item at.body.tree.now list index ≡ Some number =
-            item_there at.body.tree.now.lists.items list index place number same (omega (arith, count)) there in
+            item_there at.body.tree.now.lists.items list index place number same
+            (omega (arith, count)) there in
             record {
               most = bytes_for (weight_of_statement tree) - 8 + 3 + rest.most;
               fit =

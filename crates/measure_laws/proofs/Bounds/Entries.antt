@@ -1,10 +1,10 @@
 -- The entries of procedures. They make room on the stack for what a call has there: so their pushes do not
 -- count.
-use Rattle.measure_laws.proofs.Prelude.{◌≡◌, ℕ, zero, suc, ◌+◌, ◌-◌, ◌*◌, ◌/◌, ◌%◌, inl, inr, true, false, nat_eq, nat_le, List, [], ◌∷◌, ◌++◌, length, slice_get, take, Option, refl, arith, length-take, leb-true, NotZero, Dcr, Inx, Lxi, Mvi, Pop, Push, Xthl, Of, De, Sp, B, StackDe, StackHl, JumpWhere, ScalarType, Byte, Address, Location, Parameter, ProcedureKind, LabelNumber, no_facts, label_of, Planned, argument_step, below_return_steps, entry_steps, entry_steps_by, exchanged_steps, frame_entry_steps, is_address, known_from, last_argument_facts, odd_byte_steps, pair_of, popped_argument_steps, popped_at, popped_from, push_loop_steps, pushed_arguments_steps, pushes_steps, static_entry_steps, store_argument, stores_steps, with_argument, zeros_steps, BodyGround, MayGo, PlanBinds, PlanFootprint}
+use Rattle.measure_laws.proofs.Prelude.{ℕ, zero, suc, ◌+◌, ◌-◌, ◌*◌, ◌/◌, ◌%◌, inl, inr, nat_eq, nat_le, List, [], ◌∷◌, length, slice_get, take, refl, arith, length-take, leb-true, NotZero, Dcr, Inx, Lxi, Mvi, Pop, Push, Xthl, Of, De, Sp, B, StackDe, StackHl, JumpWhere, ScalarType, Byte, Address, Location, Parameter, ProcedureKind, LabelNumber, no_facts, label_of, argument_step, below_return_steps, entry_steps, entry_steps_by, exchanged_steps, frame_entry_steps, is_address, known_from, last_argument_facts, odd_byte_steps, pair_of, popped_at, popped_from, push_loop_steps, pushed_arguments_steps, pushes_steps, static_entry_steps, store_argument, stores_steps, with_argument, zeros_steps, BodyGround, PlanFootprint}
 use Rattle.treecode.specs.declared.procedure.ProcedureKind.TheVariants as kinds
 use Rattle.codegen8080.specs.internal.Procedures.{last_argument_steps}
 use Rattle.steps8080.specs.declared.step.Step.TheVariants as steps
-use Rattle.measure_laws.proofs.{Bounds.Fitting.{asking_fits, both_fit, closed_fit, either_fit, finding_fits, less_fits, none_fit, then_fit}, Bounds.Pieces.{bare_fits, repeated_fit}, Labels.Binding.{plan_first}}
+use Rattle.measure_laws.proofs.{Bounds.Fitting.{asking_fits, both_fit, closed_fit, either_fit, finding_fits, less_fits, none_fit, then_fit}, Bounds.Pieces.{bare_fits, repeated_fit}}
 
 module _ {at : BodyGround} (none : at.pushes → ⊥) where
   -- an argument is stored in its parameter

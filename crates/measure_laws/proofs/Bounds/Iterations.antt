@@ -1,5 +1,5 @@
 -- Iterative DO.
-use Rattle.measure_laws.proofs.Prelude.{◌≡◌, ℕ, ◌+◌, ◌%◌, Bool, true, false, not, ◌&&◌, if◌then◌else◌, nat_eq, nat_le, List, [], ◌∷◌, ◌++◌, Option, Some, None, refl, ap, ◌∙◌, arith, Carry, NoCarry, NotZero, Zero, AccumulateImmediate, Dad, Inr, Inx, MovToMemory, Xchg, M, Add, AddWithCarry, Compare, Or, Subtract, SubtractWithBorrow, De, Hl, A, D, E, H, L, Jump, JumpWhere, LoadA, LoadPair, StoreHl, ScalarType, Byte, Address, type_of, NoSubscript, PartOf, StoredIn, TypedExpression, TypedIteration, weight_of_expression, weight_of_iteration, weight_of_optional, weight_of_storing, Storage, Expression, ExpressionNumber, Range, Location, Place, Iteration, place_after, IsExpressionIn, IsIteration, IsNode, IsNoValue, IsOptional, IsSomeValue, IsStored, nodes_of, LabelNumber, label_of, copy, high, load, low, set, with_memory, with_register, Site, expression, scalar, known, location_of, number, knowing, Facts, Body, Test, Counter, Planned, Again, Jumped, ListOf, Meet, Reaches, whole, counter_of, counter_place, counts_by_one, has_a_turn, add_byte_steps, add_de_steps, add_steps, add_word_steps, add_word_to_byte_steps, asked_jump, asked_mark, asked_test_steps, below_steps, count_at_hl_steps, count_steps, counts_in_place, facts_of_turn, first_steps, first_test_steps, general_begin_steps, general_end_steps, general_steps, is_byte, is_byte_type, iteration_steps, loop_labels, next_byte_steps, next_steps, next_turn_steps, next_word_steps, step_in_de_steps, step_steps, sum_of_byte_steps, sum_of_word_steps, test_label_steps, to_known_steps, turns_if_any, turns_steps, all, jump, mark, nth_label, part, plain, word, computed_test, facts_of_test, known_test, less_steps, test_of, test_steps, word_at, word_test_by, site_of, bytes_for, BodyGround, HoldsWithinLevel, IsWithinLevel, MayGo, PlanBinds, IfSome, PlanFootprint, ◌≤◌, ◌⊎◌, inl, inr}
+use Rattle.measure_laws.proofs.Prelude.{◌≡◌, ℕ, ◌+◌, ◌%◌, Bool, true, false, not, ◌&&◌, if◌then◌else◌, nat_eq, nat_le, [], ◌∷◌, ◌++◌, Option, Some, None, refl, ap, ◌∙◌, arith, Carry, NoCarry, NotZero, Zero, AccumulateImmediate, Dad, Inr, Inx, MovToMemory, Xchg, M, Add, AddWithCarry, Compare, Or, Subtract, SubtractWithBorrow, De, Hl, A, D, E, H, L, Jump, JumpWhere, LoadA, LoadPair, StoreHl, ScalarType, Byte, Address, type_of, NoSubscript, PartOf, StoredIn, TypedExpression, TypedIteration, weight_of_expression, weight_of_iteration, weight_of_optional, weight_of_storing, Storage, Expression, ExpressionNumber, Range, Location, Place, Iteration, place_after, IsExpressionIn, IsIteration, IsNode, IsNoValue, IsOptional, IsSomeValue, IsStored, nodes_of, LabelNumber, label_of, copy, high, load, low, set, with_memory, with_register, Site, expression, scalar, known, location_of, number, knowing, Facts, Body, Test, Counter, Again, Jumped, ListOf, Meet, Reaches, whole, counter_of, counter_place, counts_by_one, has_a_turn, add_byte_steps, add_de_steps, add_steps, add_word_to_byte_steps, asked_jump, asked_mark, asked_test_steps, below_steps, count_at_hl_steps, count_steps, counts_in_place, facts_of_turn, first_steps, first_test_steps, general_begin_steps, general_end_steps, general_steps, is_byte, is_byte_type, iteration_steps, loop_labels, next_byte_steps, next_steps, next_turn_steps, next_word_steps, step_in_de_steps, step_steps, sum_of_byte_steps, sum_of_word_steps, test_label_steps, to_known_steps, turns_if_any, turns_steps, all, jump, mark, nth_label, part, plain, word, computed_test, facts_of_test, known_test, less_steps, test_of, test_steps, word_at, word_test_by, site_of, bytes_for, BodyGround, HoldsWithinLevel, IsWithinLevel, MayGo, PlanBinds, IfSome, PlanFootprint, ◌≤◌, ◌⊎◌, inl, inr}
 use Rattle.steps8080.specs.declared.step.Task.TheVariants as tasks
 use Rattle.statements8080.specs.declared.bound.Test.TheVariants as tests
 use Rattle.measure_laws.proofs.{Bounds.Assignments.{value_fits}, Bounds.Fitting.{asking_fits, both_fit, closed_fit, either_fit, finding_fits, less_fits, none_fit, then_fit}, Bounds.Singles.{single_fits}, Labels.Binding.{plan_first, plan_later}}
@@ -65,6 +65,37 @@ end_asked counter last true range turn end is =
     plan_later end.index (asked_test_steps counter last true end) _
     (inr (inr (plan_later end.index (next_turn_steps counter last turn) _ (inl refl))))
 end_asked counter last false range turn end is = let never : ⊥ = cc in absurd never
+
+-- the labels of the general form are bound
+turn_bound :
+    (counter : Counter) (test : Test) (is_tested : Bool) (range : Range) (first : ℕ)
+    → PlanBinds first (general_begin_steps counter test is_tested range (loop_labels first))
+unfolding general_begin_steps
+turn_bound counter test is_tested range first =
+    plan_later first (asked_jump is_tested (nth_label first 1)) _ (inl refl)
+
+end_bound :
+    (site : Site) (counter : Counter) (head : Iteration) (test : Test) (is_tested : Bool) (first : ℕ)
+    → PlanBinds (nth_label first 2).index
+    (general_end_steps site counter head test is_tested (loop_labels first))
+unfolding general_end_steps
+end_bound site counter head test is_tested first =
+    plan_later (nth_label first 2).index (step_steps site counter head.step (loop_labels first)) _
+    (plan_later (nth_label first 2).index
+    (test_label_steps counter (counts_by_one site head.step) is_tested (nth_label first 1)) _
+    (plan_later (nth_label first 2).index (test_steps counter test (label_of first)) _ (inl refl)))
+
+test_bound :
+    (site : Site) (counter : Counter) (head : Iteration) (test : Test) (is_tested : Bool) (first : ℕ)
+    → ((counts_by_one site head.step ≡ true) × (counter.scalar ≡ Address)) ⊎ (is_tested ≡ true)
+    → PlanBinds (nth_label first 1).index
+    (general_end_steps site counter head test is_tested (loop_labels first))
+unfolding general_end_steps
+test_bound site counter head test is_tested first is =
+    plan_later (nth_label first 1).index (step_steps site counter head.step (loop_labels first)) _
+    (plan_first (nth_label first 1).index
+    (test_label_steps counter (counts_by_one site head.step) is_tested (nth_label first 1)) _
+    (label_bound counter (counts_by_one site head.step) is_tested (nth_label first 1) is))
 
 -- the variable of a loop is a whole object
 module _ (at : BodyGround) (object : ℕ) (kind : ScalarType) (location : Option Location)
@@ -169,8 +200,7 @@ module _ (at : BodyGround) (object : ℕ) (kind : ScalarType) (location : Option
       (next_turn_fits last (label_of first)
       (own first (plan_later first (asked_test_steps counter last is_tested (nth_label first 1)) _
       (inl refl))))
-      (both_fit (asked_mark_fits is_tested (nth_label first 1))
-      (plains_fit (Reaches true ∷ []) refl tt))))))
+      (both_fit (asked_mark_fits is_tested (nth_label first 1)) (plains_fit (Reaches true ∷ []) refl tt))))))
       (omega arith))
 
   -- the variable is counted by 1
@@ -211,8 +241,8 @@ module _ (at : BodyGround) (object : ℕ) (kind : ScalarType) (location : Option
           less_fits
           (then_fit (byte_fits at step 0 is)
           (then_fit address_first
-          (plains_fit (plain (with_memory Add) ∷ plain (MovToMemory A) ∷ jump (JumpWhere Carry) end ∷ [])
-          refl (to, tt))))
+          (plains_fit (plain (with_memory Add) ∷ plain (MovToMemory A) ∷ jump (JumpWhere Carry) end ∷ []) refl
+          (to, tt))))
           (omega arith)
 
       sum_of_byte_fits : PlanFootprint at sum_of_byte_steps 15
@@ -238,8 +268,7 @@ module _ (at : BodyGround) (object : ℕ) (kind : ScalarType) (location : Option
       step_in_de_fits =
           finding_fits (known site step)
           (λ place there. less_fits (plains_fit (word (LoadPair De) place ∷ []) refl tt) (omega arith))
-          (less_fits (then_fit (word_fits at step 0 is) (plains_fit (plain Xchg ∷ []) refl tt))
-          (omega arith))
+          (less_fits (then_fit (word_fits at step 0 is) (plains_fit (plain Xchg ∷ []) refl tt)) (omega arith))
 
       sum_of_word_fits : PlanFootprint at sum_of_word_steps 21
       unfolding sum_of_word_steps
@@ -253,8 +282,7 @@ module _ (at : BodyGround) (object : ℕ) (kind : ScalarType) (location : Option
       add_de_fits (Some place) =
           less_fits
           (then_fit (load_word_fits at object two)
-          (plains_fit (plain (Dad De) ∷ word StoreHl place ∷ jump (JumpWhere Carry) end ∷ []) refl
-          (to, tt)))
+          (plains_fit (plain (Dad De) ∷ word StoreHl place ∷ jump (JumpWhere Carry) end ∷ []) refl (to, tt)))
           (omega arith)
       add_de_fits None =
           less_fits
@@ -308,8 +336,8 @@ module _ (at : BodyGround) (object : ℕ) (kind : ScalarType) (location : Option
     byte_known_fits last false =
         less_fits
         (then_fit (load_byte_fits at object two)
-        (plains_fit (plain (AccumulateImmediate Compare (low (last + 1))) ∷ jump (JumpWhere Carry) turn
-        ∷ []) refl (to, tt)))
+        (plains_fit (plain (AccumulateImmediate Compare (low (last + 1))) ∷ jump (JumpWhere Carry) turn ∷ [])
+        refl (to, tt)))
         (omega arith)
 
     word_known_fits :
@@ -321,8 +349,7 @@ module _ (at : BodyGround) (object : ℕ) (kind : ScalarType) (location : Option
     word_known_fits last false =
         less_fits
         (then_fit (load_word_fits at object two)
-        (both_fit (less_steps_fit (last + 1))
-        (plains_fit (jump (JumpWhere Carry) turn ∷ []) refl (to, tt))))
+        (both_fit (less_steps_fit (last + 1)) (plains_fit (jump (JumpWhere Carry) turn ∷ []) refl (to, tt))))
         (omega arith)
 
     known_test_fits :
@@ -447,36 +474,6 @@ module _ (at : BodyGround) (object : ℕ) (kind : ScalarType) (location : Option
           → PlanFootprint at (test_steps counter (test_of site counter last) turn) (weight_of_last + 62)
       unfolding test_of
       test_fits site = test_by_fits site (number site last)
-
-turn_bound :
-    (counter : Counter) (test : Test) (is_tested : Bool) (range : Range) (first : ℕ)
-    → PlanBinds first (general_begin_steps counter test is_tested range (loop_labels first))
-unfolding general_begin_steps
-turn_bound counter test is_tested range first =
-    plan_later first (asked_jump is_tested (nth_label first 1)) _ (inl refl)
-
-end_bound :
-    (site : Site) (counter : Counter) (head : Iteration) (test : Test) (is_tested : Bool) (first : ℕ)
-    → PlanBinds (nth_label first 2).index
-    (general_end_steps site counter head test is_tested (loop_labels first))
-unfolding general_end_steps
-end_bound site counter head test is_tested first =
-    plan_later (nth_label first 2).index (step_steps site counter head.step (loop_labels first)) _
-    (plan_later (nth_label first 2).index
-    (test_label_steps counter (counts_by_one site head.step) is_tested (nth_label first 1)) _
-    (plan_later (nth_label first 2).index (test_steps counter test (label_of first)) _ (inl refl)))
-
-test_bound :
-    (site : Site) (counter : Counter) (head : Iteration) (test : Test) (is_tested : Bool) (first : ℕ)
-    → ((counts_by_one site head.step ≡ true) × (counter.scalar ≡ Address)) ⊎ (is_tested ≡ true)
-    → PlanBinds (nth_label first 1).index
-    (general_end_steps site counter head test is_tested (loop_labels first))
-unfolding general_end_steps
-test_bound site counter head test is_tested first is =
-    plan_later (nth_label first 1).index (step_steps site counter head.step (loop_labels first)) _
-    (plan_first (nth_label first 1).index
-    (test_label_steps counter (counts_by_one site head.step) is_tested (nth_label first 1)) _
-    (label_bound counter (counts_by_one site head.step) is_tested (nth_label first 1) is))
 
 -- the type of an expression in the table is that of the tree
 pub type_there :

@@ -1,5 +1,5 @@
 -- CALL MOVE.
-use Rattle.measure_laws.proofs.Prelude.{ℕ, ◌+◌, ◌-◌, ◌*◌, ◌≤◌, min, List, [], ◌∷◌, ◌++◌, Option, refl, arith, Pop, Push, Xchg, Bc, De, StackBc, StackDe, StackHl, LoadPair, Move, TypedExpression, height_of, weight_of_expression, ExpressionNumber, Site, keeps, known, Planned, ends_steps, move_steps, part, plain, bytes_for, BodyGround, IsWithinLevel, PlanMeasured, PlanFootprint}
+use Rattle.measure_laws.proofs.Prelude.{ℕ, ◌+◌, ◌-◌, ◌*◌, ◌≤◌, min, [], ◌∷◌, refl, arith, Pop, Push, Xchg, Bc, De, StackBc, StackDe, StackHl, LoadPair, Move, TypedExpression, height_of, weight_of_expression, ExpressionNumber, Site, keeps, known, ends_steps, move_steps, part, bytes_for, BodyGround, IsWithinLevel, PlanMeasured, PlanFootprint}
 use Rattle.steps8080.specs.declared.step.Step.TheVariants as steps
 use Rattle.steps8080.specs.declared.step.Task.TheVariants as tasks
 use Rattle.statements8080.specs.declared.plan.Planned.TheVariants.{Code}

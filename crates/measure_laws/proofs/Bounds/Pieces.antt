@@ -1,5 +1,5 @@
 -- Planned steps of which the pushes do not count: their instructions, labels and jumps.
-use Rattle.measure_laws.proofs.Prelude.{◌≡◌, ℕ, zero, suc, ◌+◌, ◌*◌, ◌≤◌, Bool, true, false, false≢true, List, [], ◌∷◌, ◌++◌, replicate, Option, if◌then◌else◌, refl, arith, Instr, Item, size_of_items, size_in_parts, Facts, Step, Site, AreWritten, CallWritten, ChangeWritten, HoldsWritten, JumpWritten, MarkWritten, NoneWritten, PlainWritten, RoutineWritten, TestWritten, WordWritten, call_items, test_items, Body, Planned, plain, Here, AreCarriedOut, StepCarriedOut, carried_steps, site_of, ItemsGo, BodyGround, ItemsMeasured, JumpTo, JumpsTo, MayBind, MayGo, PlanMeasured}
+use Rattle.measure_laws.proofs.Prelude.{◌≡◌, ℕ, zero, suc, ◌+◌, ◌*◌, ◌≤◌, Bool, true, false, false≢true, List, [], ◌∷◌, replicate, Option, refl, arith, Instr, Item, size_of_items, size_in_parts, Facts, Step, Site, AreWritten, CallWritten, ChangeWritten, HoldsWritten, JumpWritten, MarkWritten, NoneWritten, PlainWritten, RoutineWritten, TestWritten, WordWritten, call_items, test_items, Planned, plain, Here, AreCarriedOut, StepCarriedOut, carried_steps, ItemsGo, BodyGround, ItemsMeasured, JumpTo, JumpsTo, MayGo, PlanMeasured}
 use Rattle.steps8080.specs.declared.step.Step.TheVariants as steps
 use Rattle.statements8080.specs.declared.plan.Planned.TheVariants as planned
 use Rattle.measure_laws.proofs.{Bounds.Fitting.{items_then, items_within, less_fits, none_fit, none_measured, then_fit}, Footprints.Addresses.{instruction_small}}

@@ -1,5 +1,5 @@
 -- Footprints of single planned steps.
-use Rattle.measure_laws.proofs.Prelude.{◌≡◌, ℕ, ◌+◌, ◌*◌, ◌≤◌, Bool, true, false, if◌then◌else◌, List, [], ◌∷◌, ◌++◌, arith, refl, false≢true, Sp, ScalarType, Option, TypedArguments, TypedExpression, height_of, height_of_arguments, count_of_arguments, Takes, TypesHold, TypesHoldInArguments, weight_of_arguments, weight_of_expression, WordForm, ExpressionNumber, Range, AreArguments, IsExpression, nodes_of, LabelNumber, TreeModule, Body, Planned, part, whole, BodyGround, ItemsMeasured, IsWithinLevel, JumpTo, JumpsTo, MayBind, MayGo, PlanMeasured, PlanFootprint, Source, bytes_for, Item, TypedReference, TypedTarget, Reference, Target, IsReference, IsTarget, AimHolds, TypesHoldInReference, height_of_reference, height_of_target, weight_of_reference, Task, Step, Facts, Here, Location, Static, Frame, Site, knowing, is_at, location_of, site_of, AreCarriedOut, ListCarriedOut, StatementCarriedOut, StepCarriedOut, carried_steps, jump_on_steps, load_byte_steps, load_word_steps, byte_at_steps, word_at_steps, HoldsNoStatement, keeps_stack, keeps_stack_with, GoesOnWithLabel, GoesOnWithWord, size_of_step, size_of_steps, beside_at, PartOf, NoSubscript, None, IsAbsent, IsPart}
+use Rattle.measure_laws.proofs.Prelude.{◌≡◌, ℕ, ◌+◌, ◌*◌, ◌≤◌, Bool, true, false, if◌then◌else◌, List, [], ◌∷◌, arith, refl, false≢true, Sp, ScalarType, Option, TypedArguments, TypedExpression, height_of, height_of_arguments, count_of_arguments, Takes, TypesHold, TypesHoldInArguments, weight_of_arguments, weight_of_expression, WordForm, ExpressionNumber, Range, AreArguments, IsExpression, nodes_of, LabelNumber, TreeModule, Planned, part, whole, BodyGround, ItemsMeasured, IsWithinLevel, JumpTo, JumpsTo, MayBind, MayGo, PlanMeasured, PlanFootprint, Source, bytes_for, Item, TypedReference, TypedTarget, Reference, Target, IsReference, IsTarget, AimHolds, TypesHoldInReference, height_of_reference, height_of_target, weight_of_reference, Task, Step, Facts, Here, Location, Static, Frame, Site, knowing, is_at, location_of, site_of, AreCarriedOut, ListCarriedOut, StatementCarriedOut, StepCarriedOut, carried_steps, jump_on_steps, load_byte_steps, load_word_steps, byte_at_steps, word_at_steps, HoldsNoStatement, keeps_stack, keeps_stack_with, GoesOnWithLabel, GoesOnWithWord, size_of_step, size_of_steps, beside_at, PartOf, NoSubscript, None, IsAbsent, IsPart}
 use Rattle.asm8080.specs.declared.item.WordForm.TheVariants as word_forms
 use Rattle.steps8080.specs.declared.step.Step.TheVariants as steps
 use Rattle.steps8080.specs.declared.step.Task.TheVariants as tasks

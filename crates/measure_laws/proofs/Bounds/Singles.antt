@@ -1,5 +1,5 @@
 -- One target that gets a value.
-use Rattle.measure_laws.proofs.Prelude.{ℕ, ◌+◌, Bool, true, false, List, [], ◌∷◌, Option, Some, None, if◌then◌else◌, refl, arith, Instr, Inx, MovToMemory, Mvi, M, Hl, A, ScalarType, Byte, Address, TypedReference, TypedTarget, SentTo, StoredIn, weight_of_reference, weight_of_storing, ExpressionNumber, Reference, Target, Sent, Stored, IsReference, IsSent, IsStored, IsTarget, nodes_of, high, low, Site, location_of, number, Body, Planned, count_of, from_byte_steps, from_type, from_word_steps, is_address_first, number_steps, other_byte_steps, other_word_steps, single_steps, is_near, part, plain, bytes_for, BodyGround, AimHolds, TypesHoldInReference, IfSome, BinaryOperator, Expression, ExpressionForm, Binary, expression, count_by, count_of_form, is_one, is_value_of, keeps_stack, PlanFootprint, height_of_target, height_of_reference, ◌*◌, ◌≤◌, ◌≡◌, ◌&&◌}
+use Rattle.measure_laws.proofs.Prelude.{ℕ, ◌+◌, Bool, true, false, List, [], ◌∷◌, Option, Some, None, if◌then◌else◌, refl, arith, Instr, Inx, MovToMemory, Mvi, M, Hl, A, ScalarType, Byte, Address, TypedReference, TypedTarget, SentTo, StoredIn, weight_of_reference, weight_of_storing, ExpressionNumber, Reference, Target, Sent, Stored, IsReference, IsSent, IsStored, IsTarget, nodes_of, high, low, Site, location_of, number, Planned, count_of, from_byte_steps, from_type, from_word_steps, is_address_first, number_steps, other_byte_steps, other_word_steps, single_steps, is_near, part, plain, bytes_for, BodyGround, AimHolds, TypesHoldInReference, IfSome, BinaryOperator, Expression, ExpressionForm, Binary, expression, count_by, count_of_form, is_one, is_value_of, keeps_stack, PlanFootprint, height_of_target, height_of_reference, ◌*◌, ◌≤◌, ◌≡◌, ◌&&◌}
 use Rattle.steps8080.specs.declared.step.Task.TheVariants as tasks
 use Rattle.statements8080.specs.internal.Assignments.{byte_steps, word_steps}
 use Rattle.measure_laws.proofs.{Bounds.ExpressionParts.{weight_beside}, Bounds.Fitting.{either_fit, finding_fits, less_fits, then_fit}, Bounds.Planning.{address_fits, plain_fits, plains_fit, store_fits}}
@@ -65,8 +65,7 @@ module _ (at : BodyGround) (value : ExpressionNumber) (bytes : ℕ) (fit : Value
       (room : 2 + 2 * height_of_reference tree ≤ at.level)
     where
       address_first :
-          PlanFootprint at (part (tasks.Address reference) 0 ∷ [])
-          (32 + bytes_for (weight_of_reference tree))
+          PlanFootprint at (part (tasks.Address reference) 0 ∷ []) (32 + bytes_for (weight_of_reference tree))
       address_first = address_fits at reference 0 is types (omega (arith, room))
 
       other_byte_fits :
@@ -109,8 +108,7 @@ module _ (at : BodyGround) (value : ExpressionNumber) (bytes : ℕ) (fit : Value
       number_fits known =
           less_fits
           (then_fit address_first
-          (plains_fit (plain (Mvi M (low known)) ∷ plain (Inx Hl) ∷ plain (Mvi M (high known)) ∷ []) refl
-          tt))
+          (plains_fit (plain (Mvi M (low known)) ∷ plain (Inx Hl) ∷ plain (Mvi M (high known)) ∷ []) refl tt))
           (omega arith)
 
       as_word_fits :
@@ -119,8 +117,8 @@ module _ (at : BodyGround) (value : ExpressionNumber) (bytes : ℕ) (fit : Value
           (bytes + (64 + bytes_for (weight_of_reference tree)))
       as_word_fits from =
           less_fits
-          (from_word_fits {tree = StoredIn Address Address tree} (Stored from Address reference)
-          (IsStored is) types (omega (arith, room)))
+          (from_word_fits {tree = StoredIn Address Address tree} (Stored from Address reference) (IsStored is)
+          types (omega (arith, room)))
           (omega arith)
 
       other_word_fits :

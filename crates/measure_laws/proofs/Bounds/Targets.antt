@@ -1,5 +1,5 @@
 -- Targets that get a value, one after another.
-use Rattle.measure_laws.proofs.Prelude.{◌≡◌, ℕ, suc, ◌+◌, ◌<◌, Bool, List, sum_by, Some, arith, sum_by-cons, ScalarType, TypedTarget, TypesHoldInTarget, TypesHoldInTargets, weight_of_target, Range, Target, AreTargets, IsTarget, MoreTargets, NoTargets, nodes_of, target_at, Planned, steps_from, bytes_for, BodyGround, PlanFootprint, height_of_target, height_of_targets, ◌*◌, ◌≤◌}
+use Rattle.measure_laws.proofs.Prelude.{◌≡◌, ℕ, suc, ◌+◌, ◌<◌, List, sum_by, Some, arith, sum_by-cons, ScalarType, TypedTarget, TypesHoldInTarget, TypesHoldInTargets, weight_of_target, Range, Target, AreTargets, IsTarget, MoreTargets, NoTargets, nodes_of, target_at, Planned, steps_from, bytes_for, BodyGround, PlanFootprint, height_of_target, height_of_targets, ◌*◌, ◌≤◌}
 use Rattle.measure_laws.proofs.{Bounds.Ranges.{item_there}}
 use Rattle.measure_laws.proofs.Bounds.Fitting.{both_fit, less_fits, none_fit}
 

@@ -1,6 +1,6 @@
 -- The items of steps, as the footprint of the steps says: they find room, they have no more bytes, and they
 -- refer to labels that may be referred to. These are the laws of sizes, of heights and of labels.
-use Rattle.measure_laws.proofs.Prelude.{◌≡◌, inl, inr, ℕ, ◌+◌, ◌-◌, ◌≤◌, Bool, true, false, List, [], ◌∷◌, ◌++◌, Option, Some, None, if◌then◌else◌, refl, subst, slice_get, arith, Instr, Sp, size_of_instruction, Item, WordForm, size_of_items, Routine, TreeModule, ProcedureKind, TreeProcedure, Place, Number, Facts, LabelNumber, Part, Step, Task, jump_item, word_item, Site, AreWritten, CallWritten, ChangeWritten, HoldsWritten, IsWritten, JumpWritten, MarkWritten, NoneWritten, PartWritten, PlainWritten, RoutineWritten, TestWritten, WordWritten, call_items, items_of_call, knowing, test_items, test_of_a, steps_of, task_steps, BranchThere, ByteDropped, CallThere, FindsRoom, HaltThere, InstructionThere, JumpThere, LabelThere, NothingThere, PopThere, PushThere, ReturnThere, RoutineThere, TableJumpThere, WordThere, GoesOn, GoesOnWithLabel, GoesOnWithWord, size_of_steps, ItemGoes, ItemsBind, ItemsGo, Knows, StepsBind, size_in_parts, taken_by, Source}
+use Rattle.measure_laws.proofs.Prelude.{inl, inr, ℕ, ◌+◌, ◌-◌, ◌≤◌, Bool, true, false, List, [], ◌∷◌, ◌++◌, Option, Some, None, if◌then◌else◌, refl, subst, slice_get, arith, Instr, Sp, size_of_instruction, Item, WordForm, size_of_items, ProcedureKind, TreeProcedure, Place, Number, Facts, LabelNumber, Part, Step, Task, jump_item, word_item, Site, AreWritten, CallWritten, ChangeWritten, HoldsWritten, IsWritten, JumpWritten, MarkWritten, NoneWritten, PartWritten, PlainWritten, RoutineWritten, TestWritten, WordWritten, call_items, items_of_call, knowing, test_items, test_of_a, steps_of, task_steps, BranchThere, ByteDropped, CallThere, FindsRoom, HaltThere, InstructionThere, JumpThere, LabelThere, NothingThere, PopThere, PushThere, ReturnThere, RoutineThere, TableJumpThere, WordThere, GoesOn, GoesOnWithLabel, GoesOnWithWord, size_of_steps, ItemGoes, ItemsBind, ItemsGo, Knows, StepsBind, size_in_parts, taken_by, Source}
 use Rattle.isa8080.specs.declared.instr.Instr.TheVariants as instructions
 use Rattle.asm8080.specs.declared.item.Item.TheVariants as items
 use Rattle.asm8080.specs.declared.item.WordForm.TheVariants as word_forms

@@ -1,5 +1,5 @@
 -- The labels that a list binds, and those of the lists around it.
-use Rattle.measure_laws.proofs.Prelude.{◌≡◌, inl, inr, refl, sym, ap, ◌∙◌, subst, ℕ, ◌+◌, ◌<◌, ◌≤◌, Bool, true, List, [], ◌∷◌, ◌++◌, length, Option, Some, None, Any, arith, slice_get, none-some, same_Some, IsAmongLabels, JumpsStay, LabelsOf, LabelsStand, labels_of_list, LabelStatement, TypedStatement, TypedStatements, Item, Range, StatementNumber, AreMoreStatements, AreNoStatements, AreStatements, IsGoto, IsLabel, IsStatement, IsStatementForm, IsStatementNode, nodes_of, statement, Facts, LabelNumber, knowing, Body, body_label, goto_label, goto_label_of, Here, AreAllCarriedOut, AreCarriedOut, IsCarriedOut, IsListCarriedOut, ListPlanned, StatementPlanned, site_of, statement_steps, ItemsBind, at_or_after, BodyGround, MayBind, MayGo}
+use Rattle.measure_laws.proofs.Prelude.{◌≡◌, inl, inr, refl, sym, ap, ◌∙◌, subst, ℕ, ◌+◌, ◌<◌, ◌≤◌, true, List, [], ◌∷◌, ◌++◌, length, Option, Some, None, Any, arith, slice_get, none-some, same_Some, IsAmongLabels, JumpsStay, LabelsOf, LabelsStand, labels_of_list, LabelStatement, TypedStatement, TypedStatements, Item, Range, StatementNumber, AreMoreStatements, AreNoStatements, AreStatements, IsGoto, IsLabel, IsStatement, IsStatementForm, IsStatementNode, nodes_of, statement, Facts, LabelNumber, knowing, Body, body_label, goto_label, goto_label_of, Here, AreAllCarriedOut, AreCarriedOut, IsCarriedOut, IsListCarriedOut, ListPlanned, StatementPlanned, site_of, statement_steps, ItemsBind, at_or_after, BodyGround, MayBind, MayGo}
 use Rattle.treecode.specs.declared.statement.Statement.{Statement}
 use Rattle.treecode.specs.declared.statement.Statement.TheVariants as statements
 use Rattle.treecode.proofs.LabelNumbers.{first_or_later}

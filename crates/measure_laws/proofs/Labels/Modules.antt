@@ -1,5 +1,5 @@
 -- The code of a module refers to labels that it binds, and to those of routines that are called.
-use Rattle.measure_laws.proofs.Prelude.{◌≡◌, inl, inr, refl, sym, ap, subst, ℕ, zero, suc, ◌+◌, Bool, true, false, List, [], ◌∷◌, ◌++◌, length, Option, Some, None, arith, slice_get, none-some, same_Some, BodyIsSound, TypedModule, TypedProcedure, Storage, Hlt, Item, Content, TreeModule, Place, ProcedureKind, TreeProcedure, HasBody, IsList, IsLowered, labels_numbered_in_list, nodes_of, address_items, items_of_call, module_call_items, module_label_of_routine, Body, Here, site_of, AreCodeOf, IsCodeOf, IsCodeOfMain, IsEndCode, IsOwnCode, IsProcedureCode, content_items, contents_items, has_main, ItemsBind, ItemsGo, HasItsPlace, Knows, LabelsHavePlaces, holds_for_item, IsSound, Within, WithinMain, WithinProcedure, TypesHoldInList, TypesHoldInProcedure, IsProcedure, numbered_at, ◌≤◌, FRAME_LIMIT, Source}
+use Rattle.measure_laws.proofs.Prelude.{◌≡◌, inl, inr, refl, sym, ap, subst, ℕ, zero, suc, ◌+◌, Bool, List, [], ◌∷◌, ◌++◌, Option, Some, None, arith, slice_get, none-some, same_Some, TypedModule, Storage, Item, TreeModule, ProcedureKind, TreeProcedure, IsLowered, items_of_call, module_call_items, module_label_of_routine, Body, site_of, AreCodeOf, IsCodeOf, IsOwnCode, IsProcedureCode, contents_items, ItemsBind, ItemsGo, HasItsPlace, Knows, LabelsHavePlaces, IsSound}
 use Rattle.treecode.specs.declared.procedure.ProcedureKind.TheVariants as kinds
 use Rattle.measure_laws.proofs.{Bounds.Modules.{own_code_measured}, Footprints.Items.{bound_after, bound_first}}
 

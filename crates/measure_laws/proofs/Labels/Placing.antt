@@ -1,5 +1,5 @@
 -- The labels that the code of a soundly typed module refers to have their places.
-use Rattle.measure_laws.proofs.Prelude.{◌≡◌, ℕ, Bool, List, Some, slice_get, BodyIsSound, TypedModule, TypedProcedure, Storage, Item, TreeModule, IsLowered, labels_numbered_in_list, IsOwnCode, IsSound, LabelsHavePlaces, holds_for_item}
+use Rattle.measure_laws.proofs.Prelude.{ℕ, Bool, List, TypedModule, Storage, Item, TreeModule, IsLowered, IsOwnCode, IsSound, LabelsHavePlaces}
 use Rattle.measure_laws.proofs.{Labels.Modules.{own_code_goes}}
 
 -- each label that its own code refers to is bound there, or is that of a routine that it calls

@@ -1,5 +1,5 @@
 -- A REENTRANT procedure begins: its last argument is pushed, and zeros for its variables.
-use Rattle.procedure_laws.proofs.Prelude.{◌≡◌, ℕ, zero, suc, ◌+◌, ◌-◌, ◌*◌, ◌<◌, ◌≤◌, ◌⊎◌, inl, inr, true, List, [], ◌∷◌, ◌++◌, length, zip, slice_get, Option, Some, None, refl, sym, ap, subst, ◌∙◌, arith, option_map, slice_get-map, MEMORY_SIZE, IsMemory, byte_at, ScalarType, Byte, Address, charge_of, AreParameters, HasParameters, home_of_parameters, size_of_scalar, Home, InFrame, TypedProcedure, frame_of, parameters_set, Gave, SourceState, Push, HoldBytes, Registers, State, wrap, AgreesIn, size_of_instruction, pushed, pushed_is_memory, pushed_keeps, TreeHome, Parameter, ProcedureKind, TreeProcedure, frame_number, location_of, parameter_at, parameters_of, IsProcedure, home_at, nodes_of, distance_of, parameter_distance, return_distance, return_of, parameter_count, home_in_frame, frame_fits, has_parameters, LiesWell, Owns, Does, at_place, does_without_step, keeps_all, no_facts_hold, Facts, no_facts, with_facts, Body, Planned, holds, plain, Here, argument_facts, entry_steps, entry_steps_by, frame_entry_steps, last_argument_facts, last_argument_steps, pair_of, zeros_steps, InRegister, InWord, bytes_pushed, Know, does_same, BodyContext, Entries, IsEntered, IsOfCall, ModuleCode, ModuleLies, at_start, surroundings_in, IsBodyOf, ReentrantBegins, frame_level, reentrant_body, HasBegun}
+use Rattle.procedure_laws.proofs.Prelude.{◌≡◌, ℕ, zero, suc, ◌+◌, ◌-◌, ◌*◌, ◌<◌, ◌≤◌, ◌⊎◌, inl, inr, true, List, [], ◌∷◌, ◌++◌, length, zip, slice_get, Option, Some, None, refl, sym, ap, subst, ◌∙◌, arith, option_map, slice_get-map, MEMORY_SIZE, IsMemory, byte_at, ScalarType, Byte, Address, charge_of, AreParameters, HasParameters, home_of_parameters, size_of_scalar, Home, InFrame, TypedProcedure, frame_of, parameters_set, Gave, SourceState, Push, HoldBytes, Registers, State, wrap, AgreesIn, size_of_instruction, pushed, pushed_is_memory, pushed_keeps, TreeHome, Parameter, ProcedureKind, TreeProcedure, frame_number, location_of, parameter_at, parameters_of, IsProcedure, home_at, nodes_of, distance_of, parameter_distance, return_distance, return_of, parameter_count, home_in_frame, frame_fits, has_parameters, LiesWell, MayChange, Owns, Does, at_place, does_without_step, keeps_all, no_facts_hold, Facts, no_facts, with_facts, Body, Planned, holds, plain, Here, argument_facts, entry_steps, entry_steps_by, frame_entry_steps, last_argument_facts, last_argument_steps, pair_of, zeros_steps, InRegister, InWord, bytes_pushed, Know, does_same, BodyContext, Entries, IsEntered, IsOfCall, ModuleCode, loaded_by, ModuleLies, at_start, surroundings_in, IsBodyOf, ReentrantBegins, frame_level, reentrant_body, HasBegun}
 use Rattle.treecode.specs.declared.place.Home.TheVariants as homes
 use Rattle.treecode.specs.declared.place.Location.TheVariants as locations
 use Rattle.treecode.specs.declared.procedure.ProcedureKind.TheVariants as kinds
@@ -114,7 +114,7 @@ module _ (code : ModuleCode) (entries : Entries) (bound : ℕ) (lies : ModuleLie
       → place ≡ to
       → IsMade level found.frame_bytes top found.parameter_types values r memory now ended
       → Know at.context facts now ended
-      → Does code.program.script s.budget 0 (at_place place now ended s.events)
+      → Does (loaded_by code) s.budget 0 (at_place place now ended s.events)
       (parameters_set (surroundings_in code (room - charge_of found)) found.parameter_types
       found.parameters values
       (record s { frame = frame_of index code.typed }))
@@ -149,6 +149,12 @@ module _ (code : ModuleCode) (entries : Entries) (bound : ℕ) (lies : ModuleLie
             code = λ address within.
                 made.kept address (λ from below. not_code address within from below)
                 ∙ enters.shares.code address within;
+            others = record {
+              size = made.is_memory.size ∙ sym enters.shares.is_memory.size ∙ enters.shares.others.size;
+              bytes = λ address outside.
+                  made.kept address (λ from below. outside (of_stack address from below))
+                  ∙ enters.shares.others.bytes address outside;
+            };
           };
           frame_lies = set.lies;
           kept = keeps_all (Owns at.context.activation level) ended;
@@ -188,6 +194,10 @@ module _ (code : ModuleCode) (entries : Entries) (bound : ℕ) (lies : ModuleLie
       not_code address within from below =
           lies.placed.apart address within.0 within.1 (omega (arith, bottom, low, from))
           (omega (arith, below, high))
+
+      of_stack : (address : ℕ) → frame_level body.frame.now top ≤ address + 1 → address < top
+          → MayChange code.program address
+      of_stack address from below = inr (omega (arith, bottom, low, from), omega (arith, below, high))
 
       of_call : (address : ℕ) → frame_level body.frame.now top ≤ address + 1 → address < top
           → IsOfCall code.program (top + 2 - room) (top + 2 + bytes_pushed values) address
@@ -369,7 +379,7 @@ module _ (code : ModuleCode) (entries : Entries) (bound : ℕ) (lies : ModuleLie
       (first from to : ℕ) (begun : Here)
       → StepsLie at at_start begun (entry_steps body first) from to
       → LastIs code.typed (InFrame index) found.parameter_types found.parameters values (top + 2) r memory
-      → Does code.program.script s.budget 0 (at_place from r memory s.events)
+      → Does (loaded_by code) s.budget 0 (at_place from r memory s.events)
       (parameters_set (surroundings_in code (room - charge_of found)) found.parameter_types
       found.parameters values
       (record s { frame = frame_of index code.typed }))
@@ -385,7 +395,7 @@ module _ (code : ModuleCode) (entries : Entries) (bound : ℕ) (lies : ModuleLie
       (parameter_at code.tree.now.homes.items (last.scalar, last.parameter)) last_listed)) stand)
       (λ more.
       subst (λ (state : State).
-      Does code.program.script s.budget 0 state
+      Does (loaded_by code) s.budget 0 state
       (parameters_set (surroundings_in code (room - charge_of found)) found.parameter_types
       found.parameters values
       (record s { frame = frame_of index code.typed }))
@@ -501,7 +511,7 @@ module _ (code : ModuleCode) (entries : Entries) (bound : ℕ) (lies : ModuleLie
       (first from to : ℕ) (begun : Here)
       → StepsLie at at_start begun (entry_steps body first) from to
       → NoneAre found.parameter_types found.parameters values
-      → Does code.program.script s.budget 0 (at_place from r memory s.events)
+      → Does (loaded_by code) s.budget 0 (at_place from r memory s.events)
       (parameters_set (surroundings_in code (room - charge_of found)) found.parameter_types
       found.parameters values
       (record s { frame = frame_of index code.typed }))
@@ -573,7 +583,7 @@ module _ (code : ModuleCode) (entries : Entries) (bound : ℕ) (lies : ModuleLie
   pub entry_begins :
       (first from to : ℕ) (begun : Here)
       → StepsLie at at_start begun (entry_steps body first) from to
-      → Does code.program.script s.budget 0 (at_place from r memory s.events)
+      → Does (loaded_by code) s.budget 0 (at_place from r memory s.events)
       (parameters_set (surroundings_in code (room - charge_of found)) found.parameter_types
       found.parameters values
       (record s { frame = frame_of index code.typed }))
@@ -586,7 +596,7 @@ module _ (code : ModuleCode) (entries : Entries) (bound : ℕ) (lies : ModuleLie
     where
       by_last : NoneAre found.parameter_types found.parameters values
           ⊎ LastIs code.typed (InFrame index) found.parameter_types found.parameters values (top + 2) r memory
-          → Does code.program.script s.budget 0 (at_place from r memory s.events)
+          → Does (loaded_by code) s.budget 0 (at_place from r memory s.events)
           (parameters_set (surroundings_in code (room - charge_of found)) found.parameter_types
           found.parameters values
           (record s { frame = frame_of index code.typed }))

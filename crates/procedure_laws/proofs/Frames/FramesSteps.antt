@@ -1,5 +1,5 @@
 -- Planned steps that stand in the code, taken one by one.
-use Rattle.procedure_laws.proofs.Prelude.{◌≡◌, ℕ, ◌+◌, Bool, true, false, List, [], ◌∷◌, ◌++◌, None, refl, subst, Event, SourceState, Outcome, Condition, Instr, Registers, State, holds_of, act, Item, AtLabel, JumpWhere, AgreesIn, size_of_instruction, IsThere, LiesWell, Does, at_place, jump_passed, jump_taken, plain_first, after_mark, after_plain, mark_lies, Facts, LabelNumber, after, no_facts, with_facts, HoldsWritten, JumpWritten, MarkWritten, NoneWritten, PlainWritten, Planned, holds, jump, mark, plain, Here, AreCarriedOut, NoneCarriedOut, StepCarriedOut, carried_steps, here_after, waiting_after, BodyContext}
+use Rattle.procedure_laws.proofs.Prelude.{◌≡◌, ℕ, ◌+◌, Bool, true, false, List, [], ◌∷◌, ◌++◌, None, refl, subst, Event, SourceState, Outcome, Condition, Instr, Registers, State, holds_of, act, Item, AtLabel, JumpWhere, AgreesIn, size_of_instruction, IsThere, LiesWell, Does, loaded_of, at_place, jump_passed, jump_taken, plain_first, after_mark, after_plain, mark_lies, Facts, LabelNumber, after, no_facts, with_facts, HoldsWritten, JumpWritten, MarkWritten, NoneWritten, PlainWritten, Planned, holds, jump, mark, plain, Here, AreCarriedOut, NoneCarriedOut, StepCarriedOut, carried_steps, here_after, waiting_after, BodyContext}
 use Rattle.asm8080.specs.declared.item.Item.TheVariants as items
 use Rattle.code_meaning.proofs.Standing.{after_word}
 
@@ -64,11 +64,11 @@ pub plain_goes :
     → StepsLie at here last (plain i ∷ others) from to
     → (StepsLie at (record { facts = after here.facts i; goes_on = here.goes_on }) last others
     (from + size_of_instruction i) to
-    → Does at.context.activation.around.program.script budget 0
+    → Does (loaded_of at.context.activation) budget 0
     (act at.context.activation.around.program.script i
     (at_place (from + size_of_instruction i) r memory events)) outcome
     Good)
-    → Does at.context.activation.around.program.script budget 0 (at_place from r memory events) outcome Good
+    → Does (loaded_of at.context.activation) budget 0 (at_place from r memory events) outcome Good
 plain_goes {A = A} {budget = budget} {outcome = outcome} {Good = Good} {here = here} {last = last}
     {from = from} {to = to} {memory = memory} {events = events} at i others r lies agrees stand rest =
     let taken = take_plain at i others stand.written in
@@ -139,9 +139,9 @@ pub jump_goes :
     → AgreesIn at.context.activation.around.program.placement.code at.context.activation.image memory
     → StepsLie at here last (jump (JumpWhere c) label ∷ others) from to
     → holds_of c r.flags ≡ true
-    → Does at.context.activation.around.program.script budget 0
+    → Does (loaded_of at.context.activation) budget 0
     (at_place (at.context.activation.layout.place_of label.index) r memory events) outcome Good
-    → Does at.context.activation.around.program.script budget 0 (at_place from r memory events) outcome Good
+    → Does (loaded_of at.context.activation) budget 0 (at_place from r memory events) outcome Good
 jump_goes {from = from} {to = to} at c label others r lies agrees stand is rest =
     let taken = take_jump at c label others stand.written in
     let there : IsThere at.context.activation
@@ -158,9 +158,9 @@ pub jump_stays :
     → StepsLie at here last (jump (JumpWhere c) label ∷ others) from to
     → holds_of c r.flags ≡ false
     → (StepsLie at here last others (from + 3) to
-    → Does at.context.activation.around.program.script budget 0
+    → Does (loaded_of at.context.activation) budget 0
     (at_place (from + 3) r memory events) outcome Good)
-    → Does at.context.activation.around.program.script budget 0 (at_place from r memory events) outcome Good
+    → Does (loaded_of at.context.activation) budget 0 (at_place from r memory events) outcome Good
 jump_stays {here = here} {last = last} {from = from} {to = to} at c label others r lies agrees stand is rest =
     let taken = take_jump at c label others stand.written in
     let there : IsThere at.context.activation

@@ -1,5 +1,5 @@
 -- Bytes are dropped from the stack before a return; the result stays where it is.
-use Rattle.procedure_laws.proofs.Prelude.{◌≡◌, ℕ, zero, suc, ◌+◌, ◌*◌, ◌/◌, ◌%◌, ◌<◌, ◌≤◌, nat_le, Bool, true, false, if◌then◌else◌, List, [], ◌∷◌, ◌++◌, replicate, Option, Some, None, refl, sym, ap, subst, ◌∙◌, arith, append_assoc, MEMORY_SIZE, IsMemory, byte_at, byte_small, Event, ScalarType, Byte, Address, SourceState, Outcome, Dad, Inx, Lxi, Pop, Sphl, Xchg, Hl, Sp, StackPair, StackBc, act, HoldBytes, Registers, State, word, wrap, with_popped, AgreesIn, IsPushed, pop_does, LiesWell, Does, at_place, Planned, plain, Here, drop_steps, kept_steps, pops_steps, ResultLies, BodyContext, high_of_two, low_of_two, wrapped_next}
+use Rattle.procedure_laws.proofs.Prelude.{◌≡◌, ℕ, zero, suc, ◌+◌, ◌*◌, ◌/◌, ◌%◌, ◌<◌, ◌≤◌, nat_le, Bool, true, false, if◌then◌else◌, List, [], ◌∷◌, ◌++◌, replicate, Option, Some, None, refl, sym, ap, subst, ◌∙◌, arith, append_assoc, MEMORY_SIZE, IsMemory, byte_at, byte_small, Event, ScalarType, Byte, Address, SourceState, Outcome, Dad, Inx, Lxi, Pop, Sphl, Xchg, Hl, Sp, StackPair, StackBc, act, HoldBytes, Registers, State, word, wrap, with_popped, AgreesIn, IsPushed, pop_does, LiesWell, Does, loaded_of, at_place, Planned, plain, Here, drop_steps, kept_steps, pops_steps, ResultLies, BodyContext, high_of_two, low_of_two, wrapped_next}
 use Rattle.procedure_laws.proofs.Frames.FramesSteps.{StepsLie, plain_goes}
 use Rattle.procedure_laws.proofs.Returns.StaticReturns.{result_kept}
 use Rattle.procedure_laws.proofs.Zeros.{same_steps}
@@ -23,7 +23,7 @@ GoesOnAt at last others budget outcome Good events top to kept memory =
     (here : Here) (place : ℕ) (now : Registers)
     → StepsLie at here last others place to
     → IsAt top kept now
-    → Does at.context.activation.around.program.script budget 0
+    → Does (loaded_of at.context.activation) budget 0
     (at_place place now memory events) outcome Good
 
 -- the word at an address
@@ -82,7 +82,7 @@ module _ {A : Type 0} {budget : ℕ} {outcome : Outcome A}
       → StepsLie at here last (pops_steps words ++ others) from to
       → IsAt top kept now
       → GoesOnAt at last others budget outcome Good events (top + 2 * words) to kept memory
-      → Does at.context.activation.around.program.script budget 0
+      → Does (loaded_of at.context.activation) budget 0
       (at_place from now memory events) outcome Good
   unfolding pops_steps
   words_dropped zero top from kept now others {here = here} limit stand is rest =
@@ -95,7 +95,7 @@ module _ {A : Type 0} {budget : ℕ} {outcome : Outcome A}
       let small = word_small top memory is_memory in
       plain_goes at (Pop StackBc) (replicate words (plain (Pop StackBc)) ++ others) now lies agrees stand
       (λ more.
-      subst (λ (state : State). Does at.context.activation.around.program.script budget 0 state outcome Good)
+      subst (λ (state : State). Does (loaded_of at.context.activation) budget 0 state outcome Good)
       (sym (pop_is at.context.activation.around.program.script StackBc (from + 1) top now
       memory events is.pointer
       (omega (arith, limit)) is_memory))
@@ -131,7 +131,7 @@ module _ {A : Type 0} {budget : ℕ} {outcome : Outcome A}
       → StepsLie at here last (replicate bytes (plain (Inx Sp)) ++ others) from to
       → IsAt top kept now
       → GoesOnAt at last others budget outcome Good events (top + bytes) to kept memory
-      → Does at.context.activation.around.program.script budget 0
+      → Does (loaded_of at.context.activation) budget 0
       (at_place from now memory events) outcome Good
   bytes_dropped zero top from kept now others {here = here} stand is rest =
       rest here from now stand
@@ -174,7 +174,7 @@ module _ {A : Type 0} {budget : ℕ} {outcome : Outcome A}
       → IsAt top kept now
       → GoesOnAt at last others budget outcome Good events (top + bytes) to
       (record kept { h = wrap (top + bytes) / 256; l = wrap (top + bytes) % 256 }) memory
-      → Does at.context.activation.around.program.script budget 0
+      → Does (loaded_of at.context.activation) budget 0
       (at_place from now memory events) outcome Good
   sum_dropped bytes top from kept now others small stand is rest =
       plain_goes at (Lxi Hl bytes) (plain (Dad Sp) ∷ plain Sphl ∷ others) now lies agrees stand
@@ -228,7 +228,7 @@ module _ {A : Type 0} {budget : ℕ} {outcome : Outcome A}
       → IsAt top kept now
       → GoesOnAt at last others budget outcome Good events top to
       (record kept { h = kept.d; l = kept.e; d = kept.h; e = kept.l }) memory
-      → Does at.context.activation.around.program.script budget 0
+      → Does (loaded_of at.context.activation) budget 0
       (at_place from now memory events) outcome Good
   exchanged top from kept now others stand is rest =
       plain_goes at Xchg others now lies agrees stand
@@ -276,9 +276,9 @@ module _ {A : Type 0} {budget : ℕ} {outcome : Outcome A}
       → ((here : Here) (place : ℕ) (after : Registers)
       → StepsLie at here last others place to
       → IsBack (top + bytes) result value memory after
-      → Does at.context.activation.around.program.script budget 0
+      → Does (loaded_of at.context.activation) budget 0
       (at_place place after memory events) outcome Good)
-      → Does at.context.activation.around.program.script budget 0
+      → Does (loaded_of at.context.activation) budget 0
       (at_place from now memory events) outcome Good
   unfolding drop_steps kept_steps
   frame_dropped bytes result value top from now others {here = here} small limit stand is rest =
@@ -304,9 +304,9 @@ module _ {A : Type 0} {budget : ℕ} {outcome : Outcome A}
           → ((here : Here) (place : ℕ) (after : Registers)
           → StepsLie at here last others place to
           → IsBack (top + bytes) result value memory after
-          → Does at.context.activation.around.program.script budget 0
+          → Does (loaded_of at.context.activation) budget 0
           (at_place place after memory events) outcome Good)
-          → Does at.context.activation.around.program.script budget 0
+          → Does (loaded_of at.context.activation) budget 0
           (at_place from now memory events) outcome Good
       by_result None stand lie rest =
           sum_dropped at lies agrees is_memory bytes top from now now others small stand itself
@@ -342,7 +342,7 @@ module _ {A : Type 0} {budget : ℕ} {outcome : Outcome A}
           → StepsLie at here last
           ((if test then pops_steps (bytes / 2) ++ replicate (bytes % 2) (plain (Inx Sp))
           else kept_steps result (Lxi Hl bytes ∷ Dad Sp ∷ Sphl ∷ [])) ++ others) from to
-          → Does at.context.activation.around.program.script budget 0
+          → Does (loaded_of at.context.activation) budget 0
           (at_place from now memory events) outcome Good
       by_test true stand =
           words_dropped at lies agrees is_memory (bytes / 2) top from now now

@@ -1,6 +1,6 @@
 -- A return over the words of arguments above the return address, and then all returns of REENTRANT
 -- procedures.
-use Rattle.procedure_laws.proofs.Prelude.{◌≡◌, ◌≢◌, ℕ, zero, suc, ◌+◌, ◌-◌, ◌*◌, ◌/◌, ◌%◌, ◌<◌, ◌≤◌, nat_eq, min, inr, Bool, true, false, if◌then◌else◌, List, [], ◌∷◌, ◌++◌, length, slice_get, Option, Some, None, refl, sym, ap, subst, ◌∙◌, arith, eqb-true, length-set, MEMORY_SIZE, byte_at, ScalarType, Byte, Address, Gave, SourceState, Pchl, Pop, Push, Ret, StackDe, StackHl, HoldBytes, Registers, State, high_byte, low_byte, word, wrap, with_popped, running, pushed, pushed_is_memory, pushed_is_pushed, pushed_keeps, push_does, LiesWell, Shares, Does, at_place, does_without_step, keeps_all, plain, Here, pops_steps, return_over_any_steps, return_over_steps, ResultLies, BodyContext, IsOfCall, ReturnLies, HasReturned, add-zero}
+use Rattle.procedure_laws.proofs.Prelude.{◌≡◌, ◌≢◌, ℕ, zero, suc, ◌+◌, ◌-◌, ◌*◌, ◌/◌, ◌%◌, ◌<◌, ◌≤◌, nat_eq, min, inr, Bool, true, false, if◌then◌else◌, List, [], ◌∷◌, ◌++◌, length, slice_get, Option, Some, None, refl, sym, ap, subst, ◌∙◌, arith, eqb-true, length-set, MEMORY_SIZE, byte_at, ScalarType, Byte, Address, Gave, SourceState, Pchl, Pop, Push, Ret, StackDe, StackHl, HoldBytes, Registers, State, high_byte, low_byte, word, wrap, with_popped, running, pushed, pushed_is_memory, pushed_is_pushed, pushed_keeps, push_does, LiesWell, MayChange, Shares, Does, loaded_of, at_place, does_without_step, keeps_all, keeps_pushed, plain, Here, pops_steps, return_over_any_steps, return_over_steps, ResultLies, BodyContext, IsOfCall, ReturnLies, HasReturned, add-zero}
 use Rattle.procedure_laws.proofs.Frames.FramesSteps.{StepsLie, plain_goes}
 use Rattle.procedure_laws.proofs.Returns.ReturnsDrop.{IsBack, pop_is, word_small, word_there, words_dropped}
 use Rattle.procedure_laws.proofs.Returns.StaticReturns.{result_kept, return_does}
@@ -35,7 +35,7 @@ module _ (at : BodyContext) (result : Option ScalarType) (value above back : ℕ
       → HoldBytes now
       → now.sp ≡ wrap above
       → ResultLies result value now memory
-      → Does at.context.activation.around.program.script t.budget 0
+      → Does (loaded_of at.context.activation) t.budget 0
       (at_place back now memory t.events) (Gave value t)
       (λ value t end. HasReturned at result above back memory value t end)
   returned_so now bytes pointer lie =
@@ -58,14 +58,14 @@ module _ (at : BodyContext) (result : Option ScalarType) (value above back : ℕ
       → StepsLie at here last (plain Ret ∷ []) from to
       → ReturnLies top back memory
       → IsBack top result value memory now
-      → Does at.context.activation.around.program.script t.budget 0
+      → Does (loaded_of at.context.activation) t.budget 0
       (at_place from now memory t.events) (Gave value t)
       (λ value t end. HasReturned at result above back memory value t end)
   ret_returns from to top here last now same stand return_lies is =
       plain_goes at Ret [] now lies shares.code stand
       (λ more.
       subst (λ (state : State).
-      Does at.context.activation.around.program.script t.budget 0 state (Gave value t)
+      Does (loaded_of at.context.activation) t.budget 0 state (Gave value t)
       (λ value t end. HasReturned at result above back memory value t end))
       (sym (return_does at.context.activation.around.program.script (from + 1) top back now memory
       t.events is.pointer limit
@@ -99,14 +99,14 @@ module _ (at : BodyContext) (result : Option ScalarType) (value above back : ℕ
       → HoldBytes now
       → now.sp ≡ wrap top
       → ((after : Registers) → after.a ≡ now.a → ResultLies result value after memory)
-      → Does at.context.activation.around.program.script t.budget 0
+      → Does (loaded_of at.context.activation) t.budget 0
       (at_place from now memory t.events) (Gave value t)
       (λ value t end. HasReturned at result above back memory value t end)
   pchl_returns words from to top here last now same stand return_lies bytes pointer lie =
       plain_goes at (Pop StackHl) (pops_steps words ++ (plain Pchl ∷ [])) now lies shares.code stand
       (λ more.
       subst (λ (state : State).
-      Does at.context.activation.around.program.script t.budget 0 state (Gave value t)
+      Does (loaded_of at.context.activation) t.budget 0 state (Gave value t)
       (λ value t end. HasReturned at result above back memory value t end))
       (sym (pop_is at.context.activation.around.program.script StackHl (from + 1) top now memory
       t.events pointer limit
@@ -136,7 +136,7 @@ module _ (at : BodyContext) (result : Option ScalarType) (value above back : ℕ
       plain_goes at Pchl [] after lies shares.code stand_after
       (λ nothing.
       subst (λ (n : ℕ).
-      Does at.context.activation.around.program.script t.budget 0
+      Does (loaded_of at.context.activation) t.budget 0
       (running (record after { pc = n }) memory t.events)
       (Gave value t) (λ value t end. HasReturned at result above back memory value t end))
       (sym (pair_is after.h after.l (word_there memory top) back is_at.h is_at.l
@@ -160,7 +160,7 @@ module _ (at : BodyContext) (result : Option ScalarType) (value above back : ℕ
       → now.sp ≡ wrap top
       → ((after : Registers) (ended : List ℕ) → after.a ≡ now.a → after.h ≡ now.h → after.l ≡ now.l
       → ResultLies result value after ended)
-      → Does at.context.activation.around.program.script t.budget 0
+      → Does (loaded_of at.context.activation) t.budget 0
       (at_place from now memory t.events) (Gave value t)
       (λ value t end. HasReturned at result above back memory value t end)
   push_returns words from to top here last now same stand return_lies bytes pointer lie =
@@ -168,7 +168,7 @@ module _ (at : BodyContext) (result : Option ScalarType) (value above back : ℕ
       lies shares.code stand
       (λ more.
       subst (λ (state : State).
-      Does at.context.activation.around.program.script t.budget 0 state (Gave value t)
+      Does (loaded_of at.context.activation) t.budget 0 state (Gave value t)
       (λ value t end. HasReturned at result above back memory value t end))
       (sym (pop_is at.context.activation.around.program.script StackDe (from + 1) top now memory
       t.events pointer limit
@@ -199,7 +199,7 @@ module _ (at : BodyContext) (result : Option ScalarType) (value above back : ℕ
       plain_goes at (Push StackDe) (plain Ret ∷ []) after lies shares.code stand_after
       (λ ret_stands.
       subst (λ (state : State).
-      Does at.context.activation.around.program.script t.budget 0 state (Gave value t)
+      Does (loaded_of at.context.activation) t.budget 0 state (Gave value t)
       (λ value t end. HasReturned at result above back memory value t end))
       (sym (push_does at.context.activation.around.program.script StackDe (place + 1) above
       after memory t.events
@@ -211,7 +211,7 @@ module _ (at : BodyContext) (result : Option ScalarType) (value above back : ℕ
       (plain_goes at Ret [] (record after { sp = wrap (above - 2) }) lies now_shares.code ret_stands
       (λ nothing.
       subst (λ (state : State).
-      Does at.context.activation.around.program.script t.budget 0 state (Gave value t)
+      Does (loaded_of at.context.activation) t.budget 0 state (Gave value t)
       (λ value t end. HasReturned at result above back memory value t end))
       (sym (return_does at.context.activation.around.program.script (place + 1 + 1) (above - 2) back
       (record after { sp = wrap (above - 2) }) (pushed above (wrap back) memory) t.events refl
@@ -293,6 +293,10 @@ module _ (at : BodyContext) (result : Option ScalarType) (value above back : ℕ
                 (λ is. apart address there.0 there.1 (omega (arith, is, low, bottom))
                 (omega (arith, is, low, high)))
                 ∙ shares.code address there;
+            others = keeps_pushed (MayChange at.context.activation.around.program) above (wrap back)
+                at.context.activation.image memory
+                (inr (omega (arith, low, bottom), omega (arith, low, high)))
+                (inr (omega (arith, low, bottom), omega (arith, low, high))) shares.others;
           }
 
   -- over any words
@@ -302,7 +306,7 @@ module _ (at : BodyContext) (result : Option ScalarType) (value above back : ℕ
       → StepsLie at here last (return_over_any_steps words result) from to
       → ReturnLies top back memory
       → IsBack top result value memory now
-      → Does at.context.activation.around.program.script t.budget 0
+      → Does (loaded_of at.context.activation) t.budget 0
       (at_place from now memory t.events) (Gave value t)
       (λ value t end. HasReturned at result above back memory value t end)
   unfolding return_over_any_steps return_over_steps
@@ -311,7 +315,7 @@ module _ (at : BodyContext) (result : Option ScalarType) (value above back : ℕ
     where
       by_result : (its : Option ScalarType) → result ≡ its
           → StepsLie at here last (return_over_steps words its) from to
-          → Does at.context.activation.around.program.script t.budget 0
+          → Does (loaded_of at.context.activation) t.budget 0
           (at_place from now memory t.events) (Gave value t)
           (λ value t end. HasReturned at result above back memory value t end)
       by_result None equal stand =
@@ -328,7 +332,7 @@ module _ (at : BodyContext) (result : Option ScalarType) (value above back : ℕ
 
       by_test : (test : Bool) → nat_eq words 0 ≡ test
           → StepsLie at here last (if test then plain Ret ∷ [] else return_over_steps words result) from to
-          → Does at.context.activation.around.program.script t.budget 0
+          → Does (loaded_of at.context.activation) t.budget 0
           (at_place from now memory t.events) (Gave value t)
           (λ value t end. HasReturned at result above back memory value t end)
       by_test true none stand =

@@ -1,5 +1,5 @@
 -- A REENTRANT procedure returns: its frame is dropped, and the words of its other arguments.
-use Rattle.procedure_laws.proofs.Prelude.{◌≡◌, ℕ, ◌+◌, ◌-◌, ◌*◌, ◌<◌, ◌≤◌, nat_eq, min, Bool, true, false, if◌then◌else◌, ◌++◌, length, refl, sym, ap, subst, ◌∙◌, arith, eqb-true, eqb-false, MEMORY_SIZE, HasParameters, Gave, SourceState, State, ProcedureKind, TreeProcedure, IsProcedure, nodes_of, return_distance, return_of, parameter_count, frame_fits, has_parameters, LiesWell, Does, at_place, Body, drop_steps, return_of_frame_steps, return_over_any_steps, return_steps, return_steps_by, Entries, ReturnLies, ModuleCode, ModuleLies, ReentrantReturns, frame_level, reentrant_body, HasReturned}
+use Rattle.procedure_laws.proofs.Prelude.{◌≡◌, ℕ, ◌+◌, ◌-◌, ◌*◌, ◌<◌, ◌≤◌, nat_eq, min, Bool, true, false, if◌then◌else◌, ◌++◌, length, refl, sym, ap, subst, ◌∙◌, arith, eqb-true, eqb-false, MEMORY_SIZE, HasParameters, Gave, SourceState, State, ProcedureKind, TreeProcedure, IsProcedure, nodes_of, return_distance, return_of, parameter_count, frame_fits, has_parameters, LiesWell, Does, at_place, Body, drop_steps, return_of_frame_steps, return_over_any_steps, return_steps, return_steps_by, Entries, ReturnLies, ModuleCode, loaded_by, ModuleLies, ReentrantReturns, frame_level, reentrant_body, HasReturned}
 use Rattle.treecode.specs.declared.procedure.ProcedureKind.TheVariants as kinds
 use Rattle.procedure_laws.proofs.ProcedureCalls.{return_is}
 use Rattle.procedure_laws.proofs.Returns.ReturnsDrop.{frame_dropped}
@@ -96,7 +96,7 @@ reentrant_returns code entries bound lies index number room top procedure found 
     small : dropped body.frame.now.variable_bytes body.frame.now.parameter_count < MEMORY_SIZE
     small = omega arith
 
-    does : Does code.program.script t.budget 0 (at_place place r memory t.events) (Gave value t)
+    does : Does (loaded_by code) t.budget 0 (at_place place r memory t.events) (Gave value t)
         (λ (value : ℕ) (t : SourceState) (end : State).
         HasReturned (reentrant_body code index found body bound number room top) body.procedure.now.result
         (frame_level body.frame.now top + (2 + 2 * length found.parameters + found.frame_bytes))

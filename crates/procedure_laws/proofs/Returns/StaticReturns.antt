@@ -1,5 +1,5 @@
 -- A procedure that is not REENTRANT returns by RET.
-use Rattle.procedure_laws.proofs.Prelude.{◌≡◌, ℕ, ◌+◌, ◌-◌, ◌*◌, ◌/◌, ◌%◌, ◌≤◌, List, [], ◌∷◌, Option, Some, None, refl, ap, subst, ◌∙◌, arith, MEMORY_SIZE, byte_at, word_at, Event, ScalarType, Byte, Address, Gave, SourceState, Ret, act, Registers, State, wrap, running, step_of, Item, ProcedureKind, TreeProcedure, IsThere, LiesWell, Does, at_place, plain_step, after_step, does_without_step, keeps_all, Body, Planned, plain, AreCarriedOut, return_steps, return_steps_by, ResultLies, BodyContext, IsOfCall, ReturnLies, ModuleCode, StaticReturns, static_body, static_level, HasReturned}
+use Rattle.procedure_laws.proofs.Prelude.{◌≡◌, ℕ, ◌+◌, ◌-◌, ◌*◌, ◌/◌, ◌%◌, ◌≤◌, List, [], ◌∷◌, Option, Some, None, refl, ap, subst, ◌∙◌, arith, MEMORY_SIZE, byte_at, word_at, Event, ScalarType, Byte, Address, Gave, SourceState, Ret, act, Registers, State, wrap, running, step_of, Item, ProcedureKind, TreeProcedure, IsThere, LiesWell, Does, at_place, plain_step, after_step, does_without_step, keeps_all, Body, Planned, plain, AreCarriedOut, return_steps, return_steps_by, ResultLies, BodyContext, IsOfCall, ReturnLies, ModuleCode, loaded_by, StaticReturns, static_body, static_level, HasReturned}
 use Rattle.asm8080.proofs.Stack as stack
 use Rattle.treecode.specs.declared.procedure.ProcedureKind.TheVariants as kinds
 use Rattle.procedure_laws.proofs.Ends.{plain_planned}
@@ -83,7 +83,7 @@ static_returns code bound index number room top procedure found body is static f
         t.events ready.pointer limit
         return_lies
 
-    does : Does code.program.script t.budget 0 (at_place place r memory t.events) (Gave value t)
+    does : Does (loaded_by code) t.budget 0 (at_place place r memory t.events) (Gave value t)
         (λ (value : ℕ) (t : SourceState) (end : State).
         HasReturned (static_body code index found body bound number room top) body.procedure.now.result
         (static_level found top + 2) back memory value t end)

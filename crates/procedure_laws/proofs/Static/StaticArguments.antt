@@ -1,5 +1,5 @@
 -- The arguments that a procedure which is not REENTRANT finds on the stack, under the return address.
-use Rattle.procedure_laws.proofs.Prelude.{◌≡◌, ℕ, ◌+◌, ◌-◌, ◌*◌, ◌<◌, ◌≤◌, Bool, true, false, if◌then◌else◌, List, [], ◌∷◌, ◌++◌, length, slice_get, Some, None, refl, sym, ap, subst, ◌∙◌, arith, append_assoc, same_Some, MEMORY_SIZE, byte_at, byte_small, Event, ScalarType, Byte, Address, frame_bytes, Outcome, SourceState, Pop, Push, Xthl, StackDe, StackHl, HoldBytes, Registers, State, high_byte, low_byte, wrap, Item, pushed, pushed_is_pushed, Static, Parameter, IsThere, Does, at_place, Facts, after, after_word, word_item, Planned, plain, Here, AreCarriedOut, argument_facts, argument_step, below_return_steps, exchanged_steps, is_address, known_at, known_from, popped_from, pushed_arguments_steps, InRegister, InWord, IsSound, BodyContext, ReturnLies, high_of_sum, low_of_sum, wrapped_small}
+use Rattle.procedure_laws.proofs.Prelude.{◌≡◌, ℕ, ◌+◌, ◌-◌, ◌*◌, ◌<◌, ◌≤◌, Bool, true, false, if◌then◌else◌, List, [], ◌∷◌, ◌++◌, length, slice_get, Some, None, refl, sym, ap, subst, ◌∙◌, arith, append_assoc, same_Some, MEMORY_SIZE, byte_at, byte_small, Event, ScalarType, Byte, Address, frame_bytes, Outcome, SourceState, Pop, Push, Xthl, StackDe, StackHl, HoldBytes, Registers, State, high_byte, low_byte, wrap, Item, pushed, pushed_is_pushed, Static, Parameter, IsThere, Does, loaded_of, at_place, Facts, after, after_word, word_item, Planned, plain, Here, AreCarriedOut, argument_facts, argument_step, below_return_steps, exchanged_steps, is_address, known_at, known_from, popped_from, pushed_arguments_steps, InRegister, InWord, IsSound, BodyContext, ReturnLies, high_of_sum, low_of_sum, wrapped_small}
 use Rattle.asm8080.specs.declared.item.Item.TheVariants as items
 use Rattle.statements8080.specs.Plans.{word}
 use Rattle.procedure_laws.proofs.Planned.{IsBehind, plain_behind, word_behind}
@@ -69,9 +69,9 @@ module _ (at : BodyContext) (sound : IsSound at.context)
       → Underway at (top + 2 + 2 * length others) entered entered here.facts top source r memory
       → Held slots values facts r
       → ((below : IsBelow facts source memory r last rest to facts)
-      → Does at.context.activation.around.program.script budget 0
+      → Does (loaded_of at.context.activation) budget 0
       (at_place below.from below.now below.ended events) outcome Good)
-      → Does at.context.activation.around.program.script budget 0 (at_place from r memory events) outcome Good
+      → Does (loaded_of at.context.activation) budget 0 (at_place from r memory events) outcome Good
   unfolding pushed_arguments_steps limit
   pushed_does rest facts here last list from to source memory r written there on held go =
       pop_goes at sound no_frame (top + 2 + 2 * length others) entered frame none StackDe (wrap back) r
@@ -182,9 +182,9 @@ module _ (at : BodyContext) (sound : IsSound at.context)
       → Underway at (top + 2 + 2 * length others) entered entered here.facts top source r memory
       → Held slots values facts r
       → ((below : IsBelow facts source memory r last rest to facts)
-      → Does at.context.activation.around.program.script budget 0
+      → Does (loaded_of at.context.activation) budget 0
       (at_place below.from below.now below.ended events) outcome Good)
-      → Does at.context.activation.around.program.script budget 0 (at_place from r memory events) outcome Good
+      → Does (loaded_of at.context.activation) budget 0 (at_place from r memory events) outcome Good
   unfolding exchanged_steps known_from known_at limit
   exchanged_does only rest facts here last list from to source memory r alone address
       written there on held go =
@@ -415,9 +415,9 @@ module _ (at : BodyContext) (sound : IsSound at.context)
       → Underway at (top + 2 + 2 * length others) entered entered here.facts top source r memory
       → Held slots values facts r
       → ((below : IsBelow facts source memory r last rest to facts)
-      → Does at.context.activation.around.program.script budget 0
+      → Does (loaded_of at.context.activation) budget 0
       (at_place below.from below.now below.ended events) outcome Good)
-      → Does at.context.activation.around.program.script budget 0 (at_place from r memory events) outcome Good
+      → Does (loaded_of at.context.activation) budget 0 (at_place from r memory events) outcome Good
   unfolding below_return_steps known_from
   below_does {A = A} {outcome = outcome} {Good = Good} {budget = budget} {events = events} rest facts here
       last list from to source memory r written there on held go =
@@ -426,7 +426,7 @@ module _ (at : BodyContext) (sound : IsSound at.context)
       pushed_then : (list_of : List Parameter) → others ≡ list_of
           → AreCarriedOut at.body at.context.called here None
           (pushed_arguments_steps list_of ++ rest) list last
-          → Does at.context.activation.around.program.script budget 0
+          → Does (loaded_of at.context.activation) budget 0
           (at_place from r memory events) outcome Good
       pushed_then list_of same written =
           pushed_does rest facts here last list from to source memory r
@@ -438,7 +438,7 @@ module _ (at : BodyContext) (sound : IsSound at.context)
       by_test : (only : Parameter) (test : Bool) → others ≡ only ∷ [] → is_address only.scalar ≡ test
           → AreCarriedOut at.body at.context.called here None
           ((if test then exchanged_steps only else pushed_arguments_steps (only ∷ [])) ++ rest) list last
-          → Does at.context.activation.around.program.script budget 0
+          → Does (loaded_of at.context.activation) budget 0
           (at_place from r memory events) outcome Good
       by_test only true same is written =
           exchanged_does only rest facts here last list from to source memory r same is
@@ -447,7 +447,7 @@ module _ (at : BodyContext) (sound : IsSound at.context)
 
       by_others : (list_of : List Parameter) → others ≡ list_of
           → AreCarriedOut at.body at.context.called here None (below_return_steps list_of ++ rest) list last
-          → Does at.context.activation.around.program.script budget 0
+          → Does (loaded_of at.context.activation) budget 0
           (at_place from r memory events) outcome Good
       by_others [] same written =
           let no_others : length others ≡ 0 = ap (λ (list : List Parameter). length list) same in

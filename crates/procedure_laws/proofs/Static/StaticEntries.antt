@@ -1,5 +1,5 @@
 -- The entry of a procedure that is not REENTRANT, from its first instruction to the begin of its body.
-use Rattle.procedure_laws.proofs.Prelude.{◌≡◌, ℕ, suc, ◌+◌, ◌-◌, ◌*◌, ◌<◌, ◌≤◌, List, [], ◌∷◌, ◌++◌, length, map, slice_get, Option, Some, None, refl, sym, ap, subst, ◌∙◌, arith, take, MEMORY_SIZE, frame_bytes, Gave, SourceState, Registers, State, Item, Static, Parameter, IsReady, IsThere, Does, at_place, does_without_step, with_facts_hold, Facts, after_word, no_facts, word_item, Planned, holds, Here, AreCarriedOut, below_return_steps, known_from, static_entry_steps, stores_steps, with_argument, ArgumentsLie, InRegister, InWord, IsSound, Know, BodyContext, ReturnLies, at_start, HasBegun}
+use Rattle.procedure_laws.proofs.Prelude.{◌≡◌, ℕ, suc, ◌+◌, ◌-◌, ◌*◌, ◌<◌, ◌≤◌, List, [], ◌∷◌, ◌++◌, length, map, slice_get, Option, Some, None, refl, sym, ap, subst, ◌∙◌, arith, take, MEMORY_SIZE, frame_bytes, Gave, SourceState, Registers, State, Item, Static, Parameter, IsReady, IsThere, Does, loaded_of, at_place, does_without_step, with_facts_hold, Facts, after_word, no_facts, word_item, Planned, holds, Here, AreCarriedOut, below_return_steps, known_from, static_entry_steps, stores_steps, with_argument, ArgumentsLie, InRegister, InWord, IsSound, Know, BodyContext, ReturnLies, at_start, HasBegun}
 use Rattle.statements8080.specs.Plans.{word}
 use Rattle.procedure_laws.proofs.Planned.{EndsKnowing, IsBehind, holds_last, word_behind}
 use Rattle.procedure_laws.proofs.Puts.{AreVariables, EachApart, Slot, put, put_down, set_all, set_down}
@@ -41,7 +41,7 @@ module _ (at : BodyContext) (sound : IsSound at.context)
       → level ≡ top + 2 * (length slots - 1)
       → ReturnLies level back stacked
       → Know at.context held r memory
-      → Does at.context.activation.around.program.script t.budget 0
+      → Does (loaded_of at.context.activation) t.budget 0
       (at_place from r memory t.events) (Gave tt t) Good
   finish held here list from level stacked r memory written there on same returns known =
       does_without_step (record {
@@ -89,7 +89,7 @@ module _ (at : BodyContext) (sound : IsSound at.context)
       (static_entry_steps (map parameter_of slots)) list begun
       → IsThere at.context.activation list from to
       → Underway at (top + 2 + 2 * (length slots - 1)) entered entered no_facts top source r entered
-      → Does at.context.activation.around.program.script t.budget 0
+      → Does (loaded_of at.context.activation) t.budget 0
       (at_place from r entered t.events) (Gave tt t) Good
   unfolding static_entry_steps stores_steps
   some_does others list from r count arguments written there on =
@@ -245,7 +245,7 @@ module _ (at : BodyContext) (sound : IsSound at.context)
           (take others (map parameter_of slots))
           (length (take others (map parameter_of slots)))) ∷ [])
           to (with_argument no_facts (parameter_of slot.one)))
-          → Does at.context.activation.around.program.script t.budget 0
+          → Does (loaded_of at.context.activation) t.budget 0
           (at_place below.from below.now below.ended t.events) (Gave tt t) Good
       ending below =
           finish

@@ -1,5 +1,5 @@
 -- Arguments on the stack go to their parameters, from the last of them on.
-use Rattle.procedure_laws.proofs.Prelude.{◌≡◌, ℕ, zero, suc, ◌+◌, ◌-◌, ◌*◌, ◌/◌, ◌%◌, ◌<◌, ◌≤◌, false, List, [], ◌∷◌, ◌++◌, length, slice_get, Option, Some, None, refl, sym, ap, subst, ◌∙◌, arith, MEMORY_SIZE, byte_at, byte_small, Event, ScalarType, Byte, Address, frame_bytes, Outcome, SourceState, Instr, Pop, HoldBytes, Registers, State, with_popped, wrap, Item, WordForm, size_of_instruction, Location, Static, Place, Parameter, Activation, IsThere, IsVariable, Does, at_place, both_there, place_at, Facts, after, after_word, word_item, Planned, plain, Here, AreCarriedOut, argument_facts, known_at, known_from, pair_of, popped_argument_steps, popped_at, popped_from, store_argument, with_argument, InRegister, InWord, IsSound, popped_bytes, BodyContext, byte_as_low, high_of_sum, low_of_sum}
+use Rattle.procedure_laws.proofs.Prelude.{◌≡◌, ℕ, zero, suc, ◌+◌, ◌-◌, ◌*◌, ◌/◌, ◌%◌, ◌<◌, ◌≤◌, false, List, [], ◌∷◌, ◌++◌, length, slice_get, Option, Some, None, refl, sym, ap, subst, ◌∙◌, arith, MEMORY_SIZE, byte_at, byte_small, Event, ScalarType, Byte, Address, frame_bytes, Outcome, SourceState, Instr, Pop, HoldBytes, Registers, State, with_popped, wrap, Item, WordForm, size_of_instruction, Location, Static, Place, Parameter, Activation, IsThere, IsVariable, Does, loaded_of, at_place, both_there, place_at, Facts, after, after_word, word_item, Planned, plain, Here, AreCarriedOut, argument_facts, known_at, known_from, pair_of, popped_argument_steps, popped_at, popped_from, store_argument, with_argument, InRegister, InWord, IsSound, popped_bytes, BodyContext, byte_as_low, high_of_sum, low_of_sum}
 use Rattle.asm8080.specs.declared.item.Item.TheVariants as items
 use Rattle.statements8080.specs.Plans.{word}
 use Rattle.procedure_laws.proofs.Planned.{IsBehind, plain_behind, word_behind}
@@ -219,9 +219,9 @@ module _ (at : BodyContext) (sound : IsSound at.context)
       → Held slots values (known_from facts parameters count) now
       → now.d ≡ r.d
       → now.e ≡ r.e
-      → Does at.context.activation.around.program.script budget 0
+      → Does (loaded_of at.context.activation) budget 0
       (at_place from_then now (put_down count slots values memory) events) outcome Good)
-      → Does at.context.activation.around.program.script budget 0 (at_place from r memory events) outcome Good
+      → Does (loaded_of at.context.activation) budget 0 (at_place from r memory events) outcome Good
   unfolding popped_from known_from
   loop_does zero rest facts here last list from to top source memory r few top_is written there on held go =
       go here list from r written there
@@ -245,7 +245,7 @@ module _ (at : BodyContext) (sound : IsSound at.context)
       popped
       (λ stored.
       subst (λ (memory : List ℕ).
-      Does at.context.activation.around.program.script budget 0
+      Does (loaded_of at.context.activation) budget 0
       (at_place (from + size_of_instruction (Pop (pair_of one.slot.scalar)) + 3) now memory events) outcome
       Good)
       (nth_is count slots values memory one.slot one.value one.there one.value_is)

@@ -1,5 +1,5 @@
 -- The procedures of a module that are not REENTRANT begin as they are meant to.
-use Rattle.procedure_laws.proofs.Prelude.{◌≡◌, ◌≢◌, ℕ, zero, suc, ◌+◌, ◌-◌, ◌*◌, ◌≤◌, Bool, true, false, if◌then◌else◌, List, [], ◌∷◌, length, map, replicate, slice_get, slice_index_or, Some, None, refl, sym, ap, subst, ◌∙◌, arith, eqb-true, AllPairs, ScalarType, Visibility, charge_of, AreParameters, HasParameters, home_of_parameters, size_of_object, BasedOn, Elsewhere, Home, InConstants, InData, InFrame, Nowhere, Placed, TypedModule, TypedObject, TypedProcedure, frame_bytes, frame_of, is_frame_of, parameters_set, Gave, SourceState, State, Parameter, ProcedureKind, TreeProcedure, kind_of, IsProcedure, nodes_of, has_parameters, Does, at_place, keeps_all, no_facts_hold, no_facts, Body, Planned, holds, AreCarriedOut, entry_steps, entry_steps_by, static_entry_steps, ArgumentsLie, bytes_pushed, BodyContext, Entries, IsOfCall, ModuleCode, ModuleLies, at_start, surroundings_in, StaticBegins, static_body, HasBegun}
+use Rattle.procedure_laws.proofs.Prelude.{◌≡◌, ◌≢◌, ℕ, zero, suc, ◌+◌, ◌-◌, ◌*◌, ◌≤◌, Bool, true, false, if◌then◌else◌, List, [], ◌∷◌, length, map, replicate, slice_get, slice_index_or, Some, None, refl, sym, ap, subst, ◌∙◌, arith, eqb-true, AllPairs, ScalarType, Visibility, charge_of, AreParameters, HasParameters, home_of_parameters, size_of_object, BasedOn, Elsewhere, Home, InConstants, InData, InFrame, Nowhere, Placed, TypedModule, TypedObject, TypedProcedure, frame_bytes, frame_of, is_frame_of, parameters_set, Gave, SourceState, State, Parameter, ProcedureKind, TreeProcedure, kind_of, IsProcedure, nodes_of, has_parameters, Does, at_place, keeps_all, no_facts_hold, no_facts, Body, Planned, holds, AreCarriedOut, entry_steps, entry_steps_by, static_entry_steps, ArgumentsLie, bytes_pushed, BodyContext, Entries, IsOfCall, ModuleCode, loaded_by, ModuleLies, at_start, surroundings_in, StaticBegins, static_body, HasBegun}
 use Rattle.typed_trees.specs.declared.parts.Visibility.TheVariants as visibilities
 use Rattle.treecode.specs.declared.procedure.ProcedureKind.TheVariants as kinds
 use Rattle.procedure_laws.proofs.ProcedureCalls.{as_many_values, charge_is}
@@ -109,11 +109,11 @@ pub static_begins : (code : ModuleCode) (entries : Entries) (bound : ℕ) → Mo
 static_begins code entries bound lies index number room from to top first procedure found body list begun is
     static fits sound written there back values s r memory enters =
     subst (λ (scalars : List ScalarType).
-    Does code.program.script s.budget 0 (at_place from r memory s.events)
+    Does (loaded_by code) s.budget 0 (at_place from r memory s.events)
     (parameters_set (surroundings_in code (room - charge_of found)) scalars found.parameters values
     (record s { frame = frame_of index code.typed })) Good) has.scalars_are
     (subst (λ (parameters : List ℕ).
-    Does code.program.script s.budget 0 (at_place from r memory s.events)
+    Does (loaded_by code) s.budget 0 (at_place from r memory s.events)
     (parameters_set (surroundings_in code (room - charge_of found))
     (map (λ (slot : Slot). slot.scalar) has.slots) parameters values
     (record s { frame = frame_of index code.typed })) Good) has.objects_are
@@ -210,12 +210,12 @@ static_begins code entries bound lies index number room from to top first proced
 
     entry : AreVariables code.program has.slots
         → (count : ℕ) → length has.slots ≡ count
-        → Does code.program.script s.budget 0 (at_place from r memory s.events)
+        → Does (loaded_by code) s.budget 0 (at_place from r memory s.events)
         (Gave tt (record s { frame = frame_of index code.typed; memory = set_all has.slots values s.memory }))
         Good
     entry variables zero none_there =
         subst (λ (above : ℕ).
-        Does code.program.script s.budget 0 (at_place from r memory s.events)
+        Does (loaded_by code) s.budget 0 (at_place from r memory s.events)
         (Gave tt (record s { frame = frame_of index code.typed; memory = set_all has.slots values s.memory }))
         (λ given t end.
         HasBegun (static_body code index found body bound number room top) to above back
@@ -242,7 +242,7 @@ static_begins code entries bound lies index number room from to top first proced
         (omega (arith, none_there)) enters.return_lies no_facts_hold)
     entry variables (suc others) count =
         subst (λ (above : ℕ).
-        Does code.program.script s.budget 0 (at_place from r memory s.events)
+        Does (loaded_by code) s.budget 0 (at_place from r memory s.events)
         (Gave tt (record s { frame = frame_of index code.typed; memory = set_all has.slots values s.memory }))
         (λ given t end.
         HasBegun (static_body code index found body bound number room top) to above back

@@ -1,6 +1,6 @@
 -- A machine within the code by which a procedure that is not REENTRANT takes its arguments, and what it does
 -- that comes to an instruction of it.
-use Rattle.procedure_laws.proofs.Prelude.{◌≡◌, ◌≢◌, ℕ, ◌+◌, ◌-◌, ◌*◌, ◌/◌, ◌%◌, ◌<◌, ◌≤◌, inl, inr, List, [], ◌∷◌, Option, Some, None, length, slice_set, refl, sym, ap, subst, ◌∙◌, arith, length-set, set_comm, MEMORY_SIZE, byte_at, word_at, Event, ScalarType, Byte, Address, frame_bytes, Outcome, SourceState, Instr, Pop, Push, Xthl, StackPair, Psw, StackBc, StackDe, StackHl, act, HoldBytes, Registers, State, high_byte, low_byte, with_popped, wrap, WordForm, StoreA, StoreHl, instruction_with, Keeps, size_of_instruction, pushed, pushed_is_memory, pushed_keeps, pop_does, push_does, Location, Frame, Static, Place, Activation, FrameLies, IsReady, IsThere, IsVariable, LiesWell, Owns, Shares, Does, at_place, plain_first, keeps_all, keeps_put, ready_with_variable, Asks, WordAsks, AddressHolds, ByteHolds, Distances, FactsHold, IsByteAt, IsSteady, IsWordAt, WordHolds, location_at, place_at, facts_after, facts_after_word, declared_is_steady, push_asks, Facts, after, after_word, word_item, Context, InRegister, IsSound, distances_in, Know, bytes_at_place, popped_bytes, word_acts, BodyContext, IsOfCall, byte_as_low, word_of_two}
+use Rattle.procedure_laws.proofs.Prelude.{◌≡◌, ◌≢◌, ℕ, ◌+◌, ◌-◌, ◌*◌, ◌/◌, ◌%◌, ◌<◌, ◌≤◌, inl, inr, List, [], ◌∷◌, Option, Some, None, length, slice_set, refl, sym, ap, subst, ◌∙◌, arith, length-set, set_comm, MEMORY_SIZE, byte_at, word_at, Event, ScalarType, Byte, Address, frame_bytes, Outcome, SourceState, Instr, Pop, Push, Xthl, StackPair, Psw, StackBc, StackDe, StackHl, act, HoldBytes, Registers, State, high_byte, low_byte, with_popped, wrap, WordForm, StoreA, StoreHl, instruction_with, Keeps, size_of_instruction, pushed, pushed_is_memory, pushed_keeps, pop_does, push_does, Location, Frame, Static, Place, Activation, FrameLies, IsReady, IsThere, IsVariable, LiesWell, MayChange, Owns, Shares, Does, loaded_of, at_place, plain_first, keeps_all, keeps_pushed, keeps_put, ready_with_variable, Asks, WordAsks, AddressHolds, ByteHolds, Distances, FactsHold, IsByteAt, IsSteady, IsWordAt, WordHolds, location_at, place_at, facts_after, facts_after_word, declared_is_steady, push_asks, Facts, after, after_word, word_item, Context, InRegister, IsSound, distances_in, Know, bytes_at_place, popped_bytes, word_acts, BodyContext, IsOfCall, byte_as_low, word_of_two}
 use Rattle.asm8080.specs.declared.item.Item.TheVariants as items
 use Rattle.procedure_laws.proofs.Puts.{IsPart, Slot, put, put_kept}
 use Rattle.procedure_laws.proofs.Numbers.{two_less_again, two_more_one, wrapped_two_more}
@@ -167,12 +167,13 @@ module _ (at : BodyContext) (sound : IsSound at.context)
       (at_place (from + size_of_instruction i) r memory events)
       ≡ at_place (from + size_of_instruction i) now ended events
       → (KnownOutside at.context (after facts i) now ended
-      → Does at.context.activation.around.program.script budget 0
+      → Does (loaded_of at.context.activation) budget 0
       (at_place (from + size_of_instruction i) now ended events) outcome Good)
-      → Does at.context.activation.around.program.script budget 0 (at_place from r memory events) outcome Good
+      → Does (loaded_of at.context.activation) budget 0 (at_place from r memory events) outcome Good
   plain_on {outcome = outcome} {Good = Good} {budget = budget} {facts = facts} {memory = memory}
       {events = events} {i = i} {from = from} r now ended there on asks does rest =
       let script = at.context.activation.around.program.script in
+      let loaded = loaded_of at.context.activation in
       let place = from + size_of_instruction i in
       let known : KnownOutside at.context (after facts i) now ended
       = subst (λ (s : State). KnownOutside at.context (after facts i) s.registers s.memory) does
@@ -180,7 +181,7 @@ module _ (at : BodyContext) (sound : IsSound at.context)
       (at_place place r memory events) on.shares.is_memory
       (bytes_at_place (wrap place) r on.registers) asks on.known) in
       plain_first r sound.lies on.shares.code there
-      (subst (λ (s : State). Does script budget 0 s outcome Good) (sym does) (rest known))
+      (subst (λ (s : State). Does loaded budget 0 s outcome Good) (sym does) (rest known))
 
   word_on :
       {A : Type 0} {outcome : Outcome A} {Good : A → SourceState → State → Type 0} {budget : ℕ}
@@ -194,12 +195,13 @@ module _ (at : BodyContext) (sound : IsSound at.context)
       (at_place (from + 3) r memory events)
       ≡ at_place (from + 3) now ended events
       → (KnownOutside at.context (after_word facts form place) now ended
-      → Does at.context.activation.around.program.script budget 0
+      → Does (loaded_of at.context.activation) budget 0
       (at_place (from + 3) now ended events) outcome Good)
-      → Does at.context.activation.around.program.script budget 0 (at_place from r memory events) outcome Good
+      → Does (loaded_of at.context.activation) budget 0 (at_place from r memory events) outcome Good
   word_on {outcome = outcome} {Good = Good} {budget = budget} {facts = facts} {memory = memory}
       {events = events} {from = from} form place r now ended there on asks does rest =
       let script = at.context.activation.around.program.script in
+      let loaded = loaded_of at.context.activation in
       let known : KnownOutside at.context (after_word facts form place) now ended
       = subst (λ (s : State). KnownOutside at.context (after_word facts form place) s.registers s.memory) does
       (facts_after_word script (at_end at.context.activation) (distances_at_end at.context) facts form place
@@ -207,7 +209,7 @@ module _ (at : BodyContext) (sound : IsSound at.context)
       (bytes_at_place (wrap (from + 3)) r on.registers) asks
       on.known) in
       word_acts form place r sound on.shares.code there
-      (subst (λ (s : State). Does script budget 0 s outcome Good) (sym does) (rest known))
+      (subst (λ (s : State). Does loaded budget 0 s outcome Good) (sym does) (rest known))
 
   -- the bytes of a variable are no bytes of the stack
   stack_kept : (scalar : ScalarType) (start value : ℕ) (memory : List ℕ)
@@ -321,9 +323,9 @@ module _ (at : BodyContext) (sound : IsSound at.context)
       → Underway at above entered stacked facts top source r memory
       → (Underway at above entered stacked (after_word facts (store_form slot.scalar) slot.place) top
       (put slot.scalar slot.at value source) r (put slot.scalar slot.at value memory)
-      → Does at.context.activation.around.program.script budget 0
+      → Does (loaded_of at.context.activation) budget 0
       (at_place (from + 3) r (put slot.scalar slot.at value memory) events) outcome Good)
-      → Does at.context.activation.around.program.script budget 0 (at_place from r memory events) outcome Good
+      → Does (loaded_of at.context.activation) budget 0 (at_place from r memory events) outcome Good
   store_goes {memory = memory} {events = events} {from = from} slot value r is variables small
       lies there on rest =
       word_on (store_form slot.scalar) slot.place r r (put slot.scalar slot.at value memory) there on
@@ -369,10 +371,10 @@ module _ (at : BodyContext) (sound : IsSound at.context)
       → Underway at above entered stacked facts top source r memory
       → (Underway at above entered stacked (after facts (Pop pair)) (top + 2) source
       (record (with_popped pair word r) { sp = wrap (top + 2) }) memory
-      → Does at.context.activation.around.program.script budget 0
+      → Does (loaded_of at.context.activation) budget 0
       (at_place (from + size_of_instruction (Pop pair))
       (record (with_popped pair word r) { sp = wrap (top + 2) }) memory events) outcome Good)
-      → Does at.context.activation.around.program.script budget 0 (at_place from r memory events) outcome Good
+      → Does (loaded_of at.context.activation) budget 0 (at_place from r memory events) outcome Good
   pop_goes {facts = facts} {top = top} {memory = memory} {events = events} {from = from} pair word r small low
       high limit there on rest =
       plain_on r (record (with_popped pair word r) { sp = wrap (top + 2) }) memory there on
@@ -435,6 +437,10 @@ module _ (at : BodyContext) (sound : IsSound at.context)
               apart address there.0 there.1 (omega (arith, same, low, bottom))
               (omega (arith, same, low, high, end)))
               ∙ on.shares.code address there;
+          others = keeps_pushed (MayChange at.context.activation.around.program) level word
+              at.context.activation.image memory
+              (inr (omega (arith, low, bottom), omega (arith, low, high, end)))
+              (inr (omega (arith, low, bottom), omega (arith, low, high, end))) on.shares.others;
         };
         known = known;
         kept = record {
@@ -465,10 +471,10 @@ module _ (at : BodyContext) (sound : IsSound at.context)
       → (Underway at above entered (pushed top (256 * r.d + r.e) memory)
       (after facts (Push StackDe)) (top - 2) source
       (record r { sp = wrap (top - 2) }) (pushed top (256 * r.d + r.e) memory)
-      → Does at.context.activation.around.program.script budget 0
+      → Does (loaded_of at.context.activation) budget 0
       (at_place (from + 1) (record r { sp = wrap (top - 2) }) (pushed top (256 * r.d + r.e) memory) events)
       outcome Good)
-      → Does at.context.activation.around.program.script budget 0 (at_place from r memory events) outcome Good
+      → Does (loaded_of at.context.activation) budget 0 (at_place from r memory events) outcome Good
   push_goes {top = top} {memory = memory} {events = events} {from = from} r low high end there on rest =
       let stack = sound.lies.placed.stack_in_memory in
       let limit : top ≤ MEMORY_SIZE = omega (arith, high, end, stack) in
@@ -504,10 +510,10 @@ module _ (at : BodyContext) (sound : IsSound at.context)
       → (Underway at above entered (pushed (top + 2) (256 * r.h + r.l) memory) (after facts Xthl)
       (top + 2 - 2) source
       (record r { h = high_byte word; l = low_byte word }) (pushed (top + 2) (256 * r.h + r.l) memory)
-      → Does at.context.activation.around.program.script budget 0
+      → Does (loaded_of at.context.activation) budget 0
       (at_place (from + 1) (record r { h = high_byte word; l = low_byte word })
       (pushed (top + 2) (256 * r.h + r.l) memory) events) outcome Good)
-      → Does at.context.activation.around.program.script budget 0 (at_place from r memory events) outcome Good
+      → Does (loaded_of at.context.activation) budget 0 (at_place from r memory events) outcome Good
   exchange_goes {top = top} {memory = memory} {events = events} {from = from} word r small low_byte_is
       high_byte_is low high end there on rest =
       let bytes = on.registers in

@@ -35,7 +35,7 @@ use Rattle.treecode.specs.Lowered.{IsLowered}
 use Rattle.treecode.specs.Nodes.{home_at, nodes_of}
 use Rattle.treecode.specs.Resolved.{Resolves}
 use Rattle.frames.specs.Frames.{HasNothing, IsPlanOf}
-use Rattle.code_meaning.specs.Activations.{Activation, IsThere, PlacementLies}
+use Rattle.code_meaning.specs.Activations.{Activation, IsThere, PlacementLies, Loaded}
 use Rattle.code_meaning.specs.Holding.{place_at}
 use Rattle.steps8080.specs.Facts.{no_facts}
 use Rattle.exprgen8080.specs.internal.Emission.{has_routine, module_label_of_routine}
@@ -58,6 +58,10 @@ pub record ModuleCode : Type 0 where
   pub tree : Bor TreeModule
   pub called : List Bool
   pub layout : Layout
+
+-- the program that a module is of, as it is loaded
+abbrev pub loaded_by : ModuleCode → Loaded
+loaded_by code = record { program = code.program; image = code.image }
 
 -- what code of a module is carried out in, with so much room on the stack
 abbrev pub surroundings_in : ModuleCode → (room : ℕ) → Surroundings

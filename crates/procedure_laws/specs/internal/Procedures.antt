@@ -6,7 +6,7 @@ use Rattle.meaning.specs.Meaning.{frame_of, parameters_set}
 use Rattle.meaning.specs.Outcomes.{State as SourceState}
 use Rattle.isa8080.specs.State.{HoldBytes, Registers, State, wrap}
 use Rattle.asm8080.specs.Standing.{Keeps}
-use Rattle.code_meaning.specs.Activations.{IsReady, Shares}
+use Rattle.code_meaning.specs.Activations.{IsReady, Shares, loaded_of}
 use Rattle.code_meaning.specs.Landing.{Does, Lands, at_place}
 use Rattle.steps8080.specs.declared.facts.Facts.{Facts}
 use Rattle.statement_laws.specs.internal.CodeContexts.{ResultLies, bytes_pushed}
@@ -34,7 +34,7 @@ BeginDoes at number found room entry to top facts =
     (back : ℕ) (values : List ℕ) (s : SourceState) (r : Registers) (memory : List ℕ)
     → IsEntered at.context.activation.around.program at.context.activation.image room found.parameter_types values
     top back s r memory
-    → Does at.context.activation.around.program.script s.budget 0 (at_place entry r memory s.events)
+    → Does (loaded_of at.context.activation) s.budget 0 (at_place entry r memory s.events)
     (parameters_set at.context.activation.around found.parameter_types found.parameters values
     (record s { frame = frame_of number at.context.typed }))
     (λ given t end. HasBegun at to (top + 2 + bytes_pushed values) back facts memory t end)

@@ -1,5 +1,5 @@
 -- An assignment does what it says.
-use Rattle.statement_laws.proofs.Prelude.{◌≡◌, ℕ, suc, ◌+◌, ◌*◌, ◌<◌, ◌≤◌, max, Bool, true, false, if◌then◌else◌, is_some, nat_eq, List, [], ◌∷◌, ◌++◌, Option, Some, None, refl, sym, ap, subst, ◌∙◌, arith, eqb-true, ScalarType, Byte, Address, height_of, height_of_targets, type_of, TypedExpression, TypedTarget, TypesHold, TypesHoldInTargets, stored, stored_in_each, value, SourceState, Outcome, Gave, then_do, Flow, Onward, values_of, Registers, Expression, ExpressionNumber, Range, Target, AreTargets, IsAssignment, IsExpressionIn, IsTarget, MoreTargets, NoTargets, target_at, Does, at_place, Facts, Site, number, scalar, value_task, knowing, Planned, any_target, assignment_steps, each_at, each_steps, several_by, several_steps, single_steps, stores_steps, takes_byte, takes_word, together_steps, types_by, value_steps, part, steps_from, Here, site_of, statement_steps, nodes_in, then_again, number_means, node_of, does_same, script_of, without_more, BodyContext, IsSoundBody, Leaves, StatementStands, none_passes}
+use Rattle.statement_laws.proofs.Prelude.{◌≡◌, ℕ, suc, ◌+◌, ◌*◌, ◌<◌, ◌≤◌, max, Bool, true, false, if◌then◌else◌, is_some, nat_eq, List, [], ◌∷◌, ◌++◌, Option, Some, None, refl, sym, ap, subst, ◌∙◌, arith, eqb-true, ScalarType, Byte, Address, height_of, height_of_targets, type_of, TypedExpression, TypedTarget, TypesHold, TypesHoldInTargets, stored, stored_in_each, value, SourceState, Outcome, Gave, then_do, Flow, Onward, values_of, Registers, Expression, ExpressionNumber, Range, Target, AreTargets, IsAssignment, IsExpressionIn, IsTarget, MoreTargets, NoTargets, target_at, Does, at_place, Facts, Site, number, scalar, value_task, knowing, Planned, any_target, assignment_steps, each_at, each_steps, several_by, several_steps, single_steps, stores_steps, takes_byte, takes_word, together_steps, types_by, value_steps, part, steps_from, Here, site_of, statement_steps, nodes_in, then_again, number_means, node_of, does_same, loaded_in, without_more, BodyContext, IsSoundBody, Leaves, StatementStands, none_passes}
 use Rattle.treecode.specs.declared.statement.Statement.TheVariants as statements
 use Rattle.statement_laws.proofs.Assignments.Assignments.{Counted, single_does}
 use Rattle.statement_laws.proofs.Assignments.Firsts.{then_each}
@@ -60,7 +60,7 @@ module _
 
     abbrev Goal : (from : ℕ) (s : SourceState) (r : Registers) (memory : List ℕ) → Type 0
     Goal from s r memory =
-        Does (script_of at.context) s.budget 0 (at_place from r memory s.events)
+        Does (loaded_in at.context) s.budget 0 (at_place from r memory s.events)
         (then_do (value at.context.later at.context.activation.around tree s)
         (λ n t. then_do (stored_in_each at.context.later at.context.activation.around trees n t)
         (λ _ u. Gave Onward u)))
@@ -105,7 +105,7 @@ module _
         → here.goes_on ≡ true
         → Stand at here None from (steps_from (each_at at.body site targets of) index left) last to
         → Between at need base t here.facts r memory
-        → Does (script_of at.context) t.budget 0 (at_place from r memory t.events)
+        → Does (loaded_in at.context) t.budget 0 (at_place from r memory t.events)
         (then_do (stored_in_each at.context.later at.context.activation.around some n t)
         (λ _ u. Gave Onward u))
         (Leaves at base to last before)
@@ -205,7 +205,7 @@ module _
             → targets.count ≡ count
             → Stand at (going true facts) None from
             (steps_from (each_at at.body site targets of) 0 count) last to
-            → Does (script_of at.context) s.budget 0 (at_place from r memory s.events)
+            → Does (loaded_in at.context) s.budget 0 (at_place from r memory s.events)
             (then_do (value at.context.later at.context.activation.around tree s)
             (λ n t. then_do (stored_in_each at.context.later at.context.activation.around some n t)
             (λ _ u. Gave Onward u)))

@@ -1,5 +1,5 @@
 -- Steps to spare: a store makes one, which what follows it may spend.
-use Rattle.statement_laws.proofs.Prelude.{ℕ, ◌+◌, ◌*◌, ◌<◌, ◌≤◌, false, List, sym, ap, subst, arith, ScalarType, height_of_target, TypedTarget, TypesHoldInTarget, stored, SourceState, Ended, More, Outside, Outcome, Gave, Stopped, then_do, values_of, Registers, State, comes_on, Target, IsTarget, Does, Lands, Told, at_place, told_on, Facts, from_type, InRegister, nodes_in, StoreDoes, does_same, script_of, BodyContext, room_for}
+use Rattle.statement_laws.proofs.Prelude.{ℕ, ◌+◌, ◌*◌, ◌<◌, ◌≤◌, false, List, sym, ap, subst, arith, ScalarType, height_of_target, TypedTarget, TypesHoldInTarget, stored, SourceState, Ended, More, Outside, Outcome, Gave, Stopped, then_do, values_of, Registers, State, comes_on, Target, IsTarget, Does, Loaded, Lands, Told, at_place, told_on, Facts, from_type, InRegister, nodes_in, StoreDoes, does_same, loaded_in, BodyContext, room_for}
 use Rattle.statement_laws.proofs.Outcomes.{Between}
 use Rattle.statement_laws.proofs.Targets.{Suits, retyped, retyped_height, retyped_is, retyped_types, stored_alike}
 
@@ -24,31 +24,34 @@ lands_sparing {script = script} {from = from} one two =
     }
 
 told_sparing :
-    {A : Type 0} {script : List (List ℕ)} {budget : ℕ} {from : State} {middle : ℕ} {First : State → Type 0}
-    (one : Lands script budget 1 from middle First) (outcome : Outcome A)
+    {A : Type 0} (loaded : Loaded) {budget : ℕ} {from : State} {middle : ℕ} {First : State → Type 0}
+    (one : Lands loaded.program.script budget 1 from middle First) (outcome : Outcome A)
     (Good : A → SourceState → State → Type 0)
-    → Told script middle 0 one.end outcome Good
-    → Told script budget 1 from outcome Good
-told_sparing one (Gave found t) Good two = lands_sparing one two
-told_sparing {middle = middle} one (Stopped Ended t) Good two =
-    told_on one middle 0 (Stopped Ended t) Good (omega arith) (omega arith) two
-told_sparing {middle = middle} one (Stopped More t) Good two =
-    told_on one middle 0 (Stopped More t) Good (omega arith) (omega arith) two
-told_sparing one (Stopped (Outside reason) t) Good two = tt
+    → Told loaded middle 0 one.end outcome Good
+    → Told loaded budget 1 from outcome Good
+told_sparing loaded one (Gave found t) Good two = lands_sparing one two
+told_sparing loaded {middle = middle} one (Stopped Ended t) Good two =
+    told_on loaded one middle 0 (Stopped Ended t) Good (omega arith) (omega arith) two
+told_sparing loaded {middle = middle} one (Stopped More t) Good two =
+    told_on loaded one middle 0 (Stopped More t) Good (omega arith) (omega arith) two
+told_sparing loaded one (Stopped (Outside reason) t) Good two = tt
 
 -- a part with a step to spare, and then others that leave it
 pub then_spares :
-    {A B : Type 0} {script : List (List ℕ)} {budget : ℕ} {from : State} (outcome : Outcome A)
+    {A B : Type 0} {loaded : Loaded} {budget : ℕ} {from : State} (outcome : Outcome A)
     {go : A → SourceState → Outcome B} {Middle : A → SourceState → State → Type 0}
     {Good : B → SourceState → State → Type 0}
-    → Does script budget 1 from outcome Middle
+    → Does loaded budget 1 from outcome Middle
     → ((found : A) (t : SourceState) (end : State) → Middle found t end → t.budget ≤ budget
-    → Does script t.budget 0 end (go found t) Good)
-    → Does script budget 1 from (then_do outcome go) Good
-then_spares {script = script} {budget = budget} {from = from} (Gave found t) {go = go} {Middle = Middle}
+    → Does loaded t.budget 0 end (go found t) Good)
+    → Does loaded budget 1 from (then_do outcome go) Good
+then_spares {loaded = loaded} {budget = budget} {from = from} (Gave found t) {go = go} {Middle = Middle}
     {Good = Good} one rest =
-    let first : Lands script budget 1 from t.budget (Middle found t) = one.told in
-    record { told = told_sparing first (go found t) Good (rest found t first.end first.is_good first.spent).told }
+    let first : Lands loaded.program.script budget 1 from t.budget (Middle found t) = one.told in
+    record {
+      told =
+          told_sparing loaded first (go found t) Good (rest found t first.end first.is_good first.spent).told;
+    }
 then_spares (Stopped Ended t) one rest = record { told = one.told }
 then_spares (Stopped More t) one rest = record { told = one.told }
 then_spares (Stopped (Outside reason) t) one rest = record { told = tt }
@@ -70,8 +73,8 @@ pub target_spares :
     → Between at need base t facts r memory
     → ((u : SourceState) (now : Registers) (memory_now : List ℕ)
     → Between at need base u found now memory_now
-    → Does (script_of at.context) u.budget 0 (at_place middle now memory_now u.events) (go tt u) Good)
-    → Does (script_of at.context) t.budget 1 (at_place from r memory t.events)
+    → Does (loaded_in at.context) u.budget 0 (at_place middle now memory_now u.events) (go tt u) Good)
+    → Does (loaded_in at.context) t.budget 1 (at_place from r memory t.events)
     (then_do (stored at.context.later at.context.activation.around tree number t) go) Good
 target_spares {need = need} {bound = bound} {base = base} {t = t} {facts = facts} {found = found} {r = r}
     {memory = memory} {Good = Good} at scalar there from middle number other target tree go does is types
@@ -90,7 +93,7 @@ target_spares {need = need} {bound = bound} {base = base} {t = t} {facts = facts
     stage.ready stage.known has)
     (λ given u end arrives spent.
     let below = stage.below in
-    subst (λ (s : State). Does (script_of at.context) u.budget 0 s (go tt u) Good) (sym arrives.is_at)
+    subst (λ (s : State). Does (loaded_in at.context) u.budget 0 s (go tt u) Good) (sym arrives.is_at)
     (rest u arrives.r arrives.memory
     (record {
       below = omega (arith, below, spent);

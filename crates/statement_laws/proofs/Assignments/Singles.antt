@@ -1,5 +1,5 @@
 -- One target that gets a value.
-use Rattle.statement_laws.proofs.Prelude.{◌≡◌, ℕ, ◌+◌, ◌*◌, ◌/◌, ◌%◌, ◌<◌, ◌≤◌, true, false, List, [], ◌∷◌, ◌++◌, slice_set, None, refl, sym, ap, subst, ◌∙◌, arith, ScalarType, Byte, Address, height_of, height_of_reference, height_of_target, type_of, TypedExpression, TypedReference, TypedTarget, StoredIn, RefersToScalar, TypesHold, TypesHoldInReference, TypesHoldInTarget, next_place, write_byte, write_scalar, located, stored, value, SourceState, Outcome, Gave, then_do, as_type, values_of, Instr, Mvi, M, act, HoldBytes, Registers, State, high_byte, low_byte, word, wrap, size_of_instruction, ExpressionNumber, Reference, Target, IsExpressionIn, IsReference, IsTarget, IsReady, IsThere, Does, at_place, Asks, IsSteadyByte, Facts, after, high, low, value_task, Planned, from_type, number_steps, part, Here, distances_in, nodes_in, AddressDoes, AddressIsGiven, address_on_machine, then_again, located_fits, refers_is_referred, FitsIn, ready_with_registers, registers_go, at_carried, does_same, script_of, without_more, plain_gains, first_fits, next_address, second_fits, byte_written, BodyContext, IsSoundBody, next_word}
+use Rattle.statement_laws.proofs.Prelude.{◌≡◌, ℕ, ◌+◌, ◌*◌, ◌/◌, ◌%◌, ◌<◌, ◌≤◌, true, false, List, [], ◌∷◌, ◌++◌, slice_set, None, refl, sym, ap, subst, ◌∙◌, arith, ScalarType, Byte, Address, height_of, height_of_reference, height_of_target, type_of, TypedExpression, TypedReference, TypedTarget, StoredIn, RefersToScalar, TypesHold, TypesHoldInReference, TypesHoldInTarget, next_place, write_byte, write_scalar, located, stored, value, SourceState, Outcome, Gave, then_do, as_type, values_of, Instr, Mvi, M, act, HoldBytes, Registers, State, high_byte, low_byte, word, wrap, size_of_instruction, ExpressionNumber, Reference, Target, IsExpressionIn, IsReference, IsTarget, IsReady, IsThere, Does, at_place, Asks, IsSteadyByte, Facts, after, high, low, value_task, Planned, from_type, number_steps, part, Here, distances_in, nodes_in, AddressDoes, AddressIsGiven, address_on_machine, then_again, located_fits, refers_is_referred, FitsIn, ready_with_registers, registers_go, at_carried, does_same, loaded_in, script_of, without_more, plain_gains, first_fits, next_address, second_fits, byte_written, BodyContext, IsSoundBody, next_word}
 use Rattle.meaning.specs.Access.{Place}
 use Rattle.asm8080.specs.declared.item.Item.TheVariants as items
 use Rattle.steps8080.specs.declared.step.Task.TheVariants as tasks
@@ -31,14 +31,14 @@ pub byte_goes :
     → Between at need base t facts r memory
     → ((u : SourceState)
     → Between at need base u (after facts i) now (slice_set memory (word r.h r.l) byte)
-    → Does (script_of at.context) u.budget 0
+    → Does (loaded_in at.context) u.budget 0
     (at_place (from + size_of_instruction i) now (slice_set memory (word r.h r.l) byte) u.events) (go tt u)
     Good)
-    → Does (script_of at.context) t.budget 1 (at_place from r memory t.events)
+    → Does (loaded_in at.context) t.budget 1 (at_place from r memory t.events)
     (then_do (write_byte at.context.activation.around.program place byte t) go) Good
 byte_goes {need = need} {base = base} {facts = facts} {Good = Good} at i from place byte t r now memory go
     sound there small hl fits asks does pointer bytes stage rest =
-    let script = script_of at.context in
+    let loaded = loaded_in at.context in
     let left : List ℕ = slice_set memory (word r.h r.l) byte in
     byte_written place byte t go sound.sound small stage.ready fits
     (λ u events_same budget_same steady ready.
@@ -48,9 +48,9 @@ byte_goes {need = need} {base = base} {facts = facts} {Good = Good} at i from pl
     plain_gains r now left t.events sound.sound there
     (record { ready = stage.ready; known = stage.known }) (asks steady) does
     (λ known.
-    subst (λ (budget : ℕ). Does script budget 0 (at_place (from + size_of_instruction i) now left t.events)
+    subst (λ (budget : ℕ). Does loaded budget 0 (at_place (from + size_of_instruction i) now left t.events)
     (go tt u) Good) budget_same
-    (subst (λ (events : List _). Does script u.budget 0
+    (subst (λ (events : List _). Does loaded u.budget 0
     (at_place (from + size_of_instruction i) now left events) (go tt u) Good) events_same
     (rest u (record {
       below = omega (arith, below, budget_same);
@@ -79,8 +79,8 @@ pub at_address :
     → located at.context.later at.context.activation.around tree t ≡ Gave place u
     → AddressIsGiven at.context found reference r memory place now memory_now
     → Between at need base u found now memory_now
-    → Does (script_of at.context) u.budget more (at_place middle now memory_now u.events) (go place u) Good)
-    → Does (script_of at.context) t.budget more (at_place from r memory t.events)
+    → Does (loaded_in at.context) u.budget more (at_place middle now memory_now u.events) (go place u) Good)
+    → Does (loaded_in at.context) t.budget more (at_place from r memory t.events)
     (then_do (located at.context.later at.context.activation.around tree t) go) Good
 at_address {bound = bound} {found = found} {r = r} {memory = memory} {tree = tree} at scalar from middle
     reference go sound does is refers types fits stage rest =
@@ -105,13 +105,13 @@ module _
         → here.goes_on ≡ true
         → Stand at here None place others last to
         → Between at need base u here.facts r memory
-        → Does (script_of at.context) u.budget 0 (at_place place r memory u.events) (go tt u) Good
+        → Does (loaded_in at.context) u.budget 0 (at_place place r memory u.events) (go tt u) Good
 
     -- the target gets the value, with a step to spare
     abbrev pub Goal : (to_tree : TypedTarget) (from : ℕ) (s : SourceState) (r : Registers) (memory : List ℕ)
         → Type 0
     Goal to_tree from s r memory =
-        Does (script_of at.context) s.budget 1 (at_place from r memory s.events)
+        Does (loaded_in at.context) s.budget 1 (at_place from r memory s.events)
         (then_do (value at.context.later at.context.activation.around tree s)
         (λ n t. then_do (stored at.context.later at.context.activation.around to_tree n t) go)) Good
 
@@ -147,7 +147,7 @@ module _
         ≡ Gave known s) where
       of_number :
           (to_tree : TypedTarget) (from : ℕ) (s : SourceState) (r : Registers) (memory : List ℕ)
-          → Does (script_of at.context) s.budget 1 (at_place from r memory s.events)
+          → Does (loaded_in at.context) s.budget 1 (at_place from r memory s.events)
           (then_do (stored at.context.later at.context.activation.around to_tree known s) go) Good
           → Goal to_tree from s r memory
       of_number to_tree from s r memory does =
@@ -217,7 +217,7 @@ module _
           let program = at.context.activation.around.program in
           let same : as_type Address known ≡ known = omega (arith, small) in
           of_number (StoredIn from_scalar Address part_tree) from s r memory
-          (subst (λ (n : ℕ). Does (script_of at.context) s.budget 1 (at_place from r memory s.events)
+          (subst (λ (n : ℕ). Does (loaded_in at.context) s.budget 1 (at_place from r memory s.events)
           (then_do (then_do (located at.context.later at.context.activation.around part_tree s)
           (λ place t. write_scalar program Address place n t)) go) Good) (sym same)
           (does_same _

@@ -1,5 +1,5 @@
 -- The statement that DO CASE chooses, and the jump into it.
-use Rattle.statement_laws.proofs.Prelude.{◌≡◌, ℕ, zero, suc, ◌+◌, ◌*◌, ◌<◌, ◌≤◌, max, Bool, true, nat_eq, if◌then◌else◌, List, slice_get, Option, Some, None, refl, sym, ap, subst, ◌∙◌, arith, option_and_then, lt-ltb, eq-eqb, height_of_statement, height_of_statements, ListsStand, ListsStandInCases, TypedStatement, TypedStatements, NoStatements, MoreStatements, TypesHoldIn, TypesHoldInStatements, done, done_case, SourceState, Outcome, Gave, Flow, Onward, Returned, Jumped, Registers, State, step_of, Range, Statement, StatementNumber, AreStatements, AreNoStatements, AreMoreStatements, IsGoto, IsNull, IsStatement, IsStatementForm, IsStatementNode, Nodes, nodes_of, item, statement, Does, at_place, after_step, does_without_step, Facts, LabelNumber, Site, body_label, entry_of, entry_of_statement, label_at, Here, nodes_in, Stage, does_same, script_of, BodyContext, IsSoundBody, Leaves, suc_moved}
+use Rattle.statement_laws.proofs.Prelude.{◌≡◌, ℕ, zero, suc, ◌+◌, ◌*◌, ◌<◌, ◌≤◌, max, Bool, true, nat_eq, if◌then◌else◌, List, slice_get, Option, Some, None, refl, sym, ap, subst, ◌∙◌, arith, option_and_then, lt-ltb, eq-eqb, height_of_statement, height_of_statements, ListsStand, ListsStandInCases, TypedStatement, TypedStatements, NoStatements, MoreStatements, TypesHoldIn, TypesHoldInStatements, done, done_case, SourceState, Outcome, Gave, Flow, Onward, Returned, Jumped, Registers, State, step_of, Range, Statement, StatementNumber, AreStatements, AreNoStatements, AreMoreStatements, IsGoto, IsNull, IsStatement, IsStatementForm, IsStatementNode, Nodes, nodes_of, item, statement, Does, at_place, after_step, does_without_step, Facts, LabelNumber, Site, body_label, entry_of, entry_of_statement, label_at, Here, nodes_in, Stage, does_same, loaded_in, script_of, BodyContext, IsSoundBody, Leaves, suc_moved}
 use Rattle.treecode.specs.declared.statement.Statement.TheVariants as statements
 use Rattle.statement_laws.proofs.Cases.CaseTables.{EntriesStand, EntryStands, reaches_end}
 use Rattle.statement_laws.proofs.Loops.LoopTurns.{step_pays}
@@ -80,13 +80,13 @@ pub leaves_whole :
     → spent ≤ budget
     → spent < at.context.number
     → Rattle.code_meaning.specs.Activations.HasRoom at.context.activation at.context.activation.level 0 need
-    → Does (script_of at.context) spent 0 from outcome (Leaves at base middle here spent)
+    → Does (loaded_in at.context) spent 0 from outcome (Leaves at base middle here spent)
     → ((u : SourceState) (now : Registers) (memory_now : List ℕ)
     → here.goes_on ≡ true
     → Stage at.context at.context.activation.level 0 need base u here.facts now memory_now
-    → Does (script_of at.context) u.budget 0 (at_place middle now memory_now u.events) (Gave Onward u)
+    → Does (loaded_in at.context) u.budget 0 (at_place middle now memory_now u.events) (Gave Onward u)
     (Leaves at base to after budget))
-    → Does (script_of at.context) spent 0 from outcome (Leaves at base to after budget)
+    → Does (loaded_in at.context) spent 0 from outcome (Leaves at base to after budget)
 leaves_whole {at = at} {base = base} {middle = middle} {to = to} {need = need} {here = here} {after = after}
     {spent = spent} {budget = budget} {outcome = outcome} less below room does ends =
     Rattle.task_laws.proofs.Machine.Stages.gives_then outcome does
@@ -95,10 +95,10 @@ leaves_whole {at = at} {base = base} {middle = middle} {to = to} {need = need} {
     by : (flow : Flow) (u : SourceState) (end : State)
         → Leaves at base middle here spent flow u end
         → u.budget ≤ spent
-        → Does (script_of at.context) u.budget 0 end (Gave flow u) (Leaves at base to after budget)
+        → Does (loaded_in at.context) u.budget 0 end (Gave flow u) (Leaves at base to after budget)
     by Onward u end goes fewer =
         let comes = goes.comes in
-        subst (λ (state : State). Does (script_of at.context) u.budget 0 state (Gave Onward u)
+        subst (λ (state : State). Does (loaded_in at.context) u.budget 0 state (Gave Onward u)
         (Leaves at base to after budget)) (sym comes.is_at)
         (ends u comes.r comes.memory goes.goes_on
         (record { below = omega (arith, below, fewer); room = room; ready = comes.ready; known = comes.holds }))
@@ -161,7 +161,7 @@ pub enters :
     ≡ at_place
     (at.context.activation.layout.place_of (entry_of at.body list number (label_at own number) end).index)
     r memory u.events
-    → Does (script_of at.context) u.budget 0 (at_place from r memory u.events)
+    → Does (loaded_in at.context) u.budget 0 (at_place from r memory u.events)
     (done at.context.later at.context.activation.around its.tree u) (Leaves at base to after budget)
 enters {at = at} {base = base} {to = to} {need = need} {bound = bound} {budget = budget} {after = after} from
     list own end number u r memory sound entries less its fits fewer stage step =
@@ -172,7 +172,7 @@ enters {at = at} {base = base} {to = to} {need = need} {bound = bound} {budget =
         → TypesHoldIn at.context.typed at.context.within tree
         → ListsStand tree
         → 2 + 2 * height_of_statement tree ≤ need
-        → Does (script_of at.context) u.budget 0 (at_place from r memory u.events)
+        → Does (loaded_in at.context) u.budget 0 (at_place from r memory u.events)
         (done at.context.later at.context.activation.around tree u) (Leaves at base to after budget)
     by_node tree (IsStatementNode {statement = one} small there form) types lists fits =
         let entry =
@@ -190,7 +190,7 @@ enters {at = at} {base = base} {to = to} {need = need} {bound = bound} {budget =
         general : (one : Statement)
             → item at.body.tree.now list number ≡ Some its.found
             → entry_of at.body list number (label_at own number) end ≡ label_at own number
-            → Does (script_of at.context) u.budget 0 (at_place from r memory u.events)
+            → Does (loaded_in at.context) u.budget 0 (at_place from r memory u.events)
             (done at.context.later at.context.activation.around tree u) (Leaves at base to after budget)
         general one item_is is_own =
             let enough = stage.room.enough in
@@ -215,7 +215,7 @@ enters {at = at} {base = base} {to = to} {need = need} {bound = bound} {budget =
             → item at.body.tree.now list number ≡ Some its.found
             → entry_of at.body list number (label_at own number) end
             ≡ entry_of_statement at.body one (label_at own number) end
-            → Does (script_of at.context) u.budget 0 (at_place from r memory u.events)
+            → Does (loaded_in at.context) u.budget 0 (at_place from r memory u.events)
             (done at.context.later at.context.activation.around tree u) (Leaves at base to after budget)
         by_form (statements.Goto label) form item_is led_there =
             by_goto tree label form (led (body_label at.body label) led_there)
@@ -225,7 +225,7 @@ enters {at = at} {base = base} {to = to} {need = need} {bound = bound} {budget =
                 (statements.Goto label) tree
                 → step_of (script_of at.context) (at_place from r memory u.events)
                 ≡ at_place (place_of (body_label at.body label)) r memory u.events
-                → Does (script_of at.context) u.budget 0 (at_place from r memory u.events)
+                → Does (loaded_in at.context) u.budget 0 (at_place from r memory u.events)
                 (done at.context.later at.context.activation.around tree u) (Leaves at base to after budget)
             by_goto _ label (IsGoto {label = to_label} is_label) there =
                 step_pays u (λ t. Gave (Jumped to_label) t) refl refl there
@@ -242,7 +242,7 @@ enters {at = at} {base = base} {to = to} {need = need} {bound = bound} {budget =
                 statements.Null tree
                 → step_of (script_of at.context) (at_place from r memory u.events)
                 ≡ at_place (place_of end) r memory u.events
-                → Does (script_of at.context) u.budget 0 (at_place from r memory u.events)
+                → Does (loaded_in at.context) u.budget 0 (at_place from r memory u.events)
                 (done at.context.later at.context.activation.around tree u) (Leaves at base to after budget)
             by_null _ IsNull there =
                 after_step (there ∙ ap (λ (place : ℕ). at_place place r memory u.events) entries.end_is)

@@ -1,5 +1,5 @@
 -- DO CASE: the number comes into DE by its type, or is known, or there are no statements.
-use Rattle.statement_laws.proofs.Prelude.{◌≡◌, ℕ, ◌+◌, ◌*◌, ◌/◌, ◌%◌, ◌<◌, ◌≤◌, nat_lt, List, [], ◌∷◌, ◌++◌, sym, ap, subst, ◌∙◌, arith, ltb-true, ltb-false, lt-ltb, le-ltb, ScalarType, Byte, Address, height_of, height_of_statements, type_of, TypedExpression, TypedStatements, TypesHold, done_case, SourceState, Outcome, then_do, Flow, values_of, Instr, AccumulateImmediate, Xchg, Compare, Subtract, SubtractWithBorrow, A, D, E, H, L, Registers, State, word, ExpressionNumber, Range, IsExpressionIn, Does, at_place, borrow_shows, same_test, Facts, LabelNumber, Step, copy, high, low, set, plain, Here, nodes_in, PartThere, effect, value_in, Stage, at_instructions, script_of, then_does_where, BodyContext, Leaves, low_of_byte, room_for}
+use Rattle.statement_laws.proofs.Prelude.{◌≡◌, ℕ, ◌+◌, ◌*◌, ◌/◌, ◌%◌, ◌<◌, ◌≤◌, nat_lt, List, [], ◌∷◌, ◌++◌, sym, ap, subst, ◌∙◌, arith, ltb-true, ltb-false, lt-ltb, le-ltb, ScalarType, Byte, Address, height_of, height_of_statements, type_of, TypedExpression, TypedStatements, TypesHold, done_case, SourceState, Outcome, then_do, Flow, values_of, Instr, AccumulateImmediate, Xchg, Compare, Subtract, SubtractWithBorrow, A, D, E, H, L, Registers, State, word, ExpressionNumber, Range, IsExpressionIn, Does, at_place, borrow_shows, same_test, Facts, LabelNumber, Step, copy, high, low, set, plain, Here, nodes_in, PartThere, effect, value_in, Stage, at_instructions, loaded_in, then_does_where, BodyContext, Leaves, low_of_byte, room_for}
 use Rattle.steps8080.specs.declared.step.Step.TheVariants as steps
 use Rattle.steps8080.specs.declared.step.Task.TheVariants as tasks
 use Rattle.statement_laws.proofs.Cases.Cases.{CaseParts, ChoiceStands, bounded, bounded_goes, chosen}
@@ -31,8 +31,8 @@ byte_value :
     → u.budget ≤ s.budget
     → Steps at.context found middle others last to
     → Stage at.context at.context.activation.level 0 need base u found now memory_now
-    → Does (script_of at.context) u.budget 0 (at_place middle now memory_now u.events) (go n u) Good)
-    → Does (script_of at.context) s.budget 0 (at_place from r memory s.events)
+    → Does (loaded_in at.context) u.budget 0 (at_place middle now memory_now u.events) (go n u) Good)
+    → Does (loaded_in at.context) s.budget 0 (at_place from r memory s.events)
     (then_do (value_in at.context tree s) go) Good
 byte_value at {base = base} {need = need} {tree = tree} {Good = Good} choice go s r memory is types scalar
     fits (PartThere {found = found} {middle = middle} does rest) stage next =
@@ -42,7 +42,7 @@ byte_value at {base = base} {need = need} {tree = tree} {Good = Good} choice go 
     (λ n u end gave arrives spent.
     let below = stage.below in
     let small : n < 256 = of_type tree Byte n scalar (arrives.holds).small in
-    subst (λ (state : State). Does (script_of at.context) u.budget 0 state (go n u) Good) (sym arrives.is_at)
+    subst (λ (state : State). Does (loaded_in at.context) u.budget 0 state (go n u) Good) (sym arrives.is_at)
     (next n u arrives.r arrives.memory found middle small ((arrives.holds).a ∙ low_of_byte n small) spent rest
     (record { below = omega (arith, below, spent); room = stage.room; ready = arrives.ready; known = (arrives.holds).known })))
 
@@ -67,8 +67,8 @@ word_value :
     → u.budget ≤ s.budget
     → Steps at.context found middle others last to
     → Stage at.context at.context.activation.level 0 need base u found now memory_now
-    → Does (script_of at.context) u.budget 0 (at_place middle now memory_now u.events) (go n u) Good)
-    → Does (script_of at.context) s.budget 0 (at_place from r memory s.events)
+    → Does (loaded_in at.context) u.budget 0 (at_place middle now memory_now u.events) (go n u) Good)
+    → Does (loaded_in at.context) s.budget 0 (at_place from r memory s.events)
     (then_do (value_in at.context tree s) go) Good
 word_value at {base = base} {need = need} {tree = tree} {Good = Good} choice go s r memory is types scalar
     fits (PartThere {found = found} {middle = middle} does rest) stage next =
@@ -78,7 +78,7 @@ word_value at {base = base} {need = need} {tree = tree} {Good = Good} choice go 
     (λ n u end gave arrives spent.
     let below = stage.below in
     let small : n < 65536 = of_type tree Address n scalar (arrives.holds).small in
-    subst (λ (state : State). Does (script_of at.context) u.budget 0 state (go n u) Good) (sym arrives.is_at)
+    subst (λ (state : State). Does (loaded_in at.context) u.budget 0 state (go n u) Good) (sym arrives.is_at)
     (next n u arrives.r arrives.memory found middle small (arrives.holds).h (arrives.holds).l spent rest
     (record { below = omega (arith, below, spent); room = stage.room; ready = arrives.ready; known = (arrives.holds).known })))
 
@@ -143,7 +143,7 @@ pub byte_bounded :
     → ChoiceStands at list table own end before
     (byte_part choice ∷ bounded (byte_compare list.count) byte_bring end) from after to
     → Stage at.context at.context.activation.level 0 need base s before r memory
-    → Does (script_of at.context) s.budget 0 (at_place from r memory s.events) (case_of at tree trees s)
+    → Does (loaded_in at.context) s.budget 0 (at_place from r memory s.events) (case_of at tree trees s)
     (Leaves at base to after s.budget)
 byte_bounded {at = at} {trees = trees} list table own end choice s r memory asks scalar few stands stage =
     byte_value at choice (λ n t. done_case at.context.later at.context.activation.around trees n t) s r memory
@@ -165,7 +165,7 @@ pub byte_unbounded :
     → 256 ≤ list.count
     → ChoiceStands at list table own end before (byte_part choice ∷ (plain byte_bring ++ [])) from after to
     → Stage at.context at.context.activation.level 0 need base s before r memory
-    → Does (script_of at.context) s.budget 0 (at_place from r memory s.events) (case_of at tree trees s)
+    → Does (loaded_in at.context) s.budget 0 (at_place from r memory s.events) (case_of at tree trees s)
     (Leaves at base to after s.budget)
 byte_unbounded {at = at} {trees = trees} list table own end choice s r memory asks scalar many stands stage =
     byte_value at choice (λ n t. done_case at.context.later at.context.activation.around trees n t) s r memory
@@ -189,7 +189,7 @@ pub high_bounded :
     → ChoiceStands at list table own end before
     (word_part choice ∷ bounded (high_compare list.count) (Xchg ∷ []) end) from after to
     → Stage at.context at.context.activation.level 0 need base s before r memory
-    → Does (script_of at.context) s.budget 0 (at_place from r memory s.events) (case_of at tree trees s)
+    → Does (loaded_in at.context) s.budget 0 (at_place from r memory s.events) (case_of at tree trees s)
     (Leaves at base to after s.budget)
 high_bounded {at = at} {trees = trees} list table own end choice s r memory asks scalar
     few none stands stage =
@@ -214,7 +214,7 @@ pub word_bounded :
     → ChoiceStands at list table own end before
     (word_part choice ∷ bounded (word_compare list.count) (Xchg ∷ []) end) from after to
     → Stage at.context at.context.activation.level 0 need base s before r memory
-    → Does (script_of at.context) s.budget 0 (at_place from r memory s.events) (case_of at tree trees s)
+    → Does (loaded_in at.context) s.budget 0 (at_place from r memory s.events) (case_of at tree trees s)
     (Leaves at base to after s.budget)
 word_bounded {at = at} {trees = trees} list table own end choice s r memory asks scalar few stands stage =
     word_value at choice (λ n t. done_case at.context.later at.context.activation.around trees n t) s r memory
@@ -236,7 +236,7 @@ pub word_unbounded :
     → 65536 ≤ list.count
     → ChoiceStands at list table own end before (word_part choice ∷ (plain (Xchg ∷ []) ++ [])) from after to
     → Stage at.context at.context.activation.level 0 need base s before r memory
-    → Does (script_of at.context) s.budget 0 (at_place from r memory s.events) (case_of at tree trees s)
+    → Does (loaded_in at.context) s.budget 0 (at_place from r memory s.events) (case_of at tree trees s)
     (Leaves at base to after s.budget)
 word_unbounded {at = at} {trees = trees} list table own end choice s r memory asks scalar many stands stage =
     word_value at choice (λ n t. done_case at.context.later at.context.activation.around trees n t) s r memory

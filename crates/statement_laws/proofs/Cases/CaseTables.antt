@@ -1,5 +1,5 @@
 -- The table of DO CASE and the statements after it.
-use Rattle.statement_laws.proofs.Prelude.{◌≡◌, ℕ, zero, suc, ◌+◌, ◌-◌, ◌*◌, ◌<◌, Bool, true, false, nat_lt, nat_eq, if◌then◌else◌, List, [], ◌∷◌, ◌++◌, Option, Some, None, refl, sym, ap, subst, ◌∙◌, arith, ltb-false, same_Some, SourceState, Gave, Onward, Registers, AtLabel, Jump, Range, StatementNumber, item, IsThere, Does, at_place, word_step, after_step, does_without_step, Facts, LabelNumber, after_form, no_facts, jump_item, Planned, cases_end_steps, entry_of, statement_at, jump, label_at, mark, steps_from, Here, jump_on_steps, JumpThere, Know, Stage, script_of, BodyContext, IsSoundBody, Leaves, StatementDoes, add-zero, suc_moved}
+use Rattle.statement_laws.proofs.Prelude.{◌≡◌, ℕ, zero, suc, ◌+◌, ◌-◌, ◌*◌, ◌<◌, Bool, true, false, nat_lt, nat_eq, if◌then◌else◌, List, [], ◌∷◌, ◌++◌, Option, Some, None, refl, sym, ap, subst, ◌∙◌, arith, ltb-false, same_Some, SourceState, Gave, Onward, Registers, AtLabel, Jump, Range, StatementNumber, item, IsThere, Does, at_place, word_step, after_step, does_without_step, Facts, LabelNumber, after_form, no_facts, jump_item, Planned, cases_end_steps, entry_of, statement_at, jump, label_at, mark, steps_from, Here, jump_on_steps, JumpThere, Know, Stage, loaded_in, script_of, BodyContext, IsSoundBody, Leaves, StatementDoes, add-zero, suc_moved}
 use Rattle.steps8080.specs.declared.step.Step.TheVariants as steps
 use Rattle.statements8080.specs.declared.plan.Planned.TheVariants as planned
 use Rattle.statement_laws.proofs.Loops.LoopCode.{Steps}
@@ -79,7 +79,7 @@ pub record EntryStands (at : BodyContext) (own : LabelNumber) (found : Statement
   pub ends : (base : List ℕ) (need budget : ℕ) (u : SourceState) (now : Registers) (memory_now : List ℕ)
       → here.goes_on ≡ true
       → Stage at.context at.context.activation.level 0 need base u here.facts now memory_now
-      → Does (script_of at.context) u.budget 0 (at_place middle now memory_now u.events) (Gave Onward u)
+      → Does (loaded_in at.context) u.budget 0 (at_place middle now memory_now u.events) (Gave Onward u)
       (Leaves at base to after budget)
 
 -- statements after the table
@@ -101,7 +101,7 @@ pub reaches_end :
     (u : SourceState) (now : Registers) (memory_now : List ℕ)
     → record { facts = no_facts; goes_on = true } ≡ after
     → Stage at.context at.context.activation.level 0 need base u facts now memory_now
-    → Does (script_of at.context) u.budget 0 (at_place to now memory_now u.events) (Gave Onward u)
+    → Does (loaded_in at.context) u.budget 0 (at_place to now memory_now u.events) (Gave Onward u)
     (Leaves at base to after budget)
 reaches_end {at = at} {base = base} {to = to} {need = need} {after = after} {budget = budget} u now
     memory_now is stage =
@@ -223,7 +223,7 @@ behind_parted {at = at} {waiting = waiting} {after = after} {to = to} list own e
             → next.goes_on ≡ true
             → Steps at.context next.facts middle (jump_on_steps next.goes_on end) known over_there
             → Stage at.context at.context.activation.level 0 need base u next.facts now memory_now
-            → Does (script_of at.context) u.budget 0 (at_place middle now memory_now u.events) (Gave Onward u)
+            → Does (loaded_in at.context) u.budget 0 (at_place middle now memory_now u.events) (Gave Onward u)
             (Leaves at base to after budget)
         jumps_to_end {over_there = over_there} {known = known} end_is after_is u now memory_now
             goes_on stand stage =
@@ -237,7 +237,7 @@ behind_parted {at = at} {waiting = waiting} {after = after} {to = to} list own e
                 → (u : SourceState) (now : Registers) (memory_now : List ℕ)
                 → Steps at.context next.facts middle (steps.Jump Jump end ∷ []) known over_there
                 → Stage at.context at.context.activation.level 0 need base u next.facts now memory_now
-                → Does (script_of at.context) u.budget 0 (at_place middle now memory_now u.events)
+                → Does (loaded_in at.context) u.budget 0 (at_place middle now memory_now u.events)
                 (Gave Onward u) (Leaves at base to after budget)
             jump_goes end_is after_is u now memory_now (JumpThere there rest) stage =
                 after_step
@@ -259,7 +259,7 @@ behind_parted {at = at} {waiting = waiting} {after = after} {to = to} list own e
           does = subst (λ (one : StatementNumber). StatementDoes at no_facts one place next middle)
               (same_Some found other (sym is ∙ other_is)) does;
           ends = λ base need budget u now memory_now goes_on stage.
-              subst (λ (n : ℕ). Does (script_of at.context) u.budget 0 (at_place n now memory_now u.events)
+              subst (λ (n : ℕ). Does (loaded_in at.context) u.budget 0 (at_place n now memory_now u.events)
               (Gave Onward u) (Leaves at base to after budget))
               (sym (rest.over none)) (reaches_end u now memory_now rest.after_is stage);
         })

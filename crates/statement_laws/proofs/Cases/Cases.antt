@@ -1,5 +1,5 @@
 -- Code of DO CASE does what it says.
-use Rattle.statement_laws.proofs.Prelude.{◌≡◌, ℕ, ◌+◌, ◌*◌, ◌<◌, ◌≤◌, true, nat_lt, List, [], ◌∷◌, ◌++◌, map, Option, None, refl, sym, ap, subst, ◌∙◌, arith, ltb-true, ltb-false, height_of_statements, ListsStandInCases, TypedStatements, TypesHoldInStatements, done_case, SourceState, Outcome, Gave, Flow, Onward, NoCarry, Dad, Pchl, De, Hl, Registers, State, high_byte, low_byte, word, wrap, running, AtLabel, Jump, JumpWhere, LoadPair, Range, AreStatements, Does, at_place, plain_step, word_step, after_step, no_facts_hold, Facts, LabelNumber, Step, no_facts, plain, cases_end_steps, entry_of, into_table_steps, statements_steps, table_at, table_steps, Instr, label_at, Here, Context, nodes_in, JumpThere, MarkThere, NoneThere, PlainThere, AreOnRegisters, effect, ready_with_registers, Stage, at_instructions, does_same, script_of, BodyContext, IsSoundBody, Leaves, IsThere, jump_item, not-false, not-true, word_of_bytes}
+use Rattle.statement_laws.proofs.Prelude.{◌≡◌, ℕ, ◌+◌, ◌*◌, ◌<◌, ◌≤◌, true, nat_lt, List, [], ◌∷◌, ◌++◌, map, Option, None, refl, sym, ap, subst, ◌∙◌, arith, ltb-true, ltb-false, height_of_statements, ListsStandInCases, TypedStatements, TypesHoldInStatements, done_case, SourceState, Outcome, Gave, Flow, Onward, NoCarry, Dad, Pchl, De, Hl, Registers, State, high_byte, low_byte, word, wrap, running, AtLabel, Jump, JumpWhere, LoadPair, Range, AreStatements, Does, at_place, plain_step, word_step, after_step, no_facts_hold, Facts, LabelNumber, Step, no_facts, plain, cases_end_steps, entry_of, into_table_steps, statements_steps, table_at, table_steps, Instr, label_at, Here, Context, nodes_in, JumpThere, MarkThere, NoneThere, PlainThere, AreOnRegisters, effect, ready_with_registers, Stage, at_instructions, does_same, loaded_in, script_of, BodyContext, IsSoundBody, Leaves, IsThere, jump_item, not-false, not-true, word_of_bytes}
 use Rattle.steps8080.specs.declared.step.Step.TheVariants as steps
 use Rattle.statements8080.specs.declared.plan.Planned.TheVariants as planned
 use Rattle.statement_laws.proofs.Cases.CaseChoices.{IsNth, enters, from_none, nth_is, past_all}
@@ -36,8 +36,8 @@ pchl_then :
     → Steps at.context facts from (steps.Plain Pchl ∷ others) last to
     → Stage at.context at.context.activation.level 0 need base u facts r memory
     → (Stage at.context at.context.activation.level 0 need base u no_facts r memory
-    → Does (script_of at.context) u.budget 0 (at_place target r memory u.events) outcome Good)
-    → Does (script_of at.context) u.budget 0 (at_place from r memory u.events) outcome Good
+    → Does (loaded_in at.context) u.budget 0 (at_place target r memory u.events) outcome Good)
+    → Does (loaded_in at.context) u.budget 0 (at_place from r memory u.events) outcome Good
 pchl_then {at = at} {from = from} target u r memory sound hl (PlainThere there rest) stage next =
     after_step
     (plain_step (script_of at.context) at.context.activation Pchl [] from (from + 1) r memory
@@ -66,10 +66,10 @@ pub into_table_goes :
     → Stage at.context at.context.activation.level 0 need base u facts r memory
     → ((now : Registers)
     → Stage at.context at.context.activation.level 0 need base u no_facts now memory
-    → Does (script_of at.context) u.budget 0
+    → Does (loaded_in at.context) u.budget 0
     (at_place (at.context.activation.layout.place_of table.index + 3 * number) now memory u.events) outcome
     Good)
-    → Does (script_of at.context) u.budget 0 (at_place from r memory u.events) outcome Good
+    → Does (loaded_in at.context) u.budget 0 (at_place from r memory u.events) outcome Good
 into_table_goes {at = at} {base = base} {need = need} {from = from} {facts = facts} {outcome = outcome}
     {Good = Good} table number u r memory sound de (JumpThere there rest) stage next =
     let context : Context = at.context in
@@ -143,7 +143,7 @@ pub number_enters :
     → word r.d r.e ≡ number
     → u.budget ≤ budget
     → Stage at.context at.context.activation.level 0 need base u facts r memory
-    → Does (script_of at.context) u.budget 0 (at_place from r memory u.events)
+    → Does (loaded_in at.context) u.budget 0 (at_place from r memory u.events)
     (done_case at.context.later at.context.activation.around trees number u) (Leaves at base to after budget)
 number_enters {at = at} {base = base} {to = to} {need = need} {bound = bound} {middle = middle}
     {budget = budget} {after = after} {trees = trees} list table own end number u r memory parts fits into
@@ -232,12 +232,12 @@ pub chosen :
     → word r.d r.e ≡ number
     → u.budget ≤ budget
     → Stage at.context at.context.activation.level 0 need base u facts r memory
-    → Does (script_of at.context) u.budget 0 (at_place place r memory u.events)
+    → Does (loaded_in at.context) u.budget 0 (at_place place r memory u.events)
     (done_case at.context.later at.context.activation.around trees number u) (Leaves at base to after budget)
 chosen {at = at} {base = base} {to = to} {need = need} {budget = budget} {after = after} {trees = trees}
     {memory = memory} list table own end number u r parts fits stands over_code less de fewer stage =
     let over = steps_over over_code in
-    subst (λ (n : ℕ). Does (script_of at.context) u.budget 0 (at_place n r memory u.events)
+    subst (λ (n : ℕ). Does (loaded_in at.context) u.budget 0 (at_place n r memory u.events)
     (done_case at.context.later at.context.activation.around trees number u)
     (Leaves at base to after budget)) (sym over.1)
     (number_enters list table own end number u r memory parts fits stands.into stands.stands
@@ -267,7 +267,7 @@ pub bounded_goes :
     → word (effect bring (effect compare r)).d (effect bring (effect compare r)).e ≡ number
     → u.budget ≤ budget
     → Stage at.context at.context.activation.level 0 need base u facts r memory
-    → Does (script_of at.context) u.budget 0 (at_place place r memory u.events)
+    → Does (loaded_in at.context) u.budget 0 (at_place place r memory u.events)
     (done_case at.context.later at.context.activation.around trees number u) (Leaves at base to after budget)
 bounded_goes {at = at} {base = base} {to = to} {need = need} {bound = bound} {budget = budget} {after = after}
     {trees = trees} {memory = memory} list table own end compare bring number u r parts fits stands

@@ -1,5 +1,5 @@
 -- Code of DO CASE does what it says.
-use Rattle.statement_laws.proofs.Prelude.{◌≡◌, ℕ, ◌+◌, ◌*◌, ◌%◌, ◌≤◌, max, Bool, true, false, nat_lt, nat_eq, if◌then◌else◌, List, [], ◌∷◌, ◌++◌, slice_get, Option, Some, None, refl, sym, ap, subst, ◌∙◌, arith, option_and_then, ltb-true, ltb-false, eqb-true, same_Some, ScalarType, Byte, Address, height_of, height_of_statement, height_of_statements, type_of, ListsStand, TypedExpression, TypedStatement, TypedStatements, TypesHoldIn, done, done_case, SourceState, Outcome, Gave, then_do, Onward, NoCarry, AccumulateImmediate, Xchg, Compare, Subtract, SubtractWithBorrow, A, D, E, H, L, Registers, JumpWhere, ExpressionNumber, Range, Statement, StatementNumber, IsCase, IsStatementForm, IsStatementNode, Nodes, nodes_of, item, HasRoom, Does, at_place, does_without_step, Facts, LabelNumber, copy, high, low, set, label_of, plain, Site, number, scalar, knowing, Planned, case_steps, cases_end_steps, choice_at_steps, choice_steps, computed_case_steps, into_table_steps, known_case_steps, number_in_de_steps, statements_steps, table_steps, all, jump, nth_label, part, plan, Here, statement_steps, nodes_in, number_means, value_in, Stage, at_effects, does_same, script_of, PartThere, Know, BodyContext, IsSoundBody, Leaves, StatementDoes, StatementStands, scalar_is}
+use Rattle.statement_laws.proofs.Prelude.{◌≡◌, ℕ, ◌+◌, ◌*◌, ◌%◌, ◌≤◌, max, Bool, true, false, nat_lt, nat_eq, if◌then◌else◌, List, [], ◌∷◌, ◌++◌, slice_get, Option, Some, None, refl, sym, ap, subst, ◌∙◌, arith, option_and_then, ltb-true, ltb-false, eqb-true, same_Some, ScalarType, Byte, Address, height_of, height_of_statement, height_of_statements, type_of, ListsStand, TypedExpression, TypedStatement, TypedStatements, TypesHoldIn, done, done_case, SourceState, Outcome, Gave, then_do, Onward, NoCarry, AccumulateImmediate, Xchg, Compare, Subtract, SubtractWithBorrow, A, D, E, H, L, Registers, JumpWhere, ExpressionNumber, Range, Statement, StatementNumber, IsCase, IsStatementForm, IsStatementNode, Nodes, nodes_of, item, HasRoom, Does, at_place, does_without_step, Facts, LabelNumber, copy, high, low, set, label_of, plain, Site, number, scalar, knowing, Planned, case_steps, cases_end_steps, choice_at_steps, choice_steps, computed_case_steps, into_table_steps, known_case_steps, number_in_de_steps, statements_steps, table_steps, all, jump, nth_label, part, plan, Here, statement_steps, nodes_in, number_means, value_in, Stage, at_effects, does_same, loaded_in, PartThere, Know, BodyContext, IsSoundBody, Leaves, StatementDoes, StatementStands, scalar_is}
 use Rattle.treecode.specs.declared.statement.Statement.TheVariants as statements
 use Rattle.steps8080.specs.declared.step.Step.TheVariants as steps
 use Rattle.steps8080.specs.declared.step.Task.TheVariants as tasks
@@ -29,7 +29,7 @@ computed_goes :
     → Stand at (record { facts = before; goes_on = true }) None from
     (number_in_de_steps type choice list.count end ++ behind_number at list table own end) after to
     → Stage at.context at.context.activation.level 0 need base s before r memory
-    → Does (script_of at.context) s.budget 0 (at_place from r memory s.events) (case_of at tree trees s)
+    → Does (loaded_in at.context) s.budget 0 (at_place from r memory s.events) (case_of at tree trees s)
     (Leaves at base to after s.budget)
 unfolding number_in_de_steps
 computed_goes {at = at} {base = base} {tree = tree} {trees = trees} {before = before} {from = from} {to = to}
@@ -43,7 +43,7 @@ computed_goes {at = at} {base = base} {tree = tree} {trees = trees} {before = be
         ∷ jump (JumpWhere NoCarry) end ∷ [] else [])
         ++ all (copy E A ∷ set D 0 ∷ [])))
         ++ behind_number at list table own end) after to
-        → Does (script_of at.context) s.budget 0 (at_place from r memory s.events) (case_of at tree trees s)
+        → Does (loaded_in at.context) s.budget 0 (at_place from r memory s.events) (case_of at tree trees s)
         (Leaves at base to after s.budget)
     by_few true few stand =
         byte_bounded list table own end choice s r memory asks is (ltb-true list.count 256 few)
@@ -70,7 +70,7 @@ computed_goes {at = at} {base = base} {tree = tree} {trees = trees} {before = be
         else [])
         ++ (plan Xchg ∷ [])))
         ++ behind_number at list table own end) after to
-        → Does (script_of at.context) s.budget 0 (at_place from r memory s.events) (case_of at tree trees s)
+        → Does (loaded_in at.context) s.budget 0 (at_place from r memory s.events) (case_of at tree trees s)
         (Leaves at base to after s.budget)
     by_few true true few none stand =
         high_bounded list table own end choice s r memory asks is (ltb-true list.count 65536 few)
@@ -99,12 +99,12 @@ goes_on_there :
     → here.goes_on ≡ true
     → Stand at here waiting place [] after to
     → Stage at.context at.context.activation.level 0 need base u here.facts now memory_now
-    → Does (script_of at.context) u.budget 0 (at_place place now memory_now u.events) (Gave Onward u)
+    → Does (loaded_in at.context) u.budget 0 (at_place place now memory_now u.events) (Gave Onward u)
     (Leaves at base to after budget)
 goes_on_there {at = at} {base = base} {need = need} {budget = budget} {place = place} {to = to}
     {after = after} u now memory_now here goes stand stage =
     let ends = steps_ended stand in
-    subst (λ (n : ℕ). Does (script_of at.context) u.budget 0 (at_place n now memory_now u.events)
+    subst (λ (n : ℕ). Does (loaded_in at.context) u.budget 0 (at_place n now memory_now u.events)
     (Gave Onward u) (Leaves at base to after budget)) (ends.place)
     (does_without_step (record {
       goes_on = ap (λ (here : Here). here.goes_on) (ends.same) ∙ goes;
@@ -128,7 +128,7 @@ known_goes :
     → Stand at (record { facts = before; goes_on = true }) None from
     (known_case_steps at.body list known) after to
     → Stage at.context at.context.activation.level 0 need base s before r memory
-    → Does (script_of at.context) s.budget 0 (at_place from r memory s.events) (case_of at tree trees s)
+    → Does (loaded_in at.context) s.budget 0 (at_place from r memory s.events) (case_of at tree trees s)
     (Leaves at base to after s.budget)
 known_goes {at = at} {base = base} {need = need} {bound = bound} {tree = tree} {trees = trees}
     {before = before} {from = from} {to = to} {after = after} list choice known s r memory
@@ -156,7 +156,7 @@ known_goes {at = at} {base = base} {need = need} {bound = bound} {tree = tree} {
     ]
 
     by : (inside : Bool) → nat_lt known list.count ≡ inside
-        → Does (script_of at.context) s.budget 0 (at_place from r memory s.events)
+        → Does (loaded_in at.context) s.budget 0 (at_place from r memory s.events)
         (done_case at.context.later at.context.activation.around trees known s)
         (Leaves at base to after s.budget)
     by true inside =
@@ -198,7 +198,7 @@ effects_go :
     → Stand at (record { facts = before; goes_on = true }) None from
     (part (tasks.Effects choice) 0 ∷ []) after to
     → Stage at.context at.context.activation.level 0 need base s before r memory
-    → Does (script_of at.context) s.budget 0 (at_place from r memory s.events) (case_of at tree trees s)
+    → Does (loaded_in at.context) s.budget 0 (at_place from r memory s.events) (case_of at tree trees s)
     (Leaves at base to after s.budget)
 effects_go {at = at} {base = base} {need = need} {bound = bound} {tree = tree} {trees = trees}
     {before = before} {from = from} {to = to} {after = after} list choice s r memory asks none stand stage =
@@ -211,7 +211,7 @@ effects_go {at = at} {base = base} {need = need} {bound = bound} {tree = tree} {
         → Rattle.statement_laws.proofs.Loops.LoopCode.Steps at.context before from
         (steps.Part (record { task = tasks.Effects choice; pushed = 0 }) ∷ []) known middle
         → Stand at (record { facts = known; goes_on = true }) None middle [] after to
-        → Does (script_of at.context) s.budget 0 (at_place from r memory s.events) (case_of at tree trees s)
+        → Does (loaded_in at.context) s.budget 0 (at_place from r memory s.events) (case_of at tree trees s)
         (Leaves at base to after s.budget)
     by {known = known} {middle = middle} (PartThere {found = found} {middle = done_at} does ends) rest =
         let ended = steps_over ends in
@@ -219,7 +219,7 @@ effects_go {at = at} {base = base} {need = need} {bound = bound} {tree = tree} {
         (λ n u now memory_now gave there.
         does_same (Gave Onward u)
         (past_all at bound list.first list.count trees n u asks.parts.are (omega (arith, none)))
-        (subst (λ (place : ℕ). Does (script_of at.context) u.budget 0 (at_place place now memory_now u.events)
+        (subst (λ (place : ℕ). Does (loaded_in at.context) u.budget 0 (at_place place now memory_now u.events)
         (Gave Onward u) (Leaves at base to after s.budget)) (sym ended.1)
         (goes_on_there u now memory_now (record { facts = known; goes_on = true }) refl rest
         (subst (λ (facts : Facts). Stage at.context at.context.activation.level 0 need base u facts now
@@ -249,7 +249,7 @@ case_does at before of choice list label from after to sound found stand bound t
         → TypesHoldIn at.context.typed at.context.within tree
         → ListsStand tree
         → HasRoom at.context.activation at.context.activation.level 0 (2 + 2 * height_of_statement tree)
-        → Does (script_of at.context) s.budget 0 (at_place from r memory s.events)
+        → Does (loaded_in at.context) s.budget 0 (at_place from r memory s.events)
         (done at.context.later at.context.activation.around tree s) (Leaves at base to after s.budget)
     by_form _ (IsCase {tree = tree} {trees = trees} choice_is are) types lists room =
         by_number (number site choice) refl
@@ -284,7 +284,7 @@ case_does at before of choice list label from after to sound found stand bound t
               | Some known ↦ known_case_steps at.body list known
               | None ↦ computed_case_steps at.body site choice list label
             ]) after to
-            → Does (script_of at.context) s.budget 0 (at_place from r memory s.events)
+            → Does (loaded_in at.context) s.budget 0 (at_place from r memory s.events)
             (case_of at tree trees s) (Leaves at base to after s.budget)
         by_number (Some n) same stand =
             known_goes list choice n s r memory asks
@@ -295,7 +295,7 @@ case_does at before of choice list label from after to sound found stand bound t
                 → Stand at (record { facts = before; goes_on = true }) None from
                 (if none then part (tasks.Effects choice) 0
                 ∷ [] else choice_steps at.body site choice list label) after to
-                → Does (script_of at.context) s.budget 0 (at_place from r memory s.events)
+                → Does (loaded_in at.context) s.budget 0 (at_place from r memory s.events)
                 (case_of at tree trees s) (Leaves at base to after s.budget)
             by_count true none stand =
                 effects_go list choice s r memory asks (eqb-true list.count 0 none) stand stage

@@ -1,5 +1,5 @@
 -- The code of a BYTE that is counted by 1 does what the assignment says.
-use Rattle.statement_laws.proofs.Prelude.{◌≡◌, ℕ, ◌+◌, ◌-◌, ◌%◌, ◌*◌, ◌<◌, ◌≤◌, List, [], slice_set, Option, Some, refl, sym, ap, subst, ◌∙◌, arith, same_Some, byte_at, Byte, BinaryOperator, StoredIn, TypedExpression, TypedReference, read_byte, read_scalar, write_byte, write_scalar, computed, located, stored, SourceState, Outcome, Gave, then_do, Onward, as_type, result_of, Event, Instr, Dcr, Inr, M, Flags, act, decrement_of, increment_of, Registers, State, word, Answer, Fails, Found, outcome_of, quiet_byte, Does, at_place, Asks, Facts, Site, knowing, count_by, count_of, distances_in, nodes_in, address_on_machine, then_again, located_fits, does_same, script_of, height_of, TypesHold, ExpressionNumber, IsExpressionIn, Planned, Here, BodyContext, IsSoundBody, Leaves}
+use Rattle.statement_laws.proofs.Prelude.{◌≡◌, ℕ, ◌+◌, ◌-◌, ◌%◌, ◌*◌, ◌<◌, ◌≤◌, List, [], slice_set, Option, Some, refl, sym, ap, subst, ◌∙◌, arith, same_Some, byte_at, Byte, BinaryOperator, StoredIn, TypedExpression, TypedReference, read_byte, read_scalar, write_byte, write_scalar, computed, located, stored, SourceState, Outcome, Gave, then_do, Onward, as_type, result_of, Event, Instr, Dcr, Inr, M, Flags, act, decrement_of, increment_of, Registers, State, word, Answer, Fails, Found, outcome_of, quiet_byte, Does, Loaded, at_place, Asks, Facts, Site, knowing, count_by, count_of, distances_in, nodes_in, address_on_machine, then_again, located_fits, does_same, script_of, height_of, TypesHold, ExpressionNumber, IsExpressionIn, Planned, Here, BodyContext, IsSoundBody, Leaves}
 use Rattle.trees.specs.declared.expression.BinaryOperator.TheVariants as operators
 use Rattle.meaning.specs.Access.{Place}
 use Rattle.statement_laws.proofs.Assignments.Assigned.{CountsDo}
@@ -71,7 +71,7 @@ counts_byte at i operator same = by operator same
 
 -- where a byte is found and read, or what is meant goes outside
 by_answer :
-    {B : Type 0} {script : List (List ℕ)} {budget more : ℕ} {from : State}
+    {B : Type 0} {loaded : Loaded} {budget more : ℕ} {from : State}
     {Good : B → SourceState → State → Type 0} {i : Instr}
     (at : BodyContext) (s : SourceState) (store : ℕ → SourceState → Outcome B) (operator : BinaryOperator)
     (part : TypedReference)
@@ -81,8 +81,8 @@ by_answer :
     → ((p : Place) (x : ℕ)
     → located at.context.later at.context.activation.around part s ≡ Gave p s
     → read_byte at.context.activation.around.program p s ≡ Gave x s
-    → Does script budget more from (store (byte.change x) s) Good)
-    → Does script budget more from
+    → Does loaded budget more from (store (byte.change x) s) Good)
+    → Does loaded budget more from
     (then_do (then_do (located at.context.later at.context.activation.around part s)
     (λ place t. then_do (read_scalar at.context.activation.around.program Byte place t)
     (λ n u. computed (result_of Byte operator n 1) u))) store) Good
@@ -92,7 +92,7 @@ by_answer at s store operator part (Fails reason) is byte rest =
     (λ place t. then_do (read_scalar at.context.activation.around.program Byte place t)
     (λ n u. computed (result_of Byte operator n 1) u))) store) is)
     (record { told = tt })
-by_answer {script = script} {budget = budget} {more = more} {from = from} {Good = Good} at s store operator
+by_answer {loaded = loaded} {budget = budget} {more = more} {from = from} {Good = Good} at s store operator
     part (Found p) is byte rest =
     does_same _
     (ap (λ (given : Outcome Place). then_do (then_do given
@@ -103,7 +103,7 @@ by_answer {script = script} {budget = budget} {more = more} {from = from} {Good 
   where
     by : (found : Answer ℕ)
         → read_byte at.context.activation.around.program p s ≡ outcome_of found s
-        → Does script budget more from
+        → Does loaded budget more from
         (then_do (then_do (read_byte at.context.activation.around.program p s)
         (λ n u. computed (result_of Byte operator n 1) u)) store) Good
     by (Fails reason) read =

@@ -1,5 +1,5 @@
 -- A BYTE that is counted by 1 up to a last value that is known, with the test at the end.
-use Rattle.statement_laws.proofs.Prelude.{◌≡◌, ℕ, ◌+◌, ◌%◌, ◌<◌, ◌≤◌, ◌==◌, true, false, not, nat_lt, List, [], ◌∷◌, slice_set, refl, sym, ap, subst, ◌∙◌, arith, ltb-true, ltb-false, eqb-true, eqb-false, byte_at, Byte, step_value, value, SourceState, Outcome, Gave, then_do, Onward, Carry, NotZero, AccumulateImmediate, Inr, M, Compare, increment_of, subtract_of, Registers, word, JumpWhere, byte_put, Does, at_place, borrow_shows, count_shows, Facts, LabelNumber, Step, load, low, Know, at_instructions, does_same, script_of, BodyContext, IsSoundBody, not-false, not-true}
+use Rattle.statement_laws.proofs.Prelude.{◌≡◌, ℕ, ◌+◌, ◌%◌, ◌<◌, ◌≤◌, ◌==◌, true, false, not, nat_lt, List, [], ◌∷◌, slice_set, refl, sym, ap, subst, ◌∙◌, arith, ltb-true, ltb-false, eqb-true, eqb-false, byte_at, Byte, step_value, value, SourceState, Outcome, Gave, then_do, Onward, Carry, NotZero, AccumulateImmediate, Inr, M, Compare, increment_of, subtract_of, Registers, word, JumpWhere, byte_put, Does, at_place, borrow_shows, count_shows, Facts, LabelNumber, Step, load, low, Know, at_instructions, does_same, loaded_in, BodyContext, IsSoundBody, not-false, not-true}
 use Rattle.isa8080.specs.declared.instr.Register.TheVariants as registers
 use Rattle.steps8080.specs.declared.step.Step.TheVariants as steps
 use Rattle.statement_laws.proofs.Loops.CountedVariables.{IsCounted, variable_address, variable_place}
@@ -31,7 +31,7 @@ Goes {at = at} loop limit facts place =
     (u : SourceState) (now : Registers) (memory_now : List ℕ)
     → u.budget ≤ limit
     → StageAt at loop.need loop.base u facts now memory_now
-    → Does (script_of at.context) u.budget 0 (at_place place now memory_now u.events)
+    → Does (loaded_in at.context) u.budget 0 (at_place place now memory_now u.events)
     (Gave Onward u) (Out loop)
 
 pub one_more_now : (n : ℕ) → (n + 1) % 256 ≡ (n + 1) % 256 % 256
@@ -65,7 +65,7 @@ pub counts_to_top :
     → t.budget ≤ limit
     → StageAt at loop.need loop.base t facts r memory
     → Goes loop limit found to
-    → Does (script_of at.context) t.budget 0 (at_place from r memory t.events)
+    → Does (loaded_in at.context) t.budget 0 (at_place from r memory t.events)
     (after_list loop Onward t) (Out loop)
 counts_to_top {at = at} loop last limit turn turn_facts t r memory counts great stand fewer stage goes =
     let sound = counts.sound.sound in
@@ -126,7 +126,7 @@ counts_to_top {at = at} loop last limit turn turn_facts t r memory counts great 
     counted ready_now.ready
     (strict u.budget t.budget limit loop.budget budget_is fewer counts.less) is_put
     (λ of_type. absurd (omega (arith, is, of_type)))
-    (subst (λ (place : ℕ). Does (script_of at.context) u.budget 0 (at_place place after left u.events)
+    (subst (λ (place : ℕ). Does (loaded_in at.context) u.budget 0 (at_place place after left u.events)
     (Gave Onward u) (Out loop)) (sym over.1)
     (goes u after left (within_limit u.budget t.budget limit budget_is fewer)
     (subst (λ (facts : Facts). StageAt at loop.need loop.base u facts after left) over.0 ready_now))))))))
@@ -142,7 +142,7 @@ pub counts_to :
     → t.budget ≤ limit
     → StageAt at loop.need loop.base t facts r memory
     → Goes loop limit found to
-    → Does (script_of at.context) t.budget 0 (at_place from r memory t.events)
+    → Does (loaded_in at.context) t.budget 0 (at_place from r memory t.events)
     (after_list loop Onward t) (Out loop)
 counts_to {at = at} loop last limit turn turn_facts t r memory counts little stand fewer stage goes =
     let sound = counts.sound.sound in
@@ -207,7 +207,7 @@ counts_to {at = at} loop last limit turn turn_facts t r memory counts little sta
     counted ready_now.ready
     (strict u.budget t.budget limit loop.budget budget_is fewer counts.less) is_put
     (λ of_type. omega (arith, is))
-    (subst (λ (place : ℕ). Does (script_of at.context) u.budget 0 (at_place place after left u.events)
+    (subst (λ (place : ℕ). Does (loaded_in at.context) u.budget 0 (at_place place after left u.events)
     (Gave Onward u) (Out loop)) (sym over.1)
     (goes u after left (within_limit u.budget t.budget limit budget_is fewer)
     (subst (λ (facts : Facts). StageAt at loop.need loop.base u facts after left) over.0 ready_now))))))))))

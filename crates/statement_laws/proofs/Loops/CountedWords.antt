@@ -1,5 +1,5 @@
 -- An ADDRESS in memory that is counted by 1 up to a last value that is known, with the test at the end.
-use Rattle.statement_laws.proofs.Prelude.{◌≡◌, ℕ, ◌+◌, ◌*◌, ◌/◌, ◌%◌, ◌<◌, ◌≤◌, nat_lt, List, [], ◌∷◌, ◌++◌, sym, ap, subst, ◌∙◌, arith, ltb-true, ltb-false, byte_at, byte_small, Address, next_turn, step_value, value, SourceState, Gave, Onward, Carry, Instr, AccumulateImmediate, Inx, Subtract, SubtractWithBorrow, Hl, A, H, L, Registers, high_byte, low_byte, word, wrap, JumpWhere, StoreHl, Place, Does, at_place, IsSteady, location_at, Facts, LabelNumber, Step, copy, high, low, distances_in, Know, effect, at_instructions, script_of, BodyContext, IsSoundBody}
+use Rattle.statement_laws.proofs.Prelude.{◌≡◌, ℕ, ◌+◌, ◌*◌, ◌/◌, ◌%◌, ◌<◌, ◌≤◌, nat_lt, List, [], ◌∷◌, ◌++◌, sym, ap, subst, ◌∙◌, arith, ltb-true, ltb-false, byte_at, byte_small, Address, next_turn, step_value, value, SourceState, Gave, Onward, Carry, Instr, AccumulateImmediate, Inx, Subtract, SubtractWithBorrow, Hl, A, H, L, Registers, high_byte, low_byte, word, wrap, JumpWhere, StoreHl, Place, Does, at_place, IsSteady, location_at, Facts, LabelNumber, Step, copy, high, low, distances_in, Know, effect, at_instructions, loaded_in, BodyContext, IsSoundBody}
 use Rattle.treecode.specs.declared.place.Location.TheVariants as locations
 use Rattle.steps8080.specs.declared.step.Step.TheVariants as steps
 use Rattle.statement_laws.proofs.Loops.CountedBytes.{Goes, within_limit, strict}
@@ -72,7 +72,7 @@ pub counts_word :
     → IsSteady at.context.activation (variable_address at.context (loop.head).variable)
     → IsSteady at.context.activation (wrap (variable_address at.context (loop.head).variable + 1))
     → Goes loop limit found to
-    → Does (script_of at.context) t.budget 0 (at_place from r memory t.events)
+    → Does (loaded_in at.context) t.budget 0 (at_place from r memory t.events)
     (stepped_with loop Address 1 t) (Out loop)
 counts_word {at = at} loop last limit turn turn_facts place t r memory counts lies stand fewer stage low_is
     high_is steady steady_too goes =
@@ -139,7 +139,7 @@ counts_word {at = at} loop last limit turn turn_facts place t r memory counts li
     counted ready_now.ready
     (strict u.budget t.budget limit loop.budget budget_is fewer counts.less) is_put
     (λ of_type. omega (arith, is))
-    (subst (λ (place : ℕ). Does (script_of at.context) u.budget 0 (at_place place after left u.events)
+    (subst (λ (place : ℕ). Does (loaded_in at.context) u.budget 0 (at_place place after left u.events)
     (Gave Onward u) (Out loop)) (sym over.1)
     (goes u after left (within_limit u.budget t.budget limit budget_is fewer)
     (subst (λ (facts : Facts). StageAt at loop.need loop.base u facts after left) over.0 ready_now)))))))

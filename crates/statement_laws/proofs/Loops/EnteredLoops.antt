@@ -1,6 +1,6 @@
 -- An iterative DO enters its turns: where it is known that there is one, or that there is none, and by a test
 -- before it.
-use Rattle.statement_laws.proofs.Prelude.{◌≡◌, ℕ, ◌-◌, ◌<◌, ◌≤◌, true, List, None, sym, ap, subst, ◌∙◌, arith, ltb-true, ltb-false, ScalarType, value, write_variable, write_scalar, SourceState, Outcome, Gave, then_do, Flow, Onward, as_type, Registers, State, Facts, Planned, IsReady, Does, at_place, Know, script_of, then_does_where, without_more, BodyContext, IsSoundBody, as_type_fits}
+use Rattle.statement_laws.proofs.Prelude.{◌≡◌, ℕ, ◌-◌, ◌<◌, ◌≤◌, true, List, None, sym, ap, subst, ◌∙◌, arith, ltb-true, ltb-false, ScalarType, value, write_variable, write_scalar, SourceState, Outcome, Gave, then_do, Flow, Onward, as_type, Registers, State, Facts, Planned, IsReady, Does, at_place, Know, loaded_in, then_does_where, without_more, BodyContext, IsSoundBody, as_type_fits}
 use Rattle.statement_laws.proofs.Loops.CountedVariables.{IsCounted, variable_address, variable_place}
 use Rattle.statement_laws.proofs.Loops.FirstValues.{written_is}
 use Rattle.statement_laws.proofs.Loops.LoopMeaning.{IsSteadyScalar, scalar_at, tested}
@@ -53,7 +53,7 @@ pub enters_surely :
     → ((s : SourceState) → value at.context.later at.context.activation.around (loop.head).last s
     ≡ Gave last s)
     → IsCounted at.context (loop.head).variable scalar
-    → Does (script_of at.context) s.budget 1 (at_place from r memory s.events) (first_stored loop s)
+    → Does (loaded_in at.context) s.budget 1 (at_place from r memory s.events) (first_stored loop s)
     (FirstThere loop others)
     → s.budget ≡ loop.budget
     → StageAt at loop.need loop.base s facts r memory
@@ -63,7 +63,7 @@ pub enters_surely :
     → IsReady at.context.activation at.context.activation.level loop.base u.memory u.frame now memory_now
     → IsSteadyScalar at.context.activation scalar (variable_address at.context (loop.head).variable)
     → scalar_at scalar memory_now (variable_address at.context (loop.head).variable) ≤ last)
-    → Does (script_of at.context) s.budget 0 (at_place from r memory s.events) (whole_loop loop s) (Out loop)
+    → Does (loaded_in at.context) s.budget 0 (at_place from r memory s.events) (whole_loop loop s) (Out loop)
 enters_surely {at = at} loop scalar last from facts others s r memory sound same last_is counted stores
     budget_is stage turns not_above =
     then_spends (first_stored loop s) stores
@@ -71,7 +71,7 @@ enters_surely {at = at} loop scalar last from facts others s r memory sound same
     let below = stage.below in
     let arrives = there.arrives in
     let entered = turns there.known there.place there.stand in
-    subst (λ (state : State). Does (script_of at.context) (u.budget - 1) 0 state (from_test loop u)
+    subst (λ (state : State). Does (loaded_in at.context) (u.budget - 1) 0 state (from_test loop u)
     (Out loop)) (sym arrives.is_at)
     (tested loop scalar last u sound same (last_is u) counted arrives.ready
     (λ above steady.
@@ -94,7 +94,7 @@ enters_surely {at = at} loop scalar last from facts others s r memory sound same
 pub enters_then :
     {at : BodyContext} (loop : Loop at) (from : ℕ) (facts : Facts) (others : List Planned)
     (s : SourceState) (r : Registers) (memory : List ℕ)
-    → Does (script_of at.context) s.budget 1 (at_place from r memory s.events) (first_stored loop s)
+    → Does (loaded_in at.context) s.budget 1 (at_place from r memory s.events) (first_stored loop s)
     (FirstThere loop others)
     → s.budget ≡ loop.budget
     → StageAt at loop.need loop.base s facts r memory
@@ -103,15 +103,15 @@ pub enters_then :
     → first_stored loop s ≡ Gave tt u
     → u.budget ≤ loop.budget
     → StageAt at loop.need loop.base u known now memory_now
-    → Does (script_of at.context) u.budget 0 (at_place place now memory_now u.events)
+    → Does (loaded_in at.context) u.budget 0 (at_place place now memory_now u.events)
     (from_test loop u) (Out loop))
-    → Does (script_of at.context) s.budget 0 (at_place from r memory s.events) (whole_loop loop s) (Out loop)
+    → Does (loaded_in at.context) s.budget 0 (at_place from r memory s.events) (whole_loop loop s) (Out loop)
 enters_then {at = at} loop from facts others s r memory stores budget_is stage rest =
     then_does_where (first_stored loop s) (without_more stores)
     (λ found u end is there spent.
     let below = stage.below in
     let arrives = there.arrives in
-    subst (λ (state : State). Does (script_of at.context) u.budget 0 state (from_test loop u) (Out loop))
+    subst (λ (state : State). Does (loaded_in at.context) u.budget 0 state (from_test loop u) (Out loop))
     (sym arrives.is_at)
     (rest there.known there.place u arrives.r arrives.memory there.stand is (omega (arith, spent, budget_is))
     (record { below = omega (arith, below, spent); room = stage.room; ready = arrives.ready; known = arrives.holds })))
@@ -126,20 +126,20 @@ pub enters_never :
     → ((s : SourceState) → value at.context.later at.context.activation.around (loop.head).last s
     ≡ Gave last s)
     → IsCounted at.context (loop.head).variable scalar
-    → Does (script_of at.context) s.budget 1 (at_place from r memory s.events) (first_stored loop s)
+    → Does (loaded_in at.context) s.budget 1 (at_place from r memory s.events) (first_stored loop s)
     (FirstThere loop others)
     → s.budget ≡ loop.budget
     → StageAt at loop.need loop.base s facts r memory
     → ((known : Facts) (place : ℕ) (u : SourceState) (now : Registers) (memory_now : List ℕ)
     → Stand at (going true known) None place others loop.after loop.to
     → StageAt at loop.need loop.base u known now memory_now
-    → Does (script_of at.context) u.budget 0 (at_place place now memory_now u.events)
+    → Does (loaded_in at.context) u.budget 0 (at_place place now memory_now u.events)
     (Gave Onward u) (Out loop))
     → ((u : SourceState) (now : Registers) (memory_now : List ℕ) → first_stored loop s ≡ Gave tt u
     → IsReady at.context.activation at.context.activation.level loop.base u.memory u.frame now memory_now
     → IsSteadyScalar at.context.activation scalar (variable_address at.context (loop.head).variable)
     → last < scalar_at scalar memory_now (variable_address at.context (loop.head).variable))
-    → Does (script_of at.context) s.budget 0 (at_place from r memory s.events) (whole_loop loop s) (Out loop)
+    → Does (loaded_in at.context) s.budget 0 (at_place from r memory s.events) (whole_loop loop s) (Out loop)
 enters_never {at = at} loop scalar last from facts others s r memory sound same last_is counted stores
     budget_is stage ends is_above =
     enters_then loop from facts others s r memory stores budget_is stage

@@ -1,6 +1,6 @@
 -- The variable of an iterative DO gets its first value, with a step to spare, and what is planned after it
 -- stands.
-use Rattle.statement_laws.proofs.Prelude.{◌≡◌, ℕ, true, List, ◌++◌, None, refl, sym, ap, subst, ◌∙◌, ScalarType, type_of, StoredIn, SourcePlace, write_scalar, stored, value, write_variable, SourceState, Outcome, Gave, Stopped, then_do, as_type, Registers, State, Range, Stored, Iteration, IsStored, Arrives, Does, at_place, does_without_step, Facts, Site, scalar, knowing, Planned, single_steps, whole, counter_of, first_steps, site_of, Know, does_same, script_of, BodyContext}
+use Rattle.statement_laws.proofs.Prelude.{◌≡◌, ℕ, true, List, ◌++◌, None, refl, sym, ap, subst, ◌∙◌, ScalarType, type_of, StoredIn, SourcePlace, write_scalar, stored, value, write_variable, SourceState, Outcome, Gave, Stopped, then_do, as_type, Registers, State, Range, Stored, Iteration, IsStored, Arrives, Does, at_place, does_without_step, Facts, Site, scalar, knowing, Planned, single_steps, whole, counter_of, first_steps, site_of, Know, does_same, loaded_in, BodyContext}
 use Rattle.statement_laws.proofs.Assignments.Assigned.{scalar_there}
 use Rattle.statement_laws.proofs.Assignments.Assignments.{single_does}
 use Rattle.statement_laws.proofs.Loops.Counted.{counted_does}
@@ -47,7 +47,7 @@ pub first_stores :
     head.first ++ others)
     loop.after loop.to
     → StageAt at loop.need loop.base s facts r memory
-    → Does (script_of at.context) s.budget 1 (at_place from r memory s.events) (first_stored loop s)
+    → Does (loaded_in at.context) s.budget 1 (at_place from r memory s.events) (first_stored loop s)
     (FirstThere loop others)
 unfolding first_steps
 first_stores {at = at} loop head list facts from others s r memory iterates stand stage =

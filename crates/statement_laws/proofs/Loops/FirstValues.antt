@@ -1,5 +1,5 @@
 -- The first value of the variable of an iterative DO is there after its store.
-use Rattle.statement_laws.proofs.Prelude.{◌≡◌, ℕ, ◌+◌, ◌*◌, ◌/◌, ◌%◌, ◌<◌, ◌≤◌, Bool, true, false, if◌then◌else◌, List, [], slice_set, refl, sym, ap, subst, ◌∙◌, arith, MEMORY_SIZE, byte_at, ScalarType, Byte, Address, size_of_scalar, UndeclaredByte, Constant, InMemory, InTheFrame, is_constant, is_declared, next_place, write_byte, write_scalar, SourceState, Outside, Outcome, Gave, Stopped, then_do, values_of, Registers, State, wrap, running, byte_put, Does, Lands, Activation, IsReady, does_without_step, Context, IsSound, address_on_machine, FitsIn, frame_is, script_of, byte_written, first_fits, next_address, second_fits, word_written, low_of_byte}
+use Rattle.statement_laws.proofs.Prelude.{◌≡◌, ℕ, ◌+◌, ◌*◌, ◌/◌, ◌%◌, ◌<◌, ◌≤◌, Bool, true, false, if◌then◌else◌, List, [], slice_set, refl, sym, ap, subst, ◌∙◌, arith, MEMORY_SIZE, byte_at, ScalarType, Byte, Address, size_of_scalar, UndeclaredByte, Constant, InMemory, InTheFrame, is_constant, is_declared, next_place, write_byte, write_scalar, SourceState, Outside, Outcome, Gave, Stopped, then_do, values_of, Registers, State, wrap, running, byte_put, Does, Loaded, Lands, Activation, IsReady, does_without_step, Context, IsSound, address_on_machine, FitsIn, frame_is, loaded_in, byte_written, first_fits, next_address, second_fits, word_written, low_of_byte}
 use Rattle.meaning.specs.Access.{Place}
 use Rattle.statement_laws.proofs.Loops.CountedVariables.{IsCounted, variable_address, variable_place}
 use Rattle.statement_laws.proofs.Loops.LoopMeaning.{IsSteadyScalar, scalar_at}
@@ -12,15 +12,15 @@ record Reached {A : Type 0} (Good : A → SourceState → State → Type 0) (fou
   pub good : Good found t end
 
 reached :
-    {A : Type 0} {script : List (List ℕ)} {budget more : ℕ} {from : State} {outcome : Outcome A}
+    {A : Type 0} {loaded : Loaded} {budget more : ℕ} {from : State} {outcome : Outcome A}
     (found : A) (t : SourceState)
     (Good : A → SourceState → State → Type 0)
     → outcome ≡ Gave found t
-    → Does script budget more from outcome Good
+    → Does loaded budget more from outcome Good
     → Reached Good found t
-reached {script = script} {budget = budget} {more = more} {from = from} found t Good same does =
-    let told : Lands script budget more from t.budget (Good found t) =
-    (subst (λ outcome. Does script budget more from outcome Good) same does).told in
+reached {loaded = loaded} {budget = budget} {more = more} {from = from} found t Good same does =
+    let told : Lands loaded.program.script budget more from t.budget (Good found t) =
+    (subst (λ outcome. Does loaded budget more from outcome Good) same does).told in
     record { end = told.end; good = told.is_good }
 
 -- a byte that the source has: a declared one, or one of an object in the frame
@@ -164,7 +164,7 @@ written_is {context = context} {top = top} {base = base} {memory = memory} {r = 
     (variable_place context variable) (number % 256) s
     (λ found t. Gave found t) sound (omega arith) ready counted.fits
     (λ t events budget steady_there ready_there.
-    subst (λ (budget : ℕ). Does (script_of context) budget 0 nowhere (Gave tt t) Good) budget
+    subst (λ (budget : ℕ). Does (loaded_in context) budget 0 nowhere (Gave tt t) Good) budget
     (does_without_step (ready_there, steady_there.1)))) in
     let good = there.good in
     let below = good.1 in
@@ -184,7 +184,7 @@ written_is {context = context} {top = top} {base = base} {memory = memory} {r = 
     (variable_place context variable) number s
     (λ found t. Gave found t) sound small ready counted.fits
     (λ t events budget steady_there steady_too ready_there.
-    subst (λ (budget : ℕ). Does (script_of context) budget 0 nowhere (Gave tt t) Good) budget
+    subst (λ (budget : ℕ). Does (loaded_in context) budget 0 nowhere (Gave tt t) Good) budget
     (does_without_step (ready_there, steady_there.1, steady_too.1)))) in
     let good = there.good in
     same_written Address (variable_place context variable) number s sound counted.fits is ready_now good.0

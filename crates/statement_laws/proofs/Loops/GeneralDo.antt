@@ -1,5 +1,5 @@
 -- An iterative DO in its general form does what it says, and with it each iterative DO.
-use Rattle.statement_laws.proofs.Prelude.{◌≡◌, ℕ, ◌≤◌, Bool, true, false, List, Some, None, refl, subst, arith, leb-true, Range, Iteration, Facts, label_of, Site, knowing, Counter, Planned, general_steps, test_of, Here, site_of, Does, at_place, script_of, BodyContext, IsSoundBody, StatementStands}
+use Rattle.statement_laws.proofs.Prelude.{◌≡◌, ℕ, ◌≤◌, Bool, true, false, List, Some, None, refl, subst, arith, leb-true, Range, Iteration, Facts, label_of, Site, knowing, Counter, Planned, general_steps, test_of, Here, site_of, Does, at_place, loaded_in, BodyContext, IsSoundBody, StatementStands}
 use Rattle.treecode.specs.declared.statement.Statement.TheVariants as statements
 use Rattle.statement_laws.proofs.Loops.EnteredLoops.{enters_surely, enters_then, whole_loop}
 use Rattle.statement_laws.proofs.Loops.FirstStored.{FirstThere, first_stored}
@@ -52,7 +52,7 @@ pub general_does : (at : BodyContext) → GeneralDoes at
 general_does at loop head list facts label from s r memory iterates budget_is stage
     is_tested is stores entry =
     by is_tested refl
-    (subst (λ (counter : Counter). Does (script_of at.context) s.budget 1 (at_place from r memory s.events)
+    (subst (λ (counter : Counter). Does (loaded_in at.context) s.budget 1 (at_place from r memory s.events)
     (first_stored loop s)
     (FirstThere loop (general_steps (knowing (site_of at.body) facts) counter head is_tested list label)))
     (counter_is loop head list facts iterates) stores)
@@ -72,9 +72,9 @@ general_does at loop head list facts label from s r memory iterates budget_is st
         (forms_do loop head list facts label iterates) stand
 
     by : (tested : Bool) → is_tested ≡ tested
-        → Does (script_of at.context) s.budget 1 (at_place from r memory s.events) (first_stored loop s)
+        → Does (loaded_in at.context) s.budget 1 (at_place from r memory s.events) (first_stored loop s)
         (FirstThere loop (others is_tested))
-        → Does (script_of at.context) s.budget 0 (at_place from r memory s.events)
+        → Does (loaded_in at.context) s.budget 0 (at_place from r memory s.events)
         (whole_loop loop s) (Out loop)
     by true same stores =
         enters_then loop from facts (others is_tested) s r memory stores budget_is stage

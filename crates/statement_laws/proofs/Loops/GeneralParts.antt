@@ -1,6 +1,6 @@
 -- Parts of the general form of an iterative DO: code that stands before other steps, the label of the test,
 -- and what is asked of the step and of the test.
-use Rattle.statement_laws.proofs.Prelude.{◌≡◌, ℕ, ◌<◌, ◌≤◌, Bool, true, false, if◌then◌else◌, List, [], ◌∷◌, ◌++◌, map, Option, Some, None, sym, subst, SourceState, Onward, Registers, no_facts_hold, Does, at_place, Facts, LabelNumber, Step, no_facts, Planned, Here, arriving, carried_steps, here_after, known_here, met, waiting_after, Know, script_of, BodyContext, NonePlanned, StepPlanned}
+use Rattle.statement_laws.proofs.Prelude.{◌≡◌, ℕ, ◌<◌, ◌≤◌, Bool, true, false, if◌then◌else◌, List, [], ◌∷◌, ◌++◌, map, Option, Some, None, sym, subst, SourceState, Onward, Registers, no_facts_hold, Does, at_place, Facts, LabelNumber, Step, no_facts, Planned, Here, arriving, carried_steps, here_after, known_here, met, waiting_after, Know, loaded_in, BodyContext, NonePlanned, StepPlanned}
 use Rattle.steps8080.specs.declared.step.Step.TheVariants as steps
 use Rattle.statements8080.specs.declared.plan.Planned.TheVariants as planned
 use Rattle.statement_laws.proofs.Loops.CountedBytes.{Goes}
@@ -178,7 +178,7 @@ StepDoes {at = at} loop test end jumps_to_test before from after to =
     → (t : SourceState) (r : Registers) (memory : List ℕ)
     → t.budget ≤ limit
     → StageAt at loop.need loop.base t before r memory
-    → Does (script_of at.context) t.budget 0 (at_place from r memory t.events)
+    → Does (loaded_in at.context) t.budget 0 (at_place from r memory t.events)
     (after_list loop Onward t) (Out loop)
 
 -- with less known

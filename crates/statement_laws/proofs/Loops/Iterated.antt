@@ -1,5 +1,5 @@
 -- An iterative DO, by the form that its code has.
-use Rattle.statement_laws.proofs.Prelude.{◌≡◌, ℕ, Bool, true, false, if◌then◌else◌, List, [], ◌++◌, Option, Some, None, refl, sym, arith, leb-false, value, write_variable, SourceState, as_type, Registers, Range, Iteration, IsIterate, Does, at_place, Facts, Site, number, knowing, Counter, Planned, counter_of, has_a_turn, counts_in_place, first_steps, general_steps, to_known_steps, turns_if_any, turns_steps, Here, site_of, statement_steps, then_again, does_same, script_of, BodyContext, IsSoundBody, StatementStands}
+use Rattle.statement_laws.proofs.Prelude.{◌≡◌, ℕ, Bool, true, false, if◌then◌else◌, List, [], ◌++◌, Option, Some, None, refl, sym, arith, leb-false, value, write_variable, SourceState, as_type, Registers, Range, Iteration, IsIterate, Does, at_place, Facts, Site, number, knowing, Counter, Planned, counter_of, has_a_turn, counts_in_place, first_steps, general_steps, to_known_steps, turns_if_any, turns_steps, Here, site_of, statement_steps, then_again, does_same, loaded_in, BodyContext, IsSoundBody, StatementStands}
 use Rattle.treecode.specs.declared.statement.Statement.TheVariants as statements
 use Rattle.statement_laws.proofs.Loops.EnteredLoops.{enters_never, whole_loop}
 use Rattle.statement_laws.proofs.Loops.FirstStored.{FirstThere, first_stored, first_stores}
@@ -24,12 +24,12 @@ abbrev pub GeneralEnters :
 GeneralEnters {at = at} loop head list facts label from s r memory =
     (is_tested : Bool)
     → IsGeneral (knowing (site_of at.body) facts) head
-    → Does (script_of at.context) s.budget 1 (at_place from r memory s.events) (first_stored loop s)
+    → Does (loaded_in at.context) s.budget 1 (at_place from r memory s.events) (first_stored loop s)
     (FirstThere loop
     (general_steps (knowing (site_of at.body) facts) (counter_of (knowing (site_of at.body) facts) head) head
     is_tested list label))
     → (is_tested ≡ false → KnownEntry (knowing (site_of at.body) facts) head true)
-    → Does (script_of at.context) s.budget 0 (at_place from r memory s.events) (whole_loop loop s) (Out loop)
+    → Does (loaded_in at.context) s.budget 0 (at_place from r memory s.events) (whole_loop loop s) (Out loop)
 
 -- and so does each loop of a body
 abbrev pub GeneralDoes : BodyContext → Type 0
@@ -59,7 +59,7 @@ module _
 
     abbrev Enters : Type 0
     Enters =
-        Does (script_of at.context) s.budget 0 (at_place from r memory s.events)
+        Does (loaded_in at.context) s.budget 0 (at_place from r memory s.events)
         (whole_loop loop s) (Out loop)
 
     abbrev Planned_so : List Planned → Type 0
@@ -69,7 +69,7 @@ module _
 
     stores :
         (others : List Planned) → Planned_so others
-        → Does (script_of at.context) s.budget 1 (at_place from r memory s.events) (first_stored loop s)
+        → Does (loaded_in at.context) s.budget 1 (at_place from r memory s.events) (first_stored loop s)
         (FirstThere loop others)
     stores others stand = first_stores loop head list facts from others s r memory iterates stand stage
 

@@ -1,5 +1,5 @@
 -- Turns of an iterative DO that counts by 1 to a known last value, with the test at the end.
-use Rattle.statement_laws.proofs.Prelude.{◌≡◌, ℕ, ◌+◌, ◌<◌, ◌≤◌, Bool, true, false, nat_le, if◌then◌else◌, List, [], ◌∷◌, ◌++◌, Option, Some, None, refl, sym, ap, subst, ◌∙◌, arith, leb-true, leb-false, ScalarType, Byte, Address, next_turn, step_value, value, SourceState, Outcome, Gave, then_do, Onward, as_type, Registers, wrap, Range, Location, Place, Iteration, Facts, LabelNumber, no_facts, plain, location_of, knowing, Counter, Planned, whole, address_fact, word_fact, asked_mark, next_byte_steps, arriving, common, known_here, load_word_steps, met, site_of, Site, Does, at_place, script_of, word_known, BodyContext, IsSoundBody, write_scalar, same_Some}
+use Rattle.statement_laws.proofs.Prelude.{◌≡◌, ℕ, ◌+◌, ◌<◌, ◌≤◌, Bool, true, false, nat_le, if◌then◌else◌, List, [], ◌∷◌, ◌++◌, Option, Some, None, refl, sym, ap, subst, ◌∙◌, arith, leb-true, leb-false, ScalarType, Byte, Address, next_turn, step_value, value, SourceState, Outcome, Gave, then_do, Onward, as_type, Registers, wrap, Range, Location, Place, Iteration, Facts, LabelNumber, no_facts, plain, location_of, knowing, Counter, Planned, whole, address_fact, word_fact, asked_mark, next_byte_steps, arriving, common, known_here, load_word_steps, met, site_of, Site, Does, at_place, loaded_in, word_known, BodyContext, IsSoundBody, write_scalar, same_Some}
 use Rattle.treecode.specs.declared.place.Location.TheVariants as locations
 use Rattle.statements8080.specs.declared.plan.Planned.TheVariants as planned
 use Rattle.statement_laws.proofs.Loops.CountedBytes.{CountsBytes, Goes, count_to, count_to_top, counts_to, counts_to_top}
@@ -106,7 +106,7 @@ byte_turns {at = at} loop head list last is_tested end turn facts from iterates 
     all : ((limit : ℕ) → CountsBytes loop last limit turn turn_facts
         → (u : SourceState) (now : Registers) (memory_now : List ℕ) → u.budget ≤ limit
         → StageAt at loop.need loop.base u (listed.after).facts now memory_now
-        → Does (script_of at.context) u.budget 0 (at_place listed.middle now memory_now u.events)
+        → Does (loaded_in at.context) u.budget 0 (at_place listed.middle now memory_now u.events)
         (after_list loop Onward u) (Out loop))
         → (limit : ℕ) → limit ≤ loop.budget → Runs loop limit from turn_facts (from_list loop)
     all next =
@@ -304,7 +304,7 @@ word_turns {at = at} loop head list last is_tested end turn facts from place ite
         → Steps at.context known middle (plain (compared_and_counted last) ++ stored_and_on place turn) ended
         over
         → Goes loop limit ended over
-        → Does (script_of at.context) u.budget 0 (at_place listed.middle now memory_now u.events)
+        → Does (loaded_in at.context) u.budget 0 (at_place listed.middle now memory_now u.events)
         (after_list loop Onward u) (Out loop)
     next limit counting u now memory_now less there loads stands goes =
         Rattle.task_laws.proofs.Machine.Stages.does_same _

@@ -1,5 +1,5 @@
 -- The variable of an iterative DO comes into A or HL, where it is not there.
-use Rattle.statement_laws.proofs.Prelude.{◌≡◌, ℕ, ◌+◌, ◌*◌, ◌/◌, ◌%◌, ◌<◌, ◌≤◌, Bool, true, false, if◌then◌else◌, List, [], ◌∷◌, ◌++◌, Option, Some, None, refl, sym, ap, subst, ◌∙◌, arith, byte_at, Byte, Address, SourceState, Outcome, Registers, State, high_byte, low_byte, wrap, LoadA, LoadHl, Location, Does, at_place, IsSteady, location_at, place_at, byte_in_a_is, word_in_hl_is, Facts, is_at, byte_at_address_steps, byte_at_steps, byte_in_a, load_byte_steps, load_word_steps, word_at_steps, word_in_hl, word_at_hl_goes, word_known, byte_small, knowing, whole, Context, IsSound, distances_in, NoneThere, HoldsThere, WordThere, ready_with_registers, word_goes, Stage, at_end, at_load_a, script_of}
+use Rattle.statement_laws.proofs.Prelude.{◌≡◌, ℕ, ◌+◌, ◌*◌, ◌/◌, ◌%◌, ◌<◌, ◌≤◌, Bool, true, false, if◌then◌else◌, List, [], ◌∷◌, ◌++◌, Option, Some, None, refl, sym, ap, subst, ◌∙◌, arith, byte_at, Byte, Address, SourceState, Outcome, Registers, State, high_byte, low_byte, wrap, LoadA, LoadHl, Location, Does, at_place, IsSteady, location_at, place_at, byte_in_a_is, word_in_hl_is, Facts, is_at, byte_at_address_steps, byte_at_steps, byte_in_a, load_byte_steps, load_word_steps, word_at_steps, word_in_hl, word_at_hl_goes, word_known, byte_small, knowing, whole, Context, IsSound, distances_in, NoneThere, HoldsThere, WordThere, ready_with_registers, word_goes, Stage, at_end, at_load_a, loaded_in}
 use Rattle.mem80.specs.Memory.{word_at}
 use Rattle.treecode.specs.declared.place.Location.TheVariants as locations
 use Rattle.steps8080.specs.declared.step.Step.TheVariants as steps
@@ -20,8 +20,8 @@ held_byte :
     → Steps context facts from (steps.Holds (byte_in_a location) ∷ []) last to
     → Stage context top 0 need base t facts r memory
     → (Stage context top 0 need base t last r memory
-    → Does (script_of context) budget more (at_place to r memory t.events) outcome Good)
-    → Does (script_of context) budget more (at_place from r memory t.events) outcome Good
+    → Does (loaded_in context) budget more (at_place to r memory t.events) outcome Good)
+    → Does (loaded_in context) budget more (at_place from r memory t.events) outcome Good
 held_byte {context = context} {r = r} {memory = memory} address location a steady is
     (HoldsThere NoneThere) stage next =
     next (record {
@@ -53,8 +53,8 @@ pub byte_loaded :
     → ((now : Registers) (memory_now : List ℕ)
     → now.a ≡ byte_at memory_now (variable_address context variable)
     → Stage context top 0 need base t last now memory_now
-    → Does (script_of context) t.budget more (at_place to now memory_now t.events) outcome Good)
-    → Does (script_of context) t.budget more (at_place from r memory t.events) outcome Good
+    → Does (loaded_in context) t.budget more (at_place to now memory_now t.events) outcome Good)
+    → Does (loaded_in context) t.budget more (at_place from r memory t.events) outcome Good
 unfolding load_byte_steps
 byte_loaded {context = context} {top = top} {need = need} {more = more} {from = from} {to = to} {base = base}
     {t = t} {facts = facts} {last = last} {r = r} {memory = memory} {variable = variable} {outcome = outcome}
@@ -73,7 +73,7 @@ byte_loaded {context = context} {top = top} {need = need} {more = more} {from = 
 
     through_hl : Steps context facts from
         (byte_at_address_steps (whole variable) ++ (steps.Holds (byte_in_a counted.location) ∷ [])) last to
-        → Does (script_of context) t.budget more (at_place from r memory t.events) outcome Good
+        → Does (loaded_in context) t.budget more (at_place from r memory t.events) outcome Good
     through_hl stand =
         address_then counted enough stand stage
         (λ found middle now there rest holds here.
@@ -85,7 +85,7 @@ byte_loaded {context = context} {top = top} {need = need} {more = more} {from = 
     by_location : (location : Location) → counted.location ≡ location
         → Steps context facts from
         (byte_at_steps facts (whole variable) location ++ (steps.Holds (byte_in_a location) ∷ [])) last to
-        → Does (script_of context) t.budget more (at_place from r memory t.events) outcome Good
+        → Does (loaded_in context) t.budget more (at_place from r memory t.events) outcome Good
     by_location (locations.Static place) is stand =
         by_hl (is_at facts.address_in_hl (locations.Static place)) stand
       where
@@ -96,7 +96,7 @@ byte_loaded {context = context} {top = top} {need = need} {more = more} {from = 
             → Steps context facts from
             ((if there then byte_at_address_steps (whole variable) else steps.Word LoadA place ∷ [])
             ++ (steps.Holds (byte_in_a (locations.Static place)) ∷ [])) last to
-            → Does (script_of context) t.budget more (at_place from r memory t.events) outcome Good
+            → Does (loaded_in context) t.budget more (at_place from r memory t.events) outcome Good
         by_hl true stand =
             through_hl (subst (λ (location : Location). Steps context facts from
             (byte_at_address_steps (whole variable) ++ (steps.Holds (byte_in_a location) ∷ []))
@@ -117,7 +117,7 @@ byte_loaded {context = context} {top = top} {need = need} {more = more} {from = 
         (if here then []
         else byte_at_steps facts (whole variable) counted.location
         ++ (steps.Holds (byte_in_a counted.location) ∷ [])) last to
-        → Does (script_of context) t.budget more (at_place from r memory t.events) outcome Good
+        → Does (loaded_in context) t.budget more (at_place from r memory t.events) outcome Good
     by_test true is stand =
         let held =
         byte_in_a_is context.activation (distances_in context) facts.byte_in_a counted.location r.a memory
@@ -140,8 +140,8 @@ held_word :
     → Steps context facts from (steps.Holds (word_in_hl location) ∷ []) last to
     → Stage context top 0 need base t facts r memory
     → (Stage context top 0 need base t last r memory
-    → Does (script_of context) budget more (at_place to r memory t.events) outcome Good)
-    → Does (script_of context) budget more (at_place from r memory t.events) outcome Good
+    → Does (loaded_in context) budget more (at_place to r memory t.events) outcome Good)
+    → Does (loaded_in context) budget more (at_place from r memory t.events) outcome Good
 held_word {context = context} {r = r} {memory = memory} address location low high steady steady_too is
     (HoldsThere NoneThere) stage next =
     next (record {
@@ -186,8 +186,8 @@ pub word_loaded :
     → ((now : Registers) (memory_now : List ℕ)
     → HoldsWord context variable r now memory_now
     → Stage context top 0 need base t last now memory_now
-    → Does (script_of context) t.budget more (at_place to now memory_now t.events) outcome Good)
-    → Does (script_of context) t.budget more (at_place from r memory t.events) outcome Good
+    → Does (loaded_in context) t.budget more (at_place to now memory_now t.events) outcome Good)
+    → Does (loaded_in context) t.budget more (at_place from r memory t.events) outcome Good
 unfolding load_word_steps
 word_loaded {context = context} {top = top} {need = need} {more = more} {from = from} {to = to} {base = base}
     {t = t} {facts = facts} {last = last} {r = r} {memory = memory} {variable = variable} {outcome = outcome}
@@ -207,7 +207,7 @@ word_loaded {context = context} {top = top} {need = need} {more = more} {from = 
     by_location : (location : Location) → counted.location ≡ location
         → Steps context facts from
         (word_at_steps (whole variable) location ++ (steps.Holds (word_in_hl location) ∷ [])) last to
-        → Does (script_of context) t.budget more (at_place from r memory t.events) outcome Good
+        → Does (loaded_in context) t.budget more (at_place from r memory t.events) outcome Good
     by_location (locations.Static place) is (WordThere there rest) =
         let here : ℕ = place_at context.activation.layout place in
         let at_here : address ≡ here =
@@ -267,7 +267,7 @@ word_loaded {context = context} {top = top} {need = need} {more = more} {from = 
         (if here then []
         else word_at_steps (whole variable) counted.location
         ++ (steps.Holds (word_in_hl counted.location) ∷ [])) last to
-        → Does (script_of context) t.budget more (at_place from r memory t.events) outcome Good
+        → Does (loaded_in context) t.budget more (at_place from r memory t.events) outcome Good
     by_test true is stand =
         let held =
         word_in_hl_is context.activation (distances_in context) facts.word_in_hl counted.location r.h r.l

@@ -1,6 +1,6 @@
 -- What code of loops does that comes to the address of the variable, to a byte that it changes, and to a
 -- jump.
-use Rattle.statement_laws.proofs.Prelude.{◌≡◌, ℕ, ◌+◌, ◌*◌, ◌<◌, ◌≤◌, Bool, true, false, Option, Some, None, if◌then◌else◌, List, [], ◌∷◌, slice_set, refl, sym, ap, subst, ◌∙◌, arith, byte_at, byte_small, Location, IsSteady, address_asks, load, knowing, Event, height_of_reference, SourcePlace, write_byte, SourceState, Outcome, Gave, then_do, ScalarType, Condition, Instr, HoldBytes, Registers, State, holds, word, wrap, act, step_of, AtLabel, Jump, JumpWhere, size_of_instruction, Does, at_place, IsReady, jump_passed, word_step, Asks, IsSteadyByte, no_facts_hold, Facts, LabelNumber, Step, after, no_facts, keeps_of_address, location_of, whole, Context, IsSound, distances_in, StepsStand, NoneThere, PlainThere, JumpThere, MarkThere, PartThere, AddressIsGiven, Know, Left, PartDoes, address_on_machine, FitsIn, plain_goes, ready_with_registers, Stage, at_carried, at_registers, script_of, byte_written, same_given}
+use Rattle.statement_laws.proofs.Prelude.{◌≡◌, ℕ, ◌+◌, ◌*◌, ◌<◌, ◌≤◌, Bool, true, false, Option, Some, None, if◌then◌else◌, List, [], ◌∷◌, slice_set, refl, sym, ap, subst, ◌∙◌, arith, byte_at, byte_small, Location, IsSteady, address_asks, load, knowing, Event, height_of_reference, SourcePlace, write_byte, SourceState, Outcome, Gave, then_do, ScalarType, Condition, Instr, HoldBytes, Registers, State, holds, word, wrap, act, step_of, AtLabel, Jump, JumpWhere, size_of_instruction, Does, at_place, IsReady, jump_passed, word_step, Asks, IsSteadyByte, no_facts_hold, Facts, LabelNumber, Step, after, no_facts, keeps_of_address, location_of, whole, Context, IsSound, distances_in, StepsStand, NoneThere, PlainThere, JumpThere, MarkThere, PartThere, AddressIsGiven, Know, Left, PartDoes, address_on_machine, FitsIn, plain_goes, ready_with_registers, Stage, at_carried, at_registers, loaded_in, script_of, byte_written, same_given}
 use Rattle.isa8080.specs.declared.instr.Register.TheVariants as registers
 use Rattle.steps8080.specs.declared.step.Step.TheVariants as steps
 use Rattle.steps8080.specs.declared.step.Task.TheVariants as tasks
@@ -40,13 +40,13 @@ pub address_then :
     → Steps context found middle others last to
     → HoldsAddress context variable r now
     → Stage context top 0 need base t found now memory_now
-    → Does (script_of context) t.budget more (at_place middle now memory_now t.events) outcome Good)
-    → Does (script_of context) t.budget more (at_place from r memory t.events) outcome Good
+    → Does (loaded_in context) t.budget more (at_place middle now memory_now t.events) outcome Good)
+    → Does (loaded_in context) t.budget more (at_place from r memory t.events) outcome Good
 address_then {A = A} {context = context} {top = top} {need = need} {more = more} {from = from} {base = base}
     {t = t} {r = r} {memory = memory} {variable = variable} {outcome = outcome} {Good = Good} counted enough
     (PartThere {found = found} {middle = middle} does rest) stage next =
     let fewer : 2 * height_of_reference (whole_tree variable) ≤ need = enough in
-    subst (λ (one : Outcome A). Does (script_of context) t.budget more
+    subst (λ (one : Outcome A). Does (loaded_in context) t.budget more
     (at_place from r memory t.events) one Good)
     (ap (λ (one : Outcome SourcePlace). then_do one (λ _ _. outcome)) (counted.means t))
     (at_carried from middle found
@@ -63,7 +63,7 @@ address_then {A = A} {context = context} {top = top} {need = need} {more = more}
       d = given.d;
       e = given.e;
     } in
-    subst (λ (one : SourceState). Does (script_of context) one.budget more
+    subst (λ (one : SourceState). Does (loaded_in context) one.budget more
     (at_place middle now memory_now one.events) outcome Good)
     (sym same)
     (next found middle now memory_now rest holds
@@ -94,15 +94,15 @@ pub byte_then :
     → IsSteadyByte context.activation (word r.h r.l)
     → Steps context (after facts i) (from + size_of_instruction i) others last to
     → Stage context top 0 need base u (after facts i) now (slice_set memory (word r.h r.l) byte)
-    → Does (script_of context) u.budget more
+    → Does (loaded_in context) u.budget more
     (at_place (from + size_of_instruction i) now (slice_set memory (word r.h r.l) byte) u.events) (go tt u)
     Good)
-    → Does (script_of context) t.budget more (at_place from r memory t.events)
+    → Does (loaded_in context) t.budget more (at_place from r memory t.events)
     (then_do (write_byte context.activation.around.program place byte t) go) Good
 byte_then {context = context} {top = top} {need = need} {more = more} {from = from} {base = base} {t = t}
     {facts = facts} {r = r} {memory = memory} {i = i} {Good = Good} place byte now go sound small hl fits
     (PlainThere there rest) stage pointer bytes asks acts next =
-    let script = script_of context in
+    let loaded = loaded_in context in
     let middle : ℕ = from + size_of_instruction i in
     let left : List ℕ = slice_set memory (word r.h r.l) byte in
     byte_written place byte t go sound small stage.ready fits
@@ -115,9 +115,9 @@ byte_then {context = context} {top = top} {need = need} {more = more} {from = fr
     plain_goes r now left t.events sound there (record { ready = stage.ready; known = stage.known })
     (asks is_steady) (acts t.events)
     (λ known.
-    subst (λ (events : List Event). Does script t.budget more (at_place middle now left events)
+    subst (λ (events : List Event). Does loaded t.budget more (at_place middle now left events)
     (go tt u) Good) events_same
-    (subst (λ (budget : ℕ). Does script budget more (at_place middle now left u.events) (go tt u) Good)
+    (subst (λ (budget : ℕ). Does loaded budget more (at_place middle now left u.events) (go tt u) Good)
     budget_same
     (next u budget_same is_steady rest
     (record {
@@ -140,18 +140,18 @@ pub jump_then :
     → (holds c r.flags ≡ true
     → step_of (script_of context) (at_place from r memory t.events)
     ≡ at_place (context.activation.layout.place_of label.index) r memory t.events
-    → Does (script_of context) budget more (at_place from r memory t.events) outcome Good)
+    → Does (loaded_in context) budget more (at_place from r memory t.events) outcome Good)
     → (holds c r.flags ≡ false
     → Steps context facts (from + 3) others last to
-    → Does (script_of context) budget more (at_place (from + 3) r memory t.events) outcome Good)
-    → Does (script_of context) budget more (at_place from r memory t.events) outcome Good
+    → Does (loaded_in context) budget more (at_place (from + 3) r memory t.events) outcome Good)
+    → Does (loaded_in context) budget more (at_place from r memory t.events) outcome Good
 jump_then {context = context} {budget = budget} {more = more} {from = from} {t = t} {r = r} {memory = memory}
     {c = c} {label = label} {outcome = outcome} {Good = Good} sound (JumpThere there rest)
     stage taken passed =
     by (holds c r.flags) refl
   where
     by : (jumps : Bool) → holds c r.flags ≡ jumps
-        → Does (script_of context) budget more (at_place from r memory t.events) outcome Good
+        → Does (loaded_in context) budget more (at_place from r memory t.events) outcome Good
     by true is =
         taken is
         (word_step (script_of context) context.activation (JumpWhere c) (AtLabel label.index) [] from
@@ -216,9 +216,9 @@ pub load_then :
     → ((found : Facts) (middle : ℕ)
     → Steps context found middle others last to
     → Stage context top 0 need base t found (record r { a = byte_at memory address }) memory
-    → Does (script_of context) budget more
+    → Does (loaded_in context) budget more
     (at_place middle (record r { a = byte_at memory address }) memory t.events) outcome Good)
-    → Does (script_of context) budget more (at_place from r memory t.events) outcome Good
+    → Does (loaded_in context) budget more (at_place from r memory t.events) outcome Good
 load_then {context = context} {from = from} {t = t} {facts = facts} {r = r} {memory = memory} address sound hl
     steady (PlainThere there rest) stage next =
     let held = stage.ready.registers in

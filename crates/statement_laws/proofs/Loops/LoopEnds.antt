@@ -1,5 +1,5 @@
 -- The ends of loops, and entering them.
-use Rattle.statement_laws.proofs.Prelude.{◌≡◌, ℕ, ◌+◌, ◌*◌, ◌≤◌, Bool, true, false, [], ◌∷◌, ◌++◌, Option, sym, ap, subst, ◌∙◌, IfSome, height_of, height_of_list, height_of_optional, ListStands, TypesHold, TypesHoldInList, Gave, Onward, Range, Iteration, IsIteration, IsList, Facts, LabelNumber, no_facts, asked_mark, Here, Does, at_place, nodes_in, script_of, BodyContext, IsSoundBody}
+use Rattle.statement_laws.proofs.Prelude.{◌≡◌, ℕ, ◌+◌, ◌*◌, ◌≤◌, Bool, true, false, [], ◌∷◌, ◌++◌, Option, sym, ap, subst, ◌∙◌, IfSome, height_of, height_of_list, height_of_optional, ListStands, TypesHold, TypesHoldInList, Gave, Onward, Range, Iteration, IsIteration, IsList, Facts, LabelNumber, no_facts, asked_mark, Here, Does, at_place, nodes_in, loaded_in, BodyContext, IsSoundBody}
 use Rattle.steps8080.specs.declared.step.Step.TheVariants as steps
 use Rattle.statements8080.specs.declared.plan.Planned.TheVariants as planned
 use Rattle.statement_laws.proofs.Loops.CountedBytes.{Goes}
@@ -34,7 +34,7 @@ pub goes_at_end :
     → place ≡ loop.to
     → Goes loop limit facts place
 goes_at_end {at = at} loop limit facts place same there = λ u now memory_now less stage.
-    subst (λ (n : ℕ). Does (script_of at.context) u.budget 0 (at_place n now memory_now u.events)
+    subst (λ (n : ℕ). Does (loaded_in at.context) u.budget 0 (at_place n now memory_now u.events)
     (Gave Onward u) (Out loop)) (sym there)
     (loop_ends loop u now memory_now (ap (λ (here : Here). here.goes_on) (sym same))
     (subst (λ (here : Here). StageAt at loop.need loop.base u here.facts now memory_now) same stage))

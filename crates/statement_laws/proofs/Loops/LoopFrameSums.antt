@@ -1,5 +1,5 @@
 -- The step of an iterative DO whose variable is an ADDRESS in the frame: DE is added to it, byte by byte.
-use Rattle.statement_laws.proofs.Prelude.{◌≡◌, ℕ, ◌+◌, ◌*◌, ◌/◌, ◌%◌, ◌<◌, ◌≤◌, Bool, true, false, nat_le, List, [], ◌∷◌, slice_set, refl, sym, ap, subst, ◌∙◌, arith, leb-true, leb-false, le-leb, lt-leb, MEMORY_SIZE, byte_at, byte_small, Address, SourcePlace, next_place, write_byte, next_turn, SourceState, Outcome, then_do, Flow, Carry, Inx, MovToMemory, Add, AddWithCarry, Hl, A, D, E, bit, Registers, word, wrap, JumpWhere, byte_kept, address_asks, Does, at_place, carry_shows, same_test, Facts, LabelNumber, Step, load, with_register, distances_in, effect, at_instructions, does_same, script_of, first_fits, next_address, second_fits, BodyContext, next_is_other, next_word, then_again}
+use Rattle.statement_laws.proofs.Prelude.{◌≡◌, ℕ, ◌+◌, ◌*◌, ◌/◌, ◌%◌, ◌<◌, ◌≤◌, Bool, true, false, nat_le, List, [], ◌∷◌, slice_set, refl, sym, ap, subst, ◌∙◌, arith, leb-true, leb-false, le-leb, lt-leb, MEMORY_SIZE, byte_at, byte_small, Address, SourcePlace, next_place, write_byte, next_turn, SourceState, Outcome, then_do, Flow, Carry, Inx, MovToMemory, Add, AddWithCarry, Hl, A, D, E, bit, Registers, word, wrap, JumpWhere, byte_kept, address_asks, Does, at_place, carry_shows, same_test, Facts, LabelNumber, Step, load, with_register, distances_in, effect, at_instructions, does_same, loaded_in, first_fits, next_address, second_fits, BodyContext, next_is_other, next_word, then_again}
 use Rattle.steps8080.specs.declared.step.Step.TheVariants as steps
 use Rattle.statement_laws.proofs.Loops.CountedBytes.{within_limit}
 use Rattle.statement_laws.proofs.Loops.CountedVariables.{variable_address, variable_place}
@@ -60,7 +60,7 @@ pub add_de_in_frame :
     → t.budget ≤ limit
     → StageAt at loop.need loop.base t facts r memory
     → Checks loop limit found to
-    → Does (script_of at.context) t.budget 0 (at_place from r memory t.events)
+    → Does (loaded_in at.context) t.budget 0 (at_place from r memory t.events)
     (stepped_with loop Address n t) (Out loop)
 add_de_in_frame {at = at} loop limit n end t r memory has de stand fewer stage checks =
     let sound = has.sound.sound in

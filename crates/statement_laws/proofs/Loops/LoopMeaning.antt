@@ -1,5 +1,5 @@
 -- What a turn of an iterative DO means, where the machine has its variable.
-use Rattle.statement_laws.proofs.Prelude.{◌≡◌, ℕ, ◌+◌, ◌*◌, ◌<◌, ◌≤◌, Bool, true, false, nat_lt, if◌then◌else◌, List, refl, sym, ap, subst, ◌∙◌, arith, ltb-true, ltb-false, byte_at, byte_small, ScalarType, Byte, Address, read_scalar, write_scalar, next_turn, step_value, value, SourceState, Outcome, Gave, then_do, taking_one, Flow, Onward, as_type, values_of, Registers, State, wrap, Does, Activation, IsReady, IsSteady, Context, IsSound, byte_read, word_read, script_of, BodyContext, IsSoundBody, two_bytes_fit}
+use Rattle.statement_laws.proofs.Prelude.{◌≡◌, ℕ, ◌+◌, ◌*◌, ◌<◌, ◌≤◌, Bool, true, false, nat_lt, if◌then◌else◌, List, refl, sym, ap, subst, ◌∙◌, arith, ltb-true, ltb-false, byte_at, byte_small, ScalarType, Byte, Address, read_scalar, write_scalar, next_turn, step_value, value, SourceState, Outcome, Gave, then_do, taking_one, Flow, Onward, as_type, values_of, Registers, State, wrap, Does, Activation, IsReady, IsSteady, Context, IsSound, byte_read, word_read, loaded_in, BodyContext, IsSoundBody, two_bytes_fit}
 use Rattle.statement_laws.proofs.Loops.CountedVariables.{IsCounted, variable_address, variable_place}
 use Rattle.statement_laws.proofs.Loops.LoopTurns.{Loop, Out, after_list, from_list, from_test, next_is}
 
@@ -32,9 +32,9 @@ pub counted_read :
     → IsCounted context variable scalar
     → IsReady context.activation top base s.memory s.frame r memory
     → (IsSteadyScalar context.activation scalar (variable_address context variable)
-    → Does (script_of context) budget more from
+    → Does (loaded_in context) budget more from
     (go (scalar_at scalar memory (variable_address context variable)) s) Good)
-    → Does (script_of context) budget more from
+    → Does (loaded_in context) budget more from
     (then_do (read_scalar context.activation.around.program scalar (variable_place context variable) s) go)
     Good
 counted_read {context = context} {variable = variable} Byte s go sound counted ready does =
@@ -53,20 +53,20 @@ pub tested :
     → IsReady at.context.activation top base t.memory t.frame r memory
     → (nat_lt last (scalar_at scalar memory (variable_address at.context (loop.head).variable)) ≡ true
     → IsSteadyScalar at.context.activation scalar (variable_address at.context (loop.head).variable)
-    → Does (script_of at.context) budget 0 from (Gave Onward t) (Out loop))
+    → Does (loaded_in at.context) budget 0 from (Gave Onward t) (Out loop))
     → (nat_lt last (scalar_at scalar memory (variable_address at.context (loop.head).variable)) ≡ false
     → IsSteadyScalar at.context.activation scalar (variable_address at.context (loop.head).variable)
-    → Does (script_of at.context) budget 0 from (taking_one t (from_list loop)) (Out loop))
-    → Does (script_of at.context) budget 0 from (from_test loop t) (Out loop)
+    → Does (loaded_in at.context) budget 0 from (taking_one t (from_list loop)) (Out loop))
+    → Does (loaded_in at.context) budget 0 from (from_test loop t) (Out loop)
 tested {at = at} {budget = budget} {from = from} {memory = memory} loop scalar last t sound same is
     counted ready ends goes =
-    subst (λ (one : Outcome ℕ). Does (script_of at.context) budget 0 from
+    subst (λ (one : Outcome ℕ). Does (loaded_in at.context) budget 0 from
     (then_do one
     (λ last u. then_do (read_scalar at.context.activation.around.program (loop.head).scalar
     (variable_place at.context (loop.head).variable) u)
     (λ number v. if nat_lt last number then Gave Onward v else taking_one v (from_list loop))))
     (Out loop)) (sym is)
-    (subst (λ (scalar : ScalarType). Does (script_of at.context) budget 0 from
+    (subst (λ (scalar : ScalarType). Does (loaded_in at.context) budget 0 from
     (then_do (read_scalar at.context.activation.around.program scalar
     (variable_place at.context (loop.head).variable) t)
     (λ number v. if nat_lt last number then Gave Onward v else taking_one v (from_list loop)))
@@ -81,7 +81,7 @@ tested {at = at} {budget = budget} {from = from} {memory = memory} loop scalar l
 
     by : (above : Bool) → nat_lt last number ≡ above
         → IsSteadyScalar at.context.activation scalar (variable_address at.context (loop.head).variable)
-        → Does (script_of at.context) budget 0 from
+        → Does (loaded_in at.context) budget 0 from
         (if above then Gave Onward t else taking_one t (from_list loop)) (Out loop)
     by true is steady = ends is steady
     by false is steady = goes is steady
@@ -115,13 +115,13 @@ pub stepped_by :
     → IsCounted at.context (loop.head).variable scalar
     → IsReady at.context.activation top base t.memory t.frame r memory
     → (IsSteadyScalar at.context.activation scalar (variable_address at.context (loop.head).variable)
-    → Does (script_of at.context) budget 0 from
+    → Does (loaded_in at.context) budget 0 from
     (then_do
     (write_scalar at.context.activation.around.program scalar (variable_place at.context (loop.head).variable)
     (as_type scalar (scalar_at scalar memory (variable_address at.context (loop.head).variable) + step)) t)
     (λ _ v. next_turn at.context.later at.context.activation.around loop.head loop.list
     (scalar_at scalar memory (variable_address at.context (loop.head).variable) + step) v)) (Out loop))
-    → Does (script_of at.context) budget 0 from (stepped_with loop scalar step t) (Out loop)
+    → Does (loaded_in at.context) budget 0 from (stepped_with loop scalar step t) (Out loop)
 stepped_by {at = at} loop scalar step t sound counted ready does =
     counted_read scalar t
     (λ number v. then_do
@@ -137,19 +137,19 @@ pub next_tests :
     → IsSoundBody at
     → (loop.head).scalar ≡ scalar
     → t.budget < loop.budget
-    → (sum < values_of scalar → Does (script_of at.context) budget 0 from (from_test loop t) (Out loop))
-    → (values_of scalar ≤ sum → Does (script_of at.context) budget 0 from (Gave Onward t) (Out loop))
-    → Does (script_of at.context) budget 0 from
+    → (sum < values_of scalar → Does (loaded_in at.context) budget 0 from (from_test loop t) (Out loop))
+    → (values_of scalar ≤ sum → Does (loaded_in at.context) budget 0 from (Gave Onward t) (Out loop))
+    → Does (loaded_in at.context) budget 0 from
     (next_turn at.context.later at.context.activation.around loop.head loop.list sum t) (Out loop)
 next_tests {at = at} {budget = budget} {from = from} loop scalar sum t sound same less goes ends =
-    subst (λ (one : Outcome Flow). Does (script_of at.context) budget 0 from one (Out loop))
+    subst (λ (one : Outcome Flow). Does (loaded_in at.context) budget 0 from one (Out loop))
     (sym (next_is loop sum t sound less
     ∙ ap (λ (scalar : ScalarType). if nat_lt sum (values_of scalar) then from_test loop t else Gave Onward t)
     same))
     (by (nat_lt sum (values_of scalar)) refl)
   where
     by : (is_of_type : Bool) → nat_lt sum (values_of scalar) ≡ is_of_type
-        → Does (script_of at.context) budget 0 from
+        → Does (loaded_in at.context) budget 0 from
         (if is_of_type then from_test loop t else Gave Onward t) (Out loop)
     by true is = goes (ltb-true sum (values_of scalar) is)
     by false is = ends (ltb-false sum (values_of scalar) is)
@@ -167,8 +167,8 @@ pub turns_again :
     → scalar_at scalar memory (variable_address at.context (loop.head).variable) ≡ as_type scalar sum
     → sum < values_of scalar
     → sum ≤ last
-    → Does (script_of at.context) budget 0 from (taking_one t (from_list loop)) (Out loop)
-    → Does (script_of at.context) budget 0 from
+    → Does (loaded_in at.context) budget 0 from (taking_one t (from_list loop)) (Out loop)
+    → Does (loaded_in at.context) budget 0 from
     (next_turn at.context.later at.context.activation.around loop.head loop.list sum t) (Out loop)
 turns_again {at = at} {memory = memory} loop scalar last sum t sound same is counted ready less
     there small enough does =
@@ -199,8 +199,8 @@ pub turns_end :
     → t.budget < loop.budget
     → scalar_at scalar memory (variable_address at.context (loop.head).variable) ≡ as_type scalar sum
     → (sum < values_of scalar → last < sum)
-    → Does (script_of at.context) budget 0 from (Gave Onward t) (Out loop)
-    → Does (script_of at.context) budget 0 from
+    → Does (loaded_in at.context) budget 0 from (Gave Onward t) (Out loop)
+    → Does (loaded_in at.context) budget 0 from
     (next_turn at.context.later at.context.activation.around loop.head loop.list sum t) (Out loop)
 turns_end {at = at} {memory = memory} loop scalar last sum t sound same is counted ready
     less there past does =

@@ -1,6 +1,6 @@
 -- Rules for code of loops in general: values of parts, operations with a byte of memory, and the jumps after
 -- a test and after a sum.
-use Rattle.statement_laws.proofs.Prelude.{◌≡◌, ℕ, ◌+◌, ◌*◌, ◌/◌, ◌%◌, ◌<◌, ◌≤◌, Bool, true, false, not, nat_lt, nat_le, if◌then◌else◌, List, [], ◌∷◌, refl, sym, ap, subst, ◌∙◌, arith, Some, ltb-true, ltb-false, lt-ltb, le-ltb, leb-true, leb-false, byte_at, ScalarType, Byte, height_of, type_of, TypedExpression, TypesHold, read_scalar, next_turn, value, SourceState, Outcome, Gave, then_do, taking_one, Flow, Onward, values_of, Condition, Accumulate, M, Operation, Add, AddWithCarry, Compare, Subtract, SubtractWithBorrow, operate, subtract_of, bit, Registers, State, holds, word, wrap, JumpWhere, ExpressionNumber, IsExpressionIn, IsSteady, Does, at_place, borrow_shows, borrow_shows_more, word_borrow, after_step, Facts, LabelNumber, Step, no_facts, Context, IsSound, nodes_in, PartThere, PlainThere, Know, word_known, Stage, at_registers, script_of, then_does_where, BodyContext, IsSoundBody, step_of, room_for, value_is_word}
+use Rattle.statement_laws.proofs.Prelude.{◌≡◌, ℕ, ◌+◌, ◌*◌, ◌/◌, ◌%◌, ◌<◌, ◌≤◌, Bool, true, false, not, nat_lt, nat_le, if◌then◌else◌, List, [], ◌∷◌, refl, sym, ap, subst, ◌∙◌, arith, Some, ltb-true, ltb-false, lt-ltb, le-ltb, leb-true, leb-false, byte_at, ScalarType, Byte, height_of, type_of, TypedExpression, TypesHold, read_scalar, next_turn, value, SourceState, Outcome, Gave, then_do, taking_one, Flow, Onward, values_of, Condition, Accumulate, M, Operation, Add, AddWithCarry, Compare, Subtract, SubtractWithBorrow, operate, subtract_of, bit, Registers, State, holds, word, wrap, JumpWhere, ExpressionNumber, IsExpressionIn, IsSteady, Does, at_place, borrow_shows, borrow_shows_more, word_borrow, after_step, Facts, LabelNumber, Step, no_facts, Context, IsSound, nodes_in, PartThere, PlainThere, Know, word_known, Stage, at_registers, loaded_in, script_of, then_does_where, BodyContext, IsSoundBody, step_of, room_for, value_is_word}
 use Rattle.steps8080.specs.declared.step.Step.TheVariants as steps
 use Rattle.steps8080.specs.declared.step.Task.TheVariants as tasks
 use Rattle.statement_laws.proofs.Loops.CountedBytes.{Goes}
@@ -37,8 +37,8 @@ pub byte_comes :
     → u.budget ≤ s.budget
     → Steps context found middle others last to
     → Stage context top 0 need base u found now memory_now
-    → Does (script_of context) u.budget 0 (at_place middle now memory_now u.events) (go n u) Good)
-    → Does (script_of context) s.budget 0 (at_place from r memory s.events)
+    → Does (loaded_in context) u.budget 0 (at_place middle now memory_now u.events) (go n u) Good)
+    → Does (loaded_in context) s.budget 0 (at_place from r memory s.events)
     (then_do (value context.later context.activation.around tree s) go) Good
 byte_comes {context = context} {top = top} {need = need} {base = base} {tree = tree} {Good = Good} number go s
     r memory is types fits (PartThere {found = found} {middle = middle} does rest) stage next =
@@ -47,7 +47,7 @@ byte_comes {context = context} {top = top} {need = need} {base = base} {tree = t
     stage.ready stage.known tt)
     (λ n u end gave arrives spent.
     let below = stage.below in
-    subst (λ (state : State). Does (script_of context) u.budget 0 state (go n u) Good) (sym arrives.is_at)
+    subst (λ (state : State). Does (loaded_in context) u.budget 0 state (go n u) Good) (sym arrives.is_at)
     (next n u arrives.r arrives.memory found middle gave
     (record { small = (arrives.holds).small; a = (arrives.holds).a }) spent rest
     (record { below = omega (arith, below, spent); room = stage.room; ready = arrives.ready; known = (arrives.holds).known })))
@@ -68,8 +68,8 @@ pub word_comes :
     → u.budget ≤ s.budget
     → Steps context found middle others last to
     → Stage context top 0 need base u found now memory_now
-    → Does (script_of context) u.budget 0 (at_place middle now memory_now u.events) (go n u) Good)
-    → Does (script_of context) s.budget 0 (at_place from r memory s.events)
+    → Does (loaded_in context) u.budget 0 (at_place middle now memory_now u.events) (go n u) Good)
+    → Does (loaded_in context) s.budget 0 (at_place from r memory s.events)
     (then_do (value context.later context.activation.around tree s) go) Good
 word_comes {context = context} {top = top} {need = need} {base = base} {tree = tree} {Good = Good} number go s
     r memory is types fits (PartThere {found = found} {middle = middle} does rest) stage next =
@@ -83,7 +83,7 @@ word_comes {context = context} {top = top} {need = need} {base = base} {tree = t
       h = (arrives.holds).h;
       l = (arrives.holds).l;
     } in
-    subst (λ (state : State). Does (script_of context) u.budget 0 state (go n u) Good) (sym arrives.is_at)
+    subst (λ (state : State). Does (loaded_in context) u.budget 0 state (go n u) Good) (sym arrives.is_at)
     (next n u arrives.r arrives.memory found middle comes spent rest
     (record { below = omega (arith, below, spent); room = stage.room; ready = arrives.ready; known = (arrives.holds).known })))
 
@@ -124,9 +124,9 @@ pub operate_then :
     → ((found : Facts) (middle : ℕ)
     → Steps context found middle others last to
     → Stage context top 0 need base t found (operated operation (byte_at memory address) r) memory
-    → Does (script_of context) budget more
+    → Does (loaded_in context) budget more
     (at_place middle (operated operation (byte_at memory address) r) memory t.events) outcome Good)
-    → Does (script_of context) budget more (at_place from r memory t.events) outcome Good
+    → Does (loaded_in context) budget more (at_place from r memory t.events) outcome Good
 operate_then {context = context} {from = from} {t = t} {r = r} {memory = memory} operation address sound is hl
     (PlainThere there rest) stage next =
     let held = stage.ready.registers in
@@ -189,7 +189,7 @@ pub test_jumps :
     → StageAt at loop.need loop.base t facts r memory
     → Know at.context turn_facts r memory
     → Goes loop limit found to
-    → Does (script_of at.context) t.budget 0 (at_place from r memory t.events)
+    → Does (loaded_in at.context) t.budget 0 (at_place from r memory t.events)
     (if_not_above loop last number t) (Out loop)
 test_jumps {at = at} loop limit turn turn_facts {facts = facts} {found = found} {from = from} {to = to} c last
     number t r memory turns shows stand fewer stage enters goes =
@@ -200,7 +200,7 @@ test_jumps {at = at} loop limit turn turn_facts {facts = facts} {found = found} 
     below : (is_above : Bool) → nat_lt last number ≡ is_above → not (nat_lt last number) ≡ true
         → step_of (script_of at.context) (at_place from r memory t.events)
         ≡ at_place (at.context.activation.layout.place_of turn.index) r memory t.events
-        → Does (script_of at.context) t.budget 0 (at_place from r memory t.events)
+        → Does (loaded_in at.context) t.budget 0 (at_place from r memory t.events)
         (if is_above then Gave Onward t else taking_one t (from_list loop)) (Out loop)
     below true is never step = absurd (differs (sym (ap not is) ∙ never))
       where
@@ -214,11 +214,11 @@ test_jumps {at = at} loop limit turn turn_facts {facts = facts} {found = found} 
 
     above : (is_above : Bool) → nat_lt last number ≡ is_above → not (nat_lt last number) ≡ false
         → Steps at.context facts (from + 3) [] found to
-        → Does (script_of at.context) t.budget 0 (at_place (from + 3) r memory t.events)
+        → Does (loaded_in at.context) t.budget 0 (at_place (from + 3) r memory t.events)
         (if is_above then Gave Onward t else taking_one t (from_list loop)) (Out loop)
     above true is passed rest =
         let over = steps_over rest in
-        subst (λ (place : ℕ). Does (script_of at.context) t.budget 0 (at_place place r memory t.events)
+        subst (λ (place : ℕ). Does (loaded_in at.context) t.budget 0 (at_place place r memory t.events)
         (Gave Onward t) (Out loop)) (sym over.1)
         (goes t r memory fewer
         (subst (λ (facts : Facts). StageAt at loop.need loop.base t facts r memory) over.0 stage))
@@ -233,7 +233,7 @@ Checks {at = at} loop limit facts place =
     (u : SourceState) (now : Registers) (memory_now : List ℕ)
     → u.budget ≤ limit
     → StageAt at loop.need loop.base u facts now memory_now
-    → Does (script_of at.context) u.budget 0 (at_place place now memory_now u.events)
+    → Does (loaded_in at.context) u.budget 0 (at_place place now memory_now u.events)
     (from_test loop u) (Out loop)
 
 -- a jump to the end of the loop, where the sum is not of the type
@@ -251,9 +251,9 @@ pub sum_jumps :
     → Goes loop limit no_facts (at.context.activation.layout.place_of end.index)
     → (sum < values_of scalar
     → Steps at.context facts (from + 3) others found to
-    → Does (script_of at.context) u.budget 0 (at_place (from + 3) r memory u.events)
+    → Does (loaded_in at.context) u.budget 0 (at_place (from + 3) r memory u.events)
     (from_test loop u) (Out loop))
-    → Does (script_of at.context) u.budget 0 (at_place from r memory u.events)
+    → Does (loaded_in at.context) u.budget 0 (at_place from r memory u.events)
     (next_turn at.context.later at.context.activation.around loop.head loop.list sum u) (Out loop)
 sum_jumps {at = at} loop scalar limit sum end {from = from} c u r memory sound same less shows stand
     fewer stage goes next =
@@ -278,10 +278,10 @@ pub checks_at :
     → Steps at.context facts from [] found to
     → u.budget ≤ limit
     → StageAt at loop.need loop.base u facts r memory
-    → Does (script_of at.context) u.budget 0 (at_place from r memory u.events) (from_test loop u) (Out loop)
+    → Does (loaded_in at.context) u.budget 0 (at_place from r memory u.events) (from_test loop u) (Out loop)
 checks_at {at = at} loop limit u r memory checks rest fewer stage =
     let over = steps_over rest in
-    subst (λ (place : ℕ). Does (script_of at.context) u.budget 0 (at_place place r memory u.events)
+    subst (λ (place : ℕ). Does (loaded_in at.context) u.budget 0 (at_place place r memory u.events)
     (from_test loop u) (Out loop)) (sym over.1)
     (checks u r memory fewer (subst (λ (facts : Facts). StageAt at loop.need loop.base u facts r memory)
     over.0 stage))

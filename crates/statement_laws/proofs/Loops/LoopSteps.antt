@@ -1,6 +1,6 @@
 -- The step of an iterative DO in general, counting by 1: the variable is counted where it lies, and where it
 -- becomes 0 the loop ends.
-use Rattle.statement_laws.proofs.Prelude.{◌≡◌, ◌≢◌, ℕ, ◌+◌, ◌*◌, ◌/◌, ◌%◌, ◌<◌, ◌≤◌, ◌==◌, not, nat_le, List, [], ◌∷◌, slice_set, refl, sym, ap, subst, ◌∙◌, arith, eqb-true, eqb-false, le-leb, lt-leb, MEMORY_SIZE, byte_at, byte_small, Event, ScalarType, Byte, Address, SourcePlace, next_place, write_byte, next_turn, step_value, SourceState, Outcome, Gave, then_do, Flow, Onward, NotZero, Zero, Inr, Inx, M, Hl, Flags, increment_of, Registers, word, wrap, step_of, JumpWhere, byte_kept, Does, at_place, IsReady, no_facts_hold, count_shows, same_test, after_step, Facts, LabelNumber, no_facts, address_on_machine, set_same, effect, at_instructions, does_same, script_of, first_fits, next_address, second_fits, byte_written, BodyContext, IsSoundBody, next_is_other, next_word, not-false, not-true, then_again}
+use Rattle.statement_laws.proofs.Prelude.{◌≡◌, ◌≢◌, ℕ, ◌+◌, ◌*◌, ◌/◌, ◌%◌, ◌<◌, ◌≤◌, ◌==◌, not, nat_le, List, [], ◌∷◌, slice_set, refl, sym, ap, subst, ◌∙◌, arith, eqb-true, eqb-false, le-leb, lt-leb, MEMORY_SIZE, byte_at, byte_small, Event, ScalarType, Byte, Address, SourcePlace, next_place, write_byte, next_turn, step_value, SourceState, Outcome, Gave, then_do, Flow, Onward, NotZero, Zero, Inr, Inx, M, Hl, Flags, increment_of, Registers, word, wrap, step_of, JumpWhere, byte_kept, Does, at_place, IsReady, no_facts_hold, count_shows, same_test, after_step, Facts, LabelNumber, no_facts, address_on_machine, set_same, effect, at_instructions, does_same, loaded_in, script_of, first_fits, next_address, second_fits, byte_written, BodyContext, IsSoundBody, next_is_other, next_word, not-false, not-true, then_again}
 use Rattle.steps8080.specs.declared.step.Step.TheVariants as steps
 use Rattle.statement_laws.proofs.Loops.CountedBytes.{Goes, within_limit, one_more_now}
 use Rattle.statement_laws.proofs.Loops.CountedVariables.{IsCounted, variable_address, variable_place}
@@ -38,7 +38,7 @@ pub count_byte :
     → t.budget ≤ limit
     → StageAt at loop.need loop.base t facts r memory
     → Checks loop limit found to
-    → Does (script_of at.context) t.budget 0 (at_place from r memory t.events)
+    → Does (loaded_in at.context) t.budget 0 (at_place from r memory t.events)
     (after_list loop Onward t) (Out loop)
 count_byte {at = at} loop limit end t r memory has step_is stand fewer stage checks =
     let sound = has.sound.sound in
@@ -112,7 +112,7 @@ pub count_word :
     → StageAt at loop.need loop.base t facts r memory
     → Checks loop limit no_facts (at.context.activation.layout.place_of test.index)
     → Checks loop limit found to
-    → Does (script_of at.context) t.budget 0 (at_place from r memory t.events)
+    → Does (loaded_in at.context) t.budget 0 (at_place from r memory t.events)
     (after_list loop Onward t) (Out loop)
 count_word {at = at} loop limit test end t r memory has step_is stand fewer stage at_test checks =
     let sound = has.sound.sound in
@@ -179,9 +179,9 @@ count_word {at = at} loop limit test end t r memory has step_is stand fewer stag
     ≡ at_place (at.context.activation.layout.place_of test.index) after left v.events =
     subst (λ (events : List Event). step_of (script_of at.context) (at_place (middle + 1) after left events)
     ≡ at_place (at.context.activation.layout.place_of test.index) after left events) (sym events_same) step in
-    subst (λ (events : List Event). Does (script_of at.context) u.budget 0
+    subst (λ (events : List Event). Does (loaded_in at.context) u.budget 0
     (at_place (middle + 1) after left events) (go tt v) (Out loop)) events_same
-    (subst (λ (budget : ℕ). Does (script_of at.context) budget 0 (at_place (middle + 1) after left v.events)
+    (subst (λ (budget : ℕ). Does (loaded_in at.context) budget 0 (at_place (middle + 1) after left v.events)
     (go tt v) (Out loop)) budget_same
     (next_tests loop Address (number + 1) v has.sound has.scalar_is (omega (arith, fewer_then, less))
     (λ of_type.

@@ -1,6 +1,6 @@
 -- The step of an iterative DO in general, where it is added to the variable: where the sum passes the type
 -- the loop ends.
-use Rattle.statement_laws.proofs.Prelude.{◌≡◌, ℕ, ◌+◌, ◌*◌, ◌/◌, ◌%◌, ◌<◌, ◌≤◌, ◌==◌, Bool, true, false, not, nat_le, List, [], ◌∷◌, slice_set, Option, Some, refl, sym, ap, subst, ◌∙◌, arith, bit_or, leb-true, leb-false, le-leb, lt-leb, eqb-true, eqb-false, or_self, byte_at, byte_small, Byte, height_of, type_of, TypedExpression, TypesHold, next_turn, step_value, value, SourceState, Gave, then_do, Onward, values_of, Carry, NotZero, Accumulate, MovToMemory, Xchg, M, Add, AddWithCarry, Or, A, D, E, bit, Registers, word, JumpWhere, ExpressionNumber, IsExpressionIn, address_asks, Does, at_place, carry_shows, same_test, after_step, Facts, LabelNumber, copy, set, with_register, distances_in, nodes_in, effect, at_instructions, does_same, script_of, BodyContext}
+use Rattle.statement_laws.proofs.Prelude.{◌≡◌, ℕ, ◌+◌, ◌*◌, ◌/◌, ◌%◌, ◌<◌, ◌≤◌, ◌==◌, Bool, true, false, not, nat_le, List, [], ◌∷◌, slice_set, Option, Some, refl, sym, ap, subst, ◌∙◌, arith, bit_or, leb-true, leb-false, le-leb, lt-leb, eqb-true, eqb-false, or_self, byte_at, byte_small, Byte, height_of, type_of, TypedExpression, TypesHold, next_turn, step_value, value, SourceState, Gave, then_do, Onward, values_of, Carry, NotZero, Accumulate, MovToMemory, Xchg, M, Add, AddWithCarry, Or, A, D, E, bit, Registers, word, JumpWhere, ExpressionNumber, IsExpressionIn, address_asks, Does, at_place, carry_shows, same_test, after_step, Facts, LabelNumber, copy, set, with_register, distances_in, nodes_in, effect, at_instructions, does_same, loaded_in, BodyContext}
 use Rattle.steps8080.specs.declared.step.Step.TheVariants as steps
 use Rattle.statement_laws.proofs.Loops.CountedBytes.{within_limit}
 use Rattle.statement_laws.proofs.Loops.CountedVariables.{variable_address, variable_place}
@@ -41,7 +41,7 @@ pub add_byte :
     → t.budget ≤ limit
     → StageAt at loop.need loop.base t facts r memory
     → Checks loop limit found to
-    → Does (script_of at.context) t.budget 0 (at_place from r memory t.events)
+    → Does (loaded_in at.context) t.budget 0 (at_place from r memory t.events)
     (after_list loop Onward t) (Out loop)
 add_byte {at = at} loop limit step tree end t r memory has added_value is_byte stand fewer stage checks =
     let sound = has.sound.sound in
@@ -143,7 +143,7 @@ pub add_word_to_byte :
     → t.budget ≤ limit
     → StageAt at loop.need loop.base t facts r memory
     → Checks loop limit found to
-    → Does (script_of at.context) t.budget 0 (at_place from r memory t.events)
+    → Does (loaded_in at.context) t.budget 0 (at_place from r memory t.events)
     (after_list loop Onward t) (Out loop)
 add_word_to_byte {at = at} loop limit step tree end t r memory has added_value stand fewer stage checks =
     let sound = has.sound.sound in

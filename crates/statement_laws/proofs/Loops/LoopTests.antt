@@ -1,5 +1,5 @@
 -- The test of an iterative DO in general, by its form: the last value against the variable.
-use Rattle.statement_laws.proofs.Prelude.{◌≡◌, ℕ, ◌+◌, ◌*◌, ◌/◌, ◌%◌, ◌<◌, ◌≤◌, Bool, true, false, not, nat_lt, if◌then◌else◌, List, [], ◌∷◌, ◌++◌, Some, refl, ap, ◌∙◌, arith, ltb-true, byte_at, byte_small, ScalarType, Byte, Address, height_of, type_of, TypesHold, value, SourceState, Outcome, Gave, then_do, taking_one, Onward, values_of, Carry, NoCarry, Accumulate, AccumulateImmediate, Inx, Xchg, M, Compare, Subtract, SubtractWithBorrow, Hl, A, D, E, H, L, Registers, wrap, Jump, JumpWhere, ExpressionNumber, IsExpressionIn, Does, at_place, borrow_shows, Facts, LabelNumber, Step, no_facts, copy, high, low, with_register, plain, load_byte_steps, load_word_steps, knowing, whole, nodes_in, Know, effect, at_instructions, does_same, script_of, at_end, BodyContext, next_word}
+use Rattle.statement_laws.proofs.Prelude.{◌≡◌, ℕ, ◌+◌, ◌*◌, ◌/◌, ◌%◌, ◌<◌, ◌≤◌, Bool, true, false, not, nat_lt, if◌then◌else◌, List, [], ◌∷◌, ◌++◌, Some, refl, ap, ◌∙◌, arith, ltb-true, byte_at, byte_small, ScalarType, Byte, Address, height_of, type_of, TypesHold, value, SourceState, Outcome, Gave, then_do, taking_one, Onward, values_of, Carry, NoCarry, Accumulate, AccumulateImmediate, Inx, Xchg, M, Compare, Subtract, SubtractWithBorrow, Hl, A, D, E, H, L, Registers, wrap, Jump, JumpWhere, ExpressionNumber, IsExpressionIn, Does, at_place, borrow_shows, Facts, LabelNumber, Step, no_facts, copy, high, low, with_register, plain, load_byte_steps, load_word_steps, knowing, whole, nodes_in, Know, effect, at_instructions, does_same, loaded_in, at_end, BodyContext, next_word}
 use Rattle.steps8080.specs.declared.step.Step.TheVariants as steps
 use Rattle.steps8080.specs.declared.step.Task.TheVariants as tasks
 use Rattle.statement_laws.proofs.Loops.CountedBytes.{Goes}
@@ -40,7 +40,7 @@ pub always_tests :
     → Enters at no_facts turn_facts
     → t.budget ≤ limit
     → StageAt at loop.need loop.base t facts r memory
-    → Does (script_of at.context) t.budget 0 (at_place from r memory t.events) (from_test loop t) (Out loop)
+    → Does (loaded_in at.context) t.budget 0 (at_place from r memory t.events) (from_test loop t) (Out loop)
 always_tests {at = at} loop limit last turn turn_facts scalar {from = from} t r memory turns last_is great
     stand enters fewer stage =
     does_same _
@@ -53,7 +53,7 @@ always_tests {at = at} loop limit last turn turn_facts scalar {from = from} t r 
     number = scalar_at scalar memory (variable_address at.context (loop.head).variable)
 
     by : (above : Bool) → nat_lt last number ≡ above
-        → Does (script_of at.context) t.budget 0 (at_place from r memory t.events)
+        → Does (loaded_in at.context) t.budget 0 (at_place from r memory t.events)
         (if above then Gave Onward t else taking_one t (from_list loop)) (Out loop)
     by true is =
         absurd (never_above scalar number last
@@ -88,7 +88,7 @@ pub byte_below_tests :
     → t.budget ≤ limit
     → StageAt at loop.need loop.base t facts r memory
     → Goes loop limit found to
-    → Does (script_of at.context) t.budget 0 (at_place from r memory t.events) (from_test loop t) (Out loop)
+    → Does (loaded_in at.context) t.budget 0 (at_place from r memory t.events) (from_test loop t) (Out loop)
 byte_below_tests {at = at} loop limit last turn turn_facts t r memory turns last_is little loads stand
     enters fewer stage goes =
     let sound = turns.sound.sound in
@@ -138,7 +138,7 @@ pub word_below_tests :
     → t.budget ≤ limit
     → StageAt at loop.need loop.base t facts r memory
     → Goes loop limit found to
-    → Does (script_of at.context) t.budget 0 (at_place from r memory t.events) (from_test loop t) (Out loop)
+    → Does (loaded_in at.context) t.budget 0 (at_place from r memory t.events) (from_test loop t) (Out loop)
 word_below_tests {at = at} loop limit last turn turn_facts none t r memory turns last_is little low_none loads
     stand enters fewer stage goes =
     let sound = turns.sound.sound in
@@ -197,7 +197,7 @@ pub byte_tests :
     → t.budget ≤ limit
     → StageAt at loop.need loop.base t facts r memory
     → Goes loop limit found to
-    → Does (script_of at.context) t.budget 0 (at_place from r memory t.events) (from_test loop t) (Out loop)
+    → Does (loaded_in at.context) t.budget 0 (at_place from r memory t.events) (from_test loop t) (Out loop)
 byte_tests {at = at} loop limit last turn turn_facts t r memory turns has is_byte stand
     enters fewer stage goes =
     let sound = turns.sound.sound in
@@ -241,7 +241,7 @@ pub byte_with_word_tests :
     → t.budget ≤ limit
     → StageAt at loop.need loop.base t facts r memory
     → Goes loop limit found to
-    → Does (script_of at.context) t.budget 0 (at_place from r memory t.events) (from_test loop t) (Out loop)
+    → Does (loaded_in at.context) t.budget 0 (at_place from r memory t.events) (from_test loop t) (Out loop)
 byte_with_word_tests {at = at} loop limit last turn turn_facts t r memory turns has stand
     enters fewer stage goes =
     let sound = turns.sound.sound in
@@ -301,7 +301,7 @@ pub word_tests :
     → t.budget ≤ limit
     → StageAt at loop.need loop.base t facts r memory
     → Goes loop limit found to
-    → Does (script_of at.context) t.budget 0 (at_place from r memory t.events) (from_test loop t) (Out loop)
+    → Does (loaded_in at.context) t.budget 0 (at_place from r memory t.events) (from_test loop t) (Out loop)
 word_tests {at = at} loop limit last turn turn_facts {exchanged_facts = exchanged_facts}
     {exchanged_at = exchanged_at} t r memory turns has first loads stand enters fewer stage goes =
     let sound = turns.sound.sound in
@@ -359,7 +359,7 @@ pub frame_word_tests :
     → t.budget ≤ limit
     → StageAt at loop.need loop.base t facts r memory
     → Goes loop limit found to
-    → Does (script_of at.context) t.budget 0 (at_place from r memory t.events) (from_test loop t) (Out loop)
+    → Does (loaded_in at.context) t.budget 0 (at_place from r memory t.events) (from_test loop t) (Out loop)
 frame_word_tests {at = at} loop limit last turn turn_facts t r memory turns has stand
     enters fewer stage goes =
     let sound = turns.sound.sound in

@@ -1,5 +1,5 @@
 -- Turns of an iterative DO: each takes one of the budget, for which a step pays that leads to its code.
-use Rattle.statement_laws.proofs.Prelude.{◌≡◌, ◌≢◌, ℕ, zero, suc, ◌+◌, ◌-◌, ◌*◌, ◌<◌, ◌≤◌, ◌==◌, Bool, true, false, nat_lt, if◌then◌else◌, List, refl, sym, ap, subst, arith, eqb-true, eqb-false, same_after, height_of_list, TypedIteration, TypedList, ListStands, TypesHoldInList, IterateTurn, Later, done_list, iterated, next_turn, stepped, turn_of, SourceState, Ended, More, Outside, Outcome, Gave, Stopped, then_do, taking_one, Flow, Onward, Returned, Jumped, values_of, again_is, Running, Registers, State, step_of, Range, IsList, Facts, Here, Does, Lands, at_place, after_paid_step, does_without_step, then_does, told_on, nodes_in, Stage, script_of, BodyContext, IsSoundBody, Leaves, ListDoes}
+use Rattle.statement_laws.proofs.Prelude.{◌≡◌, ◌≢◌, ℕ, zero, suc, ◌+◌, ◌-◌, ◌*◌, ◌<◌, ◌≤◌, ◌==◌, Bool, true, false, nat_lt, if◌then◌else◌, List, refl, sym, ap, subst, arith, eqb-true, eqb-false, same_after, height_of_list, TypedIteration, TypedList, ListStands, TypesHoldInList, IterateTurn, Later, done_list, iterated, next_turn, stepped, turn_of, SourceState, Ended, More, Outside, Outcome, Gave, Stopped, then_do, taking_one, Flow, Onward, Returned, Jumped, values_of, again_is, Running, Registers, State, step_of, Range, IsList, Facts, Here, Does, Loaded, Lands, at_place, after_paid_step, does_without_step, then_does, told_on, nodes_in, Stage, loaded_in, script_of, BodyContext, IsSoundBody, Leaves, ListDoes}
 
 -- a machine at nothing pushed, of which this is known
 abbrev pub StageAt :
@@ -9,18 +9,18 @@ StageAt at need base t facts r memory =
 
 -- where nothing of the budget is left, the machine still runs
 wants_more :
-    {A : Type 0} {script : List (List ℕ)} {budget : ℕ} {from : State}
+    {A : Type 0} {loaded : Loaded} {budget : ℕ} {from : State}
     {Good : A → SourceState → State → Type 0}
     (u : SourceState)
     → from.status ≡ Running
     → from.events ≡ u.events
     → budget ≡ 0
-    → Does script budget 0 from (Stopped More u) Good
-wants_more {script = script} {from = from} u runs same none = record {
+    → Does loaded budget 0 from (Stopped More u) Good
+wants_more {loaded = loaded} {from = from} u runs same none = record {
   told = record {
     count = 0;
     end = from;
-    run = same_after script from;
+    run = same_after loaded.program.script from;
     paid = omega (arith, none);
     spent = omega arith;
     is_good = record { status_is = runs; events_are = same };
@@ -32,40 +32,40 @@ one_more n some = omega (arith, some)
 
 -- a step pays for one that is taken of the budget
 pub step_pays :
-    {A : Type 0} {script : List (List ℕ)} {from to : State} {Good : A → SourceState → State → Type 0}
+    {A : Type 0} {loaded : Loaded} {from to : State} {Good : A → SourceState → State → Type 0}
     (u : SourceState) (go : SourceState → Outcome A)
     → from.status ≡ Running
     → from.events ≡ u.events
-    → step_of script from ≡ to
+    → step_of loaded.program.script from ≡ to
     → ((budget : ℕ) → u.budget ≡ suc budget
-    → Does script budget 0 to (go (record u { budget = budget })) Good)
-    → Does script u.budget 0 from (taking_one u go) Good
-step_pays {script = script} {from = from} {Good = Good} u go runs same step rest =
+    → Does loaded budget 0 to (go (record u { budget = budget })) Good)
+    → Does loaded u.budget 0 from (taking_one u go) Good
+step_pays {loaded = loaded} {from = from} {Good = Good} u go runs same step rest =
     by_test (u.budget == 0) refl
   where
     by_test : (test : Bool) → (u.budget == 0) ≡ test
-        → Does script u.budget 0 from
+        → Does loaded u.budget 0 from
         (if test then Stopped More u else go (record u { budget = u.budget - 1 })) Good
     by_test true is = wants_more u runs same (eqb-true u.budget 0 is)
     by_test false is =
         let more = one_more u.budget (eqb-false u.budget 0 is) in
-        subst (λ (n : ℕ). Does script n 0 from (go (record u { budget = u.budget - 1 })) Good) (sym more)
+        subst (λ (n : ℕ). Does loaded n 0 from (go (record u { budget = u.budget - 1 })) Good) (sym more)
         (after_paid_step step (rest (u.budget - 1) more))
 
 -- one that is taken of the budget, for which a step before has paid
 pub is_paid :
-    {A : Type 0} {script : List (List ℕ)} {from : State} {Good : A → SourceState → State → Type 0}
+    {A : Type 0} {loaded : Loaded} {from : State} {Good : A → SourceState → State → Type 0}
     (u : SourceState) (go : SourceState → Outcome A)
     → from.status ≡ Running
     → from.events ≡ u.events
     → ((budget : ℕ) → u.budget ≡ suc budget
-    → Does script budget 0 from (go (record u { budget = budget })) Good)
-    → Does script (u.budget - 1) 0 from (taking_one u go) Good
-is_paid {script = script} {from = from} {Good = Good} u go runs same rest =
+    → Does loaded budget 0 from (go (record u { budget = budget })) Good)
+    → Does loaded (u.budget - 1) 0 from (taking_one u go) Good
+is_paid {loaded = loaded} {from = from} {Good = Good} u go runs same rest =
     by_test (u.budget == 0) refl
   where
     by_test : (test : Bool) → (u.budget == 0) ≡ test
-        → Does script (u.budget - 1) 0 from
+        → Does loaded (u.budget - 1) 0 from
         (if test then Stopped More u else go (record u { budget = u.budget - 1 })) Good
     by_test true is = let none = eqb-true u.budget 0 is in wants_more u runs same (omega (arith, none))
     by_test false is = rest (u.budget - 1) (one_more u.budget (eqb-false u.budget 0 is))
@@ -78,19 +78,23 @@ one_back n = omega arith
 
 -- a part with a step to spare, and then others with one less
 pub then_spends :
-    {A B : Type 0} {script : List (List ℕ)} {budget : ℕ} {from : State} (outcome : Outcome A)
+    {A B : Type 0} {loaded : Loaded} {budget : ℕ} {from : State} (outcome : Outcome A)
     {go : A → SourceState → Outcome B} {Middle : A → SourceState → State → Type 0}
     {Good : B → SourceState → State → Type 0}
-    → Does script budget 1 from outcome Middle
+    → Does loaded budget 1 from outcome Middle
     → ((found : A) (t : SourceState) (end : State) → outcome ≡ Gave found t
     → Middle found t end → t.budget ≤ budget
-    → Does script (t.budget - 1) 0 end (go found t) Good)
-    → Does script budget 0 from (then_do outcome go) Good
-then_spends {A = A} {script = script} {budget = budget} {from = from} (Gave found t) {go = go}
+    → Does loaded (t.budget - 1) 0 end (go found t) Good)
+    → Does loaded budget 0 from (then_do outcome go) Good
+then_spends {A = A} {loaded = loaded} {budget = budget} {from = from} (Gave found t) {go = go}
     {Middle = Middle} {Good = Good} one rest =
-    let first : Lands script budget 1 from t.budget (Middle found t) = one.told in
+    let first : Lands loaded.program.script budget 1 from t.budget (Middle found t) = one.told in
     let second = rest found t first.end refl first.is_good first.spent in
-    record { told = told_on first (t.budget - 1) 0 (go found t) Good (less_one t.budget) (one_back t.budget) second.told }
+    record {
+      told =
+          told_on loaded first (t.budget - 1) 0 (go found t) Good (less_one t.budget) (one_back t.budget)
+          second.told;
+    }
 then_spends (Stopped Ended t) one rest = record { told = one.told }
 then_spends (Stopped More t) one rest = record { told = one.told }
 then_spends (Stopped (Outside reason) t) one rest = record { told = tt }
@@ -133,7 +137,7 @@ Runs {at = at} loop limit place facts meant =
     (t : SourceState) (r : Registers) (memory : List ℕ)
     → t.budget < limit
     → StageAt at loop.need loop.base t facts r memory
-    → Does (script_of at.context) t.budget 0 (at_place place r memory t.events) (meant t) (Out loop)
+    → Does (loaded_in at.context) t.budget 0 (at_place place r memory t.events) (meant t) (Out loop)
 
 -- If turns with less of the budget do what they mean, so do those with one more: then all do.
 pub turns_do :
@@ -154,7 +158,7 @@ pub to_turn :
     → t.budget ≤ limit
     → StageAt at loop.need loop.base t facts r memory
     → step_of (script_of at.context) (at_place from r memory t.events) ≡ at_place place r memory t.events
-    → Does (script_of at.context) t.budget 0 (at_place from r memory t.events)
+    → Does (loaded_in at.context) t.budget 0 (at_place from r memory t.events)
     (taking_one t (from_list loop)) (Out loop)
 to_turn loop limit place facts t from r memory turns less stage step =
     step_pays t (from_list loop) refl refl step
@@ -169,7 +173,7 @@ pub at_turn :
     → Runs loop limit place facts (from_list loop)
     → t.budget ≤ limit
     → StageAt at loop.need loop.base t facts r memory
-    → Does (script_of at.context) (t.budget - 1) 0 (at_place place r memory t.events)
+    → Does (loaded_in at.context) (t.budget - 1) 0 (at_place place r memory t.events)
     (taking_one t (from_list loop)) (Out loop)
 at_turn loop limit place facts t r memory turns less stage =
     is_paid t (from_list loop) refl refl
@@ -192,9 +196,9 @@ pub list_goes :
     → (after.goes_on ≡ true → (u : SourceState) (now : Registers) (memory_now : List ℕ)
     → u.budget ≤ t.budget
     → StageAt at loop.need loop.base u after.facts now memory_now
-    → Does (script_of at.context) u.budget 0 (at_place middle now memory_now u.events)
+    → Does (loaded_in at.context) u.budget 0 (at_place middle now memory_now u.events)
     (after_list loop Onward u) (Out loop))
-    → Does (script_of at.context) t.budget 0 (at_place from r memory t.events) (from_list loop t) (Out loop)
+    → Does (loaded_in at.context) t.budget 0 (at_place from r memory t.events) (from_list loop t) (Out loop)
 list_goes {at = at} loop bound range facts after from middle t r memory does is types stand
     fits less stage rest =
     let enough = stage.room.enough in
@@ -207,11 +211,11 @@ list_goes {at = at} loop bound range facts after from middle t r memory does is 
     by_flow : (flow : Flow) (u : SourceState) (end : State)
         → Leaves at loop.base middle after t.budget flow u end
         → u.budget ≤ t.budget
-        → Does (script_of at.context) u.budget 0 end (after_list loop flow u) (Out loop)
+        → Does (loaded_in at.context) u.budget 0 end (after_list loop flow u) (Out loop)
     by_flow Onward u end goes spent =
         let comes = goes.comes in
         let below = stage.below in
-        subst (λ (state : State). Does (script_of at.context) u.budget 0 state (after_list loop Onward u)
+        subst (λ (state : State). Does (loaded_in at.context) u.budget 0 state (after_list loop Onward u)
         (Out loop)) (sym comes.is_at)
         (rest goes.goes_on u comes.r comes.memory spent
         (record { below = omega (arith, below, spent); room = stage.room; ready = comes.ready; known = comes.holds }))
@@ -236,9 +240,9 @@ pub list_then :
     → ((u : SourceState) (now : Registers) (memory_now : List ℕ)
     → u.budget ≤ t.budget
     → StageAt at loop.need loop.base u after.facts now memory_now
-    → Does (script_of at.context) u.budget 0 (at_place middle now memory_now u.events)
+    → Does (loaded_in at.context) u.budget 0 (at_place middle now memory_now u.events)
     (after_list loop Onward u) (Out loop))
-    → Does (script_of at.context) t.budget 0 (at_place from r memory t.events) (from_list loop t) (Out loop)
+    → Does (loaded_in at.context) t.budget 0 (at_place from r memory t.events) (from_list loop t) (Out loop)
 list_then loop bound range facts after from middle t r memory does is types stand fits less stage rest =
     list_goes loop bound range facts after from middle t r memory does is types stand fits less
     stage (λ goes_on. rest)
@@ -263,7 +267,7 @@ pub loop_ends :
     {at : BodyContext} (loop : Loop at) (t : SourceState) (r : Registers) (memory : List ℕ)
     → (loop.after).goes_on ≡ true
     → StageAt at loop.need loop.base t (loop.after).facts r memory
-    → Does (script_of at.context) t.budget 0 (at_place loop.to r memory t.events) (Gave Onward t) (Out loop)
+    → Does (loaded_in at.context) t.budget 0 (at_place loop.to r memory t.events) (Gave Onward t) (Out loop)
 loop_ends loop t r memory goes_on stage =
     does_without_step (record {
       goes_on = goes_on;

@@ -1,6 +1,6 @@
 -- The step of an iterative DO whose variable is an ADDRESS, where it is added: it comes into DE, and is added
 -- to the variable in memory.
-use Rattle.statement_laws.proofs.Prelude.{◌≡◌, ℕ, ◌+◌, ◌*◌, ◌/◌, ◌%◌, ◌<◌, ◌≤◌, List, [], ◌∷◌, Option, Some, None, refl, ap, ◌∙◌, arith, byte_at, Address, type_of, TypedExpression, next_turn, value, write_scalar, SourceState, Outcome, then_do, Flow, as_type, Carry, Dad, Xchg, De, Registers, carries, high_byte, low_byte, word, wrap, JumpWhere, LoadPair, StoreHl, ExpressionNumber, Place, location_at, place_at, Does, at_place, Facts, LabelNumber, Step, known, knowing, load_word_steps, whole, distances_in, NoneThere, WordThere, known_small, effect, ready_with_registers, word_goes, known_means, at_end, at_instructions, does_same, script_of, BodyContext, IsSoundBody, high_is_byte, value_is_word}
+use Rattle.statement_laws.proofs.Prelude.{◌≡◌, ℕ, ◌+◌, ◌*◌, ◌/◌, ◌%◌, ◌<◌, ◌≤◌, List, [], ◌∷◌, Option, Some, None, refl, ap, ◌∙◌, arith, byte_at, Address, type_of, TypedExpression, next_turn, value, write_scalar, SourceState, Outcome, then_do, Flow, as_type, Carry, Dad, Xchg, De, Registers, carries, high_byte, low_byte, word, wrap, JumpWhere, LoadPair, StoreHl, ExpressionNumber, Place, location_at, place_at, Does, at_place, Facts, LabelNumber, Step, known, knowing, load_word_steps, whole, distances_in, NoneThere, WordThere, known_small, effect, ready_with_registers, word_goes, known_means, at_end, at_instructions, does_same, loaded_in, BodyContext, IsSoundBody, high_is_byte, value_is_word}
 use Rattle.treecode.specs.declared.place.Location.TheVariants as locations
 use Rattle.steps8080.specs.declared.step.Step.TheVariants as steps
 use Rattle.statement_laws.proofs.Loops.CountedBytes.{within_limit}
@@ -44,8 +44,8 @@ pub comes_to_de :
     → ComesToDe n now
     → u.budget ≤ s.budget
     → StageAt at loop.need loop.base u last now memory_now
-    → Does (script_of at.context) u.budget 0 (at_place to now memory_now u.events) (go n u) (Out loop))
-    → Does (script_of at.context) s.budget 0 (at_place from r memory s.events)
+    → Does (loaded_in at.context) u.budget 0 (at_place to now memory_now u.events) (go n u) (Out loop))
+    → Does (loaded_in at.context) s.budget 0 (at_place from r memory s.events)
     (then_do (value at.context.later at.context.activation.around tree s) go) (Out loop)
 comes_to_de {at = at} loop facts_of_site (Some place) step tree go s r memory sound has is
     (WordThere there NoneThere) stage next =
@@ -108,7 +108,7 @@ pub add_de_in_memory :
     → t.budget ≤ limit
     → StageAt at loop.need loop.base t facts r memory
     → Checks loop limit found to
-    → Does (script_of at.context) t.budget 0 (at_place from r memory t.events)
+    → Does (loaded_in at.context) t.budget 0 (at_place from r memory t.events)
     (stepped_with loop Address n t) (Out loop)
 add_de_in_memory {at = at} loop limit n end place t r memory has lies de loads stand fewer stage checks =
     let sound = has.sound.sound in

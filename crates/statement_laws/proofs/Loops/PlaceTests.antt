@@ -1,5 +1,5 @@
 -- The test of an ADDRESS in memory against an ADDRESS at a place, which stays there.
-use Rattle.statement_laws.proofs.Prelude.{◌≡◌, ℕ, ◌+◌, ◌*◌, ◌/◌, ◌%◌, ◌≤◌, ◌⊎◌, inl, inr, false, not, nat_lt, List, [], ◌∷◌, Option, Some, None, refl, sym, ap, subst, ◌∙◌, arith, byte_at, byte_small, ScalarType, Byte, Address, value, SourceState, Outcome, Gave, NoCarry, Subtract, SubtractWithBorrow, H, L, subtract_of, Registers, wrap, JumpWhere, LoadA, Expression, ExpressionForm, ExpressionNumber, Place, place_after, IsSteady, place_at, Does, at_place, GoesOutside, Facts, LabelNumber, Step, no_facts, with_register, Site, direct, expression, option_and_then, direct_word, word_in_memory, word_of, knowing, load_word_steps, site_of, whole, test_steps, word_at, word_of_form, PlainThere, WordThere, WordAtPlace, words_at_places, read_then, stage_with_a, at_load_a, does_same, script_of, BodyContext, IsSoundBody, same_given}
+use Rattle.statement_laws.proofs.Prelude.{◌≡◌, ℕ, ◌+◌, ◌*◌, ◌/◌, ◌%◌, ◌≤◌, ◌⊎◌, inl, inr, false, not, nat_lt, List, [], ◌∷◌, Option, Some, None, refl, sym, ap, subst, ◌∙◌, arith, byte_at, byte_small, ScalarType, Byte, Address, value, SourceState, Outcome, Gave, NoCarry, Subtract, SubtractWithBorrow, H, L, subtract_of, Registers, wrap, JumpWhere, LoadA, Expression, ExpressionForm, ExpressionNumber, Place, place_after, IsSteady, place_at, Does, at_place, GoesOutside, Facts, LabelNumber, Step, no_facts, with_register, Site, direct, expression, option_and_then, direct_word, word_in_memory, word_of, knowing, load_word_steps, site_of, whole, test_steps, word_at, word_of_form, PlainThere, WordThere, WordAtPlace, words_at_places, read_then, stage_with_a, at_load_a, does_same, loaded_in, BodyContext, IsSoundBody, same_given}
 use Rattle.treecode.specs.declared.expression.ExpressionForm.TheVariants as forms
 use Rattle.steps8080.specs.declared.step.Step.TheVariants as steps
 use Rattle.statement_laws.proofs.Loops.CountedBytes.{Goes}
@@ -46,7 +46,7 @@ compared_with_place :
     → t.budget ≤ limit
     → StageAt at loop.need loop.base t facts r memory
     → Goes loop limit found to
-    → Does (script_of at.context) t.budget 0 (at_place from r memory t.events)
+    → Does (loaded_in at.context) t.budget 0 (at_place from r memory t.events)
     (after_last loop Address n t) (Out loop)
 compared_with_place {at = at} loop limit n turn turn_facts place t r memory turns low high low_steady
     high_steady l h steady steady_too
@@ -99,7 +99,7 @@ pub place_tests :
     → t.budget ≤ limit
     → StageAt at loop.need loop.base t facts r memory
     → Goes loop limit found to
-    → Does (script_of at.context) t.budget 0 (at_place from r memory t.events) (from_test loop t) (Out loop)
+    → Does (loaded_in at.context) t.budget 0 (at_place from r memory t.events) (from_test loop t) (Out loop)
 place_tests {at = at} loop limit last turn turn_facts site_facts place {loaded = loaded} {found = found}
     {middle = middle} {to = to} t r memory turns has is loads stand enters fewer stage goes =
     let sound = turns.sound.sound in
@@ -130,7 +130,7 @@ place_tests {at = at} loop limit last turn turn_facts site_facts place {loaded =
         → in_hl.h ≡ byte_at memory_then (wrap (variable_address at.context (loop.head).variable + 1))
         → StageAt at loop.need loop.base t loaded in_hl memory_then
         → WordAtPlace at.context place memory_then t outcome ⊎ GoesOutside outcome
-        → Does (script_of at.context) t.budget 0 (at_place middle in_hl memory_then t.events)
+        → Does (loaded_in at.context) t.budget 0 (at_place middle in_hl memory_then t.events)
         (after_last loop Address n t) (Out loop)
     by n gave steady steady_too in_hl memory_then low high there (inl read) =
         let same : read.found ≡ n = same_given (sym read.is ∙ gave) in

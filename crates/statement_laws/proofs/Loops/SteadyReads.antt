@@ -1,5 +1,5 @@
 -- The bytes of a place that the source reads are steady, or it goes outside.
-use Rattle.statement_laws.proofs.Prelude.{◌≡◌, ℕ, ◌+◌, ◌*◌, ◌<◌, ◌≤◌, Bool, true, false, if◌then◌else◌, refl, sym, subst, arith, byte_at, Byte, Address, UndeclaredByte, SourceState, Outside, Outcome, Gave, Stopped, then_do, InMemory, InTheFrame, is_declared, read_scalar, State, wrap, Does, declared_is_steady, IsSteady, Context, IsSound, address_on_machine, FitsIn, frame_is, frame_next, of_frame}
+use Rattle.statement_laws.proofs.Prelude.{◌≡◌, ℕ, ◌+◌, ◌*◌, ◌<◌, ◌≤◌, Bool, true, false, if◌then◌else◌, refl, sym, subst, arith, byte_at, Byte, Address, UndeclaredByte, SourceState, Outside, Outcome, Gave, Stopped, then_do, InMemory, InTheFrame, is_declared, read_scalar, State, wrap, Does, loaded_of, declared_is_steady, IsSteady, Context, IsSound, address_on_machine, FitsIn, frame_is, frame_next, of_frame}
 use Rattle.meaning.specs.Access.{Place}
 
 -- of an ADDRESS
@@ -10,9 +10,9 @@ pub steady_read :
     → FitsIn context.activation 2 place
     → ((IsSteady context.activation (address_on_machine context.activation place)
     × IsSteady context.activation (wrap (address_on_machine context.activation place + 1)))
-    → Does context.activation.around.program.script budget more from
+    → Does (loaded_of context.activation) budget more from
     (then_do (read_scalar context.activation.around.program Address place s) go) Good)
-    → Does context.activation.around.program.script budget more from
+    → Does (loaded_of context.activation) budget more from
     (then_do (read_scalar context.activation.around.program Address place s) go) Good
 steady_read {A = A} {budget = budget} {more = more} {from = from} {Good = Good} {context = context}
     (InMemory address) s go sound fits does =
@@ -32,20 +32,20 @@ steady_read {A = A} {budget = budget} {more = more} {from = from} {Good = Good} 
     by_test : (first second : Bool)
         → is_declared context.activation.around.program address ≡ first
         → is_declared context.activation.around.program (wrap (address + 1)) ≡ second
-        → Does context.activation.around.program.script budget more from
+        → Does (loaded_of context.activation) budget more from
         (then_do (read_scalar context.activation.around.program Address (InMemory address) s) go) Good
     by_test true true one two = does (
       declared_is_steady context.activation address sound.lies one,
       declared_is_steady context.activation (wrap (address + 1)) sound.lies two,
     )
     by_test true false one two =
-        subst (λ (first : Bool). Does context.activation.around.program.script budget more from
+        subst (λ (first : Bool). Does (loaded_of context.activation) budget more from
         (outcome first (is_declared context.activation.around.program (wrap (address + 1)))) Good) (sym one)
-        (subst (λ (second : Bool). Does context.activation.around.program.script budget more from
+        (subst (λ (second : Bool). Does (loaded_of context.activation) budget more from
         (outcome true second) Good) (sym two)
         (record { told = tt }))
     by_test false second one two =
-        subst (λ (first : Bool). Does context.activation.around.program.script budget more from
+        subst (λ (first : Bool). Does (loaded_of context.activation) budget more from
         (outcome first (is_declared context.activation.around.program (wrap (address + 1)))) Good) (sym one)
         (record { told = tt })
 steady_read {context = context} (InTheFrame object offset true) s go sound fits does =
@@ -67,9 +67,9 @@ pub steady_byte_read :
     → IsSound context
     → FitsIn context.activation 1 place
     → (IsSteady context.activation (address_on_machine context.activation place)
-    → Does context.activation.around.program.script budget more from
+    → Does (loaded_of context.activation) budget more from
     (then_do (read_scalar context.activation.around.program Byte place s) go) Good)
-    → Does context.activation.around.program.script budget more from
+    → Does (loaded_of context.activation) budget more from
     (then_do (read_scalar context.activation.around.program Byte place s) go) Good
 steady_byte_read {budget = budget} {more = more} {from = from} {Good = Good} {context = context}
     (InMemory address) s go sound fits does =
@@ -77,11 +77,11 @@ steady_byte_read {budget = budget} {more = more} {from = from} {Good = Good} {co
   where
     by_test : (first : Bool)
         → is_declared context.activation.around.program address ≡ first
-        → Does context.activation.around.program.script budget more from
+        → Does (loaded_of context.activation) budget more from
         (then_do (read_scalar context.activation.around.program Byte (InMemory address) s) go) Good
     by_test true one = does (declared_is_steady context.activation address sound.lies one)
     by_test false one =
-        subst (λ (first : Bool). Does context.activation.around.program.script budget more from
+        subst (λ (first : Bool). Does (loaded_of context.activation) budget more from
         (then_do (if first then Gave (byte_at s.memory address) s else Stopped (Outside UndeclaredByte) s) go)
         Good) (sym one)
         (record { told = tt })

@@ -1,5 +1,5 @@
 -- A BYTE is tested before the first turn of a loop to a known value.
-use Rattle.statement_laws.proofs.Prelude.{◌≡◌, ℕ, ◌+◌, ◌*◌, ◌/◌, ◌%◌, ◌<◌, ◌≤◌, Bool, true, false, nat_lt, if◌then◌else◌, List, [], ◌∷◌, ◌++◌, refl, sym, ap, ◌∙◌, arith, ltb-true, ltb-false, byte_at, ScalarType, Byte, Address, read_scalar, SourceState, Outcome, Gave, then_do, taking_one, Onward, NoCarry, AccumulateImmediate, Compare, Subtract, SubtractWithBorrow, Registers, holds, wrap, AtLabel, JumpWhere, Does, at_place, word_step, after_step, borrow_shows, Facts, LabelNumber, Step, no_facts, copy, high, low, plain, Instr, A, H, L, load_byte_steps, load_word_steps, knowing, whole, JumpThere, NoneThere, Know, AreOnRegisters, effect, at_instructions, does_same, script_of, BodyContext, IsSoundBody, not-false, not-true}
+use Rattle.statement_laws.proofs.Prelude.{◌≡◌, ℕ, ◌+◌, ◌*◌, ◌/◌, ◌%◌, ◌<◌, ◌≤◌, Bool, true, false, nat_lt, if◌then◌else◌, List, [], ◌∷◌, ◌++◌, refl, sym, ap, ◌∙◌, arith, ltb-true, ltb-false, byte_at, ScalarType, Byte, Address, read_scalar, SourceState, Outcome, Gave, then_do, taking_one, Onward, NoCarry, AccumulateImmediate, Compare, Subtract, SubtractWithBorrow, Registers, holds, wrap, AtLabel, JumpWhere, Does, at_place, word_step, after_step, borrow_shows, Facts, LabelNumber, Step, no_facts, copy, high, low, plain, Instr, A, H, L, load_byte_steps, load_word_steps, knowing, whole, JumpThere, NoneThere, Know, AreOnRegisters, effect, at_instructions, does_same, loaded_in, script_of, BodyContext, IsSoundBody, not-false, not-true}
 use Rattle.steps8080.specs.declared.step.Step.TheVariants as steps
 use Rattle.statement_laws.proofs.Loops.CountedVariables.{IsCounted, variable_address, variable_place}
 use Rattle.statement_laws.proofs.Loops.KnownLoops.{ToKnown}
@@ -38,9 +38,9 @@ jump_tests :
     → at.context.activation.layout.place_of end.index ≡ loop.to
     → ((now : Registers) (memory_now : List ℕ)
     → StageAt at loop.need loop.base u no_facts now memory_now
-    → Does (script_of at.context) u.budget 0 (at_place loop.to now memory_now u.events)
+    → Does (loaded_in at.context) u.budget 0 (at_place loop.to now memory_now u.events)
     (Gave Onward u) (Out loop))
-    → Does (script_of at.context) u.budget 0 (at_place from r memory u.events) (from_test loop u) (Out loop)
+    → Does (loaded_in at.context) u.budget 0 (at_place from r memory u.events) (from_test loop u) (Out loop)
 jump_tests {at = at} loop scalar last from _ end turn_facts {facts = facts} u r memory sound to_known counted
     flag (JumpThere there NoneThere) fewer stage turns enters end_is ends =
     by (holds NoCarry r.flags) refl
@@ -60,7 +60,7 @@ jump_tests {at = at} loop scalar last from _ end turn_facts {facts = facts} u r 
     number = scalar_at scalar memory (variable_address at.context (loop.head).variable)
 
     by : (jumps : Bool) → holds NoCarry r.flags ≡ jumps
-        → Does (script_of at.context) u.budget 0 (at_place from r memory u.events)
+        → Does (loaded_in at.context) u.budget 0 (at_place from r memory u.events)
         (from_test loop u) (Out loop)
     by true is =
         let past = ltb-false number (last + 1) (sym flag ∙ not-true r.flags.cy is) in
@@ -98,9 +98,9 @@ pub byte_tested :
     → at.context.activation.layout.place_of end.index ≡ loop.to
     → ((now : Registers) (memory_now : List ℕ)
     → StageAt at loop.need loop.base u no_facts now memory_now
-    → Does (script_of at.context) u.budget 0 (at_place loop.to now memory_now u.events)
+    → Does (loaded_in at.context) u.budget 0 (at_place loop.to now memory_now u.events)
     (Gave Onward u) (Out loop))
-    → Does (script_of at.context) u.budget 0 (at_place from r memory u.events) (from_test loop u) (Out loop)
+    → Does (loaded_in at.context) u.budget 0 (at_place from r memory u.events) (from_test loop u) (Out loop)
 byte_tested {at = at} loop last place end turn_facts u r memory sound to_known counted enough little loads
     stand fewer stage turns enters end_is ends =
     does_same _ reads
@@ -185,9 +185,9 @@ pub word_tested :
     → at.context.activation.layout.place_of end.index ≡ loop.to
     → ((now : Registers) (memory_now : List ℕ)
     → StageAt at loop.need loop.base u no_facts now memory_now
-    → Does (script_of at.context) u.budget 0 (at_place loop.to now memory_now u.events)
+    → Does (loaded_in at.context) u.budget 0 (at_place loop.to now memory_now u.events)
     (Gave Onward u) (Out loop))
-    → Does (script_of at.context) u.budget 0 (at_place from r memory u.events) (from_test loop u) (Out loop)
+    → Does (loaded_in at.context) u.budget 0 (at_place from r memory u.events) (from_test loop u) (Out loop)
 word_tested {at = at} loop last place end turn_facts none u r memory sound to_known counted enough little
     low_none loads stand fewer stage turns enters end_is ends =
     does_same _ reads

@@ -1,5 +1,5 @@
 -- An iterative DO that counts by 1 to a known last value does what it says.
-use Rattle.statement_laws.proofs.Prelude.{◌≡◌, ℕ, ◌+◌, ◌%◌, ◌<◌, ◌≤◌, Bool, true, false, not, ◌&&◌, ◌||◌, if◌then◌else◌, is_some, nat_eq, nat_le, List, [], ◌∷◌, ◌++◌, Some, None, refl, sym, ap, subst, ◌∙◌, arith, eqb-true, leb-true, leb-false, same_Some, IsMemory, ScalarType, Byte, Address, SourceState, Gave, Onward, values_of, NoCarry, Registers, JumpWhere, Range, Location, Iteration, IsReady, Does, at_place, Facts, LabelNumber, no_facts, label_of, plain, number, place_in_memory, knowing, Counter, Planned, whole, address_fact, counter_of, counter_place, counts_by_one, word_fact, asked_mark, asked_test_steps, below_steps, counts_in_place, facts_of_turn, first_test_steps, is_byte_type, next_turn_steps, to_known_steps, all, jump, nth_label, load_byte_steps, load_word_steps, site_of, Know, script_of, BodyContext, and_parts}
+use Rattle.statement_laws.proofs.Prelude.{◌≡◌, ℕ, ◌+◌, ◌%◌, ◌<◌, ◌≤◌, Bool, true, false, not, ◌&&◌, ◌||◌, if◌then◌else◌, is_some, nat_eq, nat_le, List, [], ◌∷◌, ◌++◌, Some, None, refl, sym, ap, subst, ◌∙◌, arith, eqb-true, leb-true, leb-false, same_Some, IsMemory, ScalarType, Byte, Address, SourceState, Gave, Onward, values_of, NoCarry, Registers, JumpWhere, Range, Location, Iteration, IsReady, Does, at_place, Facts, LabelNumber, no_facts, label_of, plain, number, place_in_memory, knowing, Counter, Planned, whole, address_fact, counter_of, counter_place, counts_by_one, word_fact, asked_mark, asked_test_steps, below_steps, counts_in_place, facts_of_turn, first_test_steps, is_byte_type, next_turn_steps, to_known_steps, all, jump, nth_label, load_byte_steps, load_word_steps, site_of, Know, loaded_in, BodyContext, and_parts}
 use Rattle.treecode.specs.declared.place.Location.TheVariants as locations
 use Rattle.steps8080.specs.declared.step.Step.TheVariants as steps
 use Rattle.statements8080.specs.declared.plan.Planned.TheVariants as planned
@@ -81,7 +81,7 @@ end_is :
     → u.budget ≤ loop.budget
     → (now : Registers) (memory_now : List ℕ)
     → StageAt at loop.need loop.base u no_facts now memory_now
-    → Does (script_of at.context) u.budget 0 (at_place loop.to now memory_now u.events)
+    → Does (loaded_in at.context) u.budget 0 (at_place loop.to now memory_now u.events)
     (Gave Onward u) (Out loop)
 end_is loop end turn facts place u there is less now memory_now stage =
     goes_at_end loop loop.budget no_facts loop.to (there.after is) refl u now memory_now less stage
@@ -103,7 +103,7 @@ module _
     (knowing (site_of at.body) facts) head) head ≡ true)
     (budget_is : s.budget ≡ loop.budget)
     (stage : StageAt at loop.need loop.base s facts r memory)
-    (stores : Does (script_of at.context) s.budget 1 (at_place from r memory s.events) (first_stored loop s)
+    (stores : Does (loaded_in at.context) s.budget 1 (at_place from r memory s.events) (first_stored loop s)
     (FirstThere loop
     (to_known_steps (counter_of (knowing (site_of at.body) facts) head) last is_tested list label)))
   where
@@ -121,7 +121,7 @@ module _
 
     abbrev Enters : Type 0
     Enters =
-        Does (script_of at.context) s.budget 0 (at_place from r memory s.events)
+        Does (loaded_in at.context) s.budget 0 (at_place from r memory s.events)
         (whole_loop loop s) (Out loop)
 
     parts_in_place :
@@ -240,7 +240,7 @@ module _
             (((if none then all (word_test last true)
             else all (word_test last false)) ++ (jump (JumpWhere NoCarry) end ∷ []))
             ++ turns_planned (counter Address) last is_tested list turn end) loop.after loop.to
-            → Does (script_of at.context) u.budget 0 (at_place place now memory_now u.events)
+            → Does (loaded_in at.context) u.budget 0 (at_place place now memory_now u.events)
             (from_test loop u) (Out loop)
         by true none known place u now memory_now less there loaded middle loads rest =
             let test = code_parted (plain (word_test last true) ++ (steps.Jump (JumpWhere NoCarry) end ∷ []))

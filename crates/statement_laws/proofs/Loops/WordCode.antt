@@ -1,6 +1,6 @@
 -- What code of loops does that comes to a store of the ADDRESS in HL, and to a comparison of it with a
 -- number.
-use Rattle.statement_laws.proofs.Prelude.{◌≡◌, ℕ, ◌+◌, ◌*◌, ◌/◌, ◌%◌, ◌<◌, Bool, false, nat_lt, List, ◌∷◌, length, slice_set, sym, ap, subst, ◌∙◌, arith, length-set, MEMORY_SIZE, byte_at, Event, Address, SourcePlace, write_scalar, SourceState, Outcome, then_do, subtract_of, bit, Registers, State, high_byte, low_byte, word, wrap, StoreHl, byte_kept, byte_put, Place, Does, at_place, borrow_shows, borrow_shows_more, word_borrow, IsSteadyByte, place_at, Facts, Step, after_word, Context, IsSound, WordThere, address_on_machine, FitsIn, word_goes, Stage, script_of, word_written, differs_from_next, halves_joined, high_of_halves, low_of_halves}
+use Rattle.statement_laws.proofs.Prelude.{◌≡◌, ℕ, ◌+◌, ◌*◌, ◌/◌, ◌%◌, ◌<◌, Bool, false, nat_lt, List, ◌∷◌, length, slice_set, sym, ap, subst, ◌∙◌, arith, length-set, MEMORY_SIZE, byte_at, Event, Address, SourcePlace, write_scalar, SourceState, Outcome, then_do, subtract_of, bit, Registers, State, high_byte, low_byte, word, wrap, StoreHl, byte_kept, byte_put, Place, Does, at_place, borrow_shows, borrow_shows_more, word_borrow, IsSteadyByte, place_at, Facts, Step, after_word, Context, IsSound, WordThere, address_on_machine, FitsIn, word_goes, Stage, loaded_in, word_written, differs_from_next, halves_joined, high_of_halves, low_of_halves}
 use Rattle.steps8080.specs.declared.step.Step.TheVariants as steps
 use Rattle.statement_laws.proofs.Loops.LoopCode.{Steps}
 use Rattle.statement_laws.proofs.Loops.LoopMeaning.{scalar_at}
@@ -49,15 +49,15 @@ pub shld_then :
     → Steps context (after_word facts StoreHl static) (from + 3) others last to
     → Stage context top 0 need base u (after_word facts StoreHl static) r
     (with_word memory (address_on_machine context.activation place) number)
-    → Does (script_of context) u.budget more
+    → Does (loaded_in context) u.budget more
     (at_place (from + 3) r (with_word memory (address_on_machine context.activation place) number) u.events)
     (go tt u) Good)
-    → Does (script_of context) t.budget more (at_place from r memory t.events)
+    → Does (loaded_in context) t.budget more (at_place from r memory t.events)
     (then_do (write_scalar context.activation.around.program Address place number t) go) Good
 shld_then {context = context} {top = top} {need = need} {more = more} {from = from} {base = base} {t = t}
     {facts = facts} {r = r} {memory = memory} {Good = Good} static place number go sound small h l is_at fits
     (WordThere there rest) stage next =
-    let script = script_of context in
+    let loaded = loaded_in context in
     let address : ℕ = place_at context.activation.layout static in
     let own : ℕ = address_on_machine context.activation place in
     let left : List ℕ = with_word memory own number in
@@ -76,9 +76,9 @@ shld_then {context = context} {top = top} {need = need} {more = more} {from = fr
     )
     (ap (λ (bytes : List ℕ). at_place (from + 3) r bytes t.events) same)
     (λ known.
-    subst (λ (events : List Event). Does script t.budget more (at_place (from + 3) r left events)
+    subst (λ (events : List Event). Does loaded t.budget more (at_place (from + 3) r left events)
     (go tt u) Good) events_same
-    (subst (λ (budget : ℕ). Does script budget more (at_place (from + 3) r left u.events) (go tt u) Good)
+    (subst (λ (budget : ℕ). Does loaded budget more (at_place (from + 3) r left u.events) (go tt u) Good)
     budget_same
     (next u budget_same steady steady_too rest
     (record {

@@ -1,16 +1,16 @@
 -- The call of the routine of MOVE.
-use Rattle.statement_laws.proofs.Prelude.{◌≡◌, ℕ, ◌+◌, ◌-◌, ◌<◌, ◌≤◌, true, List, [], ◌∷◌, refl, sym, ap, subst, ◌∙◌, arith, MEMORY_SIZE, IsIn, is_declared, SourceState, Outcome, Gave, then_do, Call, bytes_of, Registers, State, word, wrap, CallTo, InstructionStands, Keeps, below, Move, BlockMisses, HasReturned, IsInBlock, Returns, copied, moved, IsReady, IsVariable, Does, Lands, Told, at_place, told_on, stands_now, no_facts_hold, bytes_alike, stands_in, Facts, CallRoutine, no_facts, jump_item, label_of_routine, Context, IsSound, RoutineIsAt, RoutineThere, NoneThere, in_memory, machine_is, ready_after_routine, twice_wrapped, bytes_at_place, Stage, does_same, script_of, wrapped_once, wrapped_small}
+use Rattle.statement_laws.proofs.Prelude.{◌≡◌, ℕ, ◌+◌, ◌-◌, ◌<◌, ◌≤◌, true, List, [], ◌∷◌, refl, sym, ap, subst, ◌∙◌, arith, MEMORY_SIZE, IsIn, is_declared, SourceState, Outcome, Gave, then_do, Call, bytes_of, Registers, State, word, wrap, CallTo, InstructionStands, Keeps, below, Move, BlockMisses, HasReturned, IsInBlock, Returns, copied, moved, IsReady, IsVariable, Does, Loaded, loaded_of, Lands, Told, at_place, told_on, stands_now, no_facts_hold, bytes_alike, stands_in, Facts, CallRoutine, no_facts, jump_item, label_of_routine, Context, IsSound, RoutineIsAt, RoutineThere, NoneThere, in_memory, machine_is, ready_after_routine, twice_wrapped, bytes_at_place, Stage, does_same, loaded_in, wrapped_once, wrapped_small}
 use Rattle.mem80.specs.declared.range.Range.{Range}
 use Rattle.statement_laws.proofs.Loops.LoopCode.{Steps}
 use Rattle.statement_laws.proofs.Moves.MovedBlocks.{Moved, MovesAll, MovesOutside, copied_ready, declared_in_block, moved_is, variable_in_block}
 
 -- what is told of what goes outside
 outside_told :
-    {A : Type 0} {script : List (List ℕ)} {budget : ℕ} {from : State}
+    {A : Type 0} {loaded : Loaded} {budget : ℕ} {from : State}
     {Good : A → SourceState → State → Type 0}
     (reason : Rattle.meaning.specs.declared.reason.Reason.Reason) (t : SourceState) (outcome : Outcome A)
     → outcome ≡ Rattle.meaning.specs.Outcomes.Stopped (Rattle.meaning.specs.Outcomes.Outside reason) t
-    → Does script budget 0 from outcome Good
+    → Does loaded budget 0 from outcome Good
 outside_told reason t outcome same = does_same _ same (record { told = tt })
 
 -- BC is the count, DE the source and HL the destination: all is copied
@@ -28,8 +28,8 @@ pub move_then :
     → Stage context top pushed need base t facts r memory
     → ((u : SourceState) (now : Registers) (memory_now : List ℕ)
     → Stage context top pushed need base u last now memory_now
-    → Does (script_of context) u.budget 0 (at_place to now memory_now u.events) (go tt u) Good)
-    → Does (script_of context) t.budget 0 (at_place from r memory t.events)
+    → Does (loaded_in context) u.budget 0 (at_place to now memory_now u.events) (go tt u) Good)
+    → Does (loaded_in context) t.budget 0 (at_place from r memory t.events)
     (then_do (moved context.activation.around.program count source destination t) go) Good
 move_then {context = context} {top = top} {pushed = pushed} {need = need} {from = from} {base = base} {t = t}
     {r = r} {memory = memory} {Good = Good} count source destination go sound two bc de hl
@@ -37,7 +37,7 @@ move_then {context = context} {top = top} {pushed = pushed} {need = need} {from 
     by (moved_is context.activation.around.program count source destination t)
   where
     by : Moved context.activation.around.program count source destination t
-        → Does (script_of context) t.budget 0 (at_place from r memory t.events)
+        → Does (loaded_in context) t.budget 0 (at_place from r memory t.events)
         (then_do (moved context.activation.around.program count source destination t) go) Good
     by (MovesOutside reason u same) =
         outside_told reason u
@@ -46,6 +46,7 @@ move_then {context = context} {top = top} {pushed = pushed} {need = need} {from 
     by (MovesAll same declared variables) =
         let activation = context.activation in
         let script = activation.around.program.script in
+        let loaded = loaded_of activation in
         let lies = sound.lies in
         let ready = stage.ready in
         let depth = stage.room.depth in
@@ -164,6 +165,6 @@ move_then {context = context} {top = top} {pushed = pushed} {need = need} {from 
         does_same (go tt u) (ap (λ (one : Outcome (Unit {0})). then_do one go) same)
         (record {
           told =
-              told_on run t.budget 0 (go tt u) Good (omega arith) (omega arith)
-              (subst (λ (end : State). Told script t.budget 0 end (go tt u) Good) (sym is_at) does.told);
+              told_on loaded run t.budget 0 (go tt u) Good (omega arith) (omega arith)
+              (subst (λ (end : State). Told loaded t.budget 0 end (go tt u) Good) (sym is_at) does.told);
         })

@@ -1,5 +1,5 @@
 -- Code of CALL MOVE does what it says.
-use Rattle.statement_laws.proofs.Prelude.{◌≡◌, ℕ, ◌+◌, ◌-◌, ◌*◌, ◌/◌, ◌%◌, ◌<◌, ◌≤◌, min, max, Bool, true, false, if◌then◌else◌, List, [], ◌∷◌, ◌++◌, map, slice_get, Option, Some, None, refl, sym, ap, subst, ◌∙◌, arith, same_Some, ScalarType, Address, height_of, height_of_statement, type_of, TypedExpression, TypedStatement, MoveStatement, HasType, TypesHoldIn, done, moved, SourceState, Outcome, Gave, then_do, Flow, Onward, values_of, Pop, Push, Xchg, Bc, De, StackBc, StackDe, StackHl, Registers, State, high_byte, low_byte, with_popped, word, wrap, LoadPair, Move, ExpressionNumber, Place, Statement, StatementNumber, IsExpressionIn, IsMove, IsStatementForm, IsStatementNode, pushed_word, Does, at_place, does_without_step, place_at, Facts, Step, Site, keeps, known, expression, knowing, Planned, ends_steps, move_steps, Here, statement_steps, Context, IsSound, nodes_in, PartThere, PlainThere, WordThere, NoneThere, WordIsGiven, known_small, ready_with_registers, word_goes, known_means, value_in, Stage, at_instructions, at_pop, at_push, at_word, does_same, script_of, BodyContext, IsSoundBody, Leaves, StatementDoes, StatementStands, word_from_halves, low_byte_small}
+use Rattle.statement_laws.proofs.Prelude.{◌≡◌, ℕ, ◌+◌, ◌-◌, ◌*◌, ◌/◌, ◌%◌, ◌<◌, ◌≤◌, min, max, Bool, true, false, if◌then◌else◌, List, [], ◌∷◌, ◌++◌, map, slice_get, Option, Some, None, refl, sym, ap, subst, ◌∙◌, arith, same_Some, ScalarType, Address, height_of, height_of_statement, type_of, TypedExpression, TypedStatement, MoveStatement, HasType, TypesHoldIn, done, moved, SourceState, Outcome, Gave, then_do, Flow, Onward, values_of, Pop, Push, Xchg, Bc, De, StackBc, StackDe, StackHl, Registers, State, high_byte, low_byte, with_popped, word, wrap, LoadPair, Move, ExpressionNumber, Place, Statement, StatementNumber, IsExpressionIn, IsMove, IsStatementForm, IsStatementNode, pushed_word, Does, at_place, does_without_step, place_at, Facts, Step, Site, keeps, known, expression, knowing, Planned, ends_steps, move_steps, Here, statement_steps, Context, IsSound, nodes_in, PartThere, PlainThere, WordThere, NoneThere, WordIsGiven, known_small, ready_with_registers, word_goes, known_means, value_in, Stage, at_instructions, at_pop, at_push, at_word, does_same, loaded_in, BodyContext, IsSoundBody, Leaves, StatementDoes, StatementStands, word_from_halves, low_byte_small}
 use Rattle.treecode.specs.declared.statement.Statement.TheVariants as statements
 use Rattle.steps8080.specs.declared.step.Step.TheVariants as steps
 use Rattle.steps8080.specs.declared.step.Task.TheVariants as tasks
@@ -76,8 +76,8 @@ pub address_in_hl :
     → ((keeps context.site number).de ≡ true → (now.d ≡ r.d) × (now.e ≡ r.e))
     → Steps context found middle others last to
     → Stage context top pushed need base u found now memory_now
-    → Does (script_of context) u.budget 0 (at_place middle now memory_now u.events) (go value u) Good)
-    → Does (script_of context) t.budget 0 (at_place from r memory t.events)
+    → Does (loaded_in context) u.budget 0 (at_place middle now memory_now u.events) (go value u) Good)
+    → Does (loaded_in context) t.budget 0 (at_place from r memory t.events)
     (then_do (value_in context tree t) go) Good
 address_in_hl {context = context} {r = r} {memory = memory} {tree = tree} number go is types fits
     (PartThere {found = found} {middle = middle} does rest) stage next =
@@ -102,10 +102,10 @@ push_hl :
     → (Steps context facts (from + 1) others last to
     → Stage context (top - 2) ((pushed + 2) % 65536) (need - 2) (pushed_word top value memory) t facts
     (record r { sp = wrap (top - 2) }) (pushed_word top value memory)
-    → Does (script_of context) t.budget 0
+    → Does (loaded_in context) t.budget 0
     (at_place (from + 1) (record r { sp = wrap (top - 2) }) (pushed_word top value memory) t.events) outcome
     Good)
-    → Does (script_of context) t.budget 0 (at_place from r memory t.events) outcome Good
+    → Does (loaded_in context) t.budget 0 (at_place from r memory t.events) outcome Good
 push_hl {r = r} value sound in_hl enough (PlainThere there rest) stage next =
     at_push value (word_from_halves value r.h r.l in_hl.high_is in_hl.low_is) sound enough stage there
     (λ pushed_stage. next rest pushed_stage)
@@ -126,10 +126,10 @@ pop_de :
     → ((found : Facts) → Steps context found (from + 1) others last to
     → Stage context top pushed need base t found
     (record (with_popped StackDe value r) { sp = wrap top }) memory
-    → Does (script_of context) t.budget 0
+    → Does (loaded_in context) t.budget 0
     (at_place (from + 1) (record (with_popped StackDe value r) { sp = wrap top }) memory t.events) outcome
     Good)
-    → Does (script_of context) t.budget 0 (at_place from r memory t.events) outcome Good
+    → Does (loaded_in context) t.budget 0 (at_place from r memory t.events) outcome Good
 pop_de value sound small enough start (PlainThere there rest) stage next =
     at_pop sound enough small start stage there (λ done. next _ rest done)
 
@@ -149,10 +149,10 @@ pop_bc :
     → ((found : Facts) → Steps context found (from + 1) others last to
     → Stage context top pushed need base t found
     (record (with_popped StackBc value r) { sp = wrap top }) memory
-    → Does (script_of context) t.budget 0
+    → Does (loaded_in context) t.budget 0
     (at_place (from + 1) (record (with_popped StackBc value r) { sp = wrap top }) memory t.events) outcome
     Good)
-    → Does (script_of context) t.budget 0 (at_place from r memory t.events) outcome Good
+    → Does (loaded_in context) t.budget 0 (at_place from r memory t.events) outcome Good
 pop_bc value sound small enough start (PlainThere there rest) stage next =
     at_pop sound enough small start stage there (λ done. next _ rest done)
 
@@ -172,8 +172,8 @@ de_loaded :
     → ((now : Registers)
     → now ≡ record r { d = high_byte (place_at context.activation.layout place); e = low_byte (place_at context.activation.layout place) }
     → Stage context top pushed need base t last now memory
-    → Does (script_of context) t.budget 0 (at_place to now memory t.events) outcome Good)
-    → Does (script_of context) t.budget 0 (at_place from r memory t.events) outcome Good
+    → Does (loaded_in context) t.budget 0 (at_place to now memory t.events) outcome Good)
+    → Does (loaded_in context) t.budget 0 (at_place from r memory t.events) outcome Good
 de_loaded {context = context} {r = r} {memory = memory} place sound small
     (WordThere there NoneThere) stage next =
     let number : ℕ = place_at context.activation.layout place in
@@ -203,8 +203,8 @@ bc_loaded :
     → now ≡ record r { b = high_byte (place_at context.activation.layout place); c = low_byte (place_at context.activation.layout place) }
     → Steps context found (from + 3) others last to
     → Stage context top pushed need base t found now memory
-    → Does (script_of context) t.budget 0 (at_place (from + 3) now memory t.events) outcome Good)
-    → Does (script_of context) t.budget 0 (at_place from r memory t.events) outcome Good
+    → Does (loaded_in context) t.budget 0 (at_place (from + 3) now memory t.events) outcome Good)
+    → Does (loaded_in context) t.budget 0 (at_place from r memory t.events) outcome Good
 bc_loaded {context = context} {r = r} {memory = memory} place sound small (WordThere there rest) stage next =
     let number : ℕ = place_at context.activation.layout place in
     let held = stage.ready.registers in
@@ -250,8 +250,8 @@ pub ends_then :
     → IsIn a now.d now.e
     → IsIn b now.h now.l
     → Stage context top pushed need base v last now memory_now
-    → Does (script_of context) v.budget 0 (at_place to now memory_now v.events) (go a b v) Good)
-    → Does (script_of context) t.budget 0 (at_place from r memory t.events)
+    → Does (loaded_in context) v.budget 0 (at_place to now memory_now v.events) (go a b v) Good)
+    → Does (loaded_in context) t.budget 0 (at_place from r memory t.events)
     (then_do (value_in context from_tree t) (λ a u. then_do (value_in context to_tree u) (λ b v. go a b v)))
     Good
 ends_then {context = context} {need = need} {to_tree = to_tree} (Some place) keeps_de source destination go
@@ -282,7 +282,7 @@ ends_then {context = context} {top = top} {pushed = pushed} {need = need} {base 
     (λ b v last_one memory_last known_last middle_last small_too in_hl_too keeps_now rest_last there_last.
     let over = Rattle.statement_laws.proofs.Loops.LoopCode.steps_over rest_last in
     let de = keeps_now (kept refl) in
-    subst (λ (place : ℕ). Does (script_of context) v.budget 0 (at_place place last_one memory_last v.events)
+    subst (λ (place : ℕ). Does (loaded_in context) v.budget 0 (at_place place last_one memory_last v.events)
     (go a b v) Good) (sym over.1)
     (next a b v last_one memory_last
     (record { high_is = de.0 ∙ in_hl.high_is; low_is = de.1 ∙ in_hl.low_is }) in_hl_too
@@ -305,7 +305,7 @@ ends_then {A = A} {context = context} {top = top} {pushed = pushed} {need = need
     (λ found ends done.
     let over = Rattle.statement_laws.proofs.Loops.LoopCode.steps_over ends in
     let now_last : Registers = record (with_popped StackDe a last_one) { sp = wrap top } in
-    subst (λ (place : ℕ). Does (script_of context) v.budget 0 (at_place place now_last memory_last v.events)
+    subst (λ (place : ℕ). Does (loaded_in context) v.budget 0 (at_place place now_last memory_last v.events)
     (go a b v) Good) (sym over.1)
     (next a b v now_last memory_last
     (record { high_is = refl; low_is = refl })
@@ -340,12 +340,12 @@ move_ends :
     (u : SourceState) (now : Registers) (memory_now : List ℕ)
     → Stand at (record { facts = facts; goes_on = true }) waiting place [] after to
     → Stage at.context at.context.activation.level 0 need base u facts now memory_now
-    → Does (script_of at.context) u.budget 0 (at_place place now memory_now u.events) (Gave Onward u)
+    → Does (loaded_in at.context) u.budget 0 (at_place place now memory_now u.events) (Gave Onward u)
     (Leaves at base to after before)
 move_ends {at = at} {base = base} {to = to} {need = need} {after = after} {before = before} {place = place} u
     now memory_now stand stage =
     let ends = steps_ended stand in
-    subst (λ (n : ℕ). Does (script_of at.context) u.budget 0 (at_place n now memory_now u.events)
+    subst (λ (n : ℕ). Does (loaded_in at.context) u.budget 0 (at_place n now memory_now u.events)
     (Gave Onward u) (Leaves at base to after before)) (ends.place)
     (does_without_step (record {
       goes_on = ap (λ (here : Here). here.goes_on) (ends.same);
@@ -381,7 +381,7 @@ move_by :
           ∷ planned.Code (steps.CallRoutine Move) ∷ []))
     ]) after to
     → Stage at.context at.context.activation.level 0 need base s before r memory
-    → Does (script_of at.context) s.budget 0 (at_place place r memory s.events)
+    → Does (loaded_in at.context) s.budget 0 (at_place place r memory s.events)
     (moves at bytes from_tree to_tree s) (Leaves at base to after budget)
 move_by {at = at} {base = base} {to = to} {need = need} {after = after} {before = before} {place = place}
     {budget = budget} {bytes = bytes} {from_tree = from_tree} {to_tree = to_tree} found count source
@@ -427,7 +427,7 @@ move_by {at = at} {base = base} {to = to} {need = need} {after = after} {before 
               ++ (Rattle.statements8080.specs.Plans.plain (Pop StackBc)
               ∷ planned.Code (steps.CallRoutine Move) ∷ []))
         ]) after to
-        → Does (script_of at.context) s.budget 0 (at_place place r memory s.events)
+        → Does (loaded_in at.context) s.budget 0 (at_place place r memory s.events)
         (moves at bytes from_tree to_tree s) (Leaves at base to after budget)
     by (Some here) is stand =
         let number : ℕ = place_at at.context.activation.layout here in
@@ -535,7 +535,7 @@ move_does at before number count source destination label from after to sound fo
         → TypesHoldIn at.context.typed at.context.within tree
         → Rattle.code_meaning.specs.Activations.HasRoom at.context.activation at.context.activation.level 0
         (2 + 2 * height_of_statement tree)
-        → Does (script_of at.context) s.budget 0 (at_place from r memory s.events)
+        → Does (loaded_in at.context) s.budget 0 (at_place from r memory s.events)
         (done at.context.later at.context.activation.around tree s) (Leaves at base to after s.budget)
     by_form _ (IsMove {bytes = bytes} {from = from_tree} {to = to_tree} count_is source_is destination_is)
         types room =

@@ -5,7 +5,7 @@ use Rattle.typed_trees.specs.WellTyped.{Within, WithinProcedure, WithinMain}
 use Rattle.meaning.specs.Meaning.{later_by}
 use Rattle.meaning.specs.Outcomes.{State as SourceState, Outcome, Flow, Onward, Returned, Jumped}
 use Rattle.isa8080.specs.State.{Registers, State}
-use Rattle.code_meaning.specs.Activations.{Arrives, HasRoom, IsReady, IsThere}
+use Rattle.code_meaning.specs.Activations.{Arrives, HasRoom, IsReady, IsThere, loaded_of}
 use Rattle.code_meaning.specs.Landing.{Does, at_place}
 use Rattle.steps8080.specs.declared.facts.Facts.{Facts}
 use Rattle.statements8080.specs.declared.body.Body.{Body}
@@ -101,5 +101,5 @@ Behaves at before need from after to meant =
     → HasRoom at.context.activation at.context.activation.level 0 need
     → IsReady at.context.activation at.context.activation.level base s.memory s.frame r memory
     → Know at.context before r memory
-    → Does at.context.activation.around.program.script s.budget 0 (at_place from r memory s.events) (meant s)
+    → Does (loaded_of at.context.activation) s.budget 0 (at_place from r memory s.events) (meant s)
     (Leaves at base to after s.budget)

@@ -15,7 +15,7 @@ use Rattle.task_laws.proofs.Relations.LowestBits.{and_with_one, and_with_zero, c
 use Rattle.task_laws.proofs.Machine.Nodes.{node_of}
 use Rattle.task_laws.proofs.Relations.Relations.{IsRelation, Relates, between, between_is, in_order_of, relation_is}
 use Rattle.task_laws.proofs.Machine.SiteNodes.{number_means, quiet_means, value_in}
-use Rattle.task_laws.proofs.Machine.Stages.{Stage, at_effects, does_same, script_of}
+use Rattle.task_laws.proofs.Machine.Stages.{Stage, at_effects, does_same, loaded_in}
 use Rattle.task_laws.proofs.Agreement.{agreeing, disagreeing}
 
 abbrev IsByteType : ScalarType → Type 0
@@ -115,7 +115,7 @@ module _
   -- where a tree's value leads to
   abbrev Jumps : TypedExpression → Type 0
   Jumps tree =
-      Does (script_of context) s.budget 0 (at_place from r memory s.events) (value_in context tree s)
+      Does (loaded_in context) s.budget 0 (at_place from r memory s.events) (value_in context tree s)
       (Parts context last tree branch.label branch.sense top base to)
 
   equality_jumps :
@@ -572,7 +572,7 @@ branch_law {context = context} {facts = facts} {last = last} {from = from} {to =
         (shape_steps (knowing context.site facts)
         (elim found [ Some one ↦ shape_of_form (knowing context.site facts) one.form | None ↦ Other ])
         condition branch first) last to
-        → Does (script_of context) s.budget 0 (at_place from r memory s.events) (value_in context tree s)
+        → Does (loaded_in context) s.budget 0 (at_place from r memory s.events) (value_in context tree s)
         (Parts context last tree label sense top base to)
     by_expression None is stands =
         absurd (none-some _ (sym is ∙ (node_of sound node).at_site facts))
@@ -596,7 +596,7 @@ branch_law {context = context} {facts = facts} {last = last} {from = from} {to =
             | None ↦ Other
           ]
         ]) condition branch first) last to
-        → Does (script_of context) s.budget 0 (at_place from r memory s.events) (value_in context tree s)
+        → Does (loaded_in context) s.budget 0 (at_place from r memory s.events) (value_in context tree s)
         (Parts context last tree label sense top base to)
     by (Some n) is stands =
         does_same (Gave n s) (number_means facts n sound node types is s)

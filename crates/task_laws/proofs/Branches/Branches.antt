@@ -8,7 +8,7 @@ use Rattle.task_laws.proofs.Branches.Jumps.{jumps_known, jumps_where}
 use Rattle.task_laws.proofs.Relations.Relations.{IsRelation, OutcomeShows, relation_shown}
 use Rattle.task_laws.proofs.Machine.Rules.{steps_split}
 use Rattle.task_laws.proofs.Machine.SiteNodes.{value_in}
-use Rattle.task_laws.proofs.Machine.Stages.{Stage, stage_with_a, at_byte, does_same, script_of}
+use Rattle.task_laws.proofs.Machine.Stages.{Stage, stage_with_a, at_byte, does_same, loaded_in}
 
 -- a value that is passed on
 pub given_itself : {A : Type 0} (outcome : Outcome A) → outcome ≡ then_do outcome (λ found u. Gave found u)
@@ -28,7 +28,7 @@ outcome_jumps :
     → OutcomeShows purposes.Branch shown answer r
     → StepsStand context (PartDoes context) facts from (outcome_branch_steps branch shown) last to
     → Stage context top pushed need base u facts r memory
-    → Does (script_of context) u.budget 0 (at_place from r memory u.events) (Gave (truth answer) u)
+    → Does (loaded_in context) u.budget 0 (at_place from r memory u.events) (Gave (truth answer) u)
     (Parts context last tree branch.label branch.sense top base to)
 outcome_jumps branch (Known known) answer sound shows stand stage =
     jumps_known branch known (truth answer) sound (truth_is_true answer ∙ shows) stand stage
@@ -65,7 +65,7 @@ pub relation_jumps :
     (relation_steps (knowing context.site facts) relation (branch_setting branch.pushed)
     ++ outcome_branch_steps branch (relation_outcome (knowing context.site facts) relation)) last to
     → Stage context top branch.pushed need base s facts r memory
-    → Does (script_of context) s.budget 0 (at_place from r memory s.events) (value_in context tree s)
+    → Does (loaded_in context) s.budget 0 (at_place from r memory s.events) (value_in context tree s)
     (Parts context last tree branch.label branch.sense top base to)
 relation_jumps {context = context} {top = top} {need = need} {base = base} {s = s} {facts = facts}
     {last = last} {r = r} {memory = memory} {from = from} {to = to} {bound = bound} {tree = tree} branch
@@ -96,7 +96,7 @@ pub bit_jumps :
     → 2 * height_of tree ≤ need
     → StepsStand context (PartDoes context) facts from (by_bit_steps condition branch) last to
     → Stage context top branch.pushed need base s facts r memory
-    → Does (script_of context) s.budget 0 (at_place from r memory s.events) (value_in context tree s)
+    → Does (loaded_in context) s.budget 0 (at_place from r memory s.events) (value_in context tree s)
     (Parts context last tree branch.label branch.sense top base to)
 bit_jumps {context = context} {s = s} {tree = tree} condition branch sound node types fewer
     (PartThere does (PlainThere turned stand)) stage =

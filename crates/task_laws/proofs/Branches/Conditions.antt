@@ -1,10 +1,10 @@
 -- Conditions with the lowest bit of a part, or of both parts.
-use Rattle.task_laws.proofs.Prelude.{◌≡◌, ℕ, ◌*◌, ◌≤◌, Bool, true, false, not, List, [], ◌∷◌, refl, sym, ap, ◌∙◌, subst, arith, if◌then◌else◌, false≢true, height_of, TypedExpression, TypesHold, SourceState, Outcome, Gave, then_do, is_true, Registers, State, ExpressionNumber, IsExpression, Facts, LabelNumber, Part, label_of, Does, at_place, after_step, does_without_step, no_facts_hold, Found, Fails, IsQuiet, outcome_of, in_order, branch_part, joined_steps, agree, jumps_once, Context, nodes_in, StepsStand, NoneThere, PartThere, MarkThere, BranchDoes, Know, Parts, Goes, Passes, PartDoes, not-not}
+use Rattle.task_laws.proofs.Prelude.{◌≡◌, ℕ, ◌*◌, ◌≤◌, Bool, true, false, not, List, [], ◌∷◌, refl, sym, ap, ◌∙◌, subst, arith, if◌then◌else◌, false≢true, height_of, TypedExpression, TypesHold, SourceState, Outcome, Gave, then_do, is_true, Registers, State, ExpressionNumber, IsExpression, Facts, LabelNumber, Part, label_of, Does, Loaded, at_place, after_step, does_without_step, no_facts_hold, Found, Fails, IsQuiet, outcome_of, in_order, branch_part, joined_steps, agree, jumps_once, Context, nodes_in, StepsStand, NoneThere, PartThere, MarkThere, BranchDoes, Know, Parts, Goes, Passes, PartDoes, not-not}
 use Rattle.steps8080.specs.declared.step.Step.TheVariants as steps
 use Rattle.treecode_laws.specs.internal.Evaluations.{Answer}
 use Rattle.operands8080.specs.declared.branches.Branch.{Branch}
 use Rattle.task_laws.proofs.Machine.SiteNodes.{value_in}
-use Rattle.task_laws.proofs.Machine.Stages.{Stage, does_same, script_of, then_does_where}
+use Rattle.task_laws.proofs.Machine.Stages.{Stage, does_same, loaded_in, then_does_where}
 use Rattle.task_laws.proofs.Agreement.{agreeing}
 use Rattle.task_laws.proofs.Machine.Rules.{room_for}
 
@@ -55,7 +55,7 @@ pub part_jumps :
     → ((v : ℕ) (u : SourceState) → value_in context inner s ≡ Gave v u
     → (is_true v ≡ other → is_true (f v) ≡ sense) × (is_true v ≡ not other → is_true (f v) ≡ not sense))
     → (jumps_once tree ≡ true → jumps_once inner ≡ true)
-    → Does (script_of context) s.budget 0 (at_place from r memory s.events)
+    → Does (loaded_in context) s.budget 0 (at_place from r memory s.events)
     (then_do (value_in context inner s) (λ v u. Gave (f v) u))
     (Parts context last tree label sense top base to)
 part_jumps {context = context} {top = top} {base = base} {s = s} {r = r} {memory = memory} {bound = bound}
@@ -69,18 +69,18 @@ part_jumps {context = context} {top = top} {base = base} {s = s} {r = r} {memory
 
 -- a quiet value that is not used
 quiet_given :
-    {C : Type 0} {script : List (List ℕ)} {budget more : ℕ} {from : State}
+    {C : Type 0} {loaded : Loaded} {budget more : ℕ} {from : State}
     {Good : C → SourceState → State → Type 0}
     (go : SourceState → Outcome ℕ) (rest : ℕ → SourceState → Outcome C) (u : SourceState)
     → IsQuiet go
-    → ((w : ℕ) → Does script budget more from (rest w u) Good)
-    → Does script budget more from (then_do (go u) rest) Good
-quiet_given {C = C} {script = script} {budget = budget} {more = more} {from = from} {Good = Good}
+    → ((w : ℕ) → Does loaded budget more from (rest w u) Good)
+    → Does loaded budget more from (then_do (go u) rest) Good
+quiet_given {C = C} {loaded = loaded} {budget = budget} {more = more} {from = from} {Good = Good}
     go rest u quiet does =
     by (quiet.answer u.memory u.frame) (quiet.gives u)
   where
     by : (answer : Answer ℕ) → go u ≡ outcome_of answer u
-        → Does script budget more from (then_do (go u) rest) Good
+        → Does loaded budget more from (then_do (go u) rest) Good
     by (Found w) is = does_same (rest w u) (ap (λ (given : Outcome ℕ). then_do given rest) is) (does w)
     by (Fails reason) is =
         does_same (then_do (outcome_of (Fails reason) u) rest)
@@ -120,7 +120,7 @@ pub joined_jumps :
     → StepsStand context (PartDoes context) facts from
     (joined_steps (record { deciding = deciding; left = left; right = right }) branch label) last to
     → Stage context top branch.pushed need base t facts r memory
-    → Does (script_of context) t.budget 0 (at_place from r memory t.events)
+    → Does (loaded_in context) t.budget 0 (at_place from r memory t.events)
     (in_order (value_in context first) (value_in context second) (λ v w u. Gave (f v w) u) t)
     (Parts context last tree branch.label branch.sense top base to)
 joined_jumps {context = context} {top = top} {need = need} {base = base} {t = t} {facts = facts} {last = last}
@@ -137,7 +137,7 @@ joined_jumps {context = context} {top = top} {need = need} {base = base} {t = t}
         → BranchDoes context found right branch.label branch.sense branch.pushed middle last to
         → u.budget ≤ t.budget
         → Parts context found first branch.label branch.sense top base middle v u end
-        → Does (script_of context) u.budget 0 end (go v u)
+        → Does (loaded_in context) u.budget 0 end (go v u)
         (Parts context last tree branch.label branch.sense top base to)
     after_left alike v u end does spent (Goes there is step arrives) =
         quiet_given (λ s. value_in context second s) (λ w s. Gave (f v w) s) u quiet
@@ -147,7 +147,7 @@ joined_jumps {context = context} {top = top} {need = need} {base = base} {t = t}
         let below = stage.below in
         let next : Stage context top branch.pushed need base u _ arrives.r arrives.memory =
         record { below = omega (arith, below, spent); room = stage.room; ready = arrives.ready; known = arrives.holds } in
-        subst (λ state. Does (script_of context) u.budget 0 state (go v u)
+        subst (λ state. Does (loaded_in context) u.budget 0 state (go v u)
         (Parts context last tree branch.label branch.sense top base to))
         (sym arrives.is_at)
         (part_jumps branch.sense middle to right tree branch.sense (f v) does two other_types less next
@@ -185,7 +185,7 @@ joined_jumps {context = context} {top = top} {need = need} {base = base} {t = t}
         × ((now : Registers) (ended : List ℕ) → Know context last now ended)
         → u.budget ≤ t.budget
         → Parts context found first (label_of label) deciding top base middle v u end
-        → Does (script_of context) u.budget 0 end (go v u)
+        → Does (loaded_in context) u.budget 0 end (go v u)
         (Parts context last tree branch.label branch.sense top base to)
     after_other unlike v u end does mark spent (Goes there is step arrives) =
         quiet_given (λ s. value_in context second s) (λ w s. Gave (f v w) s) u quiet
@@ -203,7 +203,7 @@ joined_jumps {context = context} {top = top} {need = need} {base = base} {t = t}
         let below = stage.below in
         let next : Stage context top branch.pushed need base u _ arrives.r arrives.memory =
         record { below = omega (arith, below, spent); room = stage.room; ready = arrives.ready; known = arrives.holds } in
-        subst (λ state. Does (script_of context) u.budget 0 state (go v u)
+        subst (λ state. Does (loaded_in context) u.budget 0 state (go v u)
         (Parts context last tree branch.label branch.sense top base to))
         (sym arrives.is_at)
         (then_does_where (value_in context second u)
@@ -221,7 +221,7 @@ joined_jumps {context = context} {top = top} {need = need} {base = base} {t = t}
         ∷ branch_part branch right
         ∷ steps.Mark (label_of label)
         ∷ []) last to
-        → Does (script_of context) t.budget 0 (at_place from r memory t.events)
+        → Does (loaded_in context) t.budget 0 (at_place from r memory t.events)
         (then_do (value_in context first t) go)
         (Parts context last tree branch.label branch.sense top base to)
     by true same (PartThere does others) =

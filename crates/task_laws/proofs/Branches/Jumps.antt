@@ -3,7 +3,7 @@ use Rattle.task_laws.proofs.Prelude.{◌≡◌, ℕ, ◌+◌, Bool, true, false,
 use Rattle.isa8080.specs.declared.instr.Condition.TheVariants.{Zero, Carry}
 use Rattle.asm8080.specs.declared.item.WordForm.TheVariants as forms
 use Rattle.operands8080.specs.declared.branches.Branch.{Branch}
-use Rattle.task_laws.proofs.Machine.Stages.{Stage, at_end, script_of}
+use Rattle.task_laws.proofs.Machine.Stages.{Stage, at_end, loaded_in, script_of}
 use Rattle.task_laws.proofs.Agreement.{agreeing, disagreeing}
 
 -- a machine at the end of code that jumps
@@ -13,7 +13,7 @@ pub passes :
     {sense : Bool} (to found : ℕ)
     → is_true found ≡ not sense
     → Stage context top pushed need base u last r memory
-    → Does (script_of context) u.budget 0 (at_place to r memory u.events) (Gave found u)
+    → Does (loaded_in context) u.budget 0 (at_place to r memory u.events) (Gave found u)
     (Parts context last tree label sense top base to)
 passes {r = r} {memory = memory} to found is stage =
     does_without_step
@@ -57,7 +57,7 @@ pub jumps_where :
     → holds c r.flags ≡ is_true found
     → StepsStand context (PartDoes context) facts from (where_flags_steps branch c) last to
     → Stage context top pushed need base u facts r memory
-    → Does (script_of context) u.budget 0 (at_place from r memory u.events) (Gave found u)
+    → Does (loaded_in context) u.budget 0 (at_place from r memory u.events) (Gave found u)
     (Parts context last tree branch.label branch.sense top base to)
 jumps_where {context = context} {top = top} {base = base} {u = u} {facts = facts} {r = r} {memory = memory}
     {from = from} {tree = tree} branch c found sound is (JumpThere there NoneThere) stage =
@@ -70,7 +70,7 @@ jumps_where {context = context} {top = top} {base = base} {u = u} {facts = facts
     shown = ap (agree branch.sense) (sym is) ∙ sym (wanted_holds branch.sense c r.flags)
 
     by : (taken : Bool) → holds wanted r.flags ≡ taken
-        → Does (script_of context) u.budget 0 (at_place from r memory u.events) (Gave found u)
+        → Does (loaded_in context) u.budget 0 (at_place from r memory u.events) (Gave found u)
         (Parts context facts tree branch.label branch.sense top base (from + 3))
     by true here =
         does_without_step
@@ -97,7 +97,7 @@ jumps_always :
     → is_true found ≡ sense
     → StepsStand context (PartDoes context) facts from (Jump forms.Jump label ∷ []) last to
     → Stage context top pushed need base u facts r memory
-    → Does (script_of context) u.budget 0 (at_place from r memory u.events) (Gave found u)
+    → Does (loaded_in context) u.budget 0 (at_place from r memory u.events) (Gave found u)
     (Parts context last tree label sense top base to)
 jumps_always {context = context} {u = u} {r = r} {memory = memory} {from = from} {label = label} found sound
     is (JumpThere there NoneThere) stage =
@@ -115,7 +115,7 @@ pub jumps_known :
     → is_true found ≡ answer
     → StepsStand context (PartDoes context) facts from (known_branch_steps branch answer) last to
     → Stage context top pushed need base u facts r memory
-    → Does (script_of context) u.budget 0 (at_place from r memory u.events) (Gave found u)
+    → Does (loaded_in context) u.budget 0 (at_place from r memory u.events) (Gave found u)
     (Parts context last tree branch.label branch.sense top base to)
 jumps_known {context = context} {top = top} {base = base} {u = u} {facts = facts} {last = last} {r = r}
     {memory = memory} {from = from} {to = to} {tree = tree} branch answer found sound is stand stage =
@@ -123,14 +123,14 @@ jumps_known {context = context} {top = top} {base = base} {u = u} {facts = facts
   where
     goes : StepsStand context (PartDoes context) facts from (Jump forms.Jump branch.label ∷ []) last to
         → is_true found ≡ branch.sense
-        → Does (script_of context) u.budget 0 (at_place from r memory u.events) (Gave found u)
+        → Does (loaded_in context) u.budget 0 (at_place from r memory u.events) (Gave found u)
         (Parts context last tree branch.label branch.sense top base to)
     goes stand same = jumps_always found sound same stand stage
 
     by : (jumps : Bool) → agree answer branch.sense ≡ jumps
         → StepsStand context (PartDoes context) facts from
         (if jumps then Jump forms.Jump branch.label ∷ [] else []) last to
-        → Does (script_of context) u.budget 0 (at_place from r memory u.events) (Gave found u)
+        → Does (loaded_in context) u.budget 0 (at_place from r memory u.events) (Gave found u)
         (Parts context last tree branch.label branch.sense top base to)
     by true same stand = goes stand (is ∙ agreeing answer branch.sense same)
     by false same ends =

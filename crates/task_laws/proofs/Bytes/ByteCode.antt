@@ -1,11 +1,11 @@
 -- The low byte of a value with one part that counts: code on registers follows that of the part.
-use Rattle.task_laws.proofs.Prelude.{◌≡◌, ℕ, zero, suc, ◌*◌, ◌/◌, ◌%◌, ◌<◌, ◌≤◌, Bool, true, false, List, [], ◌∷◌, replicate, refl, sym, ap, ◌∙◌, subst, arith, false≢true, height_of, type_of, TypedExpression, TypesHold, SourceState, Ended, More, Outside, Outcome, Gave, Stopped, then_do, values_of, Instr, Dcr, Inr, Of, A, Flags, decrement_of, increment_of, Registers, State, times, ExpressionNumber, IsExpression, Facts, Part, Step, part, plain, Arrives, Does, Lands, at_place, does_without_step, is_free, Context, IsSound, SourceFits, nodes_in, StepsStand, PartThere, PlainThere, ByteIsGiven, Carries, ChangesAOnly, EffectsDo, Know, Nothing, PartDoes}
+use Rattle.task_laws.proofs.Prelude.{◌≡◌, ℕ, zero, suc, ◌*◌, ◌/◌, ◌%◌, ◌<◌, ◌≤◌, Bool, true, false, List, [], ◌∷◌, replicate, refl, sym, ap, ◌∙◌, subst, arith, false≢true, height_of, type_of, TypedExpression, TypesHold, SourceState, Ended, More, Outside, Outcome, Gave, Stopped, then_do, values_of, Instr, Dcr, Inr, Of, A, Flags, decrement_of, increment_of, Registers, State, times, ExpressionNumber, IsExpression, Facts, Part, Step, part, plain, Arrives, Does, Loaded, Lands, at_place, does_without_step, is_free, Context, IsSound, SourceFits, nodes_in, StepsStand, PartThere, PlainThere, ByteIsGiven, Carries, ChangesAOnly, EffectsDo, Know, Nothing, PartDoes}
 use Rattle.steps8080.specs.declared.step.Task.TheVariants as tasks
 use Rattle.task_laws.proofs.Bytes.ByteForms.{byte_given}
 use Rattle.task_laws.proofs.Ranges.Ranges.{ready_fits}
 use Rattle.task_laws.proofs.Machine.RegisterCode.{AreOnRegisters, IsOnRegisters, does_to, effect}
 use Rattle.task_laws.proofs.Machine.SiteNodes.{value_in}
-use Rattle.task_laws.proofs.Machine.Stages.{Stage, stage_with_a, at_byte, at_carried, at_effects, at_end, at_instructions, at_word, does_same, gives_then, script_of}
+use Rattle.task_laws.proofs.Machine.Stages.{Stage, stage_with_a, at_byte, at_carried, at_effects, at_end, at_instructions, at_word, does_same, gives_then, loaded_in}
 
 -- B, C, D, E, H and L are the same
 pub record IsBeside (r now : Registers) : Type 0 where
@@ -92,8 +92,8 @@ pub at_last_instructions :
     → StepsStand context PartIs facts from (plain instructions) last to
     → Stage context top pushed need base t facts r memory
     → (Stage context top pushed need base t last (effect instructions r) memory
-    → Does (script_of context) budget more (at_place to (effect instructions r) memory t.events) outcome Good)
-    → Does (script_of context) budget more (at_place from r memory t.events) outcome Good
+    → Does (loaded_in context) budget more (at_place to (effect instructions r) memory t.events) outcome Good)
+    → Does (loaded_in context) budget more (at_place from r memory t.events) outcome Good
 at_last_instructions [] sound on stand stage rest = at_end stand stage rest
 at_last_instructions (Inr (Of A) ∷ others) {r = r} sound on (PlainThere there stand) stage rest =
     stage_with_a (increment_of r.a r.flags).value (increment_of r.a r.flags).flags sound stage there
@@ -109,15 +109,15 @@ at_last_instructions (i ∷ others) sound on stand stage rest =
 
 -- at the end of a run, the equation for its outcome may be used
 pub with_outcome :
-    {A : Type 0} {script : List (List ℕ)} {budget more : ℕ} {from : State} (outcome : Outcome A)
+    {A : Type 0} {loaded : Loaded} {budget more : ℕ} {from : State} (outcome : Outcome A)
     {Good Better : A → SourceState → State → Type 0}
-    → Does script budget more from outcome Good
+    → Does loaded budget more from outcome Good
     → ((found : A) (t : SourceState) (end : State) → outcome ≡ Gave found t → Good found t end → Better found
     t end)
-    → Does script budget more from outcome Better
-with_outcome {script = script} {budget = budget} {more = more} {from = from} (Gave found t)
+    → Does loaded budget more from outcome Better
+with_outcome {loaded = loaded} {budget = budget} {more = more} {from = from} (Gave found t)
     {Good = Good} does better =
-    let lands : Lands script budget more from t.budget (Good found t) = does.told in
+    let lands : Lands loaded.program.script budget more from t.budget (Good found t) = does.told in
     record {
       told = record {
         count = lands.count;
@@ -270,7 +270,7 @@ module _
           → value_in context inside s ≡ Gave v u
           → (is_free context.site number ≡ true → ChangesAOnly r memory now memory_now)
           → Stage context top pushed (2 * height_of tree) base u found now memory_now
-          → Does (script_of context) u.budget 0 (at_place middle now memory_now u.events) (Gave (g v) u)
+          → Does (loaded_in context) u.budget 0 (at_place middle now memory_now u.events) (Gave (g v) u)
           (Arrives context.activation top base to (ByteIsGiven context last number (type_of tree) r memory))
       ends v u now memory_now is free next =
           let fits = one.fits s u v (ready_fits context s ready) is in
@@ -280,7 +280,7 @@ module _
           (λ is_free_now. changes_on (free is_free_now) (beside is_free_now now)) final)
 
       by : (free : Bool) → is_free context.site number ≡ free
-          → Does (script_of context) s.budget 0 (at_place from r memory s.events)
+          → Does (loaded_in context) s.budget 0 (at_place from r memory s.events)
           (then_do (value_in context inside s) (λ v u. Gave (g v) u))
           (Arrives context.activation top base to (ByteIsGiven context last number (type_of tree) r memory))
       by true is =

@@ -3,7 +3,7 @@ use Rattle.task_laws.proofs.Prelude.{◌≡◌, ℕ, ◌+◌, ◌-◌, ◌*◌, 
 use Rattle.steps8080.specs.declared.step.Task.TheVariants as tasks
 use Rattle.task_laws.proofs.Machine.Nodes.{NodeOf}
 use Rattle.task_laws.proofs.Machine.SiteNodes.{free_is, value_in}
-use Rattle.task_laws.proofs.Machine.Stages.{Stage, stage_with_a, at_byte, at_end, script_of}
+use Rattle.task_laws.proofs.Machine.Stages.{Stage, stage_with_a, at_byte, at_end, loaded_in}
 
 -- a node without a known value is free if its form is
 pub free_by_form :
@@ -28,7 +28,7 @@ pub byte_given :
     → found < values_of scalar
     → (is_free context.site number ≡ true → ChangesAOnly r memory now memory_now)
     → Stage context top pushed need base u last now memory_now
-    → Does (script_of context) u.budget 0 (at_place to now memory_now u.events) (Gave found u)
+    → Does (loaded_in context) u.budget 0 (at_place to now memory_now u.events) (Gave found u)
     (Arrives context.activation top base to (ByteIsGiven context last number scalar r memory))
 byte_given {now = now} {memory_now = memory_now} to number found a small free stage =
     does_without_step (record {

@@ -3,7 +3,7 @@ use Rattle.task_laws.proofs.Prelude.{◌≡◌, ℕ, ◌+◌, ◌*◌, ◌%◌, 
 use Rattle.steps8080.specs.declared.step.Task.TheVariants.{Address, Byte}
 use Rattle.task_laws.proofs.Bytes.BytesAsked.{BytesAsked, ByteIsAtHl}
 use Rattle.task_laws.proofs.Machine.SiteNodes.{value_in}
-use Rattle.task_laws.proofs.Machine.Stages.{Stage, stage_with_a, at_byte, at_carried, at_end, at_pop, at_push, at_registers, pushed_is_small, script_of}
+use Rattle.task_laws.proofs.Machine.Stages.{Stage, stage_with_a, at_byte, at_carried, at_end, at_pop, at_push, at_registers, pushed_is_small, loaded_in}
 use Rattle.task_laws.proofs.Heights.{some_height}
 
 -- an operation of bytes gives a byte
@@ -94,7 +94,7 @@ GoesOnOperated context first second number other operation top pushed need base 
     → IsValueOf context second other w
     → IsOperated operation v w now
     → Stage context top pushed need base u last now memory
-    → Does (script_of context) u.budget more (at_place place now memory u.events) (go v w u) Good
+    → Does (loaded_in context) u.budget more (at_place place now memory u.events) (go v w u) Good
 
 -- the first in A, the second in memory
 pub operated_with_memory :
@@ -117,7 +117,7 @@ pub operated_with_memory :
     → 2 * height_of second ≤ need
     → Stage context top pushed need base t facts r memory_then
     → GoesOnOperated context first second number other operation top pushed need base last to more go Good
-    → Does (script_of context) t.budget more (at_place from r memory_then t.events)
+    → Does (loaded_in context) t.budget more (at_place from r memory_then t.events)
     (in_order (value_in context first) (value_in context second) go t) Good
 operated_with_memory {context = context} {other = other} {second = second} {reference = reference}
     {operation = operation} known_there go asked sound one types two other_types operand
@@ -168,7 +168,7 @@ pub operated_with_e :
     → 2 * height_of second ≤ need
     → Stage context top pushed need base t facts r memory_then
     → GoesOnOperated context first second number other operation top pushed need base last to more go Good
-    → Does (script_of context) t.budget more (at_place from r memory_then t.events)
+    → Does (loaded_in context) t.budget more (at_place from r memory_then t.events)
     (exchanged (value_in context first) (value_in context second) go t) Good
 operated_with_e {context = context} {operation = operation} go asked sound one types two other_types free
     (PartThere does (PlainThere copied (PartThere other_does (PlainThere there ends))))
@@ -218,7 +218,7 @@ pub operated_with_first_in_b :
     → Stage context top pushed need base t facts r memory_then
     → GoesOnOperated context second first other number operation top pushed need base last to more
     (λ w v u. go v w u) Good
-    → Does (script_of context) t.budget more (at_place from r memory_then t.events)
+    → Does (loaded_in context) t.budget more (at_place from r memory_then t.events)
     (in_order (value_in context first) (value_in context second) go t) Good
 operated_with_first_in_b {context = context} {top = top} {need = need} {second = second}
     {operation = operation} go asked sound one types two other_types
@@ -273,7 +273,7 @@ pub operated_with_second_in_b :
     → 2 + 2 * height_of second ≤ need
     → Stage context top pushed need base t facts r memory_then
     → GoesOnOperated context first second number other operation top pushed need base last to more go Good
-    → Does (script_of context) t.budget more (at_place from r memory_then t.events)
+    → Does (loaded_in context) t.budget more (at_place from r memory_then t.events)
     (in_order (value_in context first) (value_in context second) go t) Good
 operated_with_second_in_b {context = context} {top = top} {need = need} {second = second}
     {operation = operation} go asked sound one types two other_types

@@ -12,7 +12,7 @@ use Rattle.task_laws.proofs.Machine.KnownOperands.{shift_fits}
 use Rattle.task_laws.proofs.Words.Pairs.{IsOperand}
 use Rattle.task_laws.proofs.Machine.RoutineCalls.{routine_then}
 use Rattle.task_laws.proofs.Machine.SiteNodes.{does_exchanged, free_is}
-use Rattle.task_laws.proofs.Machine.Stages.{Stage, at_byte, at_carried, at_end, at_pop, at_push, at_registers, pushed_is_small, script_of}
+use Rattle.task_laws.proofs.Machine.Stages.{Stage, at_byte, at_carried, at_end, at_pop, at_push, at_registers, pushed_is_small, loaded_in}
 use Rattle.task_laws.proofs.Numbers.{equals_byte}
 use Rattle.task_laws.proofs.Heights.{some_height}
 
@@ -29,7 +29,7 @@ routine_done :
     → now.a ≡ shifted scalars.Byte function r.a r.e
     → StepsStand context (PartDoes context) found middle [] last to
     → Stage context top pushed need base u found now ended
-    → Does (script_of context) u.budget 0 (at_place middle now ended u.events)
+    → Does (loaded_in context) u.budget 0 (at_place middle now ended u.events)
     (Gave (shifted scalars.Byte function v k) u)
     (Arrives context.activation top base to (ByteIsGiven context last number scalars.Byte began memory_began))
 routine_done {to = to} function v k number r in_type not_free small a e computes rest next =
@@ -56,7 +56,7 @@ routine_ends :
     → r.e ≡ k
     → StepsStand context (PartDoes context) facts from (CallRoutine (byte_routine function) ∷ []) last to
     → Stage context top pushed need base u facts r memory
-    → Does (script_of context) u.budget 0 (at_place from r memory u.events)
+    → Does (loaded_in context) u.budget 0 (at_place from r memory u.events)
     (Gave (shifted scalars.Byte function v k) u)
     (Arrives context.activation top base to (ByteIsGiven context last number scalars.Byte began memory_began))
 unfolding byte_routine

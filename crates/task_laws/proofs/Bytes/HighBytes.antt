@@ -1,5 +1,5 @@
 -- The high byte of a value is put into A.
-use Rattle.task_laws.proofs.Prelude.{◌≡◌, ℕ, ◌+◌, ◌*◌, ◌/◌, ◌%◌, ◌<◌, ◌≤◌, ◌&&◌, Bool, true, List, [], ◌∷◌, Option, Some, None, refl, sym, ap, ◌∙◌, subst, arith, MEMORY_SIZE, byte_at, byte_small, Address, height_of_reference, InData, InConstants, Placed, BasedOn, Elsewhere, Nowhere, InFrame, PartOf, TypedReference, RefersToScalar, TypesHoldInReference, InMemory, InTheFrame, SourcePlace, Surroundings, home_of, next_place, place_of, read_scalar, Displacement, based_place, displacement, SourceState, Ended, More, Outside, Outcome, Gave, Stopped, then_do, Registers, State, wrap, Location, Reference, IsReference, is_static_location, Activation, Arrives, HasRoom, Does, Lands, at_place, does_without_step, told_on, IsSteady, location_at, Facts, Plain, load, part, location_of, reference_after, byte_in_memory_steps, location_byte_steps, knowing, Context, IsSound, distances_in, nodes_in, StepsStand, PartThere, AddressIsGiven, Carries, ChangesAOnly, IsReferred, Know, Nothing, PartDoes, address_on_machine, high_of_two, same_Some, two_bytes_fit, given_again}
+use Rattle.task_laws.proofs.Prelude.{◌≡◌, ℕ, ◌+◌, ◌*◌, ◌/◌, ◌%◌, ◌<◌, ◌≤◌, ◌&&◌, Bool, true, List, [], ◌∷◌, Option, Some, None, refl, sym, ap, ◌∙◌, subst, arith, MEMORY_SIZE, byte_at, byte_small, Address, height_of_reference, InData, InConstants, Placed, BasedOn, Elsewhere, Nowhere, InFrame, PartOf, TypedReference, RefersToScalar, TypesHoldInReference, InMemory, InTheFrame, SourcePlace, Surroundings, home_of, next_place, place_of, read_scalar, Displacement, based_place, displacement, SourceState, Ended, More, Outside, Outcome, Gave, Stopped, then_do, Registers, State, wrap, Location, Reference, IsReference, is_static_location, Activation, Arrives, HasRoom, Does, Loaded, loaded_of, Lands, at_place, does_without_step, told_on, IsSteady, location_at, Facts, Plain, load, part, location_of, reference_after, byte_in_memory_steps, location_byte_steps, knowing, Context, IsSound, distances_in, nodes_in, StepsStand, PartThere, AddressIsGiven, Carries, ChangesAOnly, IsReferred, Know, Nothing, PartDoes, address_on_machine, high_of_two, same_Some, two_bytes_fit, given_again}
 use Rattle.typed_trees.specs.TypedTrees.{Home}
 use Rattle.isa8080.specs.declared.instr.Register.TheVariants as registers
 use Rattle.steps8080.specs.declared.step.Task.TheVariants as tasks
@@ -101,19 +101,22 @@ next_height (PartOf object first member offset second) = refl
 
 -- code that locates the next place, and then code for the place itself
 through_next :
-    {B : Type 0} {script : List (List ℕ)} {budget more : ℕ} {from : State} (outcome : Outcome SourcePlace)
+    {B : Type 0} {loaded : Loaded} {budget more : ℕ} {from : State} (outcome : Outcome SourcePlace)
     {go : SourcePlace → SourceState → Outcome B} {Middle : SourcePlace → SourceState → State → Type 0}
     {Good : B → SourceState → State → Type 0}
-    → Does script budget 0 from (then_do outcome (λ place t. Gave (next_place place) t)) Middle
+    → Does loaded budget 0 from (then_do outcome (λ place t. Gave (next_place place) t)) Middle
     → ((place : SourcePlace) (t : SourceState) (end : State) → outcome ≡ Gave place t
     → Middle (next_place place) t end
-    → t.budget ≤ budget → Does script t.budget more end (go place t) Good)
-    → Does script budget more from (then_do outcome go) Good
-through_next {script = script} {budget = budget} {more = more} {from = from} (Gave place t) {go = go}
+    → t.budget ≤ budget → Does loaded t.budget more end (go place t) Good)
+    → Does loaded budget more from (then_do outcome go) Good
+through_next {loaded = loaded} {budget = budget} {more = more} {from = from} (Gave place t) {go = go}
     {Middle = Middle} {Good = Good} does rest =
-    let first : Lands script budget 0 from t.budget (Middle (next_place place) t) = does.told in
+    let first : Lands loaded.program.script budget 0 from t.budget (Middle (next_place place) t) =
+    does.told in
     let second = rest place t first.end refl first.is_good first.spent in
-    record { told = told_on first t.budget more (go place t) Good (omega arith) (omega arith) second.told }
+    record {
+      told = told_on loaded first t.budget more (go place t) Good (omega arith) (omega arith) second.told;
+    }
 through_next (Stopped Ended t) does rest = record { told = does.told }
 through_next (Stopped More t) does rest = record { told = does.told }
 through_next (Stopped (Outside reason) t) does rest = record { told = tt }
@@ -175,7 +178,7 @@ high_in_memory_law {context = context} {facts = facts} {last = last} {reference 
         ≡ Some location
         → is_static_location location ≡ true → ChangesAOnly r memory now ended)
         → GoesOn context last top base t.memory t.frame now ended
-        → Does context.activation.around.program.script t.budget 0 (at_place finish now ended t.events)
+        → Does (loaded_of context.activation) t.budget 0 (at_place finish now ended t.events)
         (Gave (byte_at ended (address_on_machine context.activation place)
         + 256 * byte_at ended (wrap (address_on_machine context.activation place + 1))) t)
         (Arrives context.activation top base finish (HighIsLoaded context facts last reference r memory))
@@ -206,7 +209,7 @@ high_in_memory_law {context = context} {facts = facts} {last = last} {reference 
           | Some location ↦ location_byte_steps (knowing context.site facts) location pushed
           | None ↦ part (tasks.Address (reference_after reference 1)) pushed ∷ Plain (load registers.A) ∷ []
         ]) last to
-        → Does context.activation.around.program.script s.budget 0 (at_place from r memory s.events)
+        → Does (loaded_of context.activation) s.budget 0 (at_place from r memory s.events)
         (then_do (located_in context part_of s)
         (λ place t. read_scalar context.activation.around.program Address place t))
         (Arrives context.activation top base to (HighIsLoaded context facts last reference r memory))
@@ -218,7 +221,7 @@ high_in_memory_law {context = context} {facts = facts} {last = last} {reference 
 
         by_outcome : (outcome : Outcome SourcePlace) → located_in context part_of s ≡ outcome
             → then_do outcome (λ place t. Gave (next_place place) t) ≡ Gave lies.place s
-            → Does context.activation.around.program.script s.budget 0 (at_place from r memory s.events)
+            → Does (loaded_of context.activation) s.budget 0 (at_place from r memory s.events)
             (then_do outcome (λ place t. read_scalar context.activation.around.program Address place t))
             (Arrives context.activation top base to (HighIsLoaded context facts last reference r memory))
         by_outcome (Stopped why t) here same = absurd (stopped_never same)
@@ -234,12 +237,12 @@ high_in_memory_law {context = context} {facts = facts} {last = last} {reference 
             let fits = located_fits context Address part_of place s s sound refers found_here in
             let going : GoesOn context facts top base s.memory s.frame r memory =
             record { ready = ready; known = known } in
-            subst (λ (u : SourceState). Does context.activation.around.program.script s.budget 0
+            subst (λ (u : SourceState). Does (loaded_of context.activation) s.budget 0
             (at_place from r memory s.events)
             (read_scalar context.activation.around.program Address place u)
             (Arrives context.activation top base to (HighIsLoaded context facts last reference r memory)))
             (sym state_is)
-            (subst (λ (given : Outcome ℕ). Does context.activation.around.program.script s.budget 0
+            (subst (λ (given : Outcome ℕ). Does (loaded_of context.activation) s.budget 0
             (at_place from r memory s.events) given
             (Arrives context.activation top base to (HighIsLoaded context facts last reference r memory)))
             (given_again (read_scalar context.activation.around.program Address place s))
@@ -255,7 +258,7 @@ high_in_memory_law {context = context} {facts = facts} {last = last} {reference 
             (ap is_static_location (same_Some _ _ (sym found ∙ other_is)) ∙ static)) on))))
     by_location None found (PartThere {found = found_there} {middle = middle} does stand) =
         through_next (located_in context part_of s)
-        (subst (λ (outcome : Outcome SourcePlace). Does context.activation.around.program.script s.budget 0
+        (subst (λ (outcome : Outcome SourcePlace). Does (loaded_of context.activation) s.budget 0
         (at_place from r memory s.events) outcome
         (Arrives context.activation top base middle
         (AddressIsGiven context found_there (reference_after reference 1) r memory)))
@@ -269,11 +272,11 @@ high_in_memory_law {context = context} {facts = facts} {last = last} {reference 
         let ended : List ℕ = given.memory in
         let hl = (given.holds).hl ∙ next_on_machine context.activation place in
         let fits = located_fits context Address part_of place s t sound refers same in
-        subst (λ (state : State). Does context.activation.around.program.script t.budget 0 state
+        subst (λ (state : State). Does (loaded_of context.activation) t.budget 0 state
         (read_scalar context.activation.around.program Address place t)
         (Arrives context.activation top base to (HighIsLoaded context facts last reference r memory)))
         (sym given.is_at)
-        (subst (λ (outcome : Outcome ℕ). Does context.activation.around.program.script t.budget 0
+        (subst (λ (outcome : Outcome ℕ). Does (loaded_of context.activation) t.budget 0
         (at_place middle there ended t.events) outcome
         (Arrives context.activation top base to (HighIsLoaded context facts last reference r memory)))
         (given_again (read_scalar context.activation.around.program Address place t))

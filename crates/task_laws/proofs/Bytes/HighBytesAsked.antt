@@ -1,5 +1,5 @@
 -- The high byte of an ADDRESS is put into A; the word that an ADDRESS expression reads is in memory.
-use Rattle.task_laws.proofs.Prelude.{◌≡◌, ℕ, ◌+◌, ◌*◌, ◌/◌, ◌≤◌, ◌⊎◌, inl, inr, Bool, true, false, if◌then◌else◌, List, [], ◌∷◌, Option, Some, None, option_map, refl, sym, ap, subst, ◌∙◌, arith, option_and_then, byte_at, ScalarType, height_of, height_of_reference, type_of, TypedExpression, TypedReference, ValueNode, TypesHold, SourcePlace, next_place, read_scalar, SourceState, Outcome, Gave, then_do, Registers, State, word, wrap, Expression, ExpressionForm, ExpressionNumber, Location, Place, Reference, place_after, IsExpression, IsForm, IsReference, IsValue, Does, at_place, Arrives, does_without_step, IsSteady, place_at, location_after_is, Facts, Plain, load, part, GoesOutside, direct, location_of, place_in_memory, reference_after, direct_word, high_byte_in_memory, is_word_in_hl, word_in_memory, word_of, high_by_hl_steps, load_a_steps, knowing, Context, IsSound, distances_in, nodes_in, PartThere, PlainThere, StepsStand, WordThere, PartDoes, address_on_machine, same_Some, same_given, given_again}
+use Rattle.task_laws.proofs.Prelude.{◌≡◌, ℕ, ◌+◌, ◌*◌, ◌/◌, ◌≤◌, ◌⊎◌, inl, inr, Bool, true, false, if◌then◌else◌, List, [], ◌∷◌, Option, Some, None, option_map, refl, sym, ap, subst, ◌∙◌, arith, option_and_then, byte_at, ScalarType, height_of, height_of_reference, type_of, TypedExpression, TypedReference, ValueNode, TypesHold, SourcePlace, next_place, read_scalar, SourceState, Outcome, Gave, then_do, Registers, State, word, wrap, Expression, ExpressionForm, ExpressionNumber, Location, Place, Reference, place_after, IsExpression, IsForm, IsReference, IsValue, Does, loaded_of, at_place, Arrives, does_without_step, IsSteady, place_at, location_after_is, Facts, Plain, load, part, GoesOutside, direct, location_of, place_in_memory, reference_after, direct_word, high_byte_in_memory, is_word_in_hl, word_in_memory, word_of, high_by_hl_steps, load_a_steps, knowing, Context, IsSound, distances_in, nodes_in, PartThere, PlainThere, StepsStand, WordThere, PartDoes, address_on_machine, same_Some, same_given, given_again}
 use Rattle.trees.specs.declared.declaration.ScalarType.TheVariants as scalars
 use Rattle.isa8080.specs.declared.instr.Register.TheVariants as registers
 use Rattle.treecode.specs.declared.place.Location.TheVariants as locations
@@ -146,7 +146,7 @@ high_given :
     → now.a ≡ byte_at ended address
     → HighIsAt context address ended t outcome
     → GoesOn context last top base t.memory t.frame now ended
-    → Does context.activation.around.program.script t.budget 0 (at_place to now ended t.events) outcome
+    → Does (loaded_of context.activation) t.budget 0 (at_place to now ended t.events) outcome
     (Arrives context.activation top base to (HighIsGiven context last r memory))
 high_given outcome address t now ended a high on =
     does_same (Gave high.found t) high.is
@@ -172,7 +172,7 @@ high_bytes_given context sound facts last number pushed from to bound tree node 
     by (high_byte_in_memory (knowing context.site facts) number) refl stand
   where
     Comes : Type 0
-    Comes = Does context.activation.around.program.script s.budget 0 (at_place from r memory s.events)
+    Comes = Does (loaded_of context.activation) s.budget 0 (at_place from r memory s.events)
         (value_in context tree s)
         (Arrives context.activation top base to (HighIsGiven context last r memory))
 
@@ -212,7 +212,7 @@ high_bytes_given context sound facts last number pushed from to bound tree node 
         let lies = lies_there facts (locations.Static place) sound next.is next.referred next.types
         (direct_is context facts (reference_after inner 1) place
         (ap (direct (knowing context.site facts)) after_is ∙ told)) in
-        subst (λ (of : TypedExpression). Does context.activation.around.program.script s.budget 0
+        subst (λ (of : TypedExpression). Does (loaded_of context.activation) s.budget 0
         (at_place from r memory s.events) (value_in context of s)
         (Arrives context.activation top base to (HighIsGiven context last r memory))) (sym of_part.same)
         (loaded part lies.place lies.is_at
@@ -223,7 +223,7 @@ high_bytes_given context sound facts last number pushed from to bound tree node 
             → HighIsAt context (address_on_machine context.activation there_is) memory s
             (value_in context (ValueNode scalars.Address part) s)
             ⊎ GoesOutside (value_in context (ValueNode scalars.Address part) s)
-            → Does context.activation.around.program.script s.budget 0 (at_place from r memory s.events)
+            → Does (loaded_of context.activation) s.budget 0 (at_place from r memory s.events)
             (value_in context (ValueNode scalars.Address part) s)
             (Arrives context.activation top base to (HighIsGiven context last r memory))
         loaded part there_is is_at (inr outside) =
@@ -246,7 +246,7 @@ high_bytes_given context sound facts last number pushed from to bound tree node 
         let is : IsReference (nodes_in context) context.storage of_part.bound reference (next_part part)
         = subst (λ (given : Reference). IsReference (nodes_in context) context.storage of_part.bound given
         (next_part part)) after_is next.is in
-        subst (λ (of : TypedExpression). Does context.activation.around.program.script s.budget 0
+        subst (λ (of : TypedExpression). Does (loaded_of context.activation) s.budget 0
         (at_place from r memory s.events) (value_in context of s)
         (Arrives context.activation top base to (HighIsGiven context last r memory))) (sym of_part.same)
         (where_located (located_in context (next_part part) s)
@@ -255,7 +255,7 @@ high_bytes_given context sound facts last number pushed from to bound tree node 
         (room_for (2 * height_of_reference (next_part part)) height room) ready known tt)
         (λ place t end same given fewer.
         let there : Registers = given.r in
-        subst (λ (state : State). Does context.activation.around.program.script t.budget 0 state
+        subst (λ (state : State). Does (loaded_of context.activation) t.budget 0 state
         (value_in context (ValueNode scalars.Address part) s)
         (Arrives context.activation top base to (HighIsGiven context last r memory))) (sym given.is_at)
         (loaded part place t there given.memory middle _ (given.holds).hl stand
@@ -274,7 +274,7 @@ high_bytes_given context sound facts last number pushed from to bound tree node 
             → HighIsAt context (address_on_machine context.activation place) ended t
             (value_in context (ValueNode scalars.Address part) s)
             ⊎ GoesOutside (value_in context (ValueNode scalars.Address part) s)
-            → Does context.activation.around.program.script t.budget 0 (at_place middle there ended t.events)
+            → Does (loaded_of context.activation) t.budget 0 (at_place middle there ended t.events)
             (value_in context (ValueNode scalars.Address part) s)
             (Arrives context.activation top base to (HighIsGiven context last r memory))
         loaded part place t there ended middle found hl stand on (inr outside) =

@@ -1,5 +1,5 @@
 -- The code of the high byte of a value.
-use Rattle.task_laws.proofs.Prelude.{◌≡◌, ℕ, ◌*◌, ◌/◌, ◌==◌, Bool, true, false, List, [], ◌∷◌, Option, Some, None, option_map, option_and_then, refl, sym, ap, ◌∙◌, subst, arith, if◌then◌else◌, eqb-true, none-some, same_Some, ScalarType, Byte, Address, height_of, type_of, TypedExpression, TypedReference, ValueNode, TypesHold, SourceState, Gave, A, H, Registers, Expression, ExpressionForm, ExpressionNumber, Reference, IsExpression, IsReference, IsForm, IsNumber, IsValue, IsLocation, IsConstantList, IsConversion, IsEmbedded, IsUnary, IsBinary, IsCallOf, IsFunction, IsShift, IsInput, Arrives, HasRoom, Does, at_place, does_without_step, Facts, Plain, clear_a, copy, high, set, part, number_of, reference_after, fits_byte, high_byte_in_memory, word_in_memory, word_of, byte_in_memory_steps, knowing, byte_number_steps, high_byte_steps, Context, IsSound, nodes_in, StepsStand, PartThere, Carries, Nothing, PartDoes}
+use Rattle.task_laws.proofs.Prelude.{◌≡◌, ℕ, ◌*◌, ◌/◌, ◌==◌, Bool, true, false, List, [], ◌∷◌, Option, Some, None, option_map, option_and_then, refl, sym, ap, ◌∙◌, subst, arith, if◌then◌else◌, eqb-true, none-some, same_Some, ScalarType, Byte, Address, height_of, type_of, TypedExpression, TypedReference, ValueNode, TypesHold, SourceState, Gave, A, H, Registers, Expression, ExpressionForm, ExpressionNumber, Reference, IsExpression, IsReference, IsForm, IsNumber, IsValue, IsLocation, IsConstantList, IsConversion, IsEmbedded, IsUnary, IsBinary, IsCallOf, IsFunction, IsShift, IsInput, Arrives, HasRoom, Does, loaded_of, at_place, does_without_step, Facts, Plain, clear_a, copy, high, set, part, number_of, reference_after, fits_byte, high_byte_in_memory, word_in_memory, word_of, byte_in_memory_steps, knowing, byte_number_steps, high_byte_steps, Context, IsSound, nodes_in, StepsStand, PartThere, Carries, Nothing, PartDoes}
 use Rattle.steps8080.specs.declared.step.Task.TheVariants as tasks
 use Rattle.task_laws.proofs.Branches.Branches.{given_itself}
 use Rattle.task_laws.proofs.Bytes.ByteCode.{CodeOfA, at_last_instructions, beside_a, with_outcome}
@@ -9,7 +9,7 @@ use Rattle.task_laws.proofs.Bytes.HighBytes.{high_in_memory_law}
 use Rattle.task_laws.proofs.Machine.Nodes.{NodeOf, node_of}
 use Rattle.task_laws.proofs.Ranges.Ranges.{fits_means, ready_fits}
 use Rattle.task_laws.proofs.Machine.SiteNodes.{number_means, value_in}
-use Rattle.task_laws.proofs.Machine.Stages.{Stage, at_effects, at_word, does_same, script_of}
+use Rattle.task_laws.proofs.Machine.Stages.{Stage, at_effects, at_word, does_same, loaded_in}
 use Rattle.task_laws.proofs.Numbers.{no_high_byte}
 
 -- a number into A
@@ -40,7 +40,7 @@ high_given :
     {r now : Registers} {memory memory_now : List ℕ} (to found : ℕ)
     → now.a ≡ found / 256
     → Stage context top pushed need base u last now memory_now
-    → Does (script_of context) u.budget 0 (at_place to now memory_now u.events) (Gave found u)
+    → Does (loaded_in context) u.budget 0 (at_place to now memory_now u.events) (Gave found u)
     (Arrives context.activation top base to (HighIsGiven context last r memory))
 high_given {now = now} {memory_now = memory_now} to found a stage =
     does_without_step (record {
@@ -104,7 +104,7 @@ high_byte_law {context = context} {facts = facts} {last = last} {inner = inner} 
 
     DoesIt : Type 0
     DoesIt =
-        Does context.activation.around.program.script s.budget 0 (at_place from r memory s.events)
+        Does (loaded_of context.activation) s.budget 0 (at_place from r memory s.events)
         (value_in context inside s)
         (Arrives context.activation top base to (HighIsGiven context last r memory))
 
@@ -129,7 +129,7 @@ high_byte_law {context = context} {facts = facts} {last = last} {inner = inner} 
             subst (λ (tree : TypedExpression). TypesHold context.typed context.within tree) same types in
             subst (λ (tree : TypedExpression).
             HasRoom context.activation top pushed (2 * height_of tree)
-            → Does context.activation.around.program.script s.budget 0 (at_place from r memory s.events)
+            → Does (loaded_of context.activation) s.budget 0 (at_place from r memory s.events)
             (value_in context tree s)
             (Arrives context.activation top base to (HighIsGiven context last r memory))) (sym same)
             (λ room_there.

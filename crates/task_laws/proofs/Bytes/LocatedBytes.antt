@@ -1,5 +1,5 @@
 -- The low byte of an expression in memory: it is at the place of the part of an object that the tree names.
-use Rattle.task_laws.proofs.Prelude.{◌≡◌, ℕ, ◌*◌, ◌/◌, ◌%◌, ◌<◌, ◌≤◌, ◌⊎◌, inl, inr, List, Option, Some, refl, sym, ap, subst, ◌∙◌, arith, option_and_then, option_map_or, byte_at, ScalarType, Byte, Address, Low, High, Double, height_of, height_of_reference, type_of, ConversionNode, FunctionNode, PartOf, TypedExpression, TypedReference, ValueNode, RefersToScalar, TypesHold, TypesHoldInReference, next_place, place_in, read_scalar, SourceState, Outcome, Gave, Stop, Stopped, then_do, as_type, values_of, Registers, State, Expression, ExpressionForm, ExpressionNumber, Reference, IsBinary, IsCallOf, IsConstantList, IsConversion, IsEmbedded, IsExpression, IsForm, IsFunction, IsInput, IsLocation, IsNumber, IsReference, IsShift, IsUnary, IsValue, Does, at_place, Arrives, IsReady, does_without_step, IsSteady, Facts, GoesOutside, memory, reference_after, knowing, Context, IsSound, nodes_in, AddressIsGiven, IsReferred, address_on_machine, as_type_fits, high_is_byte, same_Some, same_both, value_is_word}
+use Rattle.task_laws.proofs.Prelude.{◌≡◌, ℕ, ◌*◌, ◌/◌, ◌%◌, ◌<◌, ◌≤◌, ◌⊎◌, inl, inr, List, Option, Some, refl, sym, ap, subst, ◌∙◌, arith, option_and_then, option_map_or, byte_at, ScalarType, Byte, Address, Low, High, Double, height_of, height_of_reference, type_of, ConversionNode, FunctionNode, PartOf, TypedExpression, TypedReference, ValueNode, RefersToScalar, TypesHold, TypesHoldInReference, next_place, place_in, read_scalar, SourceState, Outcome, Gave, Stop, Stopped, then_do, as_type, values_of, Registers, State, Expression, ExpressionForm, ExpressionNumber, Reference, IsBinary, IsCallOf, IsConstantList, IsConversion, IsEmbedded, IsExpression, IsForm, IsFunction, IsInput, IsLocation, IsNumber, IsReference, IsShift, IsUnary, IsValue, Does, Loaded, loaded_of, at_place, Arrives, IsReady, does_without_step, IsSteady, Facts, GoesOutside, memory, reference_after, knowing, Context, IsSound, nodes_in, AddressIsGiven, IsReferred, address_on_machine, as_type_fits, high_is_byte, same_Some, same_both, value_is_word}
 use Rattle.meaning.specs.Access.{Place}
 use Rattle.treecode.specs.declared.expression.ExpressionForm.TheVariants as forms
 use Rattle.treecode.specs.Traits as traits
@@ -372,15 +372,15 @@ module _ (context : Context) (sound : IsSound context) where
 
 -- an outcome is carried out by code that first carries out another one, if it stops whenever that one stops
 pub where_located :
-    {A B : Type 0} {script : List (List ℕ)} {budget more : ℕ} {from : State} (outcome : Outcome A)
+    {A B : Type 0} {loaded : Loaded} {budget more : ℕ} {from : State} (outcome : Outcome A)
     (other : Outcome B)
     {Middle : A → SourceState → State → Type 0} {Good : B → SourceState → State → Type 0}
-    → Does script budget 0 from outcome Middle
+    → Does loaded budget 0 from outcome Middle
     → ((found : A) (t : SourceState) (end : State) → outcome ≡ Gave found t → Middle found t end
     → t.budget ≤ budget
-    → Does script t.budget more end other Good)
+    → Does loaded t.budget more end other Good)
     → ((why : Stop) (t : SourceState) → outcome ≡ Stopped why t → other ≡ Stopped why t)
-    → Does script budget more from other Good
+    → Does loaded budget more from other Good
 where_located (Gave found t) other one rest stops =
     then_does_where (Gave found t) {go = λ found t. other} one rest
 where_located (Stopped why t) other one rest stops =
@@ -398,7 +398,7 @@ locates_bytes context sound known_there before after number reference pushed fro
     (room_for (2 * height_of_reference lies.part) (omega (arith, height)) room) ready known tt)
     (λ place t end same given fewer.
     let there : Registers = given.r in
-    subst (λ (state : State). Does context.activation.around.program.script t.budget 0 state
+    subst (λ (state : State). Does (loaded_of context.activation) t.budget 0 state
     (value_in context tree s)
     (Arrives context.activation top base to (ByteIsAtHl context after reference (type_of tree) r memory)))
     (sym given.is_at)
@@ -412,7 +412,7 @@ locates_bytes context sound known_there before after number reference pushed fro
         → LowIsAt context (type_of tree) (address_on_machine context.activation place) ended t
         (value_in context tree s)
         ⊎ GoesOutside (value_in context tree s)
-        → Does context.activation.around.program.script t.budget 0 (at_place to there ended t.events)
+        → Does (loaded_of context.activation) t.budget 0 (at_place to there ended t.events)
         (value_in context tree s)
         (Arrives context.activation top base to (ByteIsAtHl context after reference (type_of tree) r memory))
     by place t there ended ready holds (inr outside) = does_outside (value_in context tree s) outside

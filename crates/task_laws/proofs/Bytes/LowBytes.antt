@@ -1,5 +1,5 @@
 -- The low byte of values that are computed through HL, of calls and of ports.
-use Rattle.task_laws.proofs.Prelude.{◌≡◌, ℕ, ◌*◌, ◌%◌, ◌<◌, true, List, [], ◌∷◌, ◌++◌, Some, refl, sym, ◌∙◌, subst, arith, ScalarType, height_of, type_of, CallNode, InputNode, TypedArguments, TypedExpression, Takes, TypesHold, TypesHoldInArguments, SourceState, Outcome, Gave, values_of, In, A, L, Registers, State, ExpressionNumber, Range, AreArguments, IsExpression, Arrives, IsReady, Does, at_place, does_without_step, Facts, Plain, copy, is_free, low_of_value_steps, call_steps, knowing, low_of_word_steps, Context, InRegister, IsSound, nodes_in, StepsStand, PlainThere, ByteIsGiven, Know, PartDoes, byte_as_low, byte_is_low, Event, IsReference, LocationNode, NoneThere, Part, PartThere, Reference, TypedReference, address_in_memory, height_of_reference, part_of, word}
+use Rattle.task_laws.proofs.Prelude.{◌≡◌, ℕ, ◌*◌, ◌%◌, ◌<◌, true, List, [], ◌∷◌, ◌++◌, Some, refl, sym, ◌∙◌, subst, arith, ScalarType, height_of, type_of, CallNode, InputNode, TypedArguments, TypedExpression, Takes, TypesHold, TypesHoldInArguments, SourceState, Outcome, Gave, values_of, In, A, L, Registers, State, ExpressionNumber, Range, AreArguments, IsExpression, Arrives, IsReady, Does, loaded_of, at_place, does_without_step, Facts, Plain, copy, is_free, low_of_value_steps, call_steps, knowing, low_of_word_steps, Context, InRegister, IsSound, nodes_in, StepsStand, PlainThere, ByteIsGiven, Know, PartDoes, byte_as_low, byte_is_low, Event, IsReference, LocationNode, NoneThere, Part, PartThere, Reference, TypedReference, address_in_memory, height_of_reference, part_of, word}
 use Rattle.trees.specs.declared.declaration.ScalarType.TheVariants as scalars
 use Rattle.steps8080.specs.declared.step.Task.TheVariants as tasks
 use Rattle.task_laws.proofs.Branches.Branches.{given_itself}
@@ -11,7 +11,7 @@ use Rattle.task_laws.proofs.Ranges.Ranges.{ready_fits, value_fits}
 use Rattle.task_laws.proofs.Machine.RegisterCode.{registers_then}
 use Rattle.task_laws.proofs.Machine.Rules.{GoesOn, Parted, room_for, steps_split}
 use Rattle.task_laws.proofs.Machine.SiteNodes.{value_in}
-use Rattle.task_laws.proofs.Machine.Stages.{Stage, at_end, gives_then, script_of}
+use Rattle.task_laws.proofs.Machine.Stages.{Stage, at_end, gives_then, loaded_in}
 use Rattle.task_laws.proofs.Machine.Values.{then_does_where}
 use Rattle.task_laws.proofs.Words.WordValues.{location_is, location_is_referred}
 
@@ -59,9 +59,9 @@ pub low_given :
     → TypesHold context.typed context.within tree
     → (is_free context.site number ≡ true → ⊥)
     → IsReady context.activation top base s.memory s.frame r memory
-    → Does (script_of context) s.budget 0 (at_place from r memory s.events) (value_in context tree s)
+    → Does (loaded_in context) s.budget 0 (at_place from r memory s.events) (value_in context tree s)
     (Arrives context.activation top base to (LowIsGiven context last r memory))
-    → Does (script_of context) s.budget 0 (at_place from r memory s.events) (value_in context tree s)
+    → Does (loaded_in context) s.budget 0 (at_place from r memory s.events) (value_in context tree s)
     (Arrives context.activation top base to (ByteIsGiven context last number (type_of tree) r memory))
 low_given {context = context} {tree = tree} number from s r memory sound is types not_free ready does =
     with_outcome (value_in context tree s) does
@@ -91,8 +91,8 @@ pub nothing_more :
     → StepsStand context PartIs facts from [] last to
     → GoesOn context facts top base source frame r memory
     → (GoesOn context last top base source frame r memory
-    → Does context.activation.around.program.script budget more (at_place to r memory events) outcome Good)
-    → Does context.activation.around.program.script budget more (at_place from r memory events) outcome Good
+    → Does (loaded_of context.activation) budget more (at_place to r memory events) outcome Good)
+    → Does (loaded_of context.activation) budget more (at_place from r memory events) outcome Good
 nothing_more NoneThere going rest = rest going
 
 -- the low byte of a value in HL, which ends the code
@@ -103,7 +103,7 @@ pub low_of_hl :
     → StepsStand context (PartDoes context) facts from (Plain (copy A L) ∷ []) last to
     → GoesOn context facts top base t.memory t.frame now memory
     → word now.h now.l ≡ found
-    → Does (script_of context) t.budget 0 (at_place from now memory t.events) (Gave found t)
+    → Does (loaded_in context) t.budget 0 (at_place from now memory t.events) (Gave found t)
     (Arrives context.activation top base to (LowIsGiven context last r before))
 low_of_hl {memory = memory} found now sound stand going same =
     registers_then (copy A L ∷ []) [] now sound (tt, tt) stand going
@@ -137,7 +137,7 @@ location_law {context = context} {last = last} {part = part} {bound = bound} {fr
     (room_for (2 * height_of_reference part) (omega arith) room) ready known tt)
     (λ place t end same given fewer.
     let address : ℕ = address_in_memory place in
-    subst (λ (state : State). Does (script_of context) t.budget 0 state (Gave address t)
+    subst (λ (state : State). Does (loaded_in context) t.budget 0 state (Gave address t)
     (Arrives context.activation top base to (LowIsGiven context last r memory))) (sym given.is_at)
     (low_of_hl address given.r sound rest (record { ready = given.ready; known = (given.holds).known })
     ((given.holds).hl ∙ sym (location_is context part place s t sound types.0 same)))))
@@ -170,8 +170,8 @@ low_of_value :
     → Stage context top pushed need base t facts r memory
     → ((now : Registers) → now.a ≡ found % 256
     → Stage context top pushed need base t last now memory
-    → Does (script_of context) budget more (at_place to now memory t.events) outcome Good)
-    → Does (script_of context) budget more (at_place from r memory t.events) outcome Good
+    → Does (loaded_in context) budget more (at_place to now memory t.events) outcome Good)
+    → Does (loaded_in context) budget more (at_place from r memory t.events) outcome Good
 unfolding low_of_value_steps
 low_of_value {r = r} scalars.Byte found sound there stand stage rest =
     at_end stand stage (λ final. rest r (byte_as_low r.a found there stage.ready.registers.a) final)
@@ -200,7 +200,7 @@ called_law {context = context} {facts = facts} {last = last} {from = from} {to =
     (call_does procedure range sound parts.first bound (Some scalar) trees are takes types top base s r memory
     below (room_for _ (omega arith) room) ready known tt)
     (λ found t end arrives spent.
-    subst (λ (state : State). Does (script_of context) t.budget 0 state (Gave found t)
+    subst (λ (state : State). Does (loaded_in context) t.budget 0 state (Gave found t)
     (Arrives context.activation top base to (LowIsGiven context last r memory))) (sym arrives.is_at)
     (low_of_value {top = top} {pushed = pushed} {need = 2 * height_of
     (CallNode procedure scalar trees)} {base = base} {t = t}

@@ -6,7 +6,7 @@ use Rattle.task_laws.proofs.Bytes.BytesAsked.{BytesAsked}
 use Rattle.task_laws.proofs.Bytes.ByteForms.{byte_given}
 use Rattle.task_laws.proofs.Bytes.ByteOperations.{IsOperated, IsValueOf, operand_at, operated_with_e, operated_with_first_in_b, operated_with_memory, operated_with_second_in_b}
 use Rattle.task_laws.proofs.Machine.SiteNodes.{does_exchanged, free_is, value_in}
-use Rattle.task_laws.proofs.Machine.Stages.{Stage, does_same, script_of}
+use Rattle.task_laws.proofs.Machine.Stages.{Stage, does_same, loaded_in}
 
 -- the operations of operators
 abbrev pub IsSimple : Operation → Type 0
@@ -217,7 +217,7 @@ module _
       → IsValueOf context second right w
       → now.a ≡ result_by operation operands v w % 256
       → Stage context top pushed need base u last now memory_now
-      → Does (script_of context) u.budget 0 (at_place to now memory_now u.events)
+      → Does (loaded_in context) u.budget 0 (at_place to now memory_now u.events)
       (Gave (result_by operation operands v w) u)
       (Arrives context.activation top base to (ByteIsGiven context last number (type_of tree) r memory))
   operated_end v w value other_value a stage =
@@ -299,7 +299,7 @@ module _
           (part (tasks.Byte left) pushed ∷ Plain (Push Psw) ∷ part (tasks.Byte right) ((pushed + 2) % 65536)
           ∷ (if either then Plain (Pop StackBc) ∷ [] else Plain (copy B A) ∷ Plain (Pop Psw) ∷ [])
           ++ (Plain (with_register operation B) ∷ [])) last to
-          → Does (script_of context) s.budget 0 (at_place from r memory s.events)
+          → Does (loaded_in context) s.budget 0 (at_place from r memory s.events)
           (in_order (value_in context first) (value_in context second)
           (λ v w u. Gave (result_by operation operands v w) u) s)
           (Arrives context.activation top base to (ByteIsGiven context last number (type_of tree) r memory))

@@ -10,7 +10,7 @@ use Rattle.task_laws.proofs.Bytes.BytesAsked.{HighBytesGiven, HighIsGiven, ZeroI
 use Rattle.task_laws.proofs.Relations.NumberComparisons.{number_in_a}
 use Rattle.task_laws.proofs.Machine.Rules.{steps_split}
 use Rattle.task_laws.proofs.Machine.SiteNodes.{value_in}
-use Rattle.task_laws.proofs.Machine.Stages.{Stage, stage_with_a, at_byte, at_carried, at_end, at_word, does_same, script_of}
+use Rattle.task_laws.proofs.Machine.Stages.{Stage, stage_with_a, at_byte, at_carried, at_end, at_word, does_same, loaded_in}
 use Rattle.task_laws.proofs.Relations.WordNumbers.{word_is}
 
 abbrev IsBranch : Purpose → Type 0
@@ -120,7 +120,7 @@ module _
           → byte < 256
           → (byte == 0) ≡ (bit_and v mask == 0)
           → Stage context top setting.pushed (2 * height_of tree) base u parts.found now memory_now
-          → Does (script_of context) u.budget 0 (at_place parts.middle now memory_now u.events)
+          → Does (loaded_in context) u.budget 0 (at_place parts.middle now memory_now u.events)
           (Gave (bit_and v mask) u)
           (Arrives context.activation top base to (ZeroIsShown context last setting.purpose r memory))
       arrived v byte u now memory_now a small same next =
@@ -142,7 +142,7 @@ module _
           else high_byte_steps (knowing context.site facts) inner setting.pushed
           ++ (Plain (AccumulateImmediate And (high mask)) ∷ []))
           parts.found parts.middle
-          → Does (script_of context) s.budget 0 (at_place from r memory s.events)
+          → Does (loaded_in context) s.budget 0 (at_place from r memory s.events)
           (then_do (value_in context inside s) (λ v u. Gave (bit_and v mask) u))
           (Arrives context.activation top base to (ZeroIsShown context last setting.purpose r memory))
       by true is (PartThere does (PlainThere there ends)) =
@@ -180,7 +180,7 @@ module _
               → StepsStand context (PartDoes context) found middle
               (Plain (AccumulateImmediate And (high mask)) ∷ []) parts.found parts.middle
               → Stage context top setting.pushed (2 * height_of tree) base u found now memory_now
-              → Does (script_of context) u.budget 0 (at_place middle now memory_now u.events)
+              → Does (loaded_in context) u.budget 0 (at_place middle now memory_now u.events)
               (Gave (bit_and v mask) u)
               (Arrives context.activation top base to (ZeroIsShown context last setting.purpose r memory))
           after_high v u now memory_now a (PlainThere there ends) next =

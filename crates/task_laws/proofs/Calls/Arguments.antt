@@ -3,7 +3,7 @@ use Rattle.task_laws.proofs.Prelude.{◌≡◌, ℕ, zero, suc, ◌+◌, ◌-◌
 use Rattle.asm8080.specs.Standing.{Keeps}
 use Rattle.task_laws.proofs.Machine.Nodes.{node_of}
 use Rattle.task_laws.proofs.Machine.Rules.{Parted, steps_split}
-use Rattle.task_laws.proofs.Machine.Stages.{Stage, at_push, does_same, script_of}
+use Rattle.task_laws.proofs.Machine.Stages.{Stage, at_push, does_same, loaded_in}
 use Rattle.task_laws.proofs.Machine.Effects.{then_again}
 use Rattle.task_laws.proofs.Machine.StoredValues.{at_value}
 
@@ -150,10 +150,10 @@ at_pushed_value :
     → (Stage context (top - 2) ((pushed + 2) % 65536) (need - 2)
     (pushed_word top (pushed_value scalar r) memory) t last
     (record r { sp = wrap (top - 2) }) (pushed_word top (pushed_value scalar r) memory)
-    → Does (script_of context) t.budget more
+    → Does (loaded_in context) t.budget more
     (at_place to (record r { sp = wrap (top - 2) }) (pushed_word top (pushed_value scalar r) memory) t.events)
     outcome Good)
-    → Does (script_of context) t.budget more (at_place from r memory t.events) outcome Good
+    → Does (loaded_in context) t.budget more (at_place from r memory t.events) outcome Good
 unfolding push_of
 at_pushed_value {r = r} Byte sound enough (PlainThere there NoneThere) stage rest =
     at_push (word r.a (flag_byte r.flags)) refl sound enough stage there rest
@@ -198,8 +198,8 @@ ArgumentsDo {B = B} context Good known arguments count trees top pushed need to 
     → Stage context top pushed need base t facts r memory
     → ((given : List ℕ) (low : ℕ) (u : SourceState) (now : Registers) (memory_now : List ℕ)
     → ArePassed context (types_of trees) top base given low u now memory_now
-    → Does (script_of context) u.budget 0 (at_place to now memory_now u.events) (go given u) Good)
-    → Does (script_of context) t.budget 0 (at_place from r memory t.events)
+    → Does (loaded_in context) u.budget 0 (at_place to now memory_now u.events) (go given u) Good)
+    → Does (loaded_in context) t.budget 0 (at_place from r memory t.events)
     (then_do (values context.later context.activation.around trees t) go) Good
 
 pub at_arguments :
@@ -219,8 +219,8 @@ pub at_arguments :
     → Stage context top pushed need base t facts r memory
     → ((given : List ℕ) (low : ℕ) (u : SourceState) (now : Registers) (memory_now : List ℕ)
     → ArePassed context (types_of trees) top base given low u now memory_now
-    → Does (script_of context) u.budget 0 (at_place to now memory_now u.events) (go given u) Good)
-    → Does (script_of context) t.budget 0 (at_place from r memory t.events)
+    → Does (loaded_in context) u.budget 0 (at_place to now memory_now u.events) (go given u) Good)
+    → Does (loaded_in context) t.budget 0 (at_place from r memory t.events)
     (then_do (values context.later context.activation.around trees t) go) Good
 unfolding argument_steps last_argument_steps pushed_argument_steps arguments_steps
 at_arguments {context = context} {top = top} {pushed = pushed} {need = need} {base = base} {t = t}
@@ -237,7 +237,7 @@ at_arguments {context = context} {top = top} {pushed = pushed} {need = need} {ba
         (argument_steps (knowing context.site known) number 0 pushed) found middle
         → StepsStand context (PartDoes context) found middle
         (arguments_steps (knowing context.site known) arguments 0 ((pushed + 2) % 65536)) last to
-        → Does (script_of context) t.budget 0 (at_place from r memory t.events)
+        → Does (loaded_in context) t.budget 0 (at_place from r memory t.events)
         (then_do (values context.later context.activation.around (MoreArguments tree NoArguments) t) go) Good
     single (PartThere does NoneThere) NoneThere =
         does_same _ (then_again (value context.later context.activation.around tree t) _ go)
@@ -287,7 +287,7 @@ at_arguments {context = context} {top = top} {pushed = pushed} {need = need} {ba
         (argument_steps (knowing context.site known) number (suc more) pushed) found middle
         → StepsStand context (PartDoes context) found middle
         (arguments_steps (knowing context.site known) arguments (suc more) ((pushed + 2) % 65536)) last to
-        → Does (script_of context) t.budget 0 (at_place from r memory t.events)
+        → Does (loaded_in context) t.budget 0 (at_place from r memory t.events)
         (then_do (values context.later context.activation.around
         (MoreArguments tree (MoreArguments next nexts)) t) go) Good
     several {middle = middle} {found = found_facts} recurse own others =
@@ -302,7 +302,7 @@ at_arguments {context = context} {top = top} {pushed = pushed} {need = need} {ba
             (push_of (scalar (knowing context.site known) number)) ∷ []) found_facts middle
             → StepsStand context (PartDoes context) found_facts middle
             (arguments_steps (knowing context.site known) arguments (suc more) ((pushed + 2) % 65536)) last to
-            → Does (script_of context) t.budget 0 (at_place from r memory t.events)
+            → Does (loaded_in context) t.budget 0 (at_place from r memory t.events)
             (then_do (values context.later context.activation.around
             (MoreArguments tree (MoreArguments next nexts)) t) go) Good
         pushed_first {between = between} {one = one} (PartThere does NoneThere) push others =

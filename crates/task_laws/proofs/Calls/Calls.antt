@@ -4,7 +4,7 @@ use Rattle.asm8080.specs.Standing.{Keeps}
 use Rattle.treecode.specs.declared.procedure.ProcedureKind.TheVariants as kinds
 use Rattle.steps8080.specs.declared.step.Step.TheVariants as steps
 use Rattle.task_laws.proofs.Machine.Rules.{steps_split}
-use Rattle.task_laws.proofs.Machine.Stages.{Stage, gives_then, script_of}
+use Rattle.task_laws.proofs.Machine.Stages.{Stage, gives_then, loaded_in}
 use Rattle.task_laws.proofs.Calls.Arguments.{ArePassed, at_arguments, ready_now}
 
 -- the heading of a procedure that is called
@@ -73,7 +73,7 @@ at_call :
     → top ≤ context.activation.level
     → (context.activation.level - top) % 2 ≡ 0
     → ArePassed context (types_of trees) top base given low u now memory_now
-    → Does (script_of context) u.budget 0 (at_place from now memory_now u.events)
+    → Does (loaded_in context) u.budget 0 (at_place from now memory_now u.events)
     (called_for context.later (callee_in context.activation.around procedure) given
     context.activation.around u)
     (Arrives context.activation top base to (ResultIsGiven context no_facts result r memory))
@@ -132,7 +132,7 @@ pub call_goes :
     → (top : ℕ) (base : List ℕ) (s : SourceState) (r : Registers) (memory : List ℕ)
     → Stage context top pushed (2 * (1 + count_of_arguments trees + height_of_arguments trees))
     base s facts r memory
-    → Does (script_of context) s.budget 0 (at_place from r memory s.events)
+    → Does (loaded_in context) s.budget 0 (at_place from r memory s.events)
     (then_do (values context.later context.activation.around trees s)
     (λ given t.
     called_for context.later (callee_in context.activation.around procedure) given
@@ -172,7 +172,7 @@ call_goes {context = context} {facts = facts} {last = last} {pushed = pushed} {f
         → StepsStand context (PartDoes context) found middle (steps.CallProcedure procedure ∷ []) final finish
         → top ≤ context.activation.level
         → (context.activation.level - top) % 2 ≡ 0
-        → Does (script_of context) s.budget 0 (at_place from r memory s.events)
+        → Does (loaded_in context) s.budget 0 (at_place from r memory s.events)
         (then_do (values context.later context.activation.around (MoreArguments tree more) s)
         (λ given t.
         called_for context.later (callee_in context.activation.around procedure) given

@@ -1,5 +1,5 @@
 -- The code that puts the low byte of a value in memory into A.
-use Rattle.task_laws.proofs.Prelude.{◌≡◌, ℕ, ◌+◌, ◌*◌, ◌%◌, ◌<◌, true, List, [], ◌∷◌, Option, Some, None, refl, sym, ap, subst, ◌∙◌, arith, MEMORY_SIZE, byte_at, byte_small, ScalarType, Byte, Address, height_of_reference, size_of_scalar, TypedReference, RefersToScalar, TypesHoldInReference, SourcePlace, InMemory, InTheFrame, read_scalar, SourceState, Outcome, Gave, then_do, values_of, Registers, State, wrap, Location, Reference, IsReference, is_static_location, Does, at_place, Activation, Arrives, IsReady, does_without_step, IsSteady, Facts, Plain, load, part, location_of, byte_in_memory_steps, location_byte_steps, knowing, Context, IsSound, nodes_in, StepsStand, PartThere, Carries, ChangesAOnly, Know, Nothing, PartDoes, address_on_machine, same_Some, two_bytes_fit, given_again}
+use Rattle.task_laws.proofs.Prelude.{◌≡◌, ℕ, ◌+◌, ◌*◌, ◌%◌, ◌<◌, true, List, [], ◌∷◌, Option, Some, None, refl, sym, ap, subst, ◌∙◌, arith, MEMORY_SIZE, byte_at, byte_small, ScalarType, Byte, Address, height_of_reference, size_of_scalar, TypedReference, RefersToScalar, TypesHoldInReference, SourcePlace, InMemory, InTheFrame, read_scalar, SourceState, Outcome, Gave, then_do, values_of, Registers, State, wrap, Location, Reference, IsReference, is_static_location, Does, loaded_of, at_place, Activation, Arrives, IsReady, does_without_step, IsSteady, Facts, Plain, load, part, location_of, byte_in_memory_steps, location_byte_steps, knowing, Context, IsSound, nodes_in, StepsStand, PartThere, Carries, ChangesAOnly, Know, Nothing, PartDoes, address_on_machine, same_Some, two_bytes_fit, given_again}
 use Rattle.isa8080.specs.declared.instr.Register.TheVariants as registers
 use Rattle.steps8080.specs.declared.step.Task.TheVariants as tasks
 use Rattle.task_laws.proofs.Machine.Values.{then_does_where}
@@ -24,8 +24,8 @@ pub scalar_read :
     → ((n : ℕ) → IsSteady context.activation (address_on_machine context.activation place)
     → byte_at memory (address_on_machine context.activation place) ≡ n % 256
     → n < values_of scalar
-    → Does context.activation.around.program.script budget more from (go n s) Good)
-    → Does context.activation.around.program.script budget more from
+    → Does (loaded_of context.activation) budget more from (go n s) Good)
+    → Does (loaded_of context.activation) budget more from
     (then_do (read_scalar context.activation.around.program scalar place s) go) Good
 scalar_read {context = context} {memory = memory} Byte place s go sound ready fits does =
     let address : ℕ = address_on_machine context.activation place in
@@ -83,7 +83,7 @@ byte_in_memory_law {context = context} {facts = facts} {last = last} {reference 
           | Some location ↦ location_byte_steps (knowing context.site facts) location pushed
           | None ↦ part (tasks.Address reference) pushed ∷ Plain (load registers.A) ∷ []
         ]) last to
-        → Does context.activation.around.program.script s.budget 0 (at_place from r memory s.events)
+        → Does (loaded_of context.activation) s.budget 0 (at_place from r memory s.events)
         (then_do (located_in context tree s)
         (λ place t. read_scalar context.activation.around.program scalar place t))
         (Arrives context.activation top base to (ByteIsLoaded context facts last reference scalar r memory))
@@ -91,7 +91,7 @@ byte_in_memory_law {context = context} {facts = facts} {last = last} {reference 
         let lies =
         lies_there facts location sound is (refers_is_referred context scalar tree refers) types found in
         let fits = located_fits context scalar tree lies.place s s sound refers (lies.means s) in
-        subst (λ (outcome : Outcome ℕ). Does context.activation.around.program.script s.budget 0
+        subst (λ (outcome : Outcome ℕ). Does (loaded_of context.activation) s.budget 0
         (at_place from r memory s.events) outcome
         (Arrives context.activation top base to (ByteIsLoaded context facts last reference scalar r memory)))
         (given_again (read_scalar context.activation.around.program scalar lies.place s)
@@ -125,11 +125,11 @@ byte_in_memory_law {context = context} {facts = facts} {last = last} {reference 
         let there : Registers = given.r in
         let ended : List ℕ = given.memory in
         let address : ℕ = address_on_machine context.activation place in
-        subst (λ (state : State). Does context.activation.around.program.script t.budget 0 state
+        subst (λ (state : State). Does (loaded_of context.activation) t.budget 0 state
         (read_scalar context.activation.around.program scalar place t)
         (Arrives context.activation top base to (ByteIsLoaded context facts last reference scalar r memory)))
         (sym given.is_at)
-        (subst (λ (outcome : Outcome ℕ). Does context.activation.around.program.script t.budget 0
+        (subst (λ (outcome : Outcome ℕ). Does (loaded_of context.activation) t.budget 0
         (at_place middle there ended t.events) outcome
         (Arrives context.activation top base to (ByteIsLoaded context facts last reference scalar r memory)))
         (given_again (read_scalar context.activation.around.program scalar place t))

@@ -6,7 +6,7 @@ use Rattle.task_laws.proofs.Relations.PlaceComparisons.{read_then}
 use Rattle.task_laws.proofs.Machine.RegisterCode.{effect}
 use Rattle.task_laws.proofs.Ranges.Ranges.{ready_fits, value_fits}
 use Rattle.task_laws.proofs.Machine.SiteNodes.{does_exchanged, value_in}
-use Rattle.task_laws.proofs.Machine.Stages.{Stage, at_end, at_instructions, at_load_a, script_of}
+use Rattle.task_laws.proofs.Machine.Stages.{Stage, at_end, at_instructions, at_load_a, loaded_in}
 use Rattle.task_laws.proofs.Machine.Values.{HasWord, word_given, word_then}
 use Rattle.task_laws.proofs.Words.WordBinaries.{LeftWordDoes}
 use Rattle.task_laws.proofs.Words.WordForms.{difference_small}
@@ -30,7 +30,7 @@ module _
       → StepsStand context (PartDoes context) facts from
       (Word LoadA place ∷ Plain (with_register on_high H) ∷ Plain (copy H A) ∷ []) last to
       → Stage context top pushed need base t facts now ended
-      → Does (script_of context) t.budget 0 (at_place from now ended t.events) (Gave n t)
+      → Does (loaded_in context) t.budget 0 (at_place from now ended t.events) (Gave n t)
       (Arrives context.activation top base to (WordIsGiven context last number Address r memory))
   second_half t r now memory ended small steady made (WordThere there stand) stage =
       at_load_a sound there steady stage
@@ -53,7 +53,7 @@ module _
       → HasWord y now
       → StepsStand context (PartDoes context) facts from (with_word_steps place on_low on_high) last to
       → Stage context top pushed need base t facts now ended
-      → Does (script_of context) t.budget 0 (at_place from now ended t.events) (Gave (f x y) t)
+      → Does (loaded_in context) t.budget 0 (at_place from now ended t.events) (Gave (f x y) t)
       (Arrives context.activation top base to (WordIsGiven context last number Address r memory))
   unfolding with_word_steps
   with_word_then place x y t r now memory ended one two small low high steady next has

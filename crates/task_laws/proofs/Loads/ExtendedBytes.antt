@@ -1,5 +1,5 @@
 -- Bytes in memory that are put into HL, zero-extended.
-use Rattle.task_laws.proofs.Prelude.{◌≡◌, ℕ, ◌+◌, ◌*◌, ◌%◌, ◌<◌, ◌==◌, ◌&&◌, ◌⊎◌, inl, inr, Bool, true, false, if◌then◌else◌, List, [], ◌∷◌, ◌++◌, Option, Some, None, refl, sym, ap, ◌∙◌, subst, arith, option_map_or, eqb-true, MEMORY_SIZE, byte_at, word_at, byte_small, Event, ScalarType, Address, Byte, height_of_reference, type_of, TypedHome, InData, InConstants, Placed, BasedOn, Elsewhere, Nowhere, InFrame, PartOf, TypedExpression, TypedReference, TypesHold, SourcePlace, InMemory, home_of, place_of, read_scalar, based_place, displacement, SourceState, Outcome, Gave, then_do, values_of, Instr, H, L, Registers, State, high_byte, low_byte, word, wrap, LoadHl, ExpressionForm, ExpressionNumber, Location, Place, Reference, Keeps, IsExpression, IsForm, IsNumber, IsValue, IsLocation, IsConstantList, IsConversion, IsEmbedded, IsUnary, IsBinary, IsCallOf, IsFunction, IsShift, IsInput, keeps_none, keeps_of_form, memory_of_form, Does, at_place, Arrives, HasRoom, plain_first, location_at, place_at, without_hl_holds, address_in_hl_is, byte_in_a_is, byte_in_h_is, word_in_hl_is, GoesOutside, Facts, Part, Step, Plain, Word, before, is_at, copy, load, set, part_of, plain, keeps, keeps_at_site, location_of, memory_of, distance, location_address_steps, byte_to_l_steps, extended_byte_in_memory_steps, frame_byte_to_l_steps, top_word_steps, knowing, Context, IsSound, distances_in, nodes_in, StepsStand, NoneThere, PartThere, PlainThere, WordThere, Know, PartDoes, WordIsGiven, address_on_machine, same_given, remainder_in_memory}
+use Rattle.task_laws.proofs.Prelude.{◌≡◌, ℕ, ◌+◌, ◌*◌, ◌%◌, ◌<◌, ◌==◌, ◌&&◌, ◌⊎◌, inl, inr, Bool, true, false, if◌then◌else◌, List, [], ◌∷◌, ◌++◌, Option, Some, None, refl, sym, ap, ◌∙◌, subst, arith, option_map_or, eqb-true, MEMORY_SIZE, byte_at, word_at, byte_small, Event, ScalarType, Address, Byte, height_of_reference, type_of, TypedHome, InData, InConstants, Placed, BasedOn, Elsewhere, Nowhere, InFrame, PartOf, TypedExpression, TypedReference, TypesHold, SourcePlace, InMemory, home_of, place_of, read_scalar, based_place, displacement, SourceState, Outcome, Gave, then_do, values_of, Instr, H, L, Registers, State, high_byte, low_byte, word, wrap, LoadHl, ExpressionForm, ExpressionNumber, Location, Place, Reference, Keeps, IsExpression, IsForm, IsNumber, IsValue, IsLocation, IsConstantList, IsConversion, IsEmbedded, IsUnary, IsBinary, IsCallOf, IsFunction, IsShift, IsInput, keeps_none, keeps_of_form, memory_of_form, Does, loaded_of, at_place, Arrives, HasRoom, plain_first, location_at, place_at, without_hl_holds, address_in_hl_is, byte_in_a_is, byte_in_h_is, word_in_hl_is, GoesOutside, Facts, Part, Step, Plain, Word, before, is_at, copy, load, set, part_of, plain, keeps, keeps_at_site, location_of, memory_of, distance, location_address_steps, byte_to_l_steps, extended_byte_in_memory_steps, frame_byte_to_l_steps, top_word_steps, knowing, Context, IsSound, distances_in, nodes_in, StepsStand, NoneThere, PartThere, PlainThere, WordThere, Know, PartDoes, WordIsGiven, address_on_machine, same_given, remainder_in_memory}
 use Rattle.isa8080.specs.declared.instr.Register.TheVariants as registers
 use Rattle.treecode.specs.declared.expression.ExpressionForm.TheVariants as forms
 use Rattle.treecode.specs.declared.place.Location.TheVariants as locations
@@ -38,7 +38,7 @@ abbrev pub Follows :
 Follows outcome Good context last to top budget more base source memory frame events address r =
     (now : Registers) → ExtendedBeside memory address r now
     → GoesOn context last top base source frame now memory
-    → Does context.activation.around.program.script budget more (at_place to now memory events) outcome Good
+    → Does (loaded_of context.activation) budget more (at_place to now memory events) outcome Good
 
 module _
     {A : Type 0} {outcome : Outcome A} {Good : A → SourceState → State → Type 0}
@@ -52,7 +52,7 @@ module _
       → StepsStand context PartIs facts from (Plain (load L) ∷ Plain (set H 0) ∷ []) last to
       → GoesOn context facts top base source frame r memory
       → Follows outcome Good context last to top budget more base source memory frame events address r
-      → Does context.activation.around.program.script budget more (at_place from r memory events) outcome Good
+      → Does (loaded_of context.activation) budget more (at_place from r memory events) outcome Good
   byte_at_hl_goes address r is (PlainThere there stand) on rest =
       let bytes = on.ready.registers in
       let byte : ℕ = byte_at memory (word r.h r.l) in
@@ -71,7 +71,7 @@ module _
       → GoesOn context facts top base source frame r memory
       → Follows outcome Good context last to top budget more base source memory frame events
       (place_at context.activation.layout place) r
-      → Does context.activation.around.program.script budget more (at_place from r memory events) outcome Good
+      → Does (loaded_of context.activation) budget more (at_place from r memory events) outcome Good
   static_goes {facts = facts} place r (WordThere there (PlainThere cleared stand)) on rest =
       let mem = on.ready.shares.is_memory in
       let bytes = on.ready.registers in
@@ -102,7 +102,7 @@ module _
       → GoesOn context facts top base source frame r memory
       → Follows outcome Good context last to top budget more base source memory frame events
       (location_at context.activation (distances_in context) (locations.Frame variable offset)) r
-      → Does context.activation.around.program.script budget more (at_place from r memory events) outcome Good
+      → Does (loaded_of context.activation) budget more (at_place from r memory events) outcome Good
   unfolding distance
   frame_goes {facts = facts} {from = from} {pushed = pushed} {need = need} used variable offset r room
       known stand on rest =
@@ -121,7 +121,7 @@ module _
           else location_address_steps (knowing context.site used) (locations.Frame variable offset) pushed
           ++ (Plain (load L) ∷ []))
           ++ (Plain (set H 0) ∷ [])) last to
-          → Does context.activation.around.program.script budget more
+          → Does (loaded_of context.activation) budget more
           (at_place from r memory events) outcome Good
       by_test true one none_is one_is stand =
           let mem = on.ready.shares.is_memory in
@@ -179,7 +179,7 @@ module _
               found middle
               → StepsStand context PartIs found middle (Plain (load L) ∷ []) later end
               → StepsStand context PartIs later end (Plain (set H 0) ∷ []) last to
-              → Does context.activation.around.program.script budget more
+              → Does (loaded_of context.activation) budget more
               (at_place from r memory events) outcome Good
           ended first (PlainThere there NoneThere) after =
               location_address_goes used (locations.Frame variable offset) r sound room
@@ -205,7 +205,7 @@ module _
       → GoesOn context facts top base source frame r memory
       → Follows outcome Good context last to top budget more base source memory frame events
       (location_at context.activation (distances_in context) location) r
-      → Does context.activation.around.program.script budget more (at_place from r memory events) outcome Good
+      → Does (loaded_of context.activation) budget more (at_place from r memory events) outcome Good
   extended_location_goes {facts = facts} {from = from} {pushed = pushed} used location r room small
       known stand on rest =
       by_test (is_at used.word_in_hl location) (is_at used.byte_in_a location)
@@ -220,7 +220,7 @@ module _
                 frame_byte_to_l_steps (knowing context.site used) (locations.Frame variable offset)
                 (distance (knowing context.site used) variable offset pushed) pushed
           ] ++ (Plain (set H 0) ∷ [])) last to
-          → Does context.activation.around.program.script budget more
+          → Does (loaded_of context.activation) budget more
           (at_place from r memory events) outcome Good
       by_location (locations.Static place) of_is stand =
           static_goes place r stand on
@@ -248,7 +248,7 @@ module _
                   (distance (knowing context.site used) variable offset pushed) pushed
             ]
           ]) ++ (Plain (set H 0) ∷ [])) last to
-          → Does context.activation.around.program.script budget more
+          → Does (loaded_of context.activation) budget more
           (at_place from r memory events) outcome Good
       by_test true in_a high here low_is a_is high_is here_is stand =
           let is =
@@ -398,7 +398,7 @@ extended_carried {context = context} {facts = facts} {last = last} {number = num
         → found < values_of (type_of tree)
         → KeepsThem context number r now
         → GoesOn context last top base t.memory t.frame now ended
-        → Does context.activation.around.program.script t.budget 0
+        → Does (loaded_of context.activation) t.budget 0
         (at_place to now ended t.events) (Gave found t)
         (Arrives context.activation top base to (WordIsGiven context last number Byte r memory))
     whole t address found h l low small keeps_them on =
@@ -434,7 +434,7 @@ extended_carried {context = context} {facts = facts} {last = last} {number = num
             → LowIsAt context (type_of tree) (address_on_machine context.activation place) memory s
             (value_in context tree s)
             ⊎ GoesOutside (value_in context tree s)
-            → Does context.activation.around.program.script s.budget 0 (at_place from r memory s.events)
+            → Does (loaded_of context.activation) s.budget 0 (at_place from r memory s.events)
             (value_in context tree s)
             (Arrives context.activation top base to (WordIsGiven context last number Byte r memory))
         by_low location stand top need base s r memory less room going place is_at small (inr outside) =
@@ -456,7 +456,7 @@ extended_carried {context = context} {facts = facts} {last = last} {number = num
         (room_for (2 * height_of_reference lies.part) (omega (arith, part_height, height)) room)
         going.ready going.known tt)
         (λ place t end same given fewer.
-        subst (λ (state : State). Does context.activation.around.program.script t.budget 0 state
+        subst (λ (state : State). Does (loaded_of context.activation) t.budget 0 state
         (value_in context tree s)
         (Arrives context.activation top base to (WordIsGiven context last number Byte r memory)))
         (sym given.is_at)
@@ -481,7 +481,7 @@ extended_carried {context = context} {facts = facts} {last = last} {number = num
             → LowIsAt context (type_of tree) (address_on_machine context.activation place) ended t
             (value_in context tree s)
             ⊎ GoesOutside (value_in context tree s)
-            → Does context.activation.around.program.script t.budget 0 (at_place middle now ended t.events)
+            → Does (loaded_of context.activation) t.budget 0 (at_place middle now ended t.events)
             (value_in context tree s)
             (Arrives context.activation top base to (WordIsGiven context last number Byte r memory))
         loaded top base s t r memory now ended place hl keeps_them on stand (inr outside) =

@@ -1,5 +1,5 @@
 -- The code of values in memory.
-use Rattle.task_laws.proofs.Prelude.{◌≡◌, ℕ, ◌&&◌, ◌+◌, ◌*◌, ◌/◌, ◌%◌, ◌<◌, Bool, true, List, ◌∷◌, Option, Some, None, refl, sym, ap, subst, ◌∙◌, arith, IsSomeAnd, slice_get, byte_at, byte_small, Address, height_of_reference, PartOf, Subscript, TypedObject, TypedReference, IsSeen, RefersToScalar, TypesHoldInReference, SourcePlace, InMemory, InTheFrame, home_of, read_scalar, Displacement, based_place, displacement, SourceState, Outcome, Gave, then_do, Registers, State, wrap, Location, Reference, IndexNode, IsPart, IsReference, home, is_static_location, Does, at_place, Arrives, does_without_step, IsSteady, location_at, place_at, Facts, part, Base, base_after, base_of, keeps_of_address, location_of, base_location, located_at, location_word_steps, word_at_hl_steps, word_in_memory_steps, knowing, Context, IsSound, distances_in, nodes_in, StepsStand, PartThere, Carries, IsReferred, Know, Left, Nothing, PartDoes, address_on_machine, none-some, same_Some, two_bytes_fit, given_again}
+use Rattle.task_laws.proofs.Prelude.{◌≡◌, ℕ, ◌&&◌, ◌+◌, ◌*◌, ◌/◌, ◌%◌, ◌<◌, Bool, true, List, ◌∷◌, Option, Some, None, refl, sym, ap, subst, ◌∙◌, arith, IsSomeAnd, slice_get, byte_at, byte_small, Address, height_of_reference, PartOf, Subscript, TypedObject, TypedReference, IsSeen, RefersToScalar, TypesHoldInReference, SourcePlace, InMemory, InTheFrame, home_of, read_scalar, Displacement, based_place, displacement, SourceState, Outcome, Gave, then_do, Registers, State, wrap, Location, Reference, IndexNode, IsPart, IsReference, home, is_static_location, Does, loaded_of, at_place, Arrives, does_without_step, IsSteady, location_at, place_at, Facts, part, Base, base_after, base_of, keeps_of_address, location_of, base_location, located_at, location_word_steps, word_at_hl_steps, word_in_memory_steps, knowing, Context, IsSound, distances_in, nodes_in, StepsStand, PartThere, Carries, IsReferred, Know, Left, Nothing, PartDoes, address_on_machine, none-some, same_Some, two_bytes_fit, given_again}
 use Rattle.steps8080.specs.declared.step.Task.TheVariants as tasks
 use Rattle.steps8080.specs.declared.sites.queries.Base.TheVariants as bases
 use Rattle.steps8080.specs.Queries.{located}
@@ -173,7 +173,7 @@ word_in_memory_law {context = context} {facts = facts} {last = last} {reference 
           | Some location ↦ location_word_steps (knowing context.site facts) location pushed
           | None ↦ part (tasks.Address reference) pushed ∷ word_at_hl_steps
         ]) last to
-        → Does context.activation.around.program.script s.budget 0 (at_place from r memory s.events)
+        → Does (loaded_of context.activation) s.budget 0 (at_place from r memory s.events)
         (then_do (located_in context tree s)
         (λ place t. read_scalar context.activation.around.program Address place t))
         (Arrives context.activation top base to (WordIsLoaded context facts last reference r memory))
@@ -185,7 +185,7 @@ word_in_memory_law {context = context} {facts = facts} {last = last} {reference 
         let high : ℕ = byte_at memory (wrap (address + 1)) in
         let low_small = byte_small memory address ready.shares.is_memory in
         let high_small = byte_small memory (wrap (address + 1)) ready.shares.is_memory in
-        subst (λ (outcome : Outcome ℕ). Does context.activation.around.program.script s.budget 0
+        subst (λ (outcome : Outcome ℕ). Does (loaded_of context.activation) s.budget 0
         (at_place from r memory s.events) outcome
         (Arrives context.activation top base to (WordIsLoaded context facts last reference r memory)))
         (given_again (read_scalar context.activation.around.program Address lies.place s)
@@ -227,11 +227,11 @@ word_in_memory_law {context = context} {facts = facts} {last = last} {reference 
         let high : ℕ = byte_at ended (wrap (address + 1)) in
         let low_small = byte_small ended address given.ready.shares.is_memory in
         let high_small = byte_small ended (wrap (address + 1)) given.ready.shares.is_memory in
-        subst (λ (state : State). Does context.activation.around.program.script t.budget 0 state
+        subst (λ (state : State). Does (loaded_of context.activation) t.budget 0 state
         (read_scalar context.activation.around.program Address place t)
         (Arrives context.activation top base to (WordIsLoaded context facts last reference r memory)))
         (sym given.is_at)
-        (subst (λ (outcome : Outcome ℕ). Does context.activation.around.program.script t.budget 0
+        (subst (λ (outcome : Outcome ℕ). Does (loaded_of context.activation) t.budget 0
         (at_place middle there ended t.events) outcome
         (Arrives context.activation top base to (WordIsLoaded context facts last reference r memory)))
         (given_again (read_scalar context.activation.around.program Address place t))

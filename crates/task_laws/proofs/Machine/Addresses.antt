@@ -1,5 +1,5 @@
 -- The code that puts addresses of locations, and words there, into HL; other registers are kept.
-use Rattle.task_laws.proofs.Prelude.{◌≡◌, ℕ, zero, suc, ◌+◌, ◌*◌, ◌%◌, ◌<◌, Bool, true, false, if◌then◌else◌, nat_le, List, [], ◌∷◌, ◌++◌, Some, refl, sym, ap, subst, append-nil, ◌∙◌, arith, Event, SourceState, Outcome, Instr, Dad, Dcx, Inx, Lxi, Bc, Hl, Sp, Registers, State, high_byte, low_byte, word, wrap, LoadPair, Place, Number, Code, Data, External, Location, location_after, Does, at_place, HasRoom, location_at, place_at, after_before, location_after_is, address_in_hl_is, Facts, Part, Step, Plain, Word, before, is_at, no_facts, plain, repeat_steps, distance, addition_steps, note_address_steps, location_address_steps, negated, new_address_steps, number_added_steps, knowing, Context, IsSound, distances_in, StepsStand, NoneThere, WordThere, HoldsThere, Know}
+use Rattle.task_laws.proofs.Prelude.{◌≡◌, ℕ, zero, suc, ◌+◌, ◌*◌, ◌%◌, ◌<◌, Bool, true, false, if◌then◌else◌, nat_le, List, [], ◌∷◌, ◌++◌, Some, refl, sym, ap, subst, append-nil, ◌∙◌, arith, Event, SourceState, Outcome, Instr, Dad, Dcx, Inx, Lxi, Bc, Hl, Sp, Registers, State, high_byte, low_byte, word, wrap, LoadPair, Place, Number, Code, Data, External, Location, location_after, Does, loaded_of, at_place, HasRoom, location_at, place_at, after_before, location_after_is, address_in_hl_is, Facts, Part, Step, Plain, Word, before, is_at, no_facts, plain, repeat_steps, distance, addition_steps, note_address_steps, location_address_steps, negated, new_address_steps, number_added_steps, knowing, Context, IsSound, distances_in, StepsStand, NoneThere, WordThere, HoldsThere, Know}
 use Rattle.treecode.specs.declared.place.Location.TheVariants as locations
 use Rattle.task_laws.proofs.Machine.Rules.{GoesOn, holds_go, ready_with_registers, word_goes}
 use Rattle.task_laws.proofs.Machine.RegisterCode.{AreOnRegisters, effect, registers_then}
@@ -13,8 +13,8 @@ pub nothing_goes :
     → StepsStand context PartIs facts from [] last to
     → GoesOn context facts top base source frame r memory
     → (GoesOn context last top base source frame r memory
-    → Does context.activation.around.program.script budget more (at_place to r memory events) outcome Good)
-    → Does context.activation.around.program.script budget more (at_place from r memory events) outcome Good
+    → Does (loaded_of context.activation) budget more (at_place to r memory events) outcome Good)
+    → Does (loaded_of context.activation) budget more (at_place from r memory events) outcome Good
 nothing_goes r NoneThere on rest = rest on
 
 -- HL is an address, and A and DE are kept
@@ -45,8 +45,8 @@ pub inx_go :
     → GoesOn context facts top base source frame r memory
     → ((now : Registers) → AddressBeside (wrap (word r.h r.l + count)) r now
     → GoesOn context last top base source frame now memory
-    → Does context.activation.around.program.script budget more (at_place to now memory events) outcome Good)
-    → Does context.activation.around.program.script budget more (at_place from r memory events) outcome Good
+    → Does (loaded_of context.activation) budget more (at_place to now memory events) outcome Good)
+    → Does (loaded_of context.activation) budget more (at_place from r memory events) outcome Good
 inx_go zero r sound NoneThere on rest =
     let high = on.ready.registers.h in
     let low = on.ready.registers.l in
@@ -84,8 +84,8 @@ pub dcx_go :
     → GoesOn context facts top base source frame r memory
     → ((now : Registers) → AddressBeside (wrap (word r.h r.l + 65535 * count)) r now
     → GoesOn context last top base source frame now memory
-    → Does context.activation.around.program.script budget more (at_place to now memory events) outcome Good)
-    → Does context.activation.around.program.script budget more (at_place from r memory events) outcome Good
+    → Does (loaded_of context.activation) budget more (at_place to now memory events) outcome Good)
+    → Does (loaded_of context.activation) budget more (at_place from r memory events) outcome Good
 dcx_go zero r sound NoneThere on rest =
     let high = on.ready.registers.h in
     let low = on.ready.registers.l in
@@ -120,9 +120,9 @@ pub registers_end :
     → StepsStand context PartIs facts from (plain instructions) last to
     → GoesOn context facts top base source frame r memory
     → (GoesOn context last top base source frame (effect instructions r) memory
-    → Does context.activation.around.program.script budget more
+    → Does (loaded_of context.activation) budget more
     (at_place to (effect instructions r) memory events) outcome Good)
-    → Does context.activation.around.program.script budget more (at_place from r memory events) outcome Good
+    → Does (loaded_of context.activation) budget more (at_place from r memory events) outcome Good
 registers_end {outcome = outcome} {Good = Good} {context = context} {PartIs = PartIs} {last = last} {to = to}
     {top = top} {budget = budget} {more = more} {base = base} {source = source} {memory = memory}
     {frame = frame} {events = events} {facts = facts} {from = from} instructions r sound on stand going rest =
@@ -150,8 +150,8 @@ pub number_added_goes :
     → GoesOn context facts top base source frame r memory
     → ((now : Registers) → AddressBeside (wrap (word r.h r.l + number)) r now
     → GoesOn context last top base source frame now memory
-    → Does context.activation.around.program.script budget more (at_place to now memory events) outcome Good)
-    → Does context.activation.around.program.script budget more (at_place from r memory events) outcome Good
+    → Does (loaded_of context.activation) budget more (at_place to now memory events) outcome Good)
+    → Does (loaded_of context.activation) budget more (at_place from r memory events) outcome Good
 number_added_goes {outcome = outcome} {Good = Good} {context = context} {PartIs = PartIs} {last = last}
     {to = to} {top = top} {budget = budget} {more = more} {base = base} {source = source} {memory = memory}
     {frame = frame} {events = events} {facts = facts} {from = from} number r sound small stand on rest =
@@ -162,7 +162,7 @@ number_added_goes {outcome = outcome} {Good = Good} {context = context} {PartIs 
         (if few then repeat_steps (Inx Hl) number
         else if lacking then repeat_steps (Dcx Hl) (negated number)
         else plain (Lxi Bc number ∷ Dad Bc ∷ [])) last to
-        → Does context.activation.around.program.script budget more
+        → Does (loaded_of context.activation) budget more
         (at_place from r memory events) outcome Good
     by_size true lacking stand = inx_go number r sound stand on rest
     by_size false true stand =
@@ -191,8 +191,8 @@ word_added_goes :
     → ((now : Registers) → AddressBeside
     (wrap (word r.h r.l + place_at context.activation.layout place)) r now
     → GoesOn context last top base source frame now memory
-    → Does context.activation.around.program.script budget more (at_place to now memory events) outcome Good)
-    → Does context.activation.around.program.script budget more (at_place from r memory events) outcome Good
+    → Does (loaded_of context.activation) budget more (at_place to now memory events) outcome Good)
+    → Does (loaded_of context.activation) budget more (at_place from r memory events) outcome Good
 word_added_goes {context = context} {memory = memory} {events = events} place r sound small
     (WordThere there stand) on rest =
     let number : ℕ = place_at context.activation.layout place in
@@ -229,8 +229,8 @@ pub addition_goes :
     → ((now : Registers) → AddressBeside
     (wrap (word r.h r.l + place_at context.activation.layout place)) r now
     → GoesOn context last top base source frame now memory
-    → Does context.activation.around.program.script budget more (at_place to now memory events) outcome Good)
-    → Does context.activation.around.program.script budget more (at_place from r memory events) outcome Good
+    → Does (loaded_of context.activation) budget more (at_place to now memory events) outcome Good)
+    → Does (loaded_of context.activation) budget more (at_place from r memory events) outcome Good
 addition_goes (Number number) r sound small stand on rest =
     number_added_goes number r sound small stand on rest
 addition_goes (Code offset) r sound small stand on rest =
@@ -258,8 +258,8 @@ note_address_goes :
     → GoesOn context facts top base source frame r memory
     → word r.h r.l ≡ location_at context.activation (distances_in context) location
     → (GoesOn context last top base source frame r memory
-    → Does context.activation.around.program.script budget more (at_place to r memory events) outcome Good)
-    → Does context.activation.around.program.script budget more (at_place from r memory events) outcome Good
+    → Does (loaded_of context.activation) budget more (at_place to r memory events) outcome Good)
+    → Does (loaded_of context.activation) budget more (at_place from r memory events) outcome Good
 note_address_goes {context = context} {memory = memory} location r (HoldsThere NoneThere) on is rest =
     rest (holds_go on (address_known context r memory location is))
 
@@ -288,8 +288,8 @@ new_address_goes :
     → ((now : Registers)
     → AddressBeside (location_at context.activation (distances_in context) location) r now
     → GoesOn context last top base source frame now memory
-    → Does context.activation.around.program.script budget more (at_place to now memory events) outcome Good)
-    → Does context.activation.around.program.script budget more (at_place from r memory events) outcome Good
+    → Does (loaded_of context.activation) budget more (at_place to now memory events) outcome Good)
+    → Does (loaded_of context.activation) budget more (at_place from r memory events) outcome Good
 unfolding distance
 new_address_goes {context = context} {memory = memory} used (locations.Static place) r sound room small
     (WordThere there stand) on rest =
@@ -340,8 +340,8 @@ pub location_address_goes :
     → ((now : Registers)
     → AddressBeside (location_at context.activation (distances_in context) location) r now
     → GoesOn context last top base source frame now memory
-    → Does context.activation.around.program.script budget more (at_place to now memory events) outcome Good)
-    → Does context.activation.around.program.script budget more (at_place from r memory events) outcome Good
+    → Does (loaded_of context.activation) budget more (at_place to now memory events) outcome Good)
+    → Does (loaded_of context.activation) budget more (at_place from r memory events) outcome Good
 location_address_goes {outcome = outcome} {Good = Good} {context = context} {PartIs = PartIs} {last = last}
     {to = to} {top = top} {pushed = pushed} {budget = budget} {more = more} {base = base} {source = source}
     {memory = memory} {frame = frame} {events = events} {facts = facts} {from = from} used location r sound
@@ -359,7 +359,7 @@ location_address_goes {outcome = outcome} {Good = Good} {context = context} {Par
         else if last_one then Plain (Dcx Hl) ∷ note_address_steps location
         else new_address_steps (knowing context.site used) location pushed
         ++ note_address_steps location) last to
-        → Does context.activation.around.program.script budget more
+        → Does (loaded_of context.activation) budget more
         (at_place from r memory events) outcome Good
     by_test true next last_one here_is next_is last_is stand =
         nothing_goes r stand on

@@ -6,7 +6,7 @@ use Rattle.task_laws.proofs.Machine.FreeForms.{high_is_quiet, not_known, number_
 use Rattle.task_laws.proofs.Machine.KeptCode.{kept_quiet, quiet_of_entry}
 use Rattle.task_laws.proofs.Machine.Nodes.{node_of}
 use Rattle.task_laws.proofs.Machine.Rules.{plain_goes, ready_with_registers, room_for}
-use Rattle.task_laws.proofs.Machine.Stages.{Stage, at_effects, does_same, gives_then, script_of}
+use Rattle.task_laws.proofs.Machine.Stages.{Stage, at_effects, does_same, gives_then, loaded_in, script_of}
 use Rattle.task_laws.proofs.Machine.Effects.{at_reference, ends_here, quiet_ends}
 use Rattle.task_laws.proofs.Machine.SiteNodes.{free_is, quiet_is, quiet_means}
 use Rattle.task_laws.proofs.Machine.Values.{effects_then}
@@ -25,7 +25,7 @@ one_goes :
     → TypesHold context.typed context.within tree
     → 2 * height_of tree ≤ need
     → Stage context top pushed need base s facts r memory
-    → Does (script_of context) s.budget 0 (at_place from r memory s.events)
+    → Does (loaded_in context) s.budget 0 (at_place from r memory s.events)
     (then_do (value context.later context.activation.around tree s) (λ found t. Gave (go found) t))
     (Arrives context.activation top base to (NothingIsGiven context last r memory))
 one_goes {from = from} {to = to} {number = number} go top need base s r memory (PartThere does NoneThere)
@@ -48,7 +48,7 @@ two_go :
     → 2 * height_of first ≤ need
     → 2 * height_of second ≤ need
     → Stage context top pushed need base s facts r memory
-    → Does (script_of context) s.budget 0 (at_place from r memory s.events)
+    → Does (loaded_in context) s.budget 0 (at_place from r memory s.events)
     (then_do (value context.later context.activation.around first s)
     (λ one t. then_do (value context.later context.activation.around second t) (λ two u. go one two u)))
     (Arrives context.activation top base to (NothingIsGiven context last r memory))
@@ -82,10 +82,10 @@ pub input_goes :
     → Stage context top pushed need base
     (record t { events = t.events ++ read_event port (input_value (script_of context) t.events port) ∷ [] })
     (after facts (In port)) (record r { a = input_value (script_of context) t.events port }) memory
-    → Does (script_of context) t.budget more
+    → Does (loaded_in context) t.budget more
     (at_place (from + 2) (record r { a = input_value (script_of context) t.events port }) memory
     (t.events ++ read_event port (input_value (script_of context) t.events port) ∷ [])) outcome Good)
-    → Does (script_of context) t.budget more (at_place from r memory t.events) outcome Good
+    → Does (loaded_in context) t.budget more (at_place from r memory t.events) outcome Good
 input_goes {context = context} {t = t} {r = r} {memory = memory} port sound there stage rest =
     let number = input_value (script_of context) t.events port in
     let small : number < 256 = byte_or_255 (queue_of (script_of context) port) _ (sound.script port) in
@@ -125,7 +125,7 @@ form_goes :
     (form_effects_steps (knowing context.site facts) form pushed) last to
     → (top : ℕ) (base : List ℕ) (s : SourceState) (r : Registers) (memory : List ℕ)
     → Stage context top pushed (2 * height_of tree) base s facts r memory
-    → Does (script_of context) s.budget 0 (at_place from r memory s.events)
+    → Does (loaded_in context) s.budget 0 (at_place from r memory s.events)
     (value context.later context.activation.around tree s)
     (Arrives context.activation top base to (NothingIsGiven context last r memory))
 unfolding form_effects_steps
@@ -194,7 +194,7 @@ quiet_arrives :
     → Rattle.treecode_laws.specs.internal.Evaluations.IsQuiet meant
     → ((found : A) → Holds found now memory_now)
     → Stage context top pushed need base u facts now memory_now
-    → Does (script_of context) u.budget 0 (at_place to now memory_now u.events) (meant u)
+    → Does (loaded_in context) u.budget 0 (at_place to now memory_now u.events) (meant u)
     (Arrives context.activation top base to Holds)
 quiet_arrives {A = A} {context = context} {top = top} {base = base} {u = u} {now = now}
     {memory_now = memory_now} {Holds = Holds} to meant quiet holds stage =
@@ -202,7 +202,7 @@ quiet_arrives {A = A} {context = context} {top = top} {base = base} {u = u} {now
   where
     answered : (answer : Rattle.treecode_laws.specs.internal.Evaluations.Answer A)
         → meant u ≡ Rattle.treecode_laws.specs.internal.Evaluations.outcome_of answer u
-        → Does (script_of context) u.budget 0 (at_place to now memory_now u.events) (meant u)
+        → Does (loaded_in context) u.budget 0 (at_place to now memory_now u.events) (meant u)
         (Arrives context.activation top base to Holds)
     answered (Rattle.treecode_laws.specs.internal.Evaluations.Found found) is =
         does_same (Gave found u) is
@@ -250,7 +250,7 @@ one_free :
     → TypesHold context.typed context.within tree
     → 2 * height_of tree ≤ need
     → Stage context top pushed need base s facts r memory
-    → Does (script_of context) s.budget 0 (at_place from r memory s.events)
+    → Does (loaded_in context) s.budget 0 (at_place from r memory s.events)
     (then_do (value context.later context.activation.around tree s) (λ found t. Gave (go found) t))
     (Arrives context.activation top base to (OnlyAIsGiven context last r memory))
 one_free {context = context} {from = from} {number = number} go top need base s r memory free
@@ -282,7 +282,7 @@ two_free :
     → 2 * height_of first ≤ need
     → 2 * height_of second ≤ need
     → Stage context top pushed need base s facts r memory
-    → Does (script_of context) s.budget 0 (at_place from r memory s.events)
+    → Does (loaded_in context) s.budget 0 (at_place from r memory s.events)
     (then_do (value context.later context.activation.around first s)
     (λ one t. then_do (value context.later context.activation.around second t) (λ two u. go one two u)))
     (Arrives context.activation top base to (OnlyAIsGiven context last r memory))
@@ -320,7 +320,7 @@ free_form_goes :
     (form_effects_steps (knowing context.site facts) form pushed) last to
     → (top : ℕ) (base : List ℕ) (s : SourceState) (r : Registers) (memory : List ℕ)
     → Stage context top pushed (2 * height_of tree) base s facts r memory
-    → Does (script_of context) s.budget 0 (at_place from r memory s.events)
+    → Does (loaded_in context) s.budget 0 (at_place from r memory s.events)
     (value context.later context.activation.around tree s)
     (Arrives context.activation top base to (OnlyAIsGiven context last r memory))
 unfolding form_effects_steps
@@ -438,7 +438,7 @@ effects_do {context = context} {facts = facts} {last = last} {pushed = pushed} {
         → IsForm (nodes_in context) context.storage number.index form tree
         → StepsStand context (PartDoes context) facts from
         (if quiet then [] else form_effects_steps (knowing context.site facts) form pushed) final finish
-        → Does (script_of context) s.budget 0 (at_place from r memory s.events)
+        → Does (loaded_in context) s.budget 0 (at_place from r memory s.events)
         (value context.later context.activation.around tree s)
         (Arrives context.activation top base finish (EffectsAreGiven context final number r memory))
     by_quiet true is found_is shape NoneThere =
@@ -462,7 +462,7 @@ effects_do {context = context} {facts = facts} {last = last} {pushed = pushed} {
         loud_at = sym (quiet_is context.site number) ∙ is context.site.facts
 
         by_free : (free : Bool) → is_free context.site number ≡ free
-            → Does (script_of context) s.budget 0 (at_place from r memory s.events)
+            → Does (loaded_in context) s.budget 0 (at_place from r memory s.events)
             (value context.later context.activation.around tree s)
             (Arrives context.activation top base finish (EffectsAreGiven context final number r memory))
         by_free true told =

@@ -3,7 +3,7 @@ use Rattle.task_laws.proofs.Prelude.{◌≡◌, ℕ, ◌+◌, ◌*◌, ◌≤◌
 use Rattle.meaning.specs.Access.{Place}
 use Rattle.treecode_laws.specs.internal.Evaluations.{Answer}
 use Rattle.task_laws.proofs.Machine.Rules.{steps_split}
-use Rattle.task_laws.proofs.Machine.Stages.{Stage, at_effects, does_same, script_of}
+use Rattle.task_laws.proofs.Machine.Stages.{Stage, at_effects, does_same, loaded_in}
 
 -- one part after two is two parts after one
 pub then_again :
@@ -20,15 +20,15 @@ pub at_quiet :
     (place : ℕ) (meant : SourceState → Outcome A) (go : A → SourceState → Outcome B)
     → IsQuiet meant
     → Stage context top pushed need base t facts r memory
-    → ((found : A) → Does (script_of context) t.budget more
+    → ((found : A) → Does (loaded_in context) t.budget more
     (at_place place r memory t.events) (go found t) Good)
-    → Does (script_of context) t.budget more (at_place place r memory t.events) (then_do (meant t) go) Good
+    → Does (loaded_in context) t.budget more (at_place place r memory t.events) (then_do (meant t) go) Good
 at_quiet {A = A} {context = context} {t = t} {r = r} {memory = memory} {more = more} {Good = Good} place meant
     go quiet stage rest =
     answered (quiet.answer t.memory t.frame) (quiet.gives t)
   where
     answered : (answer : Answer A) → meant t ≡ outcome_of answer t
-        → Does (script_of context) t.budget more (at_place place r memory t.events)
+        → Does (loaded_in context) t.budget more (at_place place r memory t.events)
         (then_do (meant t) go) Good
     answered (Found found) is =
         does_same (go found t) (ap (λ (outcome : Outcome A). then_do outcome go) is) (rest found)
@@ -39,7 +39,7 @@ pub ends_here :
     {A : Type 0} {context : Context} {top pushed need : ℕ} {base : List ℕ} {u : SourceState} {facts : Facts}
     {r now : Registers} {memory memory_now : List ℕ} (to : ℕ) (found : A)
     → Stage context top pushed need base u facts now memory_now
-    → Does (script_of context) u.budget 0 (at_place to now memory_now u.events) (Gave found u)
+    → Does (loaded_in context) u.budget 0 (at_place to now memory_now u.events) (Gave found u)
     (Arrives context.activation top base to (NothingIsGiven context facts r memory))
 ends_here {now = now} {memory_now = memory_now} to found stage =
     does_without_step (record {
@@ -56,14 +56,14 @@ pub quiet_ends :
     {r now : Registers} {memory memory_now : List ℕ} (to : ℕ) (meant : SourceState → Outcome A)
     → IsQuiet meant
     → Stage context top pushed need base u facts now memory_now
-    → Does (script_of context) u.budget 0 (at_place to now memory_now u.events) (meant u)
+    → Does (loaded_in context) u.budget 0 (at_place to now memory_now u.events) (meant u)
     (Arrives context.activation top base to (NothingIsGiven context facts r memory))
 quiet_ends {A = A} {context = context} {top = top} {base = base} {u = u} {facts = facts} {r = r} {now = now}
     {memory = memory} {memory_now = memory_now} to meant quiet stage =
     answered (quiet.answer u.memory u.frame) (quiet.gives u)
   where
     answered : (answer : Answer A) → meant u ≡ outcome_of answer u
-        → Does (script_of context) u.budget 0 (at_place to now memory_now u.events) (meant u)
+        → Does (loaded_in context) u.budget 0 (at_place to now memory_now u.events) (meant u)
         (Arrives context.activation top base to (NothingIsGiven context facts r memory))
     answered (Found found) is = does_same (Gave found u) is (ends_here to found stage)
     answered (Fails reason) is = outside_does reason u is
@@ -82,8 +82,8 @@ pub at_subscript :
     → Stage context top pushed need base t facts r memory
     → ((found : Displacement) (u : SourceState) (now : Registers) (memory_now : List ℕ)
     → Stage context top pushed need base u found_facts now memory_now
-    → Does (script_of context) u.budget more (at_place middle now memory_now u.events) (go found u) Good)
-    → Does (script_of context) t.budget more (at_place from r memory t.events)
+    → Does (loaded_in context) u.budget more (at_place middle now memory_now u.events) (go found u) Good)
+    → Does (loaded_in context) t.budget more (at_place from r memory t.events)
     (then_do (displacement context.later context.activation.around subscript t) go) Good
 unfolding subscript_effects_steps
 at_subscript {t = t} {r = r} {memory = memory} from middle IsAbsent types NoneThere fewer stage rest =
@@ -111,8 +111,8 @@ pub at_reference :
     → Stage context top pushed need base t facts r memory
     → ((found : Place) (u : SourceState) (now : Registers) (memory_now : List ℕ)
     → Stage context top pushed need base u found_facts now memory_now
-    → Does (script_of context) u.budget more (at_place middle now memory_now u.events) (go found u) Good)
-    → Does (script_of context) t.budget more (at_place from r memory t.events)
+    → Does (loaded_in context) u.budget more (at_place middle now memory_now u.events) (go found u) Good)
+    → Does (loaded_in context) t.budget more (at_place from r memory t.events)
     (then_do (located context.later context.activation.around tree t) go) Good
 unfolding reference_effects_steps
 at_reference {context = context} {pushed = pushed} {t = t} {go = go} from middle

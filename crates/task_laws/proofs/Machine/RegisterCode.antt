@@ -1,5 +1,5 @@
 -- Steps that change only registers, one after another.
-use Rattle.task_laws.proofs.Prelude.{◌≡◌, ℕ, ◌+◌, ◌/◌, ◌%◌, ◌<◌, ◌≤◌, List, [], ◌∷◌, ◌++◌, bit_and, refl, sym, ap, ◌∙◌, arith, subst, and_le_l, or_of_8, xor_of_8, IsMemory, byte_at, byte_small, Event, SourceState, Outcome, Instr, Accumulate, AccumulateImmediate, Cma, Dad, Dcx, Inx, Lxi, Mov, Mvi, Rar, Rlc, Rrc, Ral, Xchg, Of, Operation, Add, AddWithCarry, Subtract, SubtractWithBorrow, And, ExclusiveOr, Or, Compare, Bc, De, Hl, Register, A, B, C, D, E, H, L, Flags, HoldBytes, Registers, State, register_of, wrap, operate, act, running, InstructionStands, size_of_instruction, Does, at_place, plain_first, stands_now, Asks, FactsHold, facts_after, Facts, Part, Step, after, plain, Context, IsSound, distances_in, StepsStand, PlainThere, Know, high_is_byte, half_small, high_of_wrapped, turned_small}
+use Rattle.task_laws.proofs.Prelude.{◌≡◌, ℕ, ◌+◌, ◌/◌, ◌%◌, ◌<◌, ◌≤◌, List, [], ◌∷◌, ◌++◌, bit_and, refl, sym, ap, ◌∙◌, arith, subst, and_le_l, or_of_8, xor_of_8, IsMemory, byte_at, byte_small, Event, SourceState, Outcome, Instr, Accumulate, AccumulateImmediate, Cma, Dad, Dcx, Inx, Lxi, Mov, Mvi, Rar, Rlc, Rrc, Ral, Xchg, Of, Operation, Add, AddWithCarry, Subtract, SubtractWithBorrow, And, ExclusiveOr, Or, Compare, Bc, De, Hl, Register, A, B, C, D, E, H, L, Flags, HoldBytes, Registers, State, register_of, wrap, operate, act, running, InstructionStands, size_of_instruction, Does, loaded_of, at_place, plain_first, stands_now, Asks, FactsHold, facts_after, Facts, Part, Step, after, plain, Context, IsSound, distances_in, StepsStand, PlainThere, Know, high_is_byte, half_small, high_of_wrapped, turned_small}
 use Rattle.isa8080.specs.State.{with_register}
 use Rattle.asm8080.specs.declared.item.Item.TheVariants as items
 use Rattle.task_laws.proofs.Machine.Rules.{GoesOn, ready_with_registers}
@@ -315,9 +315,9 @@ pub registers_then :
     → ((middle : ℕ) (found : Facts)
     → StepsStand context PartIs found middle others last to
     → GoesOn context found top base source frame (effect instructions r) memory
-    → Does context.activation.around.program.script budget more
+    → Does (loaded_of context.activation) budget more
     (at_place middle (effect instructions r) memory events) outcome Good)
-    → Does context.activation.around.program.script budget more (at_place from r memory events) outcome Good
+    → Does (loaded_of context.activation) budget more (at_place from r memory events) outcome Good
 registers_then [] others r {facts = facts} {from = from} sound on stand going rest =
     rest from facts stand going
 registers_then {outcome = outcome} {Good = Good} {context = context} {budget = budget} {more = more}
@@ -330,7 +330,7 @@ registers_then {outcome = outcome} {Good = Good} {context = context} {budget = b
     sound.lies ready.shares.code there in
     let fit = numbers_fit i memory from ready.shares.is_memory stands.0 in
     plain_first r sound.lies ready.shares.code there
-    (subst (λ (s : State). Does context.activation.around.program.script budget more s outcome Good)
+    (subst (λ (s : State). Does (loaded_of context.activation) budget more s outcome Good)
     (sym (acts_at context.activation.around.program.script i (from + size_of_instruction i) r
     memory events on.0))
     (registers_then instructions others now sound on.1 stand

@@ -1,5 +1,5 @@
 -- Calls of routines.
-use Rattle.task_laws.proofs.Prelude.{◌≡◌, ℕ, ◌+◌, ◌-◌, ◌<◌, ◌≤◌, inl, inr, List, [], ◌∷◌, refl, sym, ap, ◌∙◌, arith, subst, MEMORY_SIZE, byte_at, IsIn, Event, SourceState, Outcome, Call, Running, bytes_of, HoldBytes, Registers, State, wrap, CallTo, InstructionStands, below, Does, Lands, at_place, Activation, HasRoom, IsReady, LiesWell, Owns, told_on, keeps_both, keeps_wider, stands_now, no_facts_hold, bytes_alike, stands_in, Facts, Part, Step, CallRoutine, no_facts, jump_item, label_of_routine, Context, IsSound, RoutineIsAt, StepsStand, RoutineThere, wrapped_once, wrapped_small}
+use Rattle.task_laws.proofs.Prelude.{◌≡◌, ℕ, ◌+◌, ◌-◌, ◌<◌, ◌≤◌, inl, inr, List, [], ◌∷◌, refl, sym, ap, ◌∙◌, arith, subst, MEMORY_SIZE, byte_at, IsIn, Event, SourceState, Outcome, Call, Running, bytes_of, HoldBytes, Registers, State, wrap, CallTo, InstructionStands, below, Does, loaded_of, Lands, at_place, Activation, HasRoom, IsReady, LiesWell, MayChange, Owns, told_on, keeps_both, keeps_wider, stands_now, no_facts_hold, bytes_alike, stands_in, Facts, Part, Step, CallRoutine, no_facts, jump_item, label_of_routine, Context, IsSound, RoutineIsAt, StepsStand, RoutineThere, wrapped_once, wrapped_small}
 use Rattle.mem80.specs.declared.range.Range.{Range}
 use Rattle.asm8080.specs.Standing.{Keeps}
 use Rattle.runtime8080.specs.{declared.routine.Routine.{Routine}, Routines.{BlocksMiss, Computes, CopyMisses, HasReturned, Leaves, Returns, memory_after}}
@@ -137,6 +137,14 @@ ready_after_routine activation top pushed need base source memory ended frame r 
             lies.placed.apart address there.0 there.1 (omega (arith, start, low, bottom))
             (omega (arith, start, high, under, above)))
             ∙ ready.shares.code address there;
+        others =
+            keeps_both (MayChange activation.around.program) activation.image memory ended ready.shares.others
+            (keeps_wider (λ address. IsIn address (below top 2)) (MayChange activation.around.program) memory
+            ended
+            (λ address (inside : IsIn address (below top 2)).
+            let low : top - 2 ≤ address = inside.0 in
+            let high : address < top - 2 + 2 = inside.1 in
+            inr (omega (arith, start, low, bottom), omega (arith, start, high, under, above))) kept);
       };
       frame_lies = record {
         sizes = ready.frame_lies.sizes;
@@ -175,15 +183,16 @@ pub routine_then :
     → GoesOn context no_facts top base source frame now ended
     → Computes routine r now
     → Leaves routine r now
-    → Does context.activation.around.program.script budget more
+    → Does (loaded_of context.activation) budget more
     (at_place (from + 3) now ended events) outcome Good)
-    → Does context.activation.around.program.script budget more (at_place from r memory events) outcome Good
+    → Does (loaded_of context.activation) budget more (at_place from r memory events) outcome Good
 routine_then {outcome = outcome} {Good = Good} {context = context} {from = from} {top = top} {bytes = bytes}
     {need = need} {budget = budget} {more = more} {base = base} {source = source} {memory = memory}
     {frame = frame} {events = events} routine others r sound on room two
     (RoutineThere has there stand) going rest =
     let activation = context.activation in
     let script = activation.around.program.script in
+    let loaded = loaded_of activation in
     let lies = sound.lies in
     let ready = going.ready in
     let depth = room.depth in
@@ -251,7 +260,7 @@ routine_then {outcome = outcome} {Good = Good} {context = context} {from = from}
           two ready back.stack back.registers back.memory_is kept;
       known = no_facts_hold;
     } in
-    let does : Does script budget more (at_place (from + 3) after.registers after.memory events) outcome
+    let does : Does loaded budget more (at_place (from + 3) after.registers after.memory events) outcome
     Good =
     rest after.registers after.memory stand going_on
     (computes_there routine (wrap from) r after.registers back.computes)
@@ -266,7 +275,7 @@ routine_then {outcome = outcome} {Good = Good} {context = context} {from = from}
     } in
     record {
       told =
-          told_on run budget more outcome Good (omega arith) (omega arith)
-          (subst (λ (end : State). Rattle.code_meaning.specs.Landing.Told script budget more end outcome Good)
+          told_on loaded run budget more outcome Good (omega arith) (omega arith)
+          (subst (λ (end : State). Rattle.code_meaning.specs.Landing.Told loaded budget more end outcome Good)
           (sym is_at) does.told);
     }

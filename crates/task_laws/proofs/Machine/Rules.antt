@@ -1,5 +1,5 @@
 -- The rules for following the code of steps: the run of a machine at a step.
-use Rattle.task_laws.proofs.Prelude.{◌≡◌, ℕ, ◌+◌, ◌-◌, ◌%◌, ◌<◌, ◌≤◌, Bool, true, false, if◌then◌else◌, List, [], ◌∷◌, ◌++◌, ◌==◌, bit_or, refl, sym, ap, subst, ◌∙◌, arith, MEMORY_SIZE, Event, SourceState, Outcome, Instr, Pop, Push, StackPair, StackBc, StackDe, StackHl, Psw, HoldBytes, Registers, State, pushed_of, with_popped, wrap, Or, operate, act, flag_byte_small, WordForm, instruction_with, AgreesIn, size_of_instruction, pushed, pop_does, push_does, Place, Does, at_place, Activation, HasRoom, IsReady, IsThere, LiesWell, plain_first, word_first, ready_after_pop, ready_after_push, still_pushed, Asks, WordAsks, or_self, after_test, test_items, test_of_a, ZeroHolds, place_at, facts_after, facts_after_word, with_facts_hold, without_memory_holds, push_asks, Facts, Part, Step, after, after_word, with_facts, without_memory, word_item, Context, IsSound, distances_in, StepsStand, NoneThere, PlainThere, WordThere, JumpThere, MarkThere, RoutineThere, CallThere, TestThere, HoldsThere, ChangeThere, PartThere, Know}
+use Rattle.task_laws.proofs.Prelude.{◌≡◌, ℕ, ◌+◌, ◌-◌, ◌%◌, ◌<◌, ◌≤◌, Bool, true, false, if◌then◌else◌, List, [], ◌∷◌, ◌++◌, ◌==◌, bit_or, refl, sym, ap, subst, ◌∙◌, arith, MEMORY_SIZE, Event, SourceState, Outcome, Instr, Pop, Push, StackPair, StackBc, StackDe, StackHl, Psw, HoldBytes, Registers, State, pushed_of, with_popped, wrap, Or, operate, act, flag_byte_small, WordForm, instruction_with, AgreesIn, size_of_instruction, pushed, pop_does, push_does, Place, Does, loaded_of, at_place, Activation, HasRoom, IsReady, IsThere, LiesWell, plain_first, word_first, ready_after_pop, ready_after_push, still_pushed, Asks, WordAsks, or_self, after_test, test_items, test_of_a, ZeroHolds, place_at, facts_after, facts_after_word, with_facts_hold, without_memory_holds, push_asks, Facts, Part, Step, after, after_word, with_facts, without_memory, word_item, Context, IsSound, distances_in, StepsStand, NoneThere, PlainThere, WordThere, JumpThere, MarkThere, RoutineThere, CallThere, TestThere, HoldsThere, ChangeThere, PartThere, Know}
 use Rattle.asm8080.specs.declared.item.Item.TheVariants as items
 use Rattle.steps8080.specs.declared.step.Step.TheVariants as steps
 
@@ -92,13 +92,14 @@ pub plain_goes :
     → act context.activation.around.program.script i (at_place (from + size_of_instruction i) r memory events)
     ≡ at_place (from + size_of_instruction i) now ended events_after
     → (Know context (after facts i) now ended
-    → Does context.activation.around.program.script budget more
+    → Does (loaded_of context.activation) budget more
     (at_place (from + size_of_instruction i) now ended events_after) outcome Good)
-    → Does context.activation.around.program.script budget more (at_place from r memory events) outcome Good
+    → Does (loaded_of context.activation) budget more (at_place from r memory events) outcome Good
 plain_goes {budget = budget} {more = more} {outcome = outcome} {Good = Good} {context = context}
     {facts = facts} {memory = memory} {events = events} {i = i} {from = from} r now ended events_after sound
     there on asks does rest =
     let script = context.activation.around.program.script in
+    let loaded = loaded_of context.activation in
     let place = from + size_of_instruction i in
     let shares = on.ready.shares in
     let known : Know context (after facts i) now ended
@@ -106,7 +107,7 @@ plain_goes {budget = budget} {more = more} {outcome = outcome} {Good = Good} {co
     (facts_after script context.activation (distances_in context) facts i (at_place place r memory events)
     shares.is_memory (bytes_at_place (wrap place) r on.ready.registers) asks on.known) in
     plain_first r sound.lies shares.code there
-    (subst (λ (s : State). Does script budget more s outcome Good) (sym does) (rest known))
+    (subst (λ (s : State). Does loaded budget more s outcome Good) (sym does) (rest known))
 
 -- an instruction that changes registers alone, and not the stack pointer
 pub registers_go :
@@ -123,9 +124,9 @@ pub registers_go :
     → now.sp ≡ r.sp
     → HoldBytes now
     → (GoesOn context (after facts i) top base source frame now memory
-    → Does context.activation.around.program.script budget more
+    → Does (loaded_of context.activation) budget more
     (at_place (from + size_of_instruction i) now memory events) outcome Good)
-    → Does context.activation.around.program.script budget more (at_place from r memory events) outcome Good
+    → Does (loaded_of context.activation) budget more (at_place from r memory events) outcome Good
 registers_go {memory = memory} {events = events} r now sound there on asks does pointer bytes rest =
     plain_goes r now memory events sound there on asks does
     (λ known. rest (record { ready = ready_with_registers pointer bytes on.ready; known = known }))
@@ -138,11 +139,11 @@ pub word_acts :
     → IsSound context
     → AgreesIn context.activation.around.program.placement.code context.activation.image memory
     → IsThere context.activation (word_item form place ∷ []) from (from + 3)
-    → Does context.activation.around.program.script budget more
+    → Does (loaded_of context.activation) budget more
     (act context.activation.around.program.script
     (instruction_with form (place_at context.activation.layout place)) (at_place (from + 3) r memory events))
     outcome Good
-    → Does context.activation.around.program.script budget more (at_place from r memory events) outcome Good
+    → Does (loaded_of context.activation) budget more (at_place from r memory events) outcome Good
 word_acts form place r sound code there rest = word_first r sound.lies code there rest
 
 -- the facts after it hold then
@@ -159,13 +160,14 @@ pub word_goes :
     (instruction_with form (place_at context.activation.layout place)) (at_place (from + 3) r memory events)
     ≡ at_place (from + 3) now ended events
     → (Know context (after_word facts form place) now ended
-    → Does context.activation.around.program.script budget more
+    → Does (loaded_of context.activation) budget more
     (at_place (from + 3) now ended events) outcome Good)
-    → Does context.activation.around.program.script budget more (at_place from r memory events) outcome Good
+    → Does (loaded_of context.activation) budget more (at_place from r memory events) outcome Good
 word_goes {budget = budget} {more = more} {outcome = outcome} {Good = Good} {context = context}
     {facts = facts} {memory = memory} {events = events} {from = from} form place r now ended sound
     there on asks does rest =
     let script = context.activation.around.program.script in
+    let loaded = loaded_of context.activation in
     let shares = on.ready.shares in
     let known : Know context (after_word facts form place) now ended
     = subst (λ (s : State). Know context (after_word facts form place) s.registers s.memory) does
@@ -173,7 +175,7 @@ word_goes {budget = budget} {more = more} {outcome = outcome} {Good = Good} {con
     (at_place (from + 3) r memory events)
     shares.is_memory (bytes_at_place (wrap (from + 3)) r on.ready.registers) asks on.known) in
     word_acts form place r sound shares.code there
-    (subst (λ (s : State). Does script budget more s outcome Good) (sym does) (rest known))
+    (subst (λ (s : State). Does loaded budget more s outcome Good) (sym does) (rest known))
 
 -- facts that the plan makes up beside those that hold
 pub holds_go :
@@ -264,10 +266,10 @@ pub push_goes :
     → HasRoom context.activation top bytes need
     → (GoesOn context facts (top - 2) (pushed top (pushed_of pair r) memory) source frame
     (record r { sp = wrap (top - 2) }) (pushed top (pushed_of pair r) memory)
-    → Does context.activation.around.program.script budget more
+    → Does (loaded_of context.activation) budget more
     (at_place (from + size_of_instruction (Push pair)) (record r { sp = wrap (top - 2) })
     (pushed top (pushed_of pair r) memory) events) outcome Good)
-    → Does context.activation.around.program.script budget more (at_place from r memory events) outcome Good
+    → Does (loaded_of context.activation) budget more (at_place from r memory events) outcome Good
 push_goes {context = context} {facts = facts} {top = top} {base = base} {source = source} {frame = frame}
     {memory = memory} {events = events} {from = from} {bytes = bytes} {need = need} pair r sound
     there on two room rest =
@@ -361,11 +363,11 @@ pub pop_goes :
     → GoesOn context facts (top - 2) (pushed top word memory) other others after_part ended
     → (GoesOn context (after facts (Pop pair)) top base other others
     (record (with_popped pair word after_part) { sp = wrap top }) ended
-    → Does context.activation.around.program.script budget more
+    → Does (loaded_of context.activation) budget more
     (at_place (from + size_of_instruction (Pop pair))
     (record (with_popped pair word after_part) { sp = wrap top })
     ended events) outcome Good)
-    → Does context.activation.around.program.script budget more
+    → Does (loaded_of context.activation) budget more
     (at_place from after_part ended events) outcome Good
 pop_goes {context = context} {facts = facts} {top = top} {base = base} {source = source} {other = other}
     {frame = frame} {others = others} {r = r} {memory = memory} {ended = ended} {events = events}
@@ -408,9 +410,9 @@ pub test_goes :
     → GoesOn context facts top base source frame r memory
     → ((now : Registers) → now ≡ record r { flags = now.flags } → now.flags.z ≡ (r.a == 0)
     → GoesOn context (after_test facts) top base source frame now memory
-    → Does context.activation.around.program.script budget more
+    → Does (loaded_of context.activation) budget more
     (at_place middle now memory events) outcome Good)
-    → Does context.activation.around.program.script budget more (at_place from r memory events) outcome Good
+    → Does (loaded_of context.activation) budget more (at_place from r memory events) outcome Good
 test_goes {budget = budget} {more = more} {outcome = outcome} {Good = Good} {context = context}
     {facts = facts} {top = top} {base = base} {source = source} {frame = frame} {memory = memory}
     {events = events} {from = from} {middle = middle} r sound there on rest =
@@ -420,13 +422,13 @@ test_goes {budget = budget} {more = more} {outcome = outcome} {Good = Good} {con
         → IsThere context.activation (if shows then [] else items.Plain test_of_a ∷ []) from middle
         → ((now : Registers) → now ≡ record r { flags = now.flags } → now.flags.z ≡ (r.a == 0)
         → GoesOn context (if shows then facts else after facts test_of_a) top base source frame now memory
-        → Does context.activation.around.program.script budget more
+        → Does (loaded_of context.activation) budget more
         (at_place middle now memory events) outcome Good)
-        → Does context.activation.around.program.script budget more
+        → Does (loaded_of context.activation) budget more
         (at_place from r memory events) outcome Good
     by_flag true shows there rest =
         let zero : ZeroHolds facts.zero_shows_a r.flags.z r.a = on.known.zero_holds in
-        subst (λ (place : ℕ). Does context.activation.around.program.script budget more
+        subst (λ (place : ℕ). Does (loaded_of context.activation) budget more
         (at_place place r memory events) outcome Good)
         (sym there.stands)
         (rest r refl (subst (λ (flag : Bool). ZeroHolds flag r.flags.z r.a) shows zero) on)
@@ -441,6 +443,6 @@ test_goes {budget = budget} {more = more} {outcome = outcome} {Good = Good} {con
         memory events) same)
         refl
         (record { a = on.ready.registers.a; b = on.ready.registers.b; c = on.ready.registers.c; d = on.ready.registers.d; e = on.ready.registers.e; h = on.ready.registers.h; l = on.ready.registers.l })
-        (λ on_now. subst (λ (place : ℕ). Does context.activation.around.program.script budget more
+        (λ on_now. subst (λ (place : ℕ). Does (loaded_of context.activation) budget more
         (at_place place now memory events) outcome Good)
         (sym middle_is) (rest now refl (ap (λ (a : ℕ). a == 0) same) on_now))

@@ -1,5 +1,5 @@
 -- The queries of code about nodes, in terms of trees.
-use Rattle.task_laws.proofs.Prelude.{◌≡◌, ℕ, ◌&&◌, ◌||◌, true, false, Option, Some, None, is_some, slice_get, refl, sym, ap, ◌∙◌, List, length, subst, option_map_or, TypedModule, TypedExpression, NumberNode, ValueNode, LocationNode, ListNode, ConversionNode, AssignmentNode, UnaryNode, BinaryNode, CallNode, FunctionNode, ShiftNode, InputNode, TypedReference, PartOf, Subscript, NoSubscript, At, TypesHold, TypesHoldInReference, TypesHoldInSubscript, Within, value, SourceState, Ended, More, Outside, Outcome, Gave, Stopped, State, Expression, ExpressionNumber, Place, Number, Code, Data, External, known_number, IsExpression, nodes_of, place_number, HaveOperands, PartHasOperands, SubscriptHasOperands, free_at, known_at, no_traits, number_at, quiet_at, storing_nothing_at, known_kept, AreAlike, AreSame, BothOutside, GoesOutside, IsQuiet, exchanged, in_order, quiet_kept, known_gives, operands_exchanged, quiet_value, Does, place_at, Site, expression, is_free, is_quiet, known, may_exchange, number, stores_nothing, Facts, knowing, Context, IsSound, nodes_in}
+use Rattle.task_laws.proofs.Prelude.{◌≡◌, ℕ, ◌&&◌, ◌||◌, true, false, Option, Some, None, is_some, slice_get, refl, sym, ap, ◌∙◌, length, subst, option_map_or, TypedModule, TypedExpression, NumberNode, ValueNode, LocationNode, ListNode, ConversionNode, AssignmentNode, UnaryNode, BinaryNode, CallNode, FunctionNode, ShiftNode, InputNode, TypedReference, PartOf, Subscript, NoSubscript, At, TypesHold, TypesHoldInReference, TypesHoldInSubscript, Within, value, SourceState, Ended, More, Outside, Outcome, Gave, Stopped, State, Expression, ExpressionNumber, Place, Number, Code, Data, External, known_number, IsExpression, nodes_of, place_number, HaveOperands, PartHasOperands, SubscriptHasOperands, free_at, known_at, no_traits, number_at, quiet_at, storing_nothing_at, known_kept, AreAlike, AreSame, BothOutside, GoesOutside, IsQuiet, exchanged, in_order, quiet_kept, known_gives, operands_exchanged, quiet_value, Does, Loaded, place_at, Site, expression, is_free, is_quiet, known, may_exchange, number, stores_nothing, Facts, knowing, Context, IsSound, nodes_in}
 use Rattle.treecode_laws.specs.internal.Evaluations as evaluations
 use Rattle.task_laws.proofs.Machine.Stages.{does_same}
 
@@ -160,11 +160,11 @@ number_means {context = context} {of = of} {tree = tree} facts n sound node type
 
 -- an outcome is carried out if one that may replace it is
 pub does_alike :
-    {A : Type 0} {script : List (List ℕ)} {budget more : ℕ} {from : State} (outcome other : Outcome A)
+    {A : Type 0} {loaded : Loaded} {budget more : ℕ} {from : State} (outcome other : Outcome A)
     {Good : A → SourceState → State → Type 0}
     → AreAlike outcome other
-    → Does script budget more from other Good
-    → Does script budget more from outcome Good
+    → Does loaded budget more from other Good
+    → Does loaded budget more from outcome Good
 does_alike outcome other (AreSame same) does = does_same other same does
 does_alike (Stopped (Outside reason) s) other (BothOutside one two) does = record { told = tt }
 does_alike (Stopped Ended s) other (BothOutside one two) does = absurd one
@@ -173,7 +173,7 @@ does_alike (Gave found s) other (BothOutside one two) does = absurd one
 
 -- where the second of two operands may be evaluated first, code may do so
 pub does_exchanged :
-    {A : Type 0} {script : List (List ℕ)} {budget more : ℕ} {from : State}
+    {A : Type 0} {loaded : Loaded} {budget more : ℕ} {from : State}
     {context : Context} {left_bound right_bound : ℕ} {left right : ExpressionNumber}
     {first second : TypedExpression}
     {Good : A → SourceState → State → Type 0}
@@ -183,8 +183,8 @@ pub does_exchanged :
     → IsExpression (nodes_in context) context.storage right_bound right.index second
     → TypesHold context.typed context.within first
     → may_exchange (knowing context.site facts) left right ≡ true
-    → Does script budget more from (exchanged (value_in context first) (value_in context second) go s) Good
-    → Does script budget more from (in_order (value_in context first) (value_in context second) go s) Good
+    → Does loaded budget more from (exchanged (value_in context first) (value_in context second) go s) Good
+    → Does loaded budget more from (in_order (value_in context first) (value_in context second) go s) Good
 does_exchanged {context = context} {left = left} {right = right} {first = first} {second = second} facts go s
     sound one two types may does =
     does_alike (in_order (value_in context first) (value_in context second) go s)

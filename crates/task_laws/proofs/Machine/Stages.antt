@@ -1,5 +1,5 @@
 -- A machine within the code of a body, and its run at a step.
-use Rattle.task_laws.proofs.Prelude.{◌≡◌, ℕ, ◌+◌, ◌-◌, ◌*◌, ◌%◌, ◌<◌, ◌≤◌, List, [], ◌∷◌, ◌++◌, refl, sym, ap, ◌∙◌, subst, arith, MEMORY_SIZE, byte_at, byte_small, height_of, type_of, TypedExpression, TypesHold, value, SourceState, Ended, More, Outside, Outcome, Gave, Stopped, then_do, Instr, Pop, Push, StackPair, StackBc, StackDe, StackHl, Psw, Flags, act, flag_byte, HoldBytes, Registers, State, pushed_of, with_popped, wrap, size_of_instruction, pushed_word, pop_does, push_does, ExpressionNumber, IsExpression, Facts, Part, Step, after, after_word, plain, word_item, LoadA, Place, HasRoom, IsReady, IsThere, Does, Lands, at_place, plain_first, then_does, told_on, ready_after_pop, ready_after_push, still_pushed, Asks, FactsHold, IsSteady, place_at, facts_after, push_asks, Context, IsSound, distances_in, nodes_in, StepsStand, NoneThere, ByteDoes, ByteIsGiven, Carries, EffectsDo, Know, EffectsAreGiven, WordDoes, WordIsGiven, flag_byte_small, given_again}
+use Rattle.task_laws.proofs.Prelude.{◌≡◌, ℕ, ◌+◌, ◌-◌, ◌*◌, ◌%◌, ◌<◌, ◌≤◌, List, [], ◌∷◌, ◌++◌, refl, sym, ap, ◌∙◌, subst, arith, MEMORY_SIZE, byte_at, byte_small, height_of, type_of, TypedExpression, TypesHold, value, SourceState, Ended, More, Outside, Outcome, Gave, Stopped, then_do, Instr, Pop, Push, StackPair, StackBc, StackDe, StackHl, Psw, Flags, act, flag_byte, HoldBytes, Registers, State, pushed_of, with_popped, wrap, size_of_instruction, pushed_word, pop_does, push_does, ExpressionNumber, IsExpression, Facts, Part, Step, after, after_word, plain, word_item, LoadA, Place, HasRoom, IsReady, IsThere, Does, Loaded, loaded_of, Lands, at_place, plain_first, then_does, told_on, ready_after_pop, ready_after_push, still_pushed, Asks, FactsHold, IsSteady, place_at, facts_after, push_asks, Context, IsSound, distances_in, nodes_in, StepsStand, NoneThere, ByteDoes, ByteIsGiven, Carries, EffectsDo, Know, EffectsAreGiven, WordDoes, WordIsGiven, flag_byte_small, given_again}
 use Rattle.asm8080.specs.declared.item.Item.TheVariants as items
 use Rattle.task_laws.proofs.Machine.RegisterCode.{AreOnRegisters, effect, registers_then}
 use Rattle.task_laws.proofs.Machine.Rules.{ready_with_registers, word_goes, room_for}
@@ -7,6 +7,10 @@ use Rattle.task_laws.proofs.Machine.Rules.{ready_with_registers, word_goes, room
 -- the script of the ports
 abbrev pub script_of : Context → List (List ℕ)
 script_of context = context.activation.around.program.script
+
+-- the program, as it is loaded
+abbrev pub loaded_in : Context → Loaded
+loaded_in context = loaded_of context.activation
 
 -- a machine may continue, with these facts
 pub record Stage
@@ -19,42 +23,44 @@ pub record Stage
 
 -- an outcome is carried out if an equal one is
 pub does_same :
-    {A : Type 0} {script : List (List ℕ)} {budget more : ℕ} {from : State} {outcome : Outcome A}
+    {A : Type 0} {loaded : Loaded} {budget more : ℕ} {from : State} {outcome : Outcome A}
     {Good : A → SourceState → State → Type 0} (other : Outcome A)
     → outcome ≡ other
-    → Does script budget more from other Good
-    → Does script budget more from outcome Good
-does_same {script = script} {budget = budget} {more = more} {from = from} {Good = Good} other same does =
-    subst (λ one. Does script budget more from one Good) (sym same) does
+    → Does loaded budget more from other Good
+    → Does loaded budget more from outcome Good
+does_same {loaded = loaded} {budget = budget} {more = more} {from = from} {Good = Good} other same does =
+    subst (λ one. Does loaded budget more from one Good) (sym same) does
 
 -- a part that gave a value, after which the machine continues
 pub gives_then :
-    {A : Type 0} {script : List (List ℕ)} {budget more : ℕ} {from : State} (outcome : Outcome A)
+    {A : Type 0} {loaded : Loaded} {budget more : ℕ} {from : State} (outcome : Outcome A)
     {Middle Good : A → SourceState → State → Type 0}
-    → Does script budget 0 from outcome Middle
+    → Does loaded budget 0 from outcome Middle
     → ((found : A) (t : SourceState) (end : State) → Middle found t end → t.budget ≤ budget
-    → Does script t.budget more end (Gave found t) Good)
-    → Does script budget more from outcome Good
-gives_then {A = A} {script = script} {budget = budget} {more = more} {from = from} outcome {Middle = Middle}
+    → Does loaded t.budget more end (Gave found t) Good)
+    → Does loaded budget more from outcome Good
+gives_then {A = A} {loaded = loaded} {budget = budget} {more = more} {from = from} outcome {Middle = Middle}
     {Good = Good} one rest =
-    subst (λ (given : Outcome A). Does script budget more from given Good) (given_again outcome)
+    subst (λ (given : Outcome A). Does loaded budget more from given Good) (given_again outcome)
     (then_does {go = λ found t. Gave found t} one rest)
 
 -- the rest after a part, which may use the value that the part gave
 pub then_does_where :
-    {A B : Type 0} {script : List (List ℕ)} {budget other : ℕ} {from : State} (outcome : Outcome A)
+    {A B : Type 0} {loaded : Loaded} {budget other : ℕ} {from : State} (outcome : Outcome A)
     {go : A → SourceState → Outcome B}
     {Middle : A → SourceState → State → Type 0} {Good : B → SourceState → State → Type 0}
-    → Does script budget 0 from outcome Middle
+    → Does loaded budget 0 from outcome Middle
     → ((found : A) (t : SourceState) (end : State) → outcome ≡ Gave found t
     → Middle found t end → t.budget ≤ budget
-    → Does script t.budget other end (go found t) Good)
-    → Does script budget other from (then_do outcome go) Good
-then_does_where {A = A} {B = B} {script = script} {budget = budget} {other = other} {from = from}
+    → Does loaded t.budget other end (go found t) Good)
+    → Does loaded budget other from (then_do outcome go) Good
+then_does_where {A = A} {B = B} {loaded = loaded} {budget = budget} {other = other} {from = from}
     (Gave found t) {go = go} {Middle = Middle} {Good = Good} one rest =
-    let first : Lands script budget 0 from t.budget (Middle found t) = one.told in
+    let first : Lands loaded.program.script budget 0 from t.budget (Middle found t) = one.told in
     let second = rest found t first.end refl first.is_good first.spent in
-    record { told = told_on first t.budget other (go found t) Good (omega arith) (omega arith) second.told }
+    record {
+      told = told_on loaded first t.budget other (go found t) Good (omega arith) (omega arith) second.told;
+    }
 then_does_where (Stopped Ended t) one rest = record { told = one.told }
 then_does_where (Stopped More t) one rest = record { told = one.told }
 then_does_where (Stopped (Outside reason) t) one rest = record { told = tt }
@@ -75,9 +81,9 @@ pub at_registers :
     → Asks context.activation (distances_in context) facts i
     (record r { pc = wrap (from + size_of_instruction i) })
     → (Stage context top pushed need base t (after facts i) now memory
-    → Does (script_of context) budget more
+    → Does (loaded_in context) budget more
     (at_place (from + size_of_instruction i) now memory t.events) outcome Good)
-    → Does (script_of context) budget more (at_place from r memory t.events) outcome Good
+    → Does (loaded_in context) budget more (at_place from r memory t.events) outcome Good
 at_registers {A = A} {context = context} {top = top} {pushed = pushed} {need = need} {base = base} {t = t}
     {facts = facts} {r = r} {memory = memory} {from = from} {budget = budget} {more = more} {i = i}
     {outcome = outcome} {Good = Good} now sound stage there acts pointer bytes asks rest =
@@ -95,7 +101,7 @@ at_registers {A = A} {context = context} {top = top} {pushed = pushed} {need = n
     subst (λ (s : State). FactsHold context.activation (distances_in context) (after facts i) s.registers
     s.memory) acts known in
     plain_first r sound.lies ready.shares.code there
-    (subst (λ (s : State). Does (script_of context) budget more s outcome Good) (sym acts)
+    (subst (λ (s : State). Does (loaded_in context) budget more s outcome Good) (sym acts)
     (rest (record {
       below = stage.below;
       room = stage.room;
@@ -124,10 +130,10 @@ pub stage_with_a :
     → Asks context.activation (distances_in context) facts i
     (record r { pc = wrap (from + size_of_instruction i) })
     → (Stage context top pushed need base t (after facts i) (record r { a = value; flags = flags }) memory
-    → Does (script_of context) budget more
+    → Does (loaded_in context) budget more
     (at_place (from + size_of_instruction i) (record r { a = value; flags = flags }) memory t.events) outcome
     Good)
-    → Does (script_of context) budget more (at_place from r memory t.events) outcome Good
+    → Does (loaded_in context) budget more (at_place from r memory t.events) outcome Good
 stage_with_a {r = r} value flags sound stage there acts small asks rest =
     let held = stage.ready.registers in
     at_registers (record r { a = value; flags = flags }) sound stage there acts refl
@@ -163,10 +169,10 @@ pub at_push :
     → IsThere context.activation (items.Plain (Push pair) ∷ []) from (from + 1)
     → (Stage context (top - 2) ((pushed + 2) % 65536) (need - 2) (pushed_word top word memory) t facts
     (record r { sp = wrap (top - 2) }) (pushed_word top word memory)
-    → Does (script_of context) budget more
+    → Does (loaded_in context) budget more
     (at_place (from + 1) (record r { sp = wrap (top - 2) }) (pushed_word top word memory) t.events) outcome
     Good)
-    → Does (script_of context) budget more (at_place from r memory t.events) outcome Good
+    → Does (loaded_in context) budget more (at_place from r memory t.events) outcome Good
 at_push {context = context} {top = top} {pushed = pushed} {need = need} {base = base} {t = t} {facts = facts}
     {r = r} {memory = memory} {from = from} {budget = budget} {more = more} {pair = pair} {outcome = outcome}
     {Good = Good} word is sound enough stage there rest =
@@ -205,7 +211,7 @@ at_push {context = context} {top = top} {pushed = pushed} {need = need} {base = 
     room_below context.activation.floor context.activation.around.room top pushed need
     context.activation.level enough free depth level in
     plain_first r lies ready.shares.code there
-    (subst (λ (s : State). Does (script_of context) budget more s outcome Good) (sym acts)
+    (subst (λ (s : State). Does (loaded_in context) budget more s outcome Good) (sym acts)
     (rest (record {
       below = stage.below;
       room = record { depth = more_room.0; even = let even = stage.room.even in omega (arith, even); enough = more_room.1 };
@@ -243,9 +249,9 @@ pub at_pop :
     → IsThere context.activation (items.Plain (Pop pair) ∷ []) from (from + 1)
     → (Stage context top pushed need base t (after facts (Pop pair))
     (record (with_popped pair word r) { sp = wrap top }) memory
-    → Does (script_of context) budget more
+    → Does (loaded_in context) budget more
     (at_place (from + 1) (record (with_popped pair word r) { sp = wrap top }) memory t.events) outcome Good)
-    → Does (script_of context) budget more (at_place from r memory t.events) outcome Good
+    → Does (loaded_in context) budget more (at_place from r memory t.events) outcome Good
 at_pop {context = context} {top = top} {pushed = pushed} {need = need} {word = word} {base = base} {s = s}
     {t = t} {first = first} {facts = facts} {before = before} {r = r} {began = began} {memory = memory}
     {from = from} {budget = budget} {more = more} {pair = pair} {outcome = outcome} {Good = Good} sound enough
@@ -280,7 +286,7 @@ at_pop {context = context} {top = top} {pushed = pushed} {need = need} {word = w
     subst (λ (state : State). FactsHold context.activation (distances_in context) (after facts (Pop pair))
     state.registers state.memory) acts known in
     plain_first r lies ready.shares.code there
-    (subst (λ (state : State). Does (script_of context) budget more state outcome Good) (sym acts)
+    (subst (λ (state : State). Does (loaded_in context) budget more state outcome Good) (sym acts)
     (rest (record {
       below = stage.below;
       room = start.room;
@@ -305,9 +311,9 @@ pub at_instructions :
     → ((middle : ℕ) (found : Facts)
     → StepsStand context PartIs found middle others last to
     → Stage context top pushed need base t found (effect instructions r) memory
-    → Does (script_of context) budget more
+    → Does (loaded_in context) budget more
     (at_place middle (effect instructions r) memory t.events) outcome Good)
-    → Does (script_of context) budget more (at_place from r memory t.events) outcome Good
+    → Does (loaded_in context) budget more (at_place from r memory t.events) outcome Good
 at_instructions {r = r} instructions others sound on stand stage rest =
     registers_then instructions others r sound on stand (record { ready = stage.ready; known = stage.known })
     (λ middle found ends going.
@@ -325,11 +331,11 @@ pub at_load_a :
     → Stage context top pushed need base t facts r memory
     → (Stage context top pushed need base t (after_word facts LoadA place)
     (record r { a = byte_at memory (place_at context.activation.layout place) }) memory
-    → Does (script_of context) budget more
+    → Does (loaded_in context) budget more
     (at_place (from + 3) (record r { a = byte_at memory (place_at context.activation.layout place) }) memory
     t.events)
     outcome Good)
-    → Does (script_of context) budget more (at_place from r memory t.events) outcome Good
+    → Does (loaded_in context) budget more (at_place from r memory t.events) outcome Good
 at_load_a {context = context} {r = r} {memory = memory} {place = place} sound there steady stage rest =
     let now : Registers = record r { a = byte_at memory (place_at context.activation.layout place) } in
     let held = stage.ready.registers in
@@ -362,8 +368,8 @@ pub at_end :
     → StepsStand context PartIs facts from [] last to
     → Stage context top pushed need base t facts r memory
     → (Stage context top pushed need base t last r memory
-    → Does (script_of context) budget more (at_place to r memory t.events) outcome Good)
-    → Does (script_of context) budget more (at_place from r memory t.events) outcome Good
+    → Does (loaded_in context) budget more (at_place to r memory t.events) outcome Good)
+    → Does (loaded_in context) budget more (at_place from r memory t.events) outcome Good
 at_end NoneThere stage rest = rest stage
 
 -- code that carries something out, after which the machine continues
@@ -383,8 +389,8 @@ pub at_carried :
     → meant t ≡ Gave found u
     → Holds r memory found now memory_now
     → Stage context top pushed need base u found_facts now memory_now
-    → Does (script_of context) u.budget more (at_place middle now memory_now u.events) (go found u) Good)
-    → Does (script_of context) t.budget more (at_place from r memory t.events) (then_do (meant t) go) Good
+    → Does (loaded_in context) u.budget more (at_place middle now memory_now u.events) (go found u) Good)
+    → Does (loaded_in context) t.budget more (at_place from r memory t.events) (then_do (meant t) go) Good
 at_carried {A = A} {B = B} {context = context} {top = top} {pushed = pushed} {need = need} {base = base}
     {t = t} {facts = facts} {r = r} {memory = memory} {more = more} {less = less} {meant = meant} {go = go}
     {Holds = Holds} {Good = Good} from middle found_facts carries fewer asked knows stage rest =
@@ -392,7 +398,7 @@ at_carried {A = A} {B = B} {context = context} {top = top} {pushed = pushed} {ne
     (carries top base t r memory stage.below (room_for less fewer stage.room) stage.ready stage.known asked)
     (λ found u end is arrives spent.
     let below = stage.below in
-    subst (λ (s : State). Does (script_of context) u.budget more s (go found u) Good) (sym arrives.is_at)
+    subst (λ (s : State). Does (loaded_in context) u.budget more s (go found u) Good) (sym arrives.is_at)
     (rest found u arrives.r arrives.memory is arrives.holds (record {
       below = omega (arith, spent, below);
       room = stage.room;
@@ -416,8 +422,8 @@ pub at_byte :
     → value context.later context.activation.around tree t ≡ Gave found u
     → ByteIsGiven context found_facts number (type_of tree) r memory found now memory_now
     → Stage context top pushed need base u found_facts now memory_now
-    → Does (script_of context) u.budget more (at_place middle now memory_now u.events) (go found u) Good)
-    → Does (script_of context) t.budget more (at_place from r memory t.events)
+    → Does (loaded_in context) u.budget more (at_place middle now memory_now u.events) (go found u) Good)
+    → Does (loaded_in context) t.budget more (at_place from r memory t.events)
     (then_do (value context.later context.activation.around tree t) go) Good
 at_byte {context = context} {found_facts = found_facts} {r = r} {memory = memory} {bound = bound}
     {tree = tree} from middle number does node types fewer stage rest =
@@ -440,8 +446,8 @@ pub at_word :
     → value context.later context.activation.around tree t ≡ Gave found u
     → WordIsGiven context found_facts number (type_of tree) r memory found now memory_now
     → Stage context top pushed need base u found_facts now memory_now
-    → Does (script_of context) u.budget more (at_place middle now memory_now u.events) (go found u) Good)
-    → Does (script_of context) t.budget more (at_place from r memory t.events)
+    → Does (loaded_in context) u.budget more (at_place middle now memory_now u.events) (go found u) Good)
+    → Does (loaded_in context) t.budget more (at_place from r memory t.events)
     (then_do (value context.later context.activation.around tree t) go) Good
 at_word {context = context} {found_facts = found_facts} {r = r} {memory = memory} {bound = bound}
     {tree = tree} from middle number does node types fewer stage rest =
@@ -463,8 +469,8 @@ pub at_effects :
     → ((found : ℕ) (u : SourceState) (now : Registers) (memory_now : List ℕ)
     → value context.later context.activation.around tree t ≡ Gave found u
     → Stage context top pushed need base u found_facts now memory_now
-    → Does (script_of context) u.budget more (at_place middle now memory_now u.events) (go found u) Good)
-    → Does (script_of context) t.budget more (at_place from r memory t.events)
+    → Does (loaded_in context) u.budget more (at_place middle now memory_now u.events) (go found u) Good)
+    → Does (loaded_in context) t.budget more (at_place from r memory t.events)
     (then_do (value context.later context.activation.around tree t) go) Good
 at_effects {context = context} {found_facts = found_facts} {r = r} {memory = memory} {bound = bound}
     {tree = tree} from middle number does node types fewer stage rest =

@@ -1,17 +1,17 @@
 -- A value in its register, and a value that is stored while it is evaluated.
-use Rattle.task_laws.proofs.Prelude.{◌≡◌, ℕ, ◌+◌, ◌*◌, ◌<◌, ◌≤◌, Bool, true, List, sym, subst, ◌∙◌, arith, ScalarType, Byte, Address, height_of, height_of_target, type_of, TypedExpression, TypedTarget, AssignmentNode, TypesHold, TypesHoldInTarget, stored, value, SourceState, Ended, More, Outside, Outcome, Gave, Stopped, then_do, values_of, Registers, State, ExpressionNumber, Target, IsExpression, IsTarget, IsStored, IsSent, source, Facts, Does, Lands, at_place, embedded_steps, value_task, Context, InRegister, nodes_in, NoneThere, PartThere, StepsStand, ByteIsGiven, Carries, WasStored, PartDoes, StoreDoes, TaskDoes, WordIsGiven, low_of_byte}
-use Rattle.task_laws.proofs.Machine.Stages.{Stage, at_byte, at_carried, at_word, does_same, script_of}
+use Rattle.task_laws.proofs.Prelude.{◌≡◌, ℕ, ◌+◌, ◌*◌, ◌<◌, ◌≤◌, Bool, true, List, sym, subst, ◌∙◌, arith, ScalarType, Byte, Address, height_of, height_of_target, type_of, TypedExpression, TypedTarget, AssignmentNode, TypesHold, TypesHoldInTarget, stored, value, SourceState, Ended, More, Outside, Outcome, Gave, Stopped, then_do, values_of, Registers, State, ExpressionNumber, Target, IsExpression, IsTarget, IsStored, IsSent, source, Facts, Does, Loaded, Lands, at_place, embedded_steps, value_task, Context, InRegister, nodes_in, NoneThere, PartThere, StepsStand, ByteIsGiven, Carries, WasStored, PartDoes, StoreDoes, TaskDoes, WordIsGiven, low_of_byte}
+use Rattle.task_laws.proofs.Machine.Stages.{Stage, at_byte, at_carried, at_word, does_same, loaded_in}
 use Rattle.task_laws.proofs.Machine.Effects.{then_again}
 
 -- fewer steps beside those that pay
 pub without_more :
-    {A : Type 0} {script : List (List ℕ)} {budget more : ℕ} {from : State} {outcome : Outcome A}
+    {A : Type 0} {loaded : Loaded} {budget more : ℕ} {from : State} {outcome : Outcome A}
     {Good : A → SourceState → State → Type 0}
-    → Does script budget more from outcome Good
-    → Does script budget 0 from outcome Good
-without_more {script = script} {budget = budget} {more = more} {from = from} {outcome = Gave found t}
+    → Does loaded budget more from outcome Good
+    → Does loaded budget 0 from outcome Good
+without_more {loaded = loaded} {budget = budget} {more = more} {from = from} {outcome = Gave found t}
     {Good = Good} does =
-    let lands : Lands script budget more from t.budget (Good found t) = does.told in
+    let lands : Lands loaded.program.script budget more from t.budget (Good found t) = does.told in
     let paid = lands.paid in
     record {
       told = record {
@@ -45,8 +45,8 @@ pub at_value :
     → InRegister scalar found now
     → found < values_of scalar
     → Stage context top pushed need base u found_facts now memory_now
-    → Does (script_of context) u.budget more (at_place middle now memory_now u.events) (go found u) Good)
-    → Does (script_of context) t.budget more (at_place from r memory t.events)
+    → Does (loaded_in context) u.budget more (at_place middle now memory_now u.events) (go found u) Good)
+    → Does (loaded_in context) t.budget more (at_place from r memory t.events)
     (then_do (value context.later context.activation.around tree t) go) Good
 unfolding value_task
 at_value {context = context} {found_facts = found_facts} {r = r} {memory = memory} {tree = tree} Byte from
@@ -80,8 +80,8 @@ pub at_store :
     → ((u : SourceState) (now : Registers) (memory_now : List ℕ)
     → (is_wanted ≡ true → InRegister scalar number now)
     → Stage context top pushed need base u found_facts now memory_now
-    → Does (script_of context) u.budget more (at_place middle now memory_now u.events) (go tt u) Good)
-    → Does (script_of context) t.budget more (at_place from r memory t.events)
+    → Does (loaded_in context) u.budget more (at_place middle now memory_now u.events) (go tt u) Good)
+    → Does (loaded_in context) t.budget more (at_place from r memory t.events)
     (then_do (stored context.later context.activation.around tree number t) go) Good
 at_store {context = context} {pushed = pushed} {facts = facts} {found_facts = found_facts} {r = r}
     {memory = memory} {bound = bound} {is_wanted = is_wanted} {tree = tree} scalar from middle number target
@@ -118,8 +118,8 @@ pub at_embedded :
     → found < values_of (type_of tree)
     → source target ≡ type_of tree
     → Stage context top pushed need base u found_facts now memory_now
-    → Does (script_of context) u.budget more (at_place middle now memory_now u.events) (go found u) Good)
-    → Does (script_of context) t.budget more (at_place from r memory t.events)
+    → Does (loaded_in context) u.budget more (at_place middle now memory_now u.events) (go found u) Good)
+    → Does (loaded_in context) t.budget more (at_place from r memory t.events)
     (then_do (value context.later context.activation.around (AssignmentNode to tree) t) go) Good
 unfolding embedded_steps
 at_embedded {context = context} {t = t} {target = target} {number = number} {to = to} {tree = tree} from

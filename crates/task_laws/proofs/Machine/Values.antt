@@ -1,49 +1,53 @@
 -- Parts of code that give values: the code after them uses the value in its register.
-use Rattle.task_laws.proofs.Prelude.{◌≡◌, ℕ, ◌*◌, ◌/◌, ◌%◌, ◌<◌, ◌≤◌, List, [], ◌∷◌, refl, sym, subst, arith, ScalarType, height_of, type_of, TypedExpression, TypesHold, value, SourceState, Ended, More, Outside, Outcome, Gave, Stopped, then_do, values_of, Registers, State, ExpressionNumber, IsExpression, Does, Lands, at_place, Arrives, HasRoom, IsReady, does_without_step, told_on, Facts, Part, Step, keeps, Context, nodes_in, StepsStand, NoneThere, PartThere, PartDoes, ByteDoes, ByteIsGiven, EffectsDo, Left, EffectsAreGiven, WordDoes, WordIsGiven}
+use Rattle.task_laws.proofs.Prelude.{◌≡◌, ℕ, ◌*◌, ◌/◌, ◌%◌, ◌<◌, ◌≤◌, List, [], ◌∷◌, refl, sym, subst, arith, ScalarType, height_of, type_of, TypedExpression, TypesHold, value, SourceState, Ended, More, Outside, Outcome, Gave, Stopped, then_do, values_of, Registers, State, ExpressionNumber, IsExpression, Does, Loaded, loaded_of, Lands, at_place, Arrives, HasRoom, IsReady, does_without_step, told_on, Facts, Part, Step, keeps, Context, nodes_in, StepsStand, NoneThere, PartThere, PartDoes, ByteDoes, ByteIsGiven, EffectsDo, Left, EffectsAreGiven, WordDoes, WordIsGiven}
 use Rattle.steps8080.specs.declared.step.Step.TheVariants as steps
 use Rattle.task_laws.proofs.Machine.Rules.{GoesOn, room_for}
 
 -- a part that gave a value, then others, which may use it
 pub then_does_where :
-    {A B : Type 0} {script : List (List ℕ)} {budget other : ℕ} {from : State} {outcome : Outcome A}
+    {A B : Type 0} {loaded : Loaded} {budget other : ℕ} {from : State} {outcome : Outcome A}
     {go : A → SourceState → Outcome B} {Middle : A → SourceState → State → Type 0}
     {Good : B → SourceState → State → Type 0}
-    → Does script budget 0 from outcome Middle
+    → Does loaded budget 0 from outcome Middle
     → ((found : A) (t : SourceState) (end : State) → outcome ≡ Gave found t
     → Middle found t end → t.budget ≤ budget
-    → Does script t.budget other end (go found t) Good)
-    → Does script budget other from (then_do outcome go) Good
-then_does_where {A = A} {script = script} {budget = budget} {other = other} {from = from} {outcome = outcome}
+    → Does loaded t.budget other end (go found t) Good)
+    → Does loaded budget other from (then_do outcome go) Good
+then_does_where {A = A} {loaded = loaded} {budget = budget} {other = other} {from = from} {outcome = outcome}
     {go = go} {Middle = Middle} {Good = Good} one rest =
     by outcome refl one
   where
-    by : (given : Outcome A) → outcome ≡ given → Does script budget 0 from given Middle
-        → Does script budget other from (then_do given go) Good
+    by : (given : Outcome A) → outcome ≡ given → Does loaded budget 0 from given Middle
+        → Does loaded budget other from (then_do given go) Good
     by (Gave found t) same does =
-        let first : Lands script budget 0 from t.budget (Middle found t) = does.told in
+        let first : Lands loaded.program.script budget 0 from t.budget (Middle found t) = does.told in
         let second = rest found t first.end same first.is_good first.spent in
-        record { told = told_on first t.budget other (go found t) Good (omega arith) (omega arith) second.told }
+        record {
+          told =
+              told_on loaded first t.budget other (go found t) Good (omega arith) (omega arith)
+              second.told;
+        }
     by (Stopped Ended t) same does = record { told = does.told }
     by (Stopped More t) same does = record { told = does.told }
     by (Stopped (Outside reason) t) same does = record { told = tt }
 
 -- the outcome of a part that arrives, and then others
 arrived :
-    {A B : Type 0} {script : List (List ℕ)} {budget more : ℕ} {from : State} {outcome : Outcome A}
+    {A B : Type 0} {loaded : Loaded} {budget more : ℕ} {from : State} {outcome : Outcome A}
     {go : A → SourceState → Outcome B} {Good : B → SourceState → State → Type 0}
     (context : Context) (top : ℕ) (base : List ℕ) (middle : ℕ) (Holds : A → Registers → List ℕ → Type 0)
-    → Does script budget 0 from outcome (Arrives context.activation top base middle Holds)
+    → Does loaded budget 0 from outcome (Arrives context.activation top base middle Holds)
     → ((found : A) (t : SourceState) (now : Registers) (ended : List ℕ)
     → outcome ≡ Gave found t
     → t.budget ≤ budget
     → IsReady context.activation top base t.memory t.frame now ended
     → Holds found now ended
-    → Does script t.budget more (at_place middle now ended t.events) (go found t) Good)
-    → Does script budget more from (then_do outcome go) Good
-arrived {script = script} {more = more} {go = go} {Good = Good} context top base middle Holds does rest =
+    → Does loaded t.budget more (at_place middle now ended t.events) (go found t) Good)
+    → Does loaded budget more from (then_do outcome go) Good
+arrived {loaded = loaded} {more = more} {go = go} {Good = Good} context top base middle Holds does rest =
     then_does_where does
     (λ found t end same given less.
-    subst (λ (state : State). Does script t.budget more state (go found t) Good) (sym given.is_at)
+    subst (λ (state : State). Does loaded t.budget more state (go found t) Good) (sym given.is_at)
     (rest found t given.r given.memory same less given.ready given.holds))
 
 -- a value into HL, and then others
@@ -63,9 +67,9 @@ pub word_then :
     → t.budget ≤ s.budget
     → GoesOn context found top base t.memory t.frame now ended
     → WordIsGiven context found number (type_of tree) r memory n now ended
-    → Does context.activation.around.program.script t.budget more
+    → Does (loaded_of context.activation) t.budget more
     (at_place middle now ended t.events) (go n t) Good)
-    → Does context.activation.around.program.script s.budget more (at_place from r memory s.events)
+    → Does (loaded_of context.activation) s.budget more (at_place from r memory s.events)
     (then_do (value context.later context.activation.around tree s) go) Good
 word_then {context = context} {found = found} {number = number} {middle = middle} {bound = bound} {top = top}
     {base = base} {tree = tree} from s r memory does is types less room high going rest =
@@ -92,9 +96,9 @@ pub byte_then :
     → t.budget ≤ s.budget
     → GoesOn context found top base t.memory t.frame now ended
     → ByteIsGiven context found number (type_of tree) r memory n now ended
-    → Does context.activation.around.program.script t.budget more
+    → Does (loaded_of context.activation) t.budget more
     (at_place middle now ended t.events) (go n t) Good)
-    → Does context.activation.around.program.script s.budget more (at_place from r memory s.events)
+    → Does (loaded_of context.activation) s.budget more (at_place from r memory s.events)
     (then_do (value context.later context.activation.around tree s) go) Good
 byte_then {context = context} {found = found} {number = number} {middle = middle} {bound = bound} {top = top}
     {base = base} {tree = tree} from s r memory does is types less room high going rest =
@@ -121,9 +125,9 @@ pub effects_then :
     → t.budget ≤ s.budget
     → GoesOn context found top base t.memory t.frame now ended
     → EffectsAreGiven context found number r memory n now ended
-    → Does context.activation.around.program.script t.budget more
+    → Does (loaded_of context.activation) t.budget more
     (at_place middle now ended t.events) (go n t) Good)
-    → Does context.activation.around.program.script s.budget more (at_place from r memory s.events)
+    → Does (loaded_of context.activation) s.budget more (at_place from r memory s.events)
     (then_do (value context.later context.activation.around tree s) go) Good
 effects_then {context = context} {found = found} {number = number} {middle = middle} {bound = bound}
     {top = top} {base = base} {tree = tree} from s r memory does is types less room high going rest =
@@ -153,7 +157,7 @@ pub word_given :
     → HasWord n now
     → KeepsThem context number r now
     → GoesOn context after top base t.memory t.frame now ended
-    → Does context.activation.around.program.script t.budget 0 (at_place to now ended t.events) (Gave n t)
+    → Does (loaded_of context.activation) t.budget 0 (at_place to now ended t.events) (Gave n t)
     (Arrives context.activation top base to (WordIsGiven context after number scalar r memory))
 word_given {context = context} {after = after} {number = number} {scalar = scalar} {top = top} {base = base}
     {to = to} {n = n} {r = r} {now = now} {memory = memory} {ended = ended} t small has kept going =
@@ -192,6 +196,6 @@ pub word_ends :
     → HasWord n now
     → KeepsThem context number r now
     → GoesOn context found top base t.memory t.frame now ended
-    → Does context.activation.around.program.script t.budget 0 (at_place middle now ended t.events) (Gave n t)
+    → Does (loaded_of context.activation) t.budget 0 (at_place middle now ended t.events) (Gave n t)
     (Arrives context.activation top base to (WordIsGiven context last number scalar r memory))
 word_ends t NoneThere small has kept going = word_given t small has kept going

@@ -1,5 +1,5 @@
 -- The code for the address of a base: without computed subscripts, or with their sum in HL.
-use Rattle.task_laws.proofs.Prelude.{◌≡◌, ℕ, ◌+◌, ◌*◌, ◌<◌, Bool, true, false, List, [], ◌∷◌, ◌++◌, refl, sym, ap, subst, ◌∙◌, arith, byte_at, SourcePlace, InMemory, InTheFrame, home_of, place_of, based_place, SourceState, Outcome, Gave, Dad, Lxi, Xchg, Bc, De, Sp, Registers, State, high_byte, low_byte, word, wrap, Number, is_static_location, Does, at_place, Activation, HasRoom, location_at, place_at, no_facts_hold, Facts, Part, Plain, no_facts, Base, distance, addition_steps, base_added_steps, base_steps, location_word_steps, knowing, Context, IsSound, distances_in, StepsStand, Know, Left, address_on_machine}
+use Rattle.task_laws.proofs.Prelude.{◌≡◌, ℕ, ◌+◌, ◌*◌, ◌<◌, Bool, true, false, List, [], ◌∷◌, ◌++◌, refl, sym, ap, subst, ◌∙◌, arith, byte_at, SourcePlace, InMemory, InTheFrame, home_of, place_of, based_place, SourceState, Outcome, Gave, Dad, Lxi, Xchg, Bc, De, Sp, Registers, State, high_byte, low_byte, word, wrap, Number, is_static_location, Does, loaded_of, at_place, Activation, HasRoom, location_at, place_at, no_facts_hold, Facts, Part, Plain, no_facts, Base, distance, addition_steps, base_added_steps, base_steps, location_word_steps, knowing, Context, IsSound, distances_in, StepsStand, Know, Left, address_on_machine}
 use Rattle.treecode.specs.declared.place.Location.TheVariants as locations
 use Rattle.steps8080.specs.declared.sites.queries.Base.TheVariants as bases
 use Rattle.task_laws.proofs.Machine.Rules.{GoesOn, steps_split}
@@ -58,15 +58,15 @@ pub base_goes :
     → ((now : Registers) (found : SourcePlace)
     → PlaceBeside context.activation (base_keeps_a base) true r found now
     → GoesOn context last top base_memory s.memory s.frame now memory
-    → Does context.activation.around.program.script budget more (at_place to now memory s.events)
+    → Does (loaded_of context.activation) budget more (at_place to now memory s.events)
     (Gave found s) Good)
-    → Does context.activation.around.program.script budget more (at_place from r memory s.events)
+    → Does (loaded_of context.activation) budget more (at_place from r memory s.events)
     (based_place (home_of context.activation.around object) context.activation.around object
     bytes is_inside s) Good
 base_goes {Good = Good} {context = context} {budget = budget} {more = more} {known = known} {memory = memory}
     {from = from} used (bases.Static place) bytes is_inside s r sound room small (InPlace at) is
     known_here stand on rest =
-    subst (λ (outcome : Outcome SourcePlace). Does context.activation.around.program.script budget more
+    subst (λ (outcome : Outcome SourcePlace). Does (loaded_of context.activation) budget more
     (at_place from r memory s.events) outcome Good)
     (sym (at bytes 0 is_inside s (alone bytes known is)))
     (location_address_goes used (locations.Static place) r sound room small known_here stand on
@@ -79,7 +79,7 @@ base_goes {Good = Good} {context = context} {budget = budget} {more = more} {kno
 base_goes {Good = Good} {context = context} {budget = budget} {more = more} {object = object} {known = known}
     {memory = memory} {from = from} used (bases.Frame variable offset) bytes is_inside s r sound room small
     (InAFrame at is_at) is known_here stand on rest =
-    subst (λ (outcome : Outcome SourcePlace). Does context.activation.around.program.script budget more
+    subst (λ (outcome : Outcome SourcePlace). Does (loaded_of context.activation) budget more
     (at_place from r memory s.events) outcome Good)
     (sym (at bytes is_inside s))
     (location_address_goes used (locations.Frame variable offset) r sound room
@@ -97,7 +97,7 @@ base_goes {Good = Good} {context = context} {PartIs = PartIs} {last = last} {to 
     {pushed = pushed} {need = need} {budget = budget} {more = more} {object = object} {known = known}
     {memory = memory} {facts = facts} {from = from} used (bases.Based pointer offset) bytes is_inside s r
     sound room small (OnBase base offset_is at pointer_is fits) is known_here stand on rest =
-    subst (λ (outcome : Outcome SourcePlace). Does context.activation.around.program.script budget more
+    subst (λ (outcome : Outcome SourcePlace). Does (loaded_of context.activation) budget more
     (at_place from r memory s.events) outcome Good)
     (sym (at bytes is_inside s))
     (word_read (place_of context.activation.around base) s
@@ -164,9 +164,9 @@ pub base_added_goes :
     → ((now : Registers) (found : SourcePlace)
     → PlaceBeside context.activation (base_keeps_a base) (added_base_keeps_de base) r found now
     → GoesOn context last top base_memory s.memory s.frame now memory
-    → Does context.activation.around.program.script budget more (at_place to now memory s.events)
+    → Does (loaded_of context.activation) budget more (at_place to now memory s.events)
     (Gave found s) Good)
-    → Does context.activation.around.program.script budget more (at_place from r memory s.events)
+    → Does (loaded_of context.activation) budget more (at_place from r memory s.events)
     (based_place (home_of context.activation.around object) context.activation.around object
     bytes is_inside s) Good
 unfolding distance
@@ -174,7 +174,7 @@ base_added_goes {Good = Good} {context = context} {budget = budget} {more = more
     {memory = memory} {from = from} used (bases.Static place) bytes is_inside s r sound room small
     (InPlace at) is stand on rest =
     let address : ℕ = place_at context.activation.layout place in
-    subst (λ (outcome : Outcome SourcePlace). Does context.activation.around.program.script budget more
+    subst (λ (outcome : Outcome SourcePlace). Does (loaded_of context.activation) budget more
     (at_place from r memory s.events) outcome Good)
     (sym (at bytes (word r.h r.l) is_inside s is))
     (addition_goes place r sound small stand on
@@ -191,7 +191,7 @@ base_added_goes {Good = Good} {context = context} {top = top} {pushed = pushed} 
     let address : ℕ =
     location_at context.activation (distances_in context) (locations.Frame variable offset) in
     let first : ℕ = wrap (word r.h r.l + word (high_byte away) (low_byte away)) in
-    subst (λ (outcome : Outcome SourcePlace). Does context.activation.around.program.script budget more
+    subst (λ (outcome : Outcome SourcePlace). Does (loaded_of context.activation) budget more
     (at_place from r memory s.events) outcome Good)
     (sym (at bytes is_inside s))
     (registers_end (Lxi Bc away ∷ Dad Bc ∷ Dad Sp ∷ []) r sound (tt, (tt, (tt, tt))) stand on
@@ -212,7 +212,7 @@ base_added_goes {Good = Good} {context = context} {PartIs = PartIs} {last = last
     let low : ℕ = byte_at memory (address_on_machine context.activation place) in
     let high : ℕ = byte_at memory (wrap (address_on_machine context.activation place + 1)) in
     let one : Registers = record r { h = r.d; l = r.e; d = r.h; e = r.l } in
-    subst (λ (outcome : Outcome SourcePlace). Does context.activation.around.program.script budget more
+    subst (λ (outcome : Outcome SourcePlace). Does (loaded_of context.activation) budget more
     (at_place from r memory s.events) outcome Good)
     (sym (at bytes is_inside s))
     (word_read place s (λ start t. Gave (InMemory (wrap (start + bytes))) t) sound on.ready fits

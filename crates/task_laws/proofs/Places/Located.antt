@@ -1,5 +1,5 @@
 -- The code of the address of an object or a part of it puts the address of its place into HL.
-use Rattle.task_laws.proofs.Prelude.{◌≡◌, ℕ, ◌+◌, ◌*◌, ◌%◌, ◌<◌, ◌≤◌, Bool, true, false, not, ◌&&◌, ◌||◌, List, ◌++◌, Option, Some, None, is_some, max, refl, sym, ap, subst, ◌∙◌, arith, IsSomeAnd, slice_get, height_of, height_of_reference, height_of_subscript, PartOf, Subscript, TypedObject, TypedReference, IsSeen, SourcePlace, home_of, Displacement, based_place, displacement, value, SourceState, Outcome, Gave, Stopped, then_do, Registers, word, wrap, Home, Reference, IndexNode, Keeps, IsPart, home_at, home, is_static_location, keeps_of_part, keeps_of_subscript, keeps_of_sum, Does, at_place, Arrives, HasRoom, does_without_step, Facts, Base, base_after, base_of, keeps_of_address, located_at, address_steps, base_added_steps, located_steps, second_steps, product_steps, knowing, Context, IsSound, nodes_in, StepsStand, AddressDoes, AddressIsGiven, PartDoes, false≢true, and_parts}
+use Rattle.task_laws.proofs.Prelude.{◌≡◌, ℕ, ◌+◌, ◌*◌, ◌%◌, ◌<◌, ◌≤◌, Bool, true, false, not, ◌&&◌, ◌||◌, List, ◌++◌, Option, Some, None, is_some, max, refl, sym, ap, subst, ◌∙◌, arith, IsSomeAnd, slice_get, height_of, height_of_reference, height_of_subscript, PartOf, Subscript, TypedObject, TypedReference, IsSeen, SourcePlace, home_of, Displacement, based_place, displacement, value, SourceState, Outcome, Gave, Stopped, then_do, Registers, word, wrap, Home, Reference, IndexNode, Keeps, IsPart, home_at, home, is_static_location, keeps_of_part, keeps_of_subscript, keeps_of_sum, Does, loaded_of, at_place, Arrives, HasRoom, does_without_step, Facts, Base, base_after, base_of, keeps_of_address, located_at, address_steps, base_added_steps, located_steps, second_steps, product_steps, knowing, Context, IsSound, nodes_in, StepsStand, AddressDoes, AddressIsGiven, PartDoes, false≢true, and_parts}
 use Rattle.treecode.specs.declared.place.Home.TheVariants as homes
 use Rattle.steps8080.specs.Queries.{located}
 use Rattle.task_laws.proofs.Machine.Rules.{GoesOn, steps_split as split_steps}
@@ -140,7 +140,7 @@ located_goes :
     (located_steps (knowing context.site facts)
     (located_at (base_with context object offset one_known two_known) one_index two_index) pushed) last to
     → GoesOn context facts top base s.memory s.frame r memory
-    → Does context.activation.around.program.script s.budget 0 (at_place from r memory s.events)
+    → Does (loaded_of context.activation) s.budget 0 (at_place from r memory s.events)
     (located_in context (PartOf object subscript member offset member_subscript) s)
     (Arrives context.activation top base to
     (AddressIsGiven context last
@@ -155,7 +155,7 @@ located_goes {context = context} {facts = facts} {last = last} {from = from} {to
     let start : Home = home_at context.site.tree.now.homes.items object in
     let whole = part_keeps context reference None None kept_none kept_none_too in
     subst (λ (outcome : Outcome Displacement).
-    Does context.activation.around.program.script s.budget 0 (at_place from r memory s.events)
+    Does (loaded_of context.activation) s.budget 0 (at_place from r memory s.events)
     (then_do outcome (λ one t. then_do (displacement context.later
     context.activation.around member_subscript t)
     (λ two u. based_place (home_of context.activation.around object) context.activation.around object
@@ -163,7 +163,7 @@ located_goes {context = context} {facts = facts} {last = last} {from = from} {to
     (Arrives context.activation top base to (AddressIsGiven context last reference r memory)))
     (sym (means s))
     (subst (λ (outcome : Outcome Displacement).
-    Does context.activation.around.program.script s.budget 0 (at_place from r memory s.events)
+    Does (loaded_of context.activation) s.budget 0 (at_place from r memory s.events)
     (then_do outcome (λ two u. based_place (home_of context.activation.around object)
     context.activation.around object
     (shift.bytes + offset + two.bytes) (shift.is_inside && two.is_inside) u))
@@ -208,7 +208,7 @@ located_goes {context = context} {facts = facts} {last = last} {pushed = pushed}
     (λ two u. based_place (home_of context.activation.around object) context.activation.around object
     (one.bytes + offset + two.bytes) (one.is_inside && two.is_inside) u) in
     subst (λ (outcome : Outcome SourcePlace).
-    Does context.activation.around.program.script s.budget 0 (at_place from r memory s.events) outcome
+    Does (loaded_of context.activation) s.budget 0 (at_place from r memory s.events) outcome
     (Arrives context.activation top base to (AddressIsGiven context last reference r memory)))
     (sym (ap (λ (outcome : Outcome Displacement). then_do outcome go) (means s)
     ∙ changed_first (value context.later context.activation.around inner s) shift go))
@@ -219,7 +219,7 @@ located_goes {context = context} {facts = facts} {last = last} {pushed = pushed}
     (height_of_subscript member_subscript) high) on
     (λ n t there ended fewer on_there given.
     subst (λ (outcome : Outcome Displacement).
-    Does context.activation.around.program.script t.budget 0 (at_place parts.middle there ended t.events)
+    Does (loaded_of context.activation) t.budget 0 (at_place parts.middle there ended t.events)
     (then_do outcome (λ two u. based_place (home_of context.activation.around object)
     context.activation.around object
     ((shift n).bytes + offset + two.bytes) ((shift n).is_inside && two.is_inside) u))
@@ -276,7 +276,7 @@ located_goes {context = context} {facts = facts} {last = last} {pushed = pushed}
     = λ two u. based_place (home_of context.activation.around object) context.activation.around object
     (shift.bytes + offset + two.bytes) (shift.is_inside && two.is_inside) u in
     subst (λ (outcome : Outcome SourcePlace).
-    Does context.activation.around.program.script s.budget 0 (at_place from r memory s.events) outcome
+    Does (loaded_of context.activation) s.budget 0 (at_place from r memory s.events) outcome
     (Arrives context.activation top base to (AddressIsGiven context last reference r memory)))
     (sym (ap (λ (outcome : Outcome Displacement). then_do outcome
     (λ one t. then_do (displacement context.later context.activation.around member_subscript t)
@@ -347,7 +347,7 @@ located_goes {context = context} {facts = facts} {last = last} {pushed = pushed}
     (λ two u. based_place (home_of context.activation.around object) context.activation.around object
     (one.bytes + offset + two.bytes) (one.is_inside && two.is_inside) u) in
     subst (λ (outcome : Outcome SourcePlace).
-    Does context.activation.around.program.script s.budget 0 (at_place from r memory s.events) outcome
+    Does (loaded_of context.activation) s.budget 0 (at_place from r memory s.events) outcome
     (Arrives context.activation top base to (AddressIsGiven context last reference r memory)))
     (sym (ap (λ (outcome : Outcome Displacement). then_do outcome go) (means s)
     ∙ changed_first (value context.later context.activation.around inner s) shift go))
@@ -361,7 +361,7 @@ located_goes {context = context} {facts = facts} {last = last} {pushed = pushed}
     = λ two u. based_place (home_of context.activation.around object) context.activation.around object
     ((shift n).bytes + offset + two.bytes) ((shift n).is_inside && two.is_inside) u in
     subst (λ (outcome : Outcome SourcePlace).
-    Does context.activation.around.program.script t.budget 0
+    Does (loaded_of context.activation) t.budget 0
     (at_place parts.middle there ended t.events) outcome
     (Arrives context.activation top base to (AddressIsGiven context last reference r memory)))
     (sym (ap (λ (outcome : Outcome Displacement). then_do outcome go_on) (means_too t)

@@ -1,5 +1,5 @@
 -- The code that puts the byte at a location into A.
-use Rattle.task_laws.proofs.Prelude.{◌≡◌, ℕ, ◌+◌, ◌<◌, ◌≤◌, ◌⊎◌, inl, inr, ◌==◌, Bool, true, false, if◌then◌else◌, List, [], ◌∷◌, ◌++◌, Option, Some, None, refl, sym, ap, subst, ◌∙◌, arith, cases_lt, eqb-true, MEMORY_SIZE, byte_at, word_at, byte_small, Event, SourceState, Outcome, Instr, A, H, L, Registers, State, high_byte, low_byte, word, wrap, LoadA, Place, Location, is_static_location, Does, at_place, Item, Activation, HasRoom, IsThere, LiesWell, IsSteady, location_at, place_at, after_before, location_after_is, address_asks, address_in_hl_is, byte_in_a_is, byte_in_h_is, word_in_hl_is, Facts, Part, Step, Plain, Word, before, is_at, no_facts, copy, load, distance, note_word_steps, location_address_steps, frame_byte_steps, location_byte_steps, top_word_steps, knowing, Context, IsSound, distances_in, StepsStand, PlainThere, WordThere, HoldsThere, ChangesAOnly, Know}
+use Rattle.task_laws.proofs.Prelude.{◌≡◌, ℕ, ◌+◌, ◌<◌, ◌≤◌, ◌⊎◌, inl, inr, ◌==◌, Bool, true, false, if◌then◌else◌, List, [], ◌∷◌, ◌++◌, Option, Some, None, refl, sym, ap, subst, ◌∙◌, arith, cases_lt, eqb-true, MEMORY_SIZE, byte_at, word_at, byte_small, Event, SourceState, Outcome, Instr, A, H, L, Registers, State, high_byte, low_byte, word, wrap, LoadA, Place, Location, is_static_location, Does, loaded_of, at_place, Item, Activation, HasRoom, IsThere, LiesWell, IsSteady, location_at, place_at, after_before, location_after_is, address_asks, address_in_hl_is, byte_in_a_is, byte_in_h_is, word_in_hl_is, Facts, Part, Step, Plain, Word, before, is_at, no_facts, copy, load, distance, note_word_steps, location_address_steps, frame_byte_steps, location_byte_steps, top_word_steps, knowing, Context, IsSound, distances_in, StepsStand, PlainThere, WordThere, HoldsThere, ChangesAOnly, Know}
 use Rattle.treecode.specs.declared.place.Location.TheVariants as locations
 use Rattle.task_laws.proofs.Machine.Rules.{GoesOn, holds_go, ready_with_registers, registers_go, steps_split, word_goes}
 use Rattle.task_laws.proofs.Machine.Addresses.{location_address_goes, nothing_goes}
@@ -26,8 +26,8 @@ static_byte_goes :
     → GoesOn context facts top base source frame r memory
     → ((now : Registers) → ByteBeside memory (place_at context.activation.layout place) true r now
     → GoesOn context last top base source frame now memory
-    → Does context.activation.around.program.script budget more (at_place to now memory events) outcome Good)
-    → Does context.activation.around.program.script budget more (at_place from r memory events) outcome Good
+    → Does (loaded_of context.activation) budget more (at_place to now memory events) outcome Good)
+    → Does (loaded_of context.activation) budget more (at_place from r memory events) outcome Good
 static_byte_goes {context = context} {memory = memory} place r sound steady (WordThere there stand) on rest =
     let mem = on.ready.shares.is_memory in
     let bytes = on.ready.registers in
@@ -58,8 +58,8 @@ pub load_a_goes :
     → GoesOn context facts top base source frame r memory
     → ((now : Registers) → ByteBeside memory address true r now
     → GoesOn context last top base source frame now memory
-    → Does context.activation.around.program.script budget more (at_place to now memory events) outcome Good)
-    → Does context.activation.around.program.script budget more (at_place from r memory events) outcome Good
+    → Does (loaded_of context.activation) budget more (at_place to now memory events) outcome Good)
+    → Does (loaded_of context.activation) budget more (at_place from r memory events) outcome Good
 load_a_goes {context = context} {memory = memory} {facts = facts} address r sound steady is
     (PlainThere there stand) on rest =
     let bytes = on.ready.registers in
@@ -85,8 +85,8 @@ copy_goes :
     → GoesOn context facts top base source frame r memory
     → ((now : Registers) → ByteBeside memory address true r now
     → GoesOn context last top base source frame now memory
-    → Does context.activation.around.program.script budget more (at_place to now memory events) outcome Good)
-    → Does context.activation.around.program.script budget more (at_place from r memory events) outcome Good
+    → Does (loaded_of context.activation) budget more (at_place to now memory events) outcome Good)
+    → Does (loaded_of context.activation) budget more (at_place from r memory events) outcome Good
 copy_goes {memory = memory} true address r sound is (PlainThere there stand) on rest =
     let bytes = on.ready.registers in
     let now : Registers = record r { a = r.h } in
@@ -203,8 +203,8 @@ held_goes :
     → Know context (record no_facts { word_in_hl = Some location }) r memory
     → ((found : Facts) → StepsStand context PartIs found from others last to
     → GoesOn context found top base source frame r memory
-    → Does context.activation.around.program.script budget more (at_place from r memory events) outcome Good)
-    → Does context.activation.around.program.script budget more (at_place from r memory events) outcome Good
+    → Does (loaded_of context.activation) budget more (at_place from r memory events) outcome Good)
+    → Does (loaded_of context.activation) budget more (at_place from r memory events) outcome Good
 held_goes location others r (HoldsThere stand) on known rest = rest _ stand (holds_go on known)
 
 -- the byte at a location of the frame
@@ -226,8 +226,8 @@ frame_byte_goes :
     → ByteBeside memory
     (location_at context.activation (distances_in context) (locations.Frame variable offset)) false r now
     → GoesOn context last top base source frame now memory
-    → Does context.activation.around.program.script budget more (at_place to now memory events) outcome Good)
-    → Does context.activation.around.program.script budget more (at_place from r memory events) outcome Good
+    → Does (loaded_of context.activation) budget more (at_place to now memory events) outcome Good)
+    → Does (loaded_of context.activation) budget more (at_place from r memory events) outcome Good
 unfolding distance
 frame_byte_goes {outcome = outcome} {Good = Good} {context = context} {PartIs = PartIs} {last = last}
     {to = to} {top = top} {pushed = pushed} {need = need} {budget = budget} {more = more} {base = base}
@@ -246,7 +246,7 @@ frame_byte_goes {outcome = outcome} {Good = Good} {context = context} {PartIs = 
         ++ (Plain (copy A H) ∷ [])
         else location_address_steps (knowing context.site used) (locations.Frame variable offset) pushed
         ++ (Plain (load A) ∷ [])) last to
-        → Does context.activation.around.program.script budget more
+        → Does (loaded_of context.activation) budget more
         (at_place from r memory events) outcome Good
     by_test true one none_is one_is (PlainThere there (PlainThere again stand)) =
         let mem = on.ready.shares.is_memory in
@@ -339,8 +339,8 @@ pub location_byte_goes :
     → ByteBeside memory (location_at context.activation (distances_in context) location)
     (is_static_location location) r now
     → GoesOn context last top base source frame now memory
-    → Does context.activation.around.program.script budget more (at_place to now memory events) outcome Good)
-    → Does context.activation.around.program.script budget more (at_place from r memory events) outcome Good
+    → Does (loaded_of context.activation) budget more (at_place to now memory events) outcome Good)
+    → Does (loaded_of context.activation) budget more (at_place from r memory events) outcome Good
 location_byte_goes {outcome = outcome} {Good = Good} {context = context} {PartIs = PartIs} {last = last}
     {to = to} {top = top} {pushed = pushed} {need = need} {budget = budget} {more = more} {base = base}
     {source = source} {memory = memory} {frame = frame} {events = events} {facts = facts} {from = from} used
@@ -360,7 +360,7 @@ location_byte_goes {outcome = outcome} {Good = Good} {context = context} {PartIs
               frame_byte_steps (knowing context.site used) (locations.Frame variable offset)
               (distance (knowing context.site used) variable offset pushed) pushed
         ]) last to
-        → Does context.activation.around.program.script budget more
+        → Does (loaded_of context.activation) budget more
         (at_place from r memory events) outcome Good
     by_location (locations.Static place) of_is stand =
         static_byte_goes place r sound
@@ -371,7 +371,7 @@ location_byte_goes {outcome = outcome} {Good = Good} {context = context} {PartIs
         → ByteBeside memory (location_at context.activation (distances_in context) l)
         (is_static_location l) r now
         → GoesOn context last top base source frame now memory
-        → Does context.activation.around.program.script budget more (at_place to now memory events)
+        → Does (loaded_of context.activation) budget more (at_place to now memory events)
         outcome Good) of_is rest)
     by_location (locations.Frame variable offset) of_is stand =
         frame_byte_goes used variable offset r sound room
@@ -382,7 +382,7 @@ location_byte_goes {outcome = outcome} {Good = Good} {context = context} {PartIs
         → ByteBeside memory (location_at context.activation (distances_in context) l)
         (is_static_location l) r now
         → GoesOn context last top base source frame now memory
-        → Does context.activation.around.program.script budget more (at_place to now memory events)
+        → Does (loaded_of context.activation) budget more (at_place to now memory events)
         outcome Good) of_is rest)
 
     by_hl : (low high here : Bool)
@@ -400,7 +400,7 @@ location_byte_goes {outcome = outcome} {Good = Good} {context = context} {PartIs
                 (distance (knowing context.site used) variable offset pushed) pushed
           ]
         ]) last to
-        → Does context.activation.around.program.script budget more
+        → Does (loaded_of context.activation) budget more
         (at_place from r memory events) outcome Good
     by_hl true high here low_is high_is here_is stand =
         let is =
@@ -441,7 +441,7 @@ location_byte_goes {outcome = outcome} {Good = Good} {context = context} {PartIs
                 (distance (knowing context.site used) variable offset pushed) pushed
           ]
         ]) last to
-        → Does context.activation.around.program.script budget more
+        → Does (loaded_of context.activation) budget more
         (at_place from r memory events) outcome Good
     by_test true low high here a_is low_is high_is here_is stand =
         let is =

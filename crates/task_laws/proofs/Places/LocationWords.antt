@@ -1,5 +1,5 @@
 -- The code that puts the word at a location into HL.
-use Rattle.task_laws.proofs.Prelude.{◌≡◌, ℕ, zero, suc, ◌+◌, ◌*◌, ◌<◌, ◌==◌, Bool, true, false, if◌then◌else◌, List, [], ◌∷◌, ◌++◌, Some, slice_set, slice_index, refl, sym, ap, subst, ◌∙◌, arith, eqb-true, MEMORY_SIZE, IsMemory, byte_at, word_at, byte_small, Event, SourceState, Outcome, Mov, Pop, Push, Of, A, L, StackPair, StackBc, StackHl, Registers, State, high_byte, low_byte, one_less, pushed_of, two_less, word, wrap, act, LoadHl, Place, Location, is_static_location, Does, at_place, HasRoom, plain_first, IsSteady, location_at, place_at, without_hl_holds, address_asks, word_in_hl_is, Facts, Part, Step, Word, is_at, no_facts, plain, distance, frame_word_steps, note_word_steps, location_address_steps, location_word_steps, word_at_hl_steps, knowing, Context, IsSound, distances_in, StepsStand, NoneThere, PlainThere, WordThere, HoldsThere, Know, next_word}
+use Rattle.task_laws.proofs.Prelude.{◌≡◌, ℕ, zero, suc, ◌+◌, ◌*◌, ◌<◌, ◌==◌, Bool, true, false, if◌then◌else◌, List, [], ◌∷◌, ◌++◌, Some, slice_set, slice_index, refl, sym, ap, subst, ◌∙◌, arith, eqb-true, MEMORY_SIZE, IsMemory, byte_at, word_at, byte_small, Event, SourceState, Outcome, Mov, Pop, Push, Of, A, L, StackPair, StackBc, StackHl, Registers, State, high_byte, low_byte, one_less, pushed_of, two_less, word, wrap, act, LoadHl, Place, Location, is_static_location, Does, loaded_of, at_place, HasRoom, plain_first, IsSteady, location_at, place_at, without_hl_holds, address_asks, word_in_hl_is, Facts, Part, Step, Word, is_at, no_facts, plain, distance, frame_word_steps, note_word_steps, location_address_steps, location_word_steps, word_at_hl_steps, knowing, Context, IsSound, distances_in, StepsStand, NoneThere, PlainThere, WordThere, HoldsThere, Know, next_word}
 use Rattle.treecode.specs.declared.place.Location.TheVariants as locations
 use Rattle.task_laws.proofs.Machine.Rules.{GoesOn, holds_go, pushed_anywhere, ready_with_registers, registers_go, steps_split, word_goes}
 use Rattle.task_laws.proofs.Machine.Addresses.{frame_address, location_address_goes, nothing_goes, registers_end}
@@ -76,15 +76,16 @@ pub top_word_goes :
     → StepsStand context PartIs found middle others last to
     → GoesOn context found top base source frame
     (record r { h = high_byte (word_at memory r.sp); l = low_byte (word_at memory r.sp) }) memory
-    → Does context.activation.around.program.script budget more
+    → Does (loaded_of context.activation) budget more
     (at_place middle (record r { h = high_byte (word_at memory r.sp); l = low_byte (word_at memory r.sp) })
     memory events)
     outcome Good)
-    → Does context.activation.around.program.script budget more (at_place from r memory events) outcome Good
+    → Does (loaded_of context.activation) budget more (at_place from r memory events) outcome Good
 top_word_goes {outcome = outcome} {Good = Good} {context = context} {top = top} {budget = budget}
     {more = more} {memory = memory} {events = events} {facts = facts} {from = from} others r sound
     (PlainThere there (PlainThere again stand)) on rest =
     let script = context.activation.around.program.script in
+    let loaded = loaded_of context.activation in
     let shares = on.ready.shares in
     let is = shares.is_memory in
     let bytes = on.ready.registers in
@@ -96,7 +97,7 @@ top_word_goes {outcome = outcome} {Good = Good} {context = context} {top = top} 
     record r { h = high_byte number; l = low_byte number; sp = wrap (r.sp + 2) } in
     plain_first r sound.lies shares.code there
     (plain_first after_pop sound.lies shares.code again
-    (subst (λ (s : State). Does script budget more s outcome Good)
+    (subst (λ (s : State). Does loaded budget more s outcome Good)
     (sym (push_back script StackHl (from + 1 + 1) r.sp after_pop memory events refl small is
     (omega (arith, fits))))
     (rest (from + 1 + 1) _ stand (record {
@@ -121,13 +122,14 @@ pub second_word_goes :
     → now ≡ record r { b = now.b; c = now.c; h = high_byte (word_at memory (wrap (r.sp + 2))); l = low_byte (word_at memory (wrap (r.sp + 2))) }
     → StepsStand context PartIs found middle others last to
     → GoesOn context found top base source frame now memory
-    → Does context.activation.around.program.script budget more
+    → Does (loaded_of context.activation) budget more
     (at_place middle now memory events) outcome Good)
-    → Does context.activation.around.program.script budget more (at_place from r memory events) outcome Good
+    → Does (loaded_of context.activation) budget more (at_place from r memory events) outcome Good
 second_word_goes {outcome = outcome} {Good = Good} {context = context} {top = top} {budget = budget}
     {more = more} {memory = memory} {events = events} {facts = facts} {from = from} others r sound
     (PlainThere there (PlainThere next (PlainThere again (PlainThere once stand)))) on rest =
     let script = context.activation.around.program.script in
+    let loaded = loaded_of context.activation in
     let shares = on.ready.shares in
     let is = shares.is_memory in
     let bytes = on.ready.registers in
@@ -147,11 +149,11 @@ second_word_goes {outcome = outcome} {Good = Good} {context = context} {top = to
     plain_first r sound.lies shares.code there
     (plain_first one sound.lies shares.code next
     (plain_first two sound.lies shares.code again
-    (subst (λ (s : State). Does script budget more s outcome Good)
+    (subst (λ (s : State). Does loaded budget more s outcome Good)
     (sym (push_back script StackHl (from + 1 + 1 + 1) above two memory events refl above_small is
     (omega (arith, fits_too))))
     (plain_first three sound.lies shares.code once
-    (subst (λ (s : State). Does script budget more s outcome Good)
+    (subst (λ (s : State). Does loaded budget more s outcome Good)
     (sym (push_back script StackBc (from + 1 + 1 + 1 + 1) r.sp three memory events refl small is
     (omega (arith, fits))))
     (rest (from + 1 + 1 + 1 + 1) _ now refl stand (record {
@@ -183,8 +185,8 @@ pub word_at_hl_goes :
     → GoesOn context facts top base source frame r memory
     → ((now : Registers) → WordBeside memory address false r now
     → GoesOn context last top base source frame now memory
-    → Does context.activation.around.program.script budget more (at_place to now memory events) outcome Good)
-    → Does context.activation.around.program.script budget more (at_place from r memory events) outcome Good
+    → Does (loaded_of context.activation) budget more (at_place to now memory events) outcome Good)
+    → Does (loaded_of context.activation) budget more (at_place from r memory events) outcome Good
 word_at_hl_goes {context = context} {memory = memory} {events = events} {facts = facts} address r sound steady
     is (PlainThere there (PlainThere next (PlainThere again stand))) on rest =
     let bytes = on.ready.registers in
@@ -238,8 +240,8 @@ note_word_goes :
     → GoesOn context facts top base source frame r memory
     → Know context (record no_facts { word_in_hl = Some location }) r memory
     → (GoesOn context last top base source frame r memory
-    → Does context.activation.around.program.script budget more (at_place to r memory events) outcome Good)
-    → Does context.activation.around.program.script budget more (at_place from r memory events) outcome Good
+    → Does (loaded_of context.activation) budget more (at_place to r memory events) outcome Good)
+    → Does (loaded_of context.activation) budget more (at_place from r memory events) outcome Good
 note_word_goes location r (HoldsThere NoneThere) on known rest = rest (holds_go on known)
 
 -- the distance from the stack pointer up to a location of the frame
@@ -281,8 +283,8 @@ frame_word_goes :
     → WordBeside memory
     (location_at context.activation (distances_in context) (locations.Frame variable offset)) false r now
     → GoesOn context last top base source frame now memory
-    → Does context.activation.around.program.script budget more (at_place to now memory events) outcome Good)
-    → Does context.activation.around.program.script budget more (at_place from r memory events) outcome Good
+    → Does (loaded_of context.activation) budget more (at_place to now memory events) outcome Good)
+    → Does (loaded_of context.activation) budget more (at_place from r memory events) outcome Good
 unfolding distance
 frame_word_goes {outcome = outcome} {Good = Good} {context = context} {PartIs = PartIs} {last = last}
     {to = to} {top = top} {pushed = pushed} {need = need} {budget = budget} {more = more} {base = base}
@@ -302,7 +304,7 @@ frame_word_goes {outcome = outcome} {Good = Good} {context = context} {PartIs = 
         else location_address_steps (knowing context.site used) (locations.Frame variable offset) pushed
         ++ word_at_hl_steps
         ++ note_word_steps (locations.Frame variable offset)) last to
-        → Does context.activation.around.program.script budget more
+        → Does (loaded_of context.activation) budget more
         (at_place from r memory events) outcome Good
     by_test true two none_is two_is stand =
         let mem = on.ready.shares.is_memory in
@@ -391,8 +393,8 @@ static_goes :
     → ((now : Registers)
     → WordBeside memory (place_at context.activation.layout place) true r now
     → GoesOn context last top base source frame now memory
-    → Does context.activation.around.program.script budget more (at_place to now memory events) outcome Good)
-    → Does context.activation.around.program.script budget more (at_place from r memory events) outcome Good
+    → Does (loaded_of context.activation) budget more (at_place to now memory events) outcome Good)
+    → Does (loaded_of context.activation) budget more (at_place from r memory events) outcome Good
 static_goes {context = context} {memory = memory} place r sound steady next (WordThere there stand) on rest =
     let mem = on.ready.shares.is_memory in
     let bytes = on.ready.registers in
@@ -435,8 +437,8 @@ pub location_word_goes :
     → WordBeside memory (location_at context.activation (distances_in context) location)
     (is_static_location location) r now
     → GoesOn context last top base source frame now memory
-    → Does context.activation.around.program.script budget more (at_place to now memory events) outcome Good)
-    → Does context.activation.around.program.script budget more (at_place from r memory events) outcome Good
+    → Does (loaded_of context.activation) budget more (at_place to now memory events) outcome Good)
+    → Does (loaded_of context.activation) budget more (at_place from r memory events) outcome Good
 location_word_goes {outcome = outcome} {Good = Good} {context = context} {PartIs = PartIs} {last = last}
     {to = to} {top = top} {pushed = pushed} {need = need} {budget = budget} {more = more} {base = base}
     {source = source} {memory = memory} {frame = frame} {events = events} {facts = facts} {from = from} used
@@ -453,7 +455,7 @@ location_word_goes {outcome = outcome} {Good = Good} {context = context} {PartIs
               frame_word_steps (knowing context.site used) (locations.Frame variable offset)
               (distance (knowing context.site used) variable offset pushed) pushed
         ]) last to
-        → Does context.activation.around.program.script budget more
+        → Does (loaded_of context.activation) budget more
         (at_place from r memory events) outcome Good
     by_test true here_is of of_is stand =
         let is =
@@ -472,7 +474,7 @@ location_word_goes {outcome = outcome} {Good = Good} {context = context} {PartIs
         → WordBeside memory (location_at context.activation (distances_in context) l)
         (is_static_location l) r now
         → GoesOn context last top base source frame now memory
-        → Does context.activation.around.program.script budget more (at_place to now memory events)
+        → Does (loaded_of context.activation) budget more (at_place to now memory events)
         outcome Good) of_is rest)
     by_test false here_is (locations.Frame variable offset) of_is stand =
         frame_word_goes used variable offset r sound room
@@ -485,5 +487,5 @@ location_word_goes {outcome = outcome} {Good = Good} {context = context} {PartIs
         → WordBeside memory (location_at context.activation (distances_in context) l)
         (is_static_location l) r now
         → GoesOn context last top base source frame now memory
-        → Does context.activation.around.program.script budget more (at_place to now memory events)
+        → Does (loaded_of context.activation) budget more (at_place to now memory events)
         outcome Good) of_is rest)

@@ -1,5 +1,5 @@
 -- Assumptions about the code of products, and their use.
-use Rattle.task_laws.proofs.Prelude.{◌≡◌, ℕ, ◌*◌, ◌%◌, ◌<◌, ◌≤◌, List, sym, subst, Address, height_of, type_of, TypedExpression, TypesHold, value, SourceState, Outcome, then_do, Registers, State, word, ExpressionNumber, IsExpression, Does, at_place, HasRoom, then_does, Facts, keeps, product_steps, Context, nodes_in, StepsStand, Carries, Know, Left, Nothing, PartDoes}
+use Rattle.task_laws.proofs.Prelude.{◌≡◌, ℕ, ◌*◌, ◌%◌, ◌<◌, ◌≤◌, List, sym, subst, Address, height_of, type_of, TypedExpression, TypesHold, value, SourceState, Outcome, then_do, Registers, State, word, ExpressionNumber, IsExpression, Does, loaded_of, at_place, HasRoom, then_does, Facts, keeps, product_steps, Context, nodes_in, StepsStand, Carries, Know, Left, Nothing, PartDoes}
 use Rattle.task_laws.proofs.Machine.Rules.{GoesOn, room_for}
 
 -- a value times a number, modulo the size of memory, is in HL; A and DE are left alone where the tree says so
@@ -50,9 +50,9 @@ pub product_then :
     → t.budget ≤ s.budget
     → GoesOn context found top base t.memory t.frame now ended
     → ProductIsGiven context found index stride r memory n now ended
-    → Does context.activation.around.program.script t.budget more
+    → Does (loaded_of context.activation) t.budget more
     (at_place middle now ended t.events) (go n t) Good)
-    → Does context.activation.around.program.script s.budget more (at_place from r memory s.events)
+    → Does (loaded_of context.activation) s.budget more (at_place from r memory s.events)
     (then_do (value context.later context.activation.around tree s) go) Good
 product_then {more = more} {go = go} {Good = Good} {context = context} {bound = bound} {top = top}
     {base = base} {tree = tree} from s r memory does is types address less room high on rest =
@@ -60,7 +60,7 @@ product_then {more = more} {go = go} {Good = Good} {context = context} {bound = 
     (does bound tree is types address top base s r memory less (room_for (2 * height_of tree) high room)
     on.ready on.known tt)
     (λ n t end given fewer.
-    subst (λ (state : State). Does context.activation.around.program.script t.budget more state (go n t) Good)
+    subst (λ (state : State). Does (loaded_of context.activation) t.budget more state (go n t) Good)
     (sym given.is_at)
     (rest n t given.r given.memory fewer
     (record { ready = given.ready; known = (given.holds).known }) given.holds))

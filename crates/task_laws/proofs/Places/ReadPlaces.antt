@@ -1,16 +1,16 @@
 -- Reads at places, on both sides: the bytes of the machine's memory, or the read goes outside the language.
-use Rattle.task_laws.proofs.Prelude.{◌≡◌, ℕ, ◌+◌, ◌*◌, ◌/◌, ◌%◌, ◌<◌, ◌≤◌, ◌⊎◌, inl, inr, Bool, true, false, if◌then◌else◌, List, refl, sym, ap, ◌∙◌, arith, byte_at, byte_small, ScalarType, Byte, Address, size_of_scalar, UndeclaredByte, SourceState, Ended, More, Outside, Outcome, Gave, Stopped, then_do, InMemory, InTheFrame, is_declared, next_place, read_byte, read_scalar, values_of, Registers, State, wrap, Does, IsReady, IsSteady, declared_is_steady, GoesOutside, Context, IsSound, address_on_machine, high_of_two, low_of_two, two_bytes_fit, byte_is_low}
+use Rattle.task_laws.proofs.Prelude.{◌≡◌, ℕ, ◌+◌, ◌*◌, ◌/◌, ◌%◌, ◌<◌, ◌≤◌, ◌⊎◌, inl, inr, Bool, true, false, if◌then◌else◌, List, refl, sym, ap, ◌∙◌, arith, byte_at, byte_small, ScalarType, Byte, Address, size_of_scalar, UndeclaredByte, SourceState, Ended, More, Outside, Outcome, Gave, Stopped, then_do, InMemory, InTheFrame, is_declared, next_place, read_byte, read_scalar, values_of, Registers, State, wrap, Does, Loaded, IsReady, IsSteady, declared_is_steady, GoesOutside, Context, IsSound, address_on_machine, high_of_two, low_of_two, two_bytes_fit, byte_is_low}
 use Rattle.meaning.specs.Access.{Place}
 use Rattle.task_laws.proofs.Places.Reading.{FitsIn, frame_is, of_frame}
 use Rattle.task_laws.proofs.Stores.WordWriting.{first_fits, second_fits}
 
 -- if the source goes outside, any machine does it
 pub does_outside :
-    {A : Type 0} {script : List (List ℕ)} {budget more : ℕ} {from : State}
+    {A : Type 0} {loaded : Loaded} {budget more : ℕ} {from : State}
     {Good : A → SourceState → State → Type 0}
     (outcome : Outcome A)
     → GoesOutside outcome
-    → Does script budget more from outcome Good
+    → Does loaded budget more from outcome Good
 does_outside (Gave found t) is = absurd is
 does_outside (Stopped (Outside reason) t) is = record { told = tt }
 does_outside (Stopped Ended t) is = absurd is

@@ -1,6 +1,6 @@
 -- Scalars that are read: the machine has their bytes at the address of their place, and these bytes are
 -- steady.
-use Rattle.task_laws.proofs.Prelude.{◌≡◌, ℕ, ◌+◌, ◌*◌, ◌<◌, ◌≤◌, Bool, true, false, if◌then◌else◌, List, slice_index, refl, ap, subst, ◌∙◌, arith, MEMORY_SIZE, byte_at, Byte, Address, UndeclaredByte, SourceState, Outside, Outcome, Gave, Stopped, then_do, InMemory, InTheFrame, frame_bytes, is_declared, read_scalar, Registers, State, wrap, Does, Activation, IsReady, IsSteady, declared_is_steady, Context, IsSound, address_on_machine}
+use Rattle.task_laws.proofs.Prelude.{◌≡◌, ℕ, ◌+◌, ◌*◌, ◌<◌, ◌≤◌, Bool, true, false, if◌then◌else◌, List, slice_index, refl, ap, subst, ◌∙◌, arith, MEMORY_SIZE, byte_at, Byte, Address, UndeclaredByte, SourceState, Outside, Outcome, Gave, Stopped, then_do, InMemory, InTheFrame, frame_bytes, is_declared, read_scalar, Registers, State, wrap, Does, loaded_of, Activation, IsReady, IsSteady, declared_is_steady, Context, IsSound, address_on_machine}
 use Rattle.meaning.specs.Access.{Place}
 
 -- `size` bytes from a place on are those of an object, if the place is inside it
@@ -50,20 +50,20 @@ pub byte_read :
     → IsReady context.activation top base s.memory s.frame r memory
     → FitsIn context.activation 1 place
     → (IsSteady context.activation (address_on_machine context.activation place)
-    → Does context.activation.around.program.script budget more from
+    → Does (loaded_of context.activation) budget more from
     (go (byte_at memory (address_on_machine context.activation place)) s) Good)
-    → Does context.activation.around.program.script budget more from
+    → Does (loaded_of context.activation) budget more from
     (then_do (read_scalar context.activation.around.program Byte place s) go) Good
 byte_read {budget = budget} {more = more} {from = from} {Good = Good} {context = context} {memory = memory}
     (InMemory address) s go sound ready fits does =
     by_test (is_declared context.activation.around.program address) refl
   where
     by_test : (declared : Bool) → is_declared context.activation.around.program address ≡ declared
-        → Does context.activation.around.program.script budget more from
+        → Does (loaded_of context.activation) budget more from
         (then_do (if declared then Gave (byte_at s.memory address) s else Stopped (Outside UndeclaredByte) s)
         go) Good
     by_test true is =
-        subst (λ (byte : ℕ). Does context.activation.around.program.script budget more from (go byte s) Good)
+        subst (λ (byte : ℕ). Does (loaded_of context.activation) budget more from (go byte s) Good)
         (ready.shares.declared address is)
         (does (declared_is_steady context.activation address sound.lies is))
     by_test false is = record { told = tt }
@@ -72,7 +72,7 @@ byte_read {budget = budget} {more = more} {from = from} {Good = Good} {context =
     let within : offset + 1 ≤ context.activation.size object = fits refl in
     let less : offset < context.activation.size object = omega (arith, within) in
     let is = frame_is context object offset sound less in
-    subst (λ (byte : ℕ). Does context.activation.around.program.script budget more from (go byte s) Good)
+    subst (λ (byte : ℕ). Does (loaded_of context.activation) budget more from (go byte s) Good)
     (ap (byte_at memory) is ∙ ready.frame_lies.bytes object offset less)
     (does (of_frame context.activation object offset
     (wrap (context.activation.level + context.activation.distance object + offset)) less is))
@@ -88,10 +88,10 @@ pub word_read :
     → FitsIn context.activation 2 place
     → (IsSteady context.activation (address_on_machine context.activation place)
     → IsSteady context.activation (wrap (address_on_machine context.activation place + 1))
-    → Does context.activation.around.program.script budget more from
+    → Does (loaded_of context.activation) budget more from
     (go (byte_at memory (address_on_machine context.activation place)
     + 256 * byte_at memory (wrap (address_on_machine context.activation place + 1))) s) Good)
-    → Does context.activation.around.program.script budget more from
+    → Does (loaded_of context.activation) budget more from
     (then_do (read_scalar context.activation.around.program Address place s) go) Good
 word_read {budget = budget} {more = more} {from = from} {Good = Good} {context = context} {memory = memory}
     (InMemory address) s go sound ready fits does =
@@ -101,7 +101,7 @@ word_read {budget = budget} {more = more} {from = from} {Good = Good} {context =
     by_test : (first second : Bool)
         → is_declared context.activation.around.program address ≡ first
         → is_declared context.activation.around.program (wrap (address + 1)) ≡ second
-        → Does context.activation.around.program.script budget more from
+        → Does (loaded_of context.activation) budget more from
         (then_do
         (then_do (if first then Gave (byte_at s.memory address) s else Stopped (Outside UndeclaredByte) s)
         (λ low t. then_do
@@ -110,7 +110,7 @@ word_read {budget = budget} {more = more} {from = from} {Good = Good} {context =
         (λ high u. Gave (low + 256 * high) u)))
         go) Good
     by_test true true one two =
-        subst (λ (number : ℕ). Does context.activation.around.program.script budget more
+        subst (λ (number : ℕ). Does (loaded_of context.activation) budget more
         from (go number s) Good)
         (ap (λ (low : ℕ). low + 256 * byte_at memory (wrap (address + 1))) (ready.shares.declared address one)
         ∙ ap (λ (high : ℕ). byte_at s.memory address + 256 * high)
@@ -127,7 +127,7 @@ word_read {budget = budget} {more = more} {from = from} {Good = Good} {context =
     let is = frame_is context object offset sound less in
     let next = frame_next context object offset sound less_too in
     let address : ℕ = wrap (context.activation.level + context.activation.distance object + offset) in
-    subst (λ (number : ℕ). Does context.activation.around.program.script budget more from (go number s) Good)
+    subst (λ (number : ℕ). Does (loaded_of context.activation) budget more from (go number s) Good)
     (ap (λ (low : ℕ). low + 256 * byte_at memory (wrap (address + 1)))
     (ap (byte_at memory) is ∙ ready.frame_lies.bytes object offset less)
     ∙ ap (λ (high : ℕ). slice_index (frame_bytes s.frame object) offset + 256 * high)

@@ -1,5 +1,5 @@
 -- The code that adds a second subscript to a first one, which is kept in DE or on the stack meanwhile.
-use Rattle.task_laws.proofs.Prelude.{◌≡◌, ℕ, ◌+◌, ◌-◌, ◌*◌, ◌%◌, ◌<◌, ◌≤◌, Bool, true, false, if◌then◌else◌, List, [], ◌∷◌, ◌++◌, refl, sym, ap, ◌∙◌, arith, Address, height_of, type_of, TypedExpression, TypesHold, value, SourceState, Outcome, then_do, Dad, Pop, Push, Xchg, De, StackDe, StackHl, Registers, State, high_byte, low_byte, pushed_of, word, wrap, pushed_memory, ExpressionNumber, IndexNode, IsExpression, Does, at_place, HasRoom, Facts, Plain, plain, keeps, expression, second_steps, product_steps, knowing, Context, IsSound, nodes_in, StepsStand, PlainThere, Left, PartDoes, word_of_bytes}
+use Rattle.task_laws.proofs.Prelude.{◌≡◌, ℕ, ◌+◌, ◌-◌, ◌*◌, ◌%◌, ◌<◌, ◌≤◌, Bool, true, false, if◌then◌else◌, List, [], ◌∷◌, ◌++◌, refl, sym, ap, ◌∙◌, arith, Address, height_of, type_of, TypedExpression, TypesHold, value, SourceState, Outcome, then_do, Dad, Pop, Push, Xchg, De, StackDe, StackHl, Registers, State, high_byte, low_byte, pushed_of, word, wrap, pushed_memory, ExpressionNumber, IndexNode, IsExpression, Does, loaded_of, at_place, HasRoom, Facts, Plain, plain, keeps, expression, second_steps, product_steps, knowing, Context, IsSound, nodes_in, StepsStand, PlainThere, Left, PartDoes, word_of_bytes}
 use Rattle.task_laws.proofs.Machine.Rules.{GoesOn, more_pushed, pop_goes, push_goes, pushed_word_small, steps_split}
 use Rattle.task_laws.proofs.Machine.RegisterCode.{registers_then}
 use Rattle.task_laws.proofs.Machine.Addresses.{back_together, registers_end}
@@ -44,9 +44,9 @@ pub second_then :
     → GoesOn context last top base t.memory t.frame now ended
     → word now.h now.l ≡ wrap (word r.h r.l + n * second.stride)
     → Left (keeps context.site second.index).a r.a now.a
-    → Does context.activation.around.program.script t.budget more
+    → Does (loaded_of context.activation) t.budget more
     (at_place to now ended t.events) (go n t) Good)
-    → Does context.activation.around.program.script s.budget more (at_place from r memory s.events)
+    → Does (loaded_of context.activation) s.budget more (at_place from r memory s.events)
     (then_do (value context.later context.activation.around tree s) go) Good
 second_then {more = more} {go = go} {Good = Good} {context = context} {facts = facts} {last = last} {to = to}
     {pushed = pushed} {bound = bound} {top = top} {need = need} {base = base} {tree = tree} used second from s
@@ -59,7 +59,7 @@ second_then {more = more} {go = go} {Good = Good} {context = context} {facts = f
         then Plain Xchg ∷ product_steps second.index second.stride pushed ++ (Plain (Dad De) ∷ [])
         else Plain (Push StackHl) ∷ product_steps second.index second.stride ((pushed + 2) % 65536)
         ++ plain (Pop StackDe ∷ Dad De ∷ [])) last to
-        → Does context.activation.around.program.script s.budget more (at_place from r memory s.events)
+        → Does (loaded_of context.activation) s.budget more (at_place from r memory s.events)
         (then_do (value context.later context.activation.around tree s) go) Good
     by_test true kept stand =
         let kept_here : (keeps context.site second.index).de ≡ true
@@ -107,7 +107,7 @@ second_then {more = more} {go = go} {Good = Good} {context = context} {facts = f
             → ProductIsGiven context found second.index second.stride (record r { sp = wrap (top - 2) })
             (pushed_memory top (pushed_of StackHl r) memory) n now ended
             → StepsStand context (PartDoes context) found middle (plain (Pop StackDe ∷ Dad De ∷ [])) last to
-            → Does context.activation.around.program.script t.budget more
+            → Does (loaded_of context.activation) t.budget more
             (at_place middle now ended t.events) (go n t) Good
         popped {found = found} {middle = middle} n t now ended fewer on_now given (PlainThere there stand) =
             let two : 2 ≤ need = omega (arith, high) in

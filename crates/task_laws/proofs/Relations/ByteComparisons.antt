@@ -5,7 +5,7 @@ use Rattle.task_laws.proofs.Relations.Answers.{AnswerShows, compared_below, comp
 use Rattle.task_laws.proofs.Bytes.BytesAsked.{BytesAsked}
 use Rattle.task_laws.proofs.Bytes.ByteOperations.{IsOperated, IsValueOf, operand_at, operated_with_e, operated_with_first_in_b, operated_with_memory, operated_with_second_in_b}
 use Rattle.task_laws.proofs.Machine.SiteNodes.{does_exchanged, free_is, value_in}
-use Rattle.task_laws.proofs.Machine.Stages.{Stage, script_of}
+use Rattle.task_laws.proofs.Machine.Stages.{Stage, loaded_in}
 
 -- whether the left operand may be in A, and the right one
 abbrev asks_left : Question → Bool
@@ -221,7 +221,7 @@ GoesOnCompared context first second left right question setting top pushed need 
     → IsValueOf context second right w
     → (v < 256 → w < 256 → AnswerShows setting.purpose (answer_to question) (question_truth question v w) now)
     → Stage context top pushed need base u last now memory
-    → Does (script_of context) u.budget more (at_place place now memory u.events) (go v w u) Good
+    → Does (loaded_in context) u.budget more (at_place place now memory u.events) (go v w u) Good
 
 -- the steps of a form
 abbrev steps_of_form : Comparison → Setting → (operation : Operation) → Form → List Step
@@ -256,7 +256,7 @@ compared_in_form :
     → Stage context top setting.pushed need base t facts r memory
     → GoesOnCompared context first second left right question setting top setting.pushed need base
     last to more go Good
-    → Does (script_of context) t.budget more (at_place from r memory t.events)
+    → Does (loaded_in context) t.budget more (at_place from r memory t.events)
     (evaluated_in_order (value_in context first) (value_in context second) go t) Good
 compared_in_form {context = context} {t = t} {first = first} {second = second} known_there operands left right
     question setting go (LeftWithMemory {reference = reference} asks there) asked sound one types two
@@ -348,7 +348,7 @@ pub bytes_compared :
     → Stage context top setting.pushed need base t facts r memory
     → GoesOnCompared context first second left right question setting top setting.pushed need base
     last to more go Good
-    → Does (script_of context) t.budget more (at_place from r memory t.events)
+    → Does (loaded_in context) t.budget more (at_place from r memory t.events)
     (evaluated_in_order (value_in context first) (value_in context second) go t) Good
 bytes_compared {context = context} {facts = facts} {last = last} {from = from} {to = to} known_there operands
     left right question setting go asked sound one types two other_types fewer less stand stage rest =

@@ -4,7 +4,7 @@ use Rattle.isa8080.specs.declared.instr.Condition.TheVariants.{Zero}
 use Rattle.asm8080.specs.declared.item.WordForm.TheVariants as forms
 use Rattle.operands8080.specs.declared.branches.Branch.{Branch}
 use Rattle.task_laws.proofs.Branches.Conditions.{marked}
-use Rattle.task_laws.proofs.Machine.Stages.{Stage, stage_with_a, at_load_a, script_of}
+use Rattle.task_laws.proofs.Machine.Stages.{Stage, stage_with_a, at_load_a, loaded_in, script_of}
 use Rattle.task_laws.proofs.Relations.WordFlags.{low_equal}
 
 -- two words that can be compared byte by byte
@@ -42,8 +42,8 @@ module _
       → HasWords context x y now memory words
       → now.flags.z ≡ (x % 256 == y % 256)
       → Stage context top pushed need base t (taken facts) now memory
-      → Does (script_of context) budget more (at_place middle now memory t.events) outcome Good)
-      → Does (script_of context) budget more (at_place from r memory t.events) outcome Good
+      → Does (loaded_in context) budget more (at_place middle now memory t.events) outcome Good)
+      → Does (loaded_in context) budget more (at_place from r memory t.events) outcome Good
   low_taken {r = r} {x = x} {y = y} others small (InMemory {place = place} h l high low two one)
       (WordThere first (PlainThere there rest_stand)) stage rest =
       let lo = byte_at memory (place_at context.activation.layout place) in
@@ -71,8 +71,8 @@ module _
       → StepsStand context (PartDoes context) (taken facts) middle others last to
       → now.flags.z ≡ (x / 256 == y / 256)
       → Stage context top pushed need base t (taken facts) now memory
-      → Does (script_of context) budget more (at_place middle now memory t.events) outcome Good)
-      → Does (script_of context) budget more (at_place from r memory t.events) outcome Good
+      → Does (loaded_in context) budget more (at_place middle now memory t.events) outcome Good)
+      → Does (loaded_in context) budget more (at_place from r memory t.events) outcome Good
   high_taken {r = r} {x = x} {y = y} others (InMemory {place = place} h l high low two one)
       (WordThere first (PlainThere there rest_stand)) stage rest =
       let hi = byte_at memory (place_at context.activation.layout (place_after place 1)) in
@@ -122,7 +122,7 @@ goes_there :
     → IsThere context.activation (jump_item (forms.JumpWhere c) label ∷ []) from (from + 3)
     → Know context last r memory
     → Stage context top pushed need base u facts r memory
-    → Does (script_of context) u.budget 0 (at_place from r memory u.events) (Gave found u)
+    → Does (loaded_in context) u.budget 0 (at_place from r memory u.events) (Gave found u)
     (Parts context last tree label sense top base to)
 goes_there {context = context} {u = u} {r = r} {memory = memory} from to c label found sound here
     is there known stage =
@@ -155,7 +155,7 @@ pub equal_jumps :
     ∷ high_difference_steps words
     ++ (Jump (forms.JumpWhere NotZero) branch.label ∷ []))) last to
     → Stage context top pushed need base u facts r memory
-    → Does (script_of context) u.budget 0 (at_place from r memory u.events) (Gave found u)
+    → Does (loaded_in context) u.budget 0 (at_place from r memory u.events) (Gave found u)
     (Parts context last tree branch.label branch.sense top base to)
 equal_jumps {context = context} {top = top} {pushed = pushed} {need = need} {base = base} {u = u}
     {facts = facts} {last = last} {memory = memory} {to = to} {tree = tree} words x y found true branch first
@@ -171,7 +171,7 @@ equal_jumps {context = context} {top = top} {pushed = pushed} {need = need} {bas
         → now.flags.z ≡ (x / 256 == y / 256)
         → Stage context top pushed need base u (taken (taken facts)) now memory
         → (answer : Bool) → (x / 256 == y / 256) ≡ answer
-        → Does (script_of context) u.budget 0 (at_place place now memory u.events) (Gave found u)
+        → Does (loaded_in context) u.budget 0 (at_place place now memory u.events) (Gave found u)
         (Parts context last tree branch.label branch.sense top base to)
     after_high place now low (JumpThere there mark) shows next true is =
         let ending = marked mark in
@@ -200,7 +200,7 @@ equal_jumps {context = context} {top = top} {pushed = pushed} {need = need} {bas
         → now.flags.z ≡ (x % 256 == y % 256)
         → Stage context top pushed need base u (taken facts) now memory
         → (answer : Bool) → (x % 256 == y % 256) ≡ answer
-        → Does (script_of context) u.budget 0 (at_place middle now memory u.events) (Gave found u)
+        → Does (loaded_in context) u.budget 0 (at_place middle now memory u.events) (Gave found u)
         (Parts context last tree branch.label branch.sense top base to)
     by middle now (JumpThere there rest_stand) ending has_still shows next true is =
         jump_passed now sound.lies next.ready.shares.code there (ap not (shows ∙ is))
@@ -236,7 +236,7 @@ equal_jumps {context = context} {top = top} {pushed = pushed} {need = need} {bas
         → HasWords context x y now memory words
         → now.flags.z ≡ (x % 256 == y % 256)
         → Stage context top pushed need base u (taken facts) now memory
-        → Does (script_of context) u.budget 0 (at_place middle now memory u.events) (Gave found u)
+        → Does (loaded_in context) u.budget 0 (at_place middle now memory u.events) (Gave found u)
         (Parts context last tree branch.label branch.sense top base to)
     after_low middle now (JumpThere there rest_stand) has_still shows next =
         by middle now (JumpThere there rest_stand) (last_mark words rest_stand) has_still shows next
@@ -273,7 +273,7 @@ equal_jumps {context = context} {top = top} {pushed = pushed} {need = need} {bas
         → now.flags.z ≡ (x / 256 == y / 256)
         → Stage context top pushed need base u (taken (taken facts)) now memory
         → (answer : Bool) → (x / 256 == y / 256) ≡ answer
-        → Does (script_of context) u.budget 0 (at_place place now memory u.events) (Gave found u)
+        → Does (loaded_in context) u.budget 0 (at_place place now memory u.events) (Gave found u)
         (Parts context last tree branch.label branch.sense top base to)
     after_high place now low (JumpThere there ends) shows next false is =
         goes_there place to NotZero branch.label found sound (ap not (shows ∙ is))
@@ -298,7 +298,7 @@ equal_jumps {context = context} {top = top} {pushed = pushed} {need = need} {bas
         → now.flags.z ≡ (x % 256 == y % 256)
         → Stage context top pushed need base u (taken facts) now memory
         → (answer : Bool) → (x % 256 == y % 256) ≡ answer
-        → Does (script_of context) u.budget 0 (at_place middle now memory u.events) (Gave found u)
+        → Does (loaded_in context) u.budget 0 (at_place middle now memory u.events) (Gave found u)
         (Parts context last tree branch.label branch.sense top base to)
     by middle now (JumpThere there rest_stand) has_still shows next true is =
         jump_passed now sound.lies next.ready.shares.code there (ap not (shows ∙ is))

@@ -8,7 +8,7 @@ use Rattle.task_laws.proofs.Relations.EqualityJumps.{HasWords, InMemory, InRegis
 use Rattle.task_laws.proofs.Relations.PlaceComparisons.{IsApart, LeftStays, RightStays, is_apart, read_then}
 use Rattle.task_laws.proofs.Machine.Rules.{steps_split}
 use Rattle.task_laws.proofs.Machine.SiteNodes.{does_exchanged, value_in}
-use Rattle.task_laws.proofs.Machine.Stages.{Stage, at_carried, at_word, does_same, script_of}
+use Rattle.task_laws.proofs.Machine.Stages.{Stage, at_carried, at_word, does_same, loaded_in}
 use Rattle.task_laws.proofs.Relations.WordComparisons.{pair_then}
 
 -- the rest of the code once both words are in place
@@ -23,7 +23,7 @@ GoesOnWords context words top pushed need base others last to more go Good =
     → y < 65536
     → (x == y) ≡ (v == w)
     → Stage context top pushed need base u found now memory
-    → Does (script_of context) u.budget more (at_place middle now memory u.events) (go v w u) Good
+    → Does (loaded_in context) u.budget more (at_place middle now memory u.events) (go v w u) Good
 
 pub words_come :
     {C : Type 0} {context : Context} {top pushed need : ℕ} {base : List ℕ} {t : SourceState}
@@ -47,7 +47,7 @@ pub words_come :
     → GoesOnWords context (words_of (knowing context.site facts) (asking scalars.Address left right Equal))
     top pushed need
     base others last to more go Good
-    → Does (script_of context) t.budget more (at_place from r memory t.events)
+    → Does (loaded_in context) t.budget more (at_place from r memory t.events)
     (in_order (value_in context first) (value_in context second) go t) Good
 words_come {C = C} {context = context} {top = top} {pushed = pushed} {need = need} {base = base} {t = t}
     {facts = facts} {last = last} {r = r} {memory = memory} {from = from} {to = to} {more = more}
@@ -62,7 +62,7 @@ words_come {C = C} {context = context} {top = top} {pushed = pushed} {need = nee
         (Rattle.steps8080.specs.Step.part (Rattle.steps8080.specs.declared.step.Task.TheVariants.Word
         apart.other) pushed ∷ others) last to
         → GoesOnWords context (PlaceAndHl apart.place) top pushed need base others last to more go Good
-        → Does (script_of context) t.budget more (at_place from r memory t.events)
+        → Does (loaded_in context) t.budget more (at_place from r memory t.events)
         (in_order (value_in context first) (value_in context second) go t) Good
     apart_comes apart (LeftStays {place = place} asks may lies) (PartThere does stand) rest =
         does_exchanged facts go t sound one two types may
@@ -94,7 +94,7 @@ words_come {C = C} {context = context} {top = top} {pushed = pushed} {need = nee
         → StepsStand context (PartDoes context) found middle others last to
         → Stage context top pushed need base u found now memory_now
         → GoesOnWords context DeAndHl top pushed need base others last to more go Good
-        → Does (script_of context) u.budget more (at_place middle now memory_now u.events) (go v w u) Good
+        → Does (loaded_in context) u.budget more (at_place middle now memory_now u.events) (go v w u) Good
     in_pair LeftInHl v w u now memory_now found middle lies small other_small stand next rest =
         rest v w w v u now memory_now found middle stand (InRegisters lies.0 lies.1 lies.2 lies.3) small
         (same_turned v w) next
@@ -113,7 +113,7 @@ words_come {C = C} {context = context} {top = top} {pushed = pushed} {need = nee
         → GoesOnWords context (elim found [ Some apart ↦ PlaceAndHl apart.place | None ↦ DeAndHl ])
         top pushed need base
         others last to more go Good
-        → Does (script_of context) t.budget more (at_place from r memory t.events)
+        → Does (loaded_in context) t.budget more (at_place from r memory t.events)
         (in_order (value_in context first) (value_in context second) go t) Good
     by (Some apart) is stand rest =
         apart_comes apart (is_apart (knowing context.site facts) scalars.Address left right Equal apart is)

@@ -6,7 +6,7 @@ use Rattle.task_laws.proofs.Bytes.BytesAsked.{BytesAsked}
 use Rattle.task_laws.proofs.Bytes.ByteOperations.{IsValueOf, value_of}
 use Rattle.task_laws.proofs.Machine.Rules.{test_goes}
 use Rattle.task_laws.proofs.Machine.SiteNodes.{value_in}
-use Rattle.task_laws.proofs.Machine.Stages.{Stage, stage_with_a, at_byte, at_effects, at_end, script_of}
+use Rattle.task_laws.proofs.Machine.Stages.{Stage, stage_with_a, at_byte, at_effects, at_end, loaded_in}
 
 -- A counted down becomes 0 if it was 1
 down_shows : (x : ℕ) → x < 256 → ((x + 254 + 1) % 256 == 0) ≡ (x == 1)
@@ -38,7 +38,7 @@ GoesOnShown context purpose answer truth top pushed need base t last memory plac
     (now : Registers)
     → AnswerShows purpose answer truth now
     → Stage context top pushed need base t last now memory
-    → Does (script_of context) budget more (at_place place now memory t.events) outcome Good
+    → Does (loaded_in context) budget more (at_place place now memory t.events) outcome Good
 
 module _
     {B : Type 0} {context : Context} {top pushed need : ℕ} {base : List ℕ} {t : SourceState} {last : Facts}
@@ -52,7 +52,7 @@ module _
       → Stage context top pushed need base t facts r memory
       → GoesOnShown context setting.purpose Zero truth top pushed need base t last memory to
       budget more outcome Good
-      → Does (script_of context) budget more (at_place from r memory t.events) outcome Good
+      → Does (loaded_in context) budget more (at_place from r memory t.events) outcome Good
   zero_in_a {facts = facts} {from = from} {r = r} truth setting is = by setting.purpose
     where
       by : (purpose : Purpose)
@@ -61,7 +61,7 @@ module _
           → Stage context top pushed need base t facts r memory
           → GoesOnShown context purpose Zero truth top pushed need base t last memory to
           budget more outcome Good
-          → Does (script_of context) budget more (at_place from r memory t.events) outcome Good
+          → Does (loaded_in context) budget more (at_place from r memory t.events) outcome Good
       by Value ends stage rest = at_end ends stage (λ final. rest r is final)
       by Branch (TestThere there ends) stage rest =
           test_goes r sound there (record { ready = stage.ready; known = stage.known })
@@ -79,8 +79,8 @@ module _
       → Stage context top pushed need base t facts r memory
       → ((now : Registers) → now.flags.cy ≡ nat_lt v n → now.flags.z ≡ (v == n)
       → Stage context top pushed need base t last now memory
-      → Does (script_of context) budget more (at_place to now memory t.events) outcome Good)
-      → Does (script_of context) budget more (at_place from r memory t.events) outcome Good
+      → Does (loaded_in context) budget more (at_place to now memory t.events) outcome Good)
+      → Does (loaded_in context) budget more (at_place from r memory t.events) outcome Good
   compared_in_a {r = r} v n is small other_small (PlainThere there ends) stage rest =
       stage_with_a r.a (subtract_of r.a n false).flags sound stage there refl stage.ready.registers.a tt
       (λ next. at_end ends next
@@ -98,7 +98,7 @@ module _
       → Stage context top pushed need base t facts r memory
       → GoesOnShown context setting.purpose Zero (v == n) top pushed need base t last memory to
       budget more outcome Good
-      → Does (script_of context) budget more (at_place from r memory t.events) outcome Good
+      → Does (loaded_in context) budget more (at_place from r memory t.events) outcome Good
   is_in_a {facts = facts} {from = from} {r = r} v n setting is small other_small =
       by setting.purpose (n == 1) refl (n == 255) refl
     where
@@ -114,7 +114,7 @@ module _
           → Stage context top pushed need base t facts r memory
           → GoesOnShown context purpose Zero (v == n) top pushed need base t last memory to
           budget more outcome Good
-          → Does (script_of context) budget more (at_place from r memory t.events) outcome Good
+          → Does (loaded_in context) budget more (at_place from r memory t.events) outcome Good
       by Branch is_one one is_last two stand stage rest =
           compared_in_a v n is small other_small stand stage (λ now carry zero final. rest now zero final)
       by Value true one is_last two (PlainThere there ends) stage rest =
@@ -148,7 +148,7 @@ module _
       → GoesOnShown context setting.purpose (number_in_a_answer question) (number_truth question v)
       top pushed need base t
       last memory to budget more outcome Good
-      → Does (script_of context) budget more (at_place from r memory t.events) outcome Good
+      → Does (loaded_in context) budget more (at_place from r memory t.events) outcome Good
   number_in_a {facts = facts} {from = from} {r = r} Never setting v is small ends stage rest =
       at_end ends stage (λ final. rest r refl final)
   number_in_a {facts = facts} {from = from} {r = r} (Below n) setting v is small stand stage rest =
@@ -163,7 +163,7 @@ module _
           → GoesOnShown context setting.purpose
           (if is_one then Zero else if is_byte then Carry else Known true)
           (nat_lt v n) top pushed need base t last memory to budget more outcome Good
-          → Does (script_of context) budget more (at_place from r memory t.events) outcome Good
+          → Does (loaded_in context) budget more (at_place from r memory t.events) outcome Good
       by true one is_byte two stand stage rest =
           zero_in_a (nat_lt v n) setting
           (ap (λ m. m == 0) is ∙ below_one v ∙ ap (λ m. nat_lt v m) (sym (eqb-true n 1 one))) stand stage rest
@@ -184,7 +184,7 @@ module _
           → GoesOnShown context setting.purpose
           (if is_zero then Zero else if is_byte then Zero else Known false)
           (v == n) top pushed need base t last memory to budget more outcome Good
-          → Does (script_of context) budget more (at_place from r memory t.events) outcome Good
+          → Does (loaded_in context) budget more (at_place from r memory t.events) outcome Good
       by true one is_byte two stand stage rest =
           zero_in_a (v == n) setting (ap (λ m. m == 0) is ∙ is_zero_too v n one) stand stage rest
       by false one true two stand stage rest =
@@ -204,7 +204,7 @@ GoesOnAsked context tree operand purpose answer truth top pushed need base last 
     → IsValueOf context tree operand v
     → AnswerShows purpose answer (truth v) now
     → Stage context top pushed need base u last now memory
-    → Does (script_of context) u.budget more (at_place place now memory u.events) (go v u) Good
+    → Does (loaded_in context) u.budget more (at_place place now memory u.events) (go v u) Good
 
 known_number_answer :
     (question : NumberQuestion) (v : ℕ) (answer : Bool)
@@ -248,7 +248,7 @@ pub byte_asked :
     → GoesOnAsked context tree operand setting.purpose (byte_number_answer question)
     (number_truth question) top
     setting.pushed need base last to more go Good
-    → Does (script_of context) t.budget more (at_place from r memory t.events)
+    → Does (loaded_in context) t.budget more (at_place from r memory t.events)
     (then_do (value_in context tree t) go) Good
 byte_asked {C = C} {context = context} {top = top} {need = need} {base = base} {t = t} {facts = facts}
     {last = last} {r = r} {memory = memory} {from = from} {to = to} {more = more} {tree = tree} {Good = Good}
@@ -268,7 +268,7 @@ byte_asked {C = C} {context = context} {top = top} {need = need} {base = base} {
         (elim found [ Some answer ↦ Known answer | None ↦ number_in_a_answer question ])
         (number_truth question) top
         setting.pushed need base last to more go Good
-        → Does (script_of context) t.budget more (at_place from r memory t.events)
+        → Does (loaded_in context) t.budget more (at_place from r memory t.events)
         (then_do (value_in context tree t) go) Good
     by (Some answer) known (PartThere does ends) stage rest =
         at_effects _ _ _ does node types fewer stage

@@ -1,10 +1,10 @@
 -- Comparisons of two ADDRESSes, one of them in memory.
-use Rattle.task_laws.proofs.Prelude.{◌≡◌, ℕ, ◌*◌, ◌/◌, ◌%◌, ◌<◌, ◌≤◌, ◌==◌, ◌⊎◌, inl, inr, Bool, true, false, nat_lt, bit_or, List, ◌++◌, Option, Some, None, refl, sym, ap, ◌∙◌, subst, arith, if◌then◌else◌, byte_at, or_of_8, ScalarType, height_of, type_of, TypedExpression, TypesHold, SourceState, Ended, More, Outside, Outcome, Gave, Stopped, then_do, Or, operate, subtract_of, Registers, State, ExpressionNumber, Place, place_after, IsExpression, Facts, Does, at_place, IsSteady, place_at, GoesOutside, evaluated_in_order, Question, LeftBelow, RightBelow, Equal, Site, may_exchange, direct_word, is_word_in_hl, Purpose, Setting, Apart, answer_to, apart_of, high_steps, in_hl, left_apart, load_a_steps, low_steps, operand_apart, right_apart, with_place_steps, knowing, Context, IsSound, nodes_in, StepsStand, PartThere, PlainThere, WordThere, PartDoes, value_is_word}
+use Rattle.task_laws.proofs.Prelude.{◌≡◌, ℕ, ◌*◌, ◌/◌, ◌%◌, ◌<◌, ◌≤◌, ◌==◌, ◌⊎◌, inl, inr, Bool, true, false, nat_lt, bit_or, List, ◌++◌, Option, Some, None, refl, sym, ap, ◌∙◌, subst, arith, if◌then◌else◌, byte_at, or_of_8, ScalarType, height_of, type_of, TypedExpression, TypesHold, SourceState, Ended, More, Outside, Outcome, Gave, Stopped, then_do, Or, operate, subtract_of, Registers, State, ExpressionNumber, Place, place_after, IsExpression, Facts, Does, Loaded, at_place, IsSteady, place_at, GoesOutside, evaluated_in_order, Question, LeftBelow, RightBelow, Equal, Site, may_exchange, direct_word, is_word_in_hl, Purpose, Setting, Apart, answer_to, apart_of, high_steps, in_hl, left_apart, load_a_steps, low_steps, operand_apart, right_apart, with_place_steps, knowing, Context, IsSound, nodes_in, StepsStand, PartThere, PlainThere, WordThere, PartDoes, value_is_word}
 use Rattle.task_laws.proofs.Relations.Answers.{AnswerShows, question_truth, same_turned}
 use Rattle.task_laws.proofs.Bytes.BytesAsked.{BytesAsked, WordAtPlace}
 use Rattle.task_laws.proofs.Relations.ByteComparisons.{asking}
 use Rattle.task_laws.proofs.Machine.SiteNodes.{does_exchanged, value_in}
-use Rattle.task_laws.proofs.Machine.Stages.{Stage, stage_with_a, at_end, at_load_a, at_registers, at_word, does_same, script_of}
+use Rattle.task_laws.proofs.Machine.Stages.{Stage, stage_with_a, at_end, at_load_a, at_registers, at_word, does_same, loaded_in}
 use Rattle.task_laws.proofs.Relations.WordComparisons.{GoesOnBoth, zero_for}
 use Rattle.task_laws.proofs.Relations.WordFlags.{word_below, word_equal}
 
@@ -105,14 +105,14 @@ is_apart site operands left right question apart is =
 
 -- a word that is read at its place, or goes outside
 pub read_then :
-    {B : Type 0} {script : List (List ℕ)} {budget more : ℕ} {from : State}
+    {B : Type 0} {loaded : Loaded} {budget more : ℕ} {from : State}
     {Good : B → SourceState → State → Type 0}
     {context : Context} {place : Place} {memory : List ℕ} {u : SourceState} (outcome : Outcome ℕ)
     (go : ℕ → SourceState → Outcome B)
     → WordAtPlace context place memory u outcome ⊎ GoesOutside outcome
     → ((read : WordAtPlace context place memory u outcome)
-    → Does script budget more from (go read.found u) Good)
-    → Does script budget more from (then_do outcome go) Good
+    → Does loaded budget more from (go read.found u) Good)
+    → Does loaded budget more from (then_do outcome go) Good
 read_then {u = u} outcome go (inl read) rest =
     does_same (go read.found u) (ap (λ (given : Outcome ℕ). then_do given go) read.is) (rest read)
 read_then (Stopped (Outside reason) s) go (inr outside) rest = record { told = tt }
@@ -144,8 +144,8 @@ taken_from_place :
     → (question ≡ Equal → (now.flags.z ≡ (x == y)) × ((now.a == 0) ≡ (x == y)))
     → ((question ≡ LeftBelow) ⊎ (question ≡ RightBelow) → now.flags.cy ≡ nat_lt x y)
     → Stage context top pushed need base t last now memory
-    → Does (script_of context) budget more (at_place to now memory t.events) outcome Good)
-    → Does (script_of context) budget more (at_place from r memory t.events) outcome Good
+    → Does (loaded_in context) budget more (at_place to now memory t.events) outcome Good)
+    → Does (loaded_in context) budget more (at_place from r memory t.events) outcome Good
 taken_from_place {context = context} {r = r} {memory = memory} place x y LeftBelow sound low high one two h l
     small other_small (WordThere first (PlainThere low_taken (WordThere second (PlainThere high_taken ends))))
     stage rest =
@@ -269,7 +269,7 @@ pub place_compared :
     (with_place_steps apart question setting.pushed) last to
     → Stage context top setting.pushed need base t facts r memory
     → GoesOnBoth context question setting.purpose top setting.pushed need base last to more go Good
-    → Does (script_of context) t.budget more (at_place from r memory t.events)
+    → Does (loaded_in context) t.budget more (at_place from r memory t.events)
     (evaluated_in_order (value_in context first) (value_in context second) go t) Good
 place_compared {context = context} {top = top} {base = base} {t = t} {bound = bound} {first = first}
     {second = second} known_there left right question setting go asked sound one types two other_types fewer

@@ -8,7 +8,7 @@ use Rattle.task_laws.proofs.Relations.NumberComparisons.{below_one}
 use Rattle.task_laws.proofs.Relations.Relations.{OutcomeShows, relation_is, relation_shown}
 use Rattle.task_laws.proofs.Machine.Rules.{steps_split}
 use Rattle.task_laws.proofs.Machine.SiteNodes.{value_in}
-use Rattle.task_laws.proofs.Machine.Stages.{Stage, stage_with_a, at_end, does_same, script_of}
+use Rattle.task_laws.proofs.Machine.Stages.{Stage, stage_with_a, at_end, does_same, loaded_in}
 
 borrow_fills : (a : ℕ) (carry holds : Bool) → a < 256 → carry ≡ holds
     → (subtract_of a a carry).value ≡ truth holds
@@ -42,8 +42,8 @@ outcome_in_a :
     → Stage context top pushed need base t facts r memory
     → ((now : Registers) → now.a ≡ truth holds
     → Stage context top pushed need base t last now memory
-    → Does (script_of context) budget more (at_place to now memory t.events) outcome Good)
-    → Does (script_of context) budget more (at_place from r memory t.events) outcome Good
+    → Does (loaded_in context) budget more (at_place to now memory t.events) outcome Good)
+    → Does (loaded_in context) budget more (at_place from r memory t.events) outcome Good
 outcome_in_a {r = r} (Known true) holds sound shows (PlainThere there ends) stage rest =
     stage_with_a 255 r.flags sound stage there refl (omega arith) tt
     (λ next. at_end ends next (λ final. rest _ (ap truth (sym shows)) final))

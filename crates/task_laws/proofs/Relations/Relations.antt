@@ -11,7 +11,7 @@ use Rattle.task_laws.proofs.Machine.Nodes.{node_of}
 use Rattle.task_laws.proofs.Relations.NumberComparisons.{GoesOnAsked, byte_asked}
 use Rattle.task_laws.proofs.Relations.PlaceComparisons.{is_apart, place_compared}
 use Rattle.task_laws.proofs.Machine.SiteNodes.{number_means, value_in}
-use Rattle.task_laws.proofs.Machine.Stages.{Stage, does_same, script_of}
+use Rattle.task_laws.proofs.Machine.Stages.{Stage, does_same, loaded_in}
 use Rattle.task_laws.proofs.Relations.WordComparisons.{GoesOnBoth, pair_compared}
 use Rattle.task_laws.proofs.Relations.WordNumbers.{IsBounded, word_asked}
 use Rattle.task_laws.proofs.Agreement.{agree_true}
@@ -129,7 +129,7 @@ GoesOnRelated context purpose shown top pushed need base last place more go Good
     (holds : Bool) (u : SourceState) (now : Registers) (memory : List ℕ)
     → OutcomeShows purpose shown holds now
     → Stage context top pushed need base u last now memory
-    → Does (script_of context) u.budget more (at_place place now memory u.events) (go (truth holds) u) Good
+    → Does (loaded_in context) u.budget more (at_place place now memory u.events) (go (truth holds) u) Good
 
 -- a relation, by the known values of its operands
 abbrev pub between : Site → ScalarType → (left right : ExpressionNumber) → Question → (holds_if : Bool)
@@ -212,7 +212,7 @@ module _
       → GoesOnAsked context tree operand setting.purpose
       (number_answer (knowing context.site facts) operand operands question)
       (number_truth question) top setting.pushed need base last to more go Good
-      → Does (script_of context) t.budget more (at_place from r memory t.events)
+      → Does (loaded_in context) t.budget more (at_place from r memory t.events)
       (then_do (value_in context tree t) go) Good
   number_asked operand scalars.Byte question t r from bound tree go node types is fewer
       small stand stage rest =
@@ -240,7 +240,7 @@ module _
       (comparison_steps (knowing context.site facts) (asking operands left right question) setting) last to
       → Stage context top setting.pushed need base t facts r memory
       → GoesOnBoth context question setting.purpose top setting.pushed need base last to more go Good
-      → Does (script_of context) t.budget more (at_place from r memory t.events)
+      → Does (loaded_in context) t.budget more (at_place from r memory t.events)
       (evaluated_in_order (value_in context first) (value_in context second) go t) Good
   both_asked scalars.Byte left right question t r from bound first second go one types is two other_types
       other_is fewer stand stage rest =
@@ -269,7 +269,7 @@ module _
             | None ↦ with_pair_steps (knowing context.site facts)
                 (asking scalars.Address left right question) setting.pushed
           ]) last to
-          → Does (script_of context) t.budget more (at_place from r memory t.events)
+          → Does (loaded_in context) t.budget more (at_place from r memory t.events)
           (evaluated_in_order (value_in context first) (value_in context second) go t) Good
       by true fit found lies stand =
           let parts =
@@ -315,7 +315,7 @@ module _
       (relation_outcome (knowing context.site facts)
       (between (knowing context.site facts) operands left right question holds_if right_number left_number))
       top setting.pushed need base last to more go Good
-      → Does (script_of context) t.budget more (at_place from r memory t.events)
+      → Does (loaded_in context) t.budget more (at_place from r memory t.events)
       (then_do (value_in context (BinaryNode operands operator first second) t) go) Good
   related operands operator left right question holds_if t r from bound first second go one two types is fewer
       (Some n) left_number right_is left_is stand stage rest =
@@ -406,7 +406,7 @@ module _
       → Stage context top setting.pushed need base t facts r memory
       → GoesOnRelated context setting.purpose (relation_outcome (knowing context.site facts) relation)
       top setting.pushed need base last to more go Good
-      → Does (script_of context) t.budget more (at_place from r memory t.events)
+      → Does (loaded_in context) t.budget more (at_place from r memory t.events)
       (then_do (value_in context tree t) go) Good
   relation_shown t r from bound tree relation go
       (Relates {operands = operands} {operator = operator} {left = left} {right = right} {first = first}

@@ -5,7 +5,7 @@ use Rattle.task_laws.proofs.Bytes.BytesAsked.{BytesAsked, PairIsGiven, PairLies,
 use Rattle.task_laws.proofs.Relations.ByteComparisons.{asking}
 use Rattle.task_laws.proofs.Machine.Rules.{steps_split}
 use Rattle.task_laws.proofs.Machine.SiteNodes.{value_in}
-use Rattle.task_laws.proofs.Machine.Stages.{Stage, at_carried, at_end, at_instructions, does_same, script_of}
+use Rattle.task_laws.proofs.Machine.Stages.{Stage, at_carried, at_end, at_instructions, does_same, loaded_in}
 use Rattle.task_laws.proofs.Relations.WordFlags.{word_below, word_equal}
 
 -- both values, and then the rest
@@ -53,8 +53,8 @@ pair_is_less :
     → Stage context top pushed need base t facts r memory
     → ((now : Registers) → AnswerShows purpose (answer_to question) (question_truth question v w) now
     → Stage context top pushed need base t last now memory
-    → Does (script_of context) budget more (at_place to now memory t.events) outcome Good)
-    → Does (script_of context) budget more (at_place from r memory t.events) outcome Good
+    → Does (loaded_in context) budget more (at_place to now memory t.events) outcome Good)
+    → Does (loaded_in context) budget more (at_place from r memory t.events) outcome Good
 pair_is_less {r = r} v w LeftInHl LeftBelow purpose sound small other_small lies stand stage rest =
     at_instructions (copy A L ∷ with_register Subtract E ∷ copy A H ∷ with_register SubtractWithBorrow D ∷ [])
     [] sound
@@ -110,7 +110,7 @@ GoesOnBoth context question purpose top pushed need base last place more go Good
     → w < 65536
     → AnswerShows purpose (answer_to question) (question_truth question v w) now
     → Stage context top pushed need base u last now memory
-    → Does (script_of context) u.budget more (at_place place now memory u.events) (go v w u) Good
+    → Does (loaded_in context) u.budget more (at_place place now memory u.events) (go v w u) Good
 
 -- one in HL and the other in DE
 pub pair_compared :
@@ -132,7 +132,7 @@ pub pair_compared :
     to
     → Stage context top setting.pushed need base t facts r memory
     → GoesOnBoth context question setting.purpose top setting.pushed need base last to more go Good
-    → Does (script_of context) t.budget more (at_place from r memory t.events)
+    → Does (loaded_in context) t.budget more (at_place from r memory t.events)
     (evaluated_in_order (value_in context first) (value_in context second) go t) Good
 pair_compared {context = context} {t = t} {facts = facts} {bound = bound} {first = first} {second = second}
     operands left right question setting go asked sound one types two other_types fewer stand stage rest =

@@ -8,7 +8,7 @@ use Rattle.task_laws.proofs.Bytes.ByteOperations.{IsValueOf, value_of}
 use Rattle.task_laws.proofs.Relations.NumberComparisons.{GoesOnAsked, below_one, byte_asked, number_in_a}
 use Rattle.task_laws.proofs.Machine.Rules.{steps_split}
 use Rattle.task_laws.proofs.Machine.SiteNodes.{value_in}
-use Rattle.task_laws.proofs.Machine.Stages.{Stage, at_carried, at_effects, at_end, at_instructions, at_word, script_of}
+use Rattle.task_laws.proofs.Machine.Stages.{Stage, at_carried, at_effects, at_end, at_instructions, at_word, loaded_in}
 use Rattle.task_laws.proofs.Relations.WordComparisons.{zero_for}
 use Rattle.task_laws.proofs.Relations.WordFlags.{or_is_zero, or_of_zeros, word_below}
 
@@ -79,8 +79,8 @@ module _
       → Stage context top pushed need base t facts r memory
       → ((now : Registers) → (now.flags.z ≡ (v == n)) → ((now.a == 0) ≡ (v == n))
       → Stage context top pushed need base t last now memory
-      → Does (script_of context) budget more (at_place to now memory t.events) outcome Good)
-      → Does (script_of context) budget more (at_place from r memory t.events) outcome Good
+      → Does (loaded_in context) budget more (at_place to now memory t.events) outcome Good)
+      → Does (loaded_in context) budget more (at_place from r memory t.events) outcome Good
   word_is {facts = facts} {from = from} {r = r} v n one two small other_small stand stage rest =
       by (n == 0) refl (nat_lt n 256) refl (nat_lt (negated n) 4) refl stand stage
     where
@@ -89,7 +89,7 @@ module _
           → StepsStand context (PartDoes context) facts from
           (repeat_steps (Inx Hl) k ++ plain (copy A L ∷ with_register Or H ∷ [])) last to
           → Stage context top pushed need base t facts r memory
-          → Does (script_of context) budget more (at_place from r memory t.events) outcome Good
+          → Does (loaded_in context) budget more (at_place from r memory t.events) outcome Good
       known_step zero is less stand stage =
           at_instructions (copy A L ∷ with_register Or H ∷ []) [] sound (tt, (tt, tt)) stand stage
           (λ middle found ends next. at_end ends next
@@ -148,7 +148,7 @@ module _
           else plain (Lxi De (negated n) ∷ Dad De ∷ []))
           ++ plain (copy A L ∷ with_register Or H ∷ [])) last to
           → Stage context top pushed need base t facts r memory
-          → Does (script_of context) budget more (at_place from r memory t.events) outcome Good
+          → Does (loaded_in context) budget more (at_place from r memory t.events) outcome Good
       by true is is_byte byte is_near near stand stage =
           at_instructions (copy A L ∷ with_register Or H ∷ []) [] sound (tt, (tt, tt)) stand stage
           (λ middle found ends next. at_end ends next
@@ -188,8 +188,8 @@ module _
       → Stage context top pushed need base t facts r memory
       → ((now : Registers) → (now.flags.cy ≡ nat_lt v n)
       → Stage context top pushed need base t last now memory
-      → Does (script_of context) budget more (at_place to now memory t.events) outcome Good)
-      → Does (script_of context) budget more (at_place from r memory t.events) outcome Good
+      → Does (loaded_in context) budget more (at_place to now memory t.events) outcome Good)
+      → Does (loaded_in context) budget more (at_place from r memory t.events) outcome Good
   word_is_below {r = r} v n one two small stand stage rest =
       at_instructions
       (copy A L ∷ AccumulateImmediate Subtract (low n) ∷ copy A H
@@ -231,7 +231,7 @@ module _
       last to more go Good
 
   abbrev Comes : Type 0
-  Comes = Does (script_of context) t.budget more (at_place from r memory t.events)
+  Comes = Does (loaded_in context) t.budget more (at_place from r memory t.events)
       (then_do (value_in context tree t) go) Good
 
   word_small : (v : ℕ) → IsValueOf context tree operand v → v < 65536

@@ -1,5 +1,5 @@
 -- The low byte of an assignment within an expression.
-use Rattle.task_laws.proofs.Prelude.{◌≡◌, ℕ, ◌*◌, ◌/◌, ◌%◌, ◌<◌, true, false, List, [], ◌∷◌, refl, sym, ◌∙◌, subst, arith, false≢true, height_of, type_of, type_of_target, TypedExpression, TypedTarget, AssignmentNode, TypesHold, TypesHoldInTarget, stored, SourceState, Ended, More, Outside, Outcome, Gave, Stopped, values_of, A, L, State, ExpressionNumber, Target, IsExpression, IsTarget, Facts, Plain, copy, part, Does, Lands, is_free, Context, InRegister, IsSound, nodes_in, StepsStand, PartThere, PlainThere, ByteIsGiven, Carries, Nothing, PartDoes, low_of_byte}
+use Rattle.task_laws.proofs.Prelude.{◌≡◌, ℕ, ◌*◌, ◌/◌, ◌%◌, ◌<◌, true, false, List, [], ◌∷◌, refl, sym, ◌∙◌, subst, arith, false≢true, height_of, type_of, type_of_target, TypedExpression, TypedTarget, AssignmentNode, TypesHold, TypesHoldInTarget, stored, SourceState, Ended, More, Outside, Outcome, Gave, Stopped, values_of, A, L, State, ExpressionNumber, Target, IsExpression, IsTarget, Facts, Plain, copy, part, Does, Loaded, Lands, is_free, Context, InRegister, IsSound, nodes_in, StepsStand, PartThere, PlainThere, ByteIsGiven, Carries, Nothing, PartDoes, low_of_byte}
 use Rattle.trees.specs.declared.declaration.ScalarType.TheVariants as scalars
 use Rattle.steps8080.specs.declared.step.Task.TheVariants as tasks
 use Rattle.task_laws.specs.internal.Tasks.{IsStored}
@@ -16,10 +16,10 @@ fewer_steps lands =
 
 -- a step to spare that is not wanted
 pub does_less :
-    {A : Type 0} {script : List (List ℕ)} {budget : ℕ} {from : State} (outcome : Outcome A)
+    {A : Type 0} {loaded : Loaded} {budget : ℕ} {from : State} (outcome : Outcome A)
     {Good : A → SourceState → State → Type 0}
-    → Does script budget 1 from outcome Good
-    → Does script budget 0 from outcome Good
+    → Does loaded budget 1 from outcome Good
+    → Does loaded budget 0 from outcome Good
 does_less (Gave found t) does = record { told = fewer_steps does.told }
 does_less (Stopped Ended t) does = record { told = does.told }
 does_less (Stopped More t) does = record { told = does.told }

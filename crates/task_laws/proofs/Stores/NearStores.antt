@@ -1,5 +1,5 @@
 -- A word that is stored next to the stack pointer, by POP and PUSH.
-use Rattle.task_laws.proofs.Prelude.{◌≡◌, ◌≢◌, ℕ, zero, suc, ◌+◌, ◌*◌, ◌/◌, ◌%◌, ◌<◌, List, [], ◌∷◌, ◌++◌, slice_set, refl, sym, ap, subst, ◌∙◌, arith, MEMORY_SIZE, byte_at, word_at, Event, Address, SourcePlace, write_scalar, SourceState, Outcome, then_do, Pop, Push, StackPair, StackBc, StackHl, act, Registers, State, high_byte, low_byte, one_less, pushed_of, two_less, word, wrap, byte_kept, Does, at_place, IsReady, plain_first, plain_step, Facts, Step, MemoryChanged, Near, First, Second, exchange_near, Context, IsSound, ChangeThere, PlainThere, StepsStand, PartDoes, address_on_machine, next_is_other}
+use Rattle.task_laws.proofs.Prelude.{◌≡◌, ◌≢◌, ℕ, zero, suc, ◌+◌, ◌*◌, ◌/◌, ◌%◌, ◌<◌, List, [], ◌∷◌, ◌++◌, slice_set, refl, sym, ap, subst, ◌∙◌, arith, MEMORY_SIZE, byte_at, word_at, Event, Address, SourcePlace, write_scalar, SourceState, Outcome, then_do, Pop, Push, StackPair, StackBc, StackHl, act, Registers, State, high_byte, low_byte, one_less, pushed_of, two_less, word, wrap, byte_kept, Does, loaded_of, at_place, IsReady, plain_first, plain_step, Facts, Step, MemoryChanged, Near, First, Second, exchange_near, Context, IsSound, ChangeThere, PlainThere, StepsStand, PartDoes, address_on_machine, next_is_other}
 use Rattle.task_laws.proofs.Places.LocationWords.{push_back, word_small}
 use Rattle.task_laws.proofs.Places.Reading.{FitsIn}
 use Rattle.task_laws.proofs.Machine.Rules.{GoesOn, pushed_anywhere, ready_with_registers}
@@ -92,14 +92,15 @@ pub near_stored :
     → WordLiesAt context.activation left (address_on_machine context.activation place) number
     → StepsStand context (PartDoes context) found middle others last to
     → GoesOn context found top base u.memory u.frame now left
-    → Does context.activation.around.program.script u.budget 0 (at_place middle now left u.events) (go tt u)
+    → Does (loaded_of context.activation) u.budget 0 (at_place middle now left u.events) (go tt u)
     Good)
-    → Does context.activation.around.program.script t.budget 1 (at_place from r ended t.events)
+    → Does (loaded_of context.activation) t.budget 1 (at_place from r ended t.events)
     (then_do (write_scalar context.activation.around.program Address place number t) go) Good
 near_stored {A = A} {Good = Good} {context = context} {facts = facts} {last = last} {top = top} {from = from}
     {to = to} {base = base} First others go place number t r ended sound small h l is_at fits
     (PlainThere there (PlainThere again (ChangeThere stand))) on rest =
     let script = context.activation.around.program.script in
+    let loaded = loaded_of context.activation in
     let shares = on.ready.shares in
     let is = shares.is_memory in
     let bytes = on.ready.registers in
@@ -127,12 +128,12 @@ near_stored {A = A} {Good = Good} {context = context} {facts = facts} {last = la
     (plain_step script context.activation (Pop StackBc) [] from (from + 1) r ended t.events
     sound.lies shares.code there)
     (plain_first after_pop sound.lies shares.code again
-    (subst (λ (s : State). Does script t.budget 0 s (go tt u) Good)
+    (subst (λ (s : State). Does loaded t.budget 0 s (go tt u) Good)
     (sym (push_there script StackHl (from + 1 + 1) r.sp number after_pop ended t.events refl low
     (high_part r.h r.l number h l) (low_part r.h r.l number h l)))
-    (subst (λ (budget : ℕ). Does script budget 0 (at_place (from + 1 + 1) now left t.events) (go tt u) Good)
+    (subst (λ (budget : ℕ). Does loaded budget 0 (at_place (from + 1 + 1) now left t.events) (go tt u) Good)
     budget_same
-    (subst (λ (events : List Event). Does script u.budget 0 (at_place (from + 1 + 1) now left events)
+    (subst (λ (events : List Event). Does loaded u.budget 0 (at_place (from + 1 + 1) now left events)
     (go tt u) Good) events_same
     (rest u now left (from + 1 + 1) _ refl refl refl lies stand
     (record {
@@ -151,6 +152,7 @@ near_stored {A = A} {Good = Good} {context = context} {facts = facts} {last = la
     {to = to} {base = base} Second others go place number t r ended sound small h l is_at fits
     (PlainThere there (PlainThere next (PlainThere again (PlainThere once (ChangeThere stand))))) on rest =
     let script = context.activation.around.program.script in
+    let loaded = loaded_of context.activation in
     let shares = on.ready.shares in
     let is = shares.is_memory in
     let bytes = on.ready.registers in
@@ -189,17 +191,17 @@ near_stored {A = A} {Good = Good} {context = context} {facts = facts} {last = la
     sound.lies shares.code there)
     (plain_first one sound.lies shares.code next
     (plain_first two sound.lies shares.code again
-    (subst (λ (s : State). Does script t.budget 0 s (go tt u) Good)
+    (subst (λ (s : State). Does loaded t.budget 0 s (go tt u) Good)
     (sym (push_there script StackHl (from + 1 + 1 + 1) above number two ended t.events refl above_small
     (high_part r.h r.l number h l) (low_part r.h r.l number h l)))
     (plain_first three sound.lies shares_left.code once
-    (subst (λ (s : State). Does script t.budget 0 s (go tt u) Good)
+    (subst (λ (s : State). Does loaded t.budget 0 s (go tt u) Good)
     (sym (push_back script StackBc (from + 1 + 1 + 1 + 1) r.sp three left t.events refl low
     shares_left.is_memory
     (back_together first fits_first ∙ sym stays)))
-    (subst (λ (budget : ℕ). Does script budget 0 (at_place (from + 1 + 1 + 1 + 1) now left t.events)
+    (subst (λ (budget : ℕ). Does loaded budget 0 (at_place (from + 1 + 1 + 1 + 1) now left t.events)
     (go tt u) Good) budget_same
-    (subst (λ (events : List Event). Does script u.budget 0 (at_place (from + 1 + 1 + 1 + 1) now left events)
+    (subst (λ (events : List Event). Does loaded u.budget 0 (at_place (from + 1 + 1 + 1 + 1) now left events)
     (go tt u) Good) events_same
     (rest u now left (from + 1 + 1 + 1 + 1) _ refl refl refl lies stand
     (record {

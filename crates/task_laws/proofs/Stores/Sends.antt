@@ -1,5 +1,5 @@
 -- The code that sends the low byte of a value to a port.
-use Rattle.task_laws.proofs.Prelude.{◌≡◌, ℕ, ◌+◌, ◌%◌, ◌<◌, Bool, List, [], ◌∷◌, ◌++◌, refl, sym, ap, subst, ◌∙◌, write_event, ScalarType, Byte, Address, SourceState, values_of, Out, Registers, Sent, IsSent, Does, at_place, Arrives, does_without_step, Facts, Plain, send_steps, Context, InRegister, IsSound, StepsStand, PlainThere, PartDoes, StoreDoes, byte_is_low}
+use Rattle.task_laws.proofs.Prelude.{◌≡◌, ℕ, ◌+◌, ◌%◌, ◌<◌, Bool, List, [], ◌∷◌, ◌++◌, refl, sym, ap, subst, ◌∙◌, write_event, ScalarType, Byte, Address, SourceState, values_of, Out, Registers, Sent, IsSent, Does, loaded_of, at_place, Arrives, does_without_step, Facts, Plain, send_steps, Context, InRegister, IsSound, StepsStand, PlainThere, PartDoes, StoreDoes, byte_is_low}
 use Rattle.task_laws.specs.internal.Tasks.{IsStored}
 use Rattle.task_laws.proofs.Machine.Rules.{GoesOn, registers_go}
 use Rattle.task_laws.proofs.Machine.Addresses.{nothing_goes}
@@ -15,7 +15,7 @@ out_goes :
     → StepsStand context (PartDoes context) facts from (Plain (Out port) ∷ []) last to
     → GoesOn context facts top base s.memory s.frame r memory
     → (GoesOn context last top base s.memory s.frame r memory → Holds tt r memory)
-    → Does context.activation.around.program.script s.budget 1 (at_place from r memory s.events)
+    → Does (loaded_of context.activation) s.budget 1 (at_place from r memory s.events)
     (Rattle.meaning.specs.Outcomes.Gave tt (record s { events = s.events ++ write_event port byte ∷ [] }))
     (Arrives context.activation top base to Holds)
 out_goes {context = context} {top = top} {from = from} {to = to} {base = base} Holds port byte s r memory

@@ -1,5 +1,5 @@
 -- Instructions that store at known places.
-use Rattle.task_laws.proofs.Prelude.{◌≡◌, ℕ, ◌+◌, ◌<◌, List, [], ◌∷◌, slice_set, refl, sym, ap, subst, ◌∙◌, Event, SourcePlace, write_byte, SourceState, Outcome, then_do, Registers, State, wrap, act, WordForm, StoreA, instruction_with, Place, Does, at_place, IsReady, IsThere, word_step, IsSteadyByte, WordAsks, place_at, facts_after_word, Facts, Word, after_word, word_item, Context, IsSound, distances_in, StepsStand, WordThere, Know, PartDoes, address_on_machine}
+use Rattle.task_laws.proofs.Prelude.{◌≡◌, ℕ, ◌+◌, ◌<◌, List, [], ◌∷◌, slice_set, refl, sym, ap, subst, ◌∙◌, Event, SourcePlace, write_byte, SourceState, Outcome, then_do, Registers, State, wrap, act, WordForm, StoreA, instruction_with, Place, Does, loaded_of, at_place, IsReady, IsThere, word_step, IsSteadyByte, WordAsks, place_at, facts_after_word, Facts, Word, after_word, word_item, Context, IsSound, distances_in, StepsStand, WordThere, Know, PartDoes, address_on_machine}
 use Rattle.task_laws.proofs.Machine.Rules.{GoesOn, bytes_at_place}
 use Rattle.task_laws.proofs.Machine.Addresses.{nothing_goes}
 use Rattle.task_laws.proofs.Stores.Stores.{does_gaining}
@@ -19,9 +19,9 @@ pub word_gains :
     (instruction_with form (place_at context.activation.layout place)) (at_place (from + 3) r memory events)
     ≡ at_place (from + 3) now ended events
     → (Know context (after_word facts form place) now ended
-    → Does context.activation.around.program.script budget 0
+    → Does (loaded_of context.activation) budget 0
     (at_place (from + 3) now ended events) outcome Good)
-    → Does context.activation.around.program.script budget 1 (at_place from r memory events) outcome Good
+    → Does (loaded_of context.activation) budget 1 (at_place from r memory events) outcome Good
 word_gains {A = A} {budget = budget} {outcome = outcome} {Good = Good} {context = context} {facts = facts}
     {memory = memory} {events = events} {from = from} form place r now ended sound there on asks does rest =
     let script = context.activation.around.program.script in
@@ -52,12 +52,12 @@ pub sta_stores :
     → GoesOn context facts top base t.memory t.frame r ended
     → ((u : SourceState) (left : List ℕ)
     → GoesOn context last top base u.memory u.frame r left
-    → Does context.activation.around.program.script u.budget 0 (at_place to r left u.events) (go tt u) Good)
-    → Does context.activation.around.program.script t.budget 1 (at_place from r ended t.events)
+    → Does (loaded_of context.activation) u.budget 0 (at_place to r left u.events) (go tt u) Good)
+    → Does (loaded_of context.activation) t.budget 1 (at_place from r ended t.events)
     (then_do (write_byte context.activation.around.program place byte t) go) Good
 sta_stores {Good = Good} {context = context} {facts = facts} {last = last} {top = top} {from = from} {to = to}
     {base = base} go static place byte t r ended sound small a is_at fits (WordThere there stand) on rest =
-    let script = context.activation.around.program.script in
+    let loaded = loaded_of context.activation in
     let address : ℕ = place_at context.activation.layout static in
     byte_written place byte t go sound small on.ready fits
     (λ u events_same budget_same steady ready.
@@ -74,7 +74,7 @@ sta_stores {Good = Good} {context = context} {facts = facts} {last = last} {top 
       known = known;
     })
     (λ on_left.
-    subst (λ (budget : ℕ). Does script budget 0 (at_place to r left t.events) (go tt u) Good) budget_same
-    (subst (λ (events : List Event). Does script u.budget 0 (at_place to r left events) (go tt u) Good)
+    subst (λ (budget : ℕ). Does loaded budget 0 (at_place to r left t.events) (go tt u) Good) budget_same
+    (subst (λ (events : List Event). Does loaded u.budget 0 (at_place to r left events) (go tt u) Good)
     events_same
     (rest u left on_left)))))

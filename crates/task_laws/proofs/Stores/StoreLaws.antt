@@ -1,5 +1,5 @@
 -- The code of stores, for each target.
-use Rattle.task_laws.proofs.Prelude.{◌≡◌, ℕ, ◌+◌, ◌*◌, ◌/◌, ◌%◌, ◌<◌, ◌==◌, Bool, true, false, ◌&&◌, not, if◌then◌else◌, List, [], ◌∷◌, ◌++◌, Option, Some, None, slice_set, refl, sym, ap, subst, ◌∙◌, arith, eqb-true, append_assoc, MEMORY_SIZE, ScalarType, Byte, Address, height_of_reference, TypedReference, RefersToScalar, TypesHoldInReference, SourcePlace, write_byte, write_scalar, SourceState, Outcome, Gave, then_do, as_type, values_of, Inx, MovToMemory, Mvi, M, Hl, Registers, State, word, wrap, StoreA, StoreHl, Location, Place, Reference, Target, Sent, Stored, IsReference, IsStoredIn, Does, at_place, Arrives, HasRoom, does_without_step, location_at, address_asks, Facts, Step, Holds, MemoryChanged, Plain, Word, after, no_facts, copy, set, extension_steps, keeps_of_address, location_of, distance, Goal, Near, First, Second, address_beside_de_steps, byte_is_here_steps, exchange_near, goal_of, goal_steps, store_a_at_steps, store_a_steps, store_extended_steps, store_hl_at_steps, store_low_byte_at_steps, store_low_byte_steps, store_near_steps, store_steps, store_word_steps, value_back_steps, word_is_here_steps, word_near, knowing, Context, InRegister, IsSound, distances_in, nodes_in, HoldsThere, PlainThere, StepsStand, Carries, PartDoes, StoreDoes, address_on_machine, given_again}
+use Rattle.task_laws.proofs.Prelude.{◌≡◌, ℕ, ◌+◌, ◌*◌, ◌/◌, ◌%◌, ◌<◌, ◌==◌, Bool, true, false, ◌&&◌, not, if◌then◌else◌, List, [], ◌∷◌, ◌++◌, Option, Some, None, slice_set, refl, sym, ap, subst, ◌∙◌, arith, eqb-true, append_assoc, MEMORY_SIZE, ScalarType, Byte, Address, height_of_reference, TypedReference, RefersToScalar, TypesHoldInReference, SourcePlace, write_byte, write_scalar, SourceState, Outcome, Gave, then_do, as_type, values_of, Inx, MovToMemory, Mvi, M, Hl, Registers, State, word, wrap, StoreA, StoreHl, Location, Place, Reference, Target, Sent, Stored, IsReference, IsStoredIn, Does, loaded_of, at_place, Arrives, HasRoom, does_without_step, location_at, address_asks, Facts, Step, Holds, MemoryChanged, Plain, Word, after, no_facts, copy, set, extension_steps, keeps_of_address, location_of, distance, Goal, Near, First, Second, address_beside_de_steps, byte_is_here_steps, exchange_near, goal_of, goal_steps, store_a_at_steps, store_a_steps, store_extended_steps, store_hl_at_steps, store_low_byte_at_steps, store_low_byte_steps, store_near_steps, store_steps, store_word_steps, value_back_steps, word_is_here_steps, word_near, knowing, Context, InRegister, IsSound, distances_in, nodes_in, HoldsThere, PlainThere, StepsStand, Carries, PartDoes, StoreDoes, address_on_machine, given_again}
 use Rattle.isa8080.specs.declared.instr.Register.TheVariants as registers
 use Rattle.treecode.specs.declared.place.Location.TheVariants as locations
 use Rattle.operands8080.specs.internal.Stores.{high_byte_steps}
@@ -115,7 +115,7 @@ module _
       (now : Registers) (left : List ℕ)
       → (is_wanted ≡ true → InRegister of number now)
       → GoesOn context last top base u.memory u.frame now left
-      → Does context.activation.around.program.script u.budget 0 (at_place to now left u.events) (Gave tt u)
+      → Does (loaded_of context.activation) u.budget 0 (at_place to now left u.events) (Gave tt u)
       (Arrives context.activation top base to (IsStored context last of is_wanted number r memory))
   stored_ends of r memory u now left wanted on =
       does_without_step (record {
@@ -136,7 +136,7 @@ module _
       → ByteLiesAt context.activation left (address_on_machine context.activation place) now.a
       → StepsStand context (PartDoes context) found middle (byte_is_here_steps the_location) last to
       → GoesOn context found top base u.memory u.frame now left
-      → Does context.activation.around.program.script u.budget 0 (at_place middle now left u.events)
+      → Does (loaded_of context.activation) u.budget 0 (at_place middle now left u.events)
       (Gave tt u)
       (Arrives context.activation top base to (IsStored context last of is_wanted number r memory))
   byte_here_ends of r memory place u now left wanted lies byte (HoldsThere ends) on =
@@ -154,7 +154,7 @@ module _
       → WordLiesAt context.activation left (address_on_machine context.activation place) stored
       → StepsStand context (PartDoes context) found middle (word_is_here_steps the_location) last to
       → GoesOn context found top base u.memory u.frame now left
-      → Does context.activation.around.program.script u.budget 0 (at_place middle now left u.events)
+      → Does (loaded_of context.activation) u.budget 0 (at_place middle now left u.events)
       (Gave tt u)
       (Arrives context.activation top base to (IsStored context last of is_wanted number r memory))
   word_here_ends of r memory place stored u now left wanted lies h l word_is (HoldsThere ends) on =
@@ -252,7 +252,7 @@ module _
           → StepsStand context (PartDoes context) found middle (value_back_steps (the_goal Byte) wanted) last
           to
           → GoesOn context found top base u.memory u.frame now left
-          → Does context.activation.around.program.script u.budget 0 (at_place middle now left u.events)
+          → Does (loaded_of context.activation) u.budget 0 (at_place middle now left u.events)
           (Gave tt u)
           (Arrives context.activation top base to (IsStored context last Address is_wanted number r memory))
       ends_by false none r memory u now left d e ends on =
@@ -315,7 +315,7 @@ module _
           → StepsStand context (PartDoes context) found middle (value_back_steps (the_goal Address) wanted)
           last to
           → GoesOn context found top base u.memory u.frame now left
-          → Does context.activation.around.program.script u.budget 0 (at_place middle now left u.events)
+          → Does (loaded_of context.activation) u.budget 0 (at_place middle now left u.events)
           (Gave tt u)
           (Arrives context.activation top base to (IsStored context last Address is_wanted number r memory))
       ends_by false none r memory place u now left d e high low there lies ends on =
@@ -368,10 +368,10 @@ module _
       {more : ℕ} {start : State} {Good : Unit {0} → SourceState → State → Type 0} (scalar : ScalarType)
       (n : ℕ) (s : SourceState)
       (location : Location) (lies : LiesThere context tree location)
-      → Does context.activation.around.program.script s.budget more start
+      → Does (loaded_of context.activation) s.budget more start
       (then_do (write_scalar context.activation.around.program scalar lies.place n s) (λ done u. Gave done u))
       Good
-      → Does context.activation.around.program.script s.budget more start
+      → Does (loaded_of context.activation) s.budget more start
       (then_do (located_in context tree s)
       (λ place t. write_scalar context.activation.around.program scalar place n t)) Good
   at_known_place scalar n s location lies does =
@@ -528,10 +528,10 @@ module _
       → WordLiesAt context.activation left (address_on_machine context.activation lies.place) stored
       → StepsStand context (PartDoes context) then_found then_middle others last to
       → GoesOn context then_found top base u.memory u.frame final left
-      → Does context.activation.around.program.script u.budget 0 (at_place then_middle final left u.events)
+      → Does (loaded_of context.activation) u.budget 0 (at_place then_middle final left u.events)
       (Gave tt u)
       (Arrives context.activation top base to (IsStored context last of is_wanted number r memory)))
-      → Does context.activation.around.program.script s.budget 1 (at_place middle now memory s.events)
+      → Does (loaded_of context.activation) s.budget 1 (at_place middle now memory s.events)
       (then_do (located_in context tree s)
       (λ place t. write_scalar context.activation.around.program Address place stored t))
       (Arrives context.activation top base to (IsStored context last of is_wanted number r memory))
@@ -560,7 +560,7 @@ module _
           → StepsStand context (PartDoes context) then_found then_middle
           (Holds (record no_facts { word_in_hl = Some (locations.Frame variable offset) }) ∷ others) last to
           → GoesOn context then_found top base u.memory u.frame final left
-          → Does context.activation.around.program.script u.budget 0
+          → Does (loaded_of context.activation) u.budget 0
           (at_place then_middle final left u.events) (Gave tt u)
           (Arrives context.activation top base to (IsStored context last of is_wanted number r memory))
       held {then_middle = then_middle} lies u final left a high low word_is (HoldsThere stands) on_left =
@@ -667,7 +667,7 @@ module _
               → StepsStand context (PartDoes context) found middle
               (byte_is_here_steps (Some (locations.Static place))) last to
               → GoesOn context found top base u.memory u.frame now left
-              → Does context.activation.around.program.script u.budget 0 (at_place middle now left u.events)
+              → Does (loaded_of context.activation) u.budget 0 (at_place middle now left u.events)
               (Gave tt u)
               (Arrives context.activation top base to (IsStored context last Byte is_wanted number r memory))
           ends_at place told lies r memory u now left a byte (HoldsThere ends) on =
@@ -718,7 +718,7 @@ module _
               → StepsStand context (PartDoes context) found middle
               (byte_is_here_steps (Some (locations.Frame variable offset))) last to
               → GoesOn context found top base u.memory u.frame now left
-              → Does context.activation.around.program.script u.budget 0 (at_place middle now left u.events)
+              → Does (loaded_of context.activation) u.budget 0 (at_place middle now left u.events)
               (Gave tt u)
               (Arrives context.activation top base to (IsStored context last Byte is_wanted number r memory))
           ends_at lies r memory u now left a byte (HoldsThere ends) on =

@@ -1,6 +1,6 @@
 -- Rules of stores at computed addresses: the address is put into HL beside the value, and then bytes are
 -- stored.
-use Rattle.task_laws.proofs.Prelude.{◌≡◌, ℕ, ◌+◌, ◌-◌, ◌*◌, ◌/◌, ◌%◌, ◌<◌, ◌≤◌, Bool, true, false, if◌then◌else◌, List, [], ◌∷◌, ◌++◌, length, Option, Some, None, slice_set, refl, sym, ap, subst, ◌∙◌, arith, length-set, MEMORY_SIZE, byte_at, Event, ScalarType, Address, height_of_reference, TypedReference, TypesHoldInReference, SourcePlace, next_place, write_byte, write_scalar, SourceState, Outcome, Gave, then_do, Instr, Inx, Pop, Push, Xchg, Hl, Psw, StackDe, StackHl, act, flag_byte, flags_in, flag_byte_small, Registers, State, high_byte, low_byte, pushed_of, word, wrap, StoreHl, size_of_instruction, pushed_memory, byte_kept, byte_put, Location, Place, Reference, IsReference, Does, at_place, Activation, HasRoom, IsReady, Asks, IsSteadyByte, IsSteady, location_at, place_at, Facts, Step, Plain, Word, after, no_facts, part, keeps_of_address, location_of, address_beside_a_steps, address_beside_de_steps, goal_of, knowing, Context, IsSound, distances_in, nodes_in, PartThere, PlainThere, StepsStand, WordThere, IsReferred, Know, PartDoes, address_on_machine, differs_from_next, high_of_halves, low_of_halves, next_word, same_given, word_high_byte, word_low_byte}
+use Rattle.task_laws.proofs.Prelude.{◌≡◌, ℕ, ◌+◌, ◌-◌, ◌*◌, ◌/◌, ◌%◌, ◌<◌, ◌≤◌, Bool, true, false, if◌then◌else◌, List, [], ◌∷◌, ◌++◌, length, Option, Some, None, slice_set, refl, sym, ap, subst, ◌∙◌, arith, length-set, MEMORY_SIZE, byte_at, Event, ScalarType, Address, height_of_reference, TypedReference, TypesHoldInReference, SourcePlace, next_place, write_byte, write_scalar, SourceState, Outcome, Gave, then_do, Instr, Inx, Pop, Push, Xchg, Hl, Psw, StackDe, StackHl, act, flag_byte, flags_in, flag_byte_small, Registers, State, high_byte, low_byte, pushed_of, word, wrap, StoreHl, size_of_instruction, pushed_memory, byte_kept, byte_put, Location, Place, Reference, IsReference, Does, loaded_of, at_place, Activation, HasRoom, IsReady, Asks, IsSteadyByte, IsSteady, location_at, place_at, Facts, Step, Plain, Word, after, no_facts, part, keeps_of_address, location_of, address_beside_a_steps, address_beside_de_steps, goal_of, knowing, Context, IsSound, distances_in, nodes_in, PartThere, PlainThere, StepsStand, WordThere, IsReferred, Know, PartDoes, address_on_machine, differs_from_next, high_of_halves, low_of_halves, next_word, same_given, word_high_byte, word_low_byte}
 use Rattle.steps8080.specs.declared.step.Task.TheVariants as tasks
 use Rattle.task_laws.proofs.Loads.Loads.{lies_there}
 use Rattle.task_laws.proofs.Places.Located.{located_in}
@@ -38,9 +38,9 @@ pub beside_a_then :
     → word now.h now.l ≡ address_on_machine context.activation place
     → StepsStand context (PartDoes context) found middle others last to
     → GoesOn context found top base t.memory t.frame now ended
-    → Does context.activation.around.program.script t.budget more (at_place middle now ended t.events)
+    → Does (loaded_of context.activation) t.budget more (at_place middle now ended t.events)
     (go place t) Good)
-    → Does context.activation.around.program.script s.budget more (at_place from r memory s.events)
+    → Does (loaded_of context.activation) s.budget more (at_place from r memory s.events)
     (then_do (located_in context tree s) go) Good
 beside_a_then {Good = Good} {context = context} {facts = facts} {last = last} {reference = reference}
     {bound = bound} {top = top} {pushed = pushed} {need = need} {to = to} {more = more} {base = base}
@@ -52,7 +52,7 @@ beside_a_then {Good = Good} {context = context} {facts = facts} {last = last} {r
         ((if kept then part (tasks.Address reference) pushed ∷ []
         else Plain (Push Psw) ∷ part (tasks.Address reference) ((pushed + 2) % 65536) ∷ Plain (Pop Psw) ∷ [])
         ++ others) last to
-        → Does context.activation.around.program.script s.budget more (at_place from r memory s.events)
+        → Does (loaded_of context.activation) s.budget more (at_place from r memory s.events)
         (then_do (located_in context tree s) go) Good
     by_test true kept (PartThere {middle = middle} does stand) =
         let kept_here : (keeps_of_address context.site reference).a ≡ true
@@ -62,7 +62,7 @@ beside_a_then {Good = Good} {context = context} {facts = facts} {last = last} {r
         (does bound tree is referred types top base s r memory less
         (room_for (2 * height_of_reference tree) (omega (arith, fits)) room) on.ready on.known tt)
         (λ place t end same given fewer.
-        subst (λ (state : State). Does context.activation.around.program.script t.budget more state
+        subst (λ (state : State). Does (loaded_of context.activation) t.budget more state
         (go place t) Good) (sym given.is_at)
         (rest place t given.r given.memory middle _ same ((given.holds).a kept_here) (given.holds).hl stand
         (record { ready = given.ready; known = (given.holds).known })))
@@ -83,7 +83,7 @@ beside_a_then {Good = Good} {context = context} {facts = facts} {last = last} {r
           flags = flags_in (low_byte (pushed_of Psw r));
           sp = wrap top;
         } in
-        subst (λ (state : State). Does context.activation.around.program.script t.budget more state
+        subst (λ (state : State). Does (loaded_of context.activation) t.budget more state
         (go place t) Good) (sym given.is_at)
         (pop_goes Psw given.r sound again two room on.ready (pushed_word_small Psw r on.ready.registers)
         (record { ready = given.ready; known = (given.holds).known })
@@ -117,9 +117,9 @@ pub beside_de_then :
     → word now.h now.l ≡ address_on_machine context.activation place
     → StepsStand context (PartDoes context) found middle others last to
     → GoesOn context found top base t.memory t.frame now ended
-    → Does context.activation.around.program.script t.budget more (at_place middle now ended t.events)
+    → Does (loaded_of context.activation) t.budget more (at_place middle now ended t.events)
     (go place t) Good)
-    → Does context.activation.around.program.script s.budget more (at_place from r memory s.events)
+    → Does (loaded_of context.activation) s.budget more (at_place from r memory s.events)
     (then_do (located_in context tree s) go) Good
 beside_de_then {Good = Good} {context = context} {facts = facts} {last = last} {reference = reference}
     {bound = bound} {top = top} {pushed = pushed} {need = need} {to = to} {more = more} {base = base}
@@ -132,7 +132,7 @@ beside_de_then {Good = Good} {context = context} {facts = facts} {last = last} {
         else Plain (Push StackHl) ∷ part (tasks.Address reference) ((pushed + 2) % 65536) ∷ Plain
         (Pop StackDe) ∷ [])
         ++ others) last to
-        → Does context.activation.around.program.script s.budget more (at_place from r memory s.events)
+        → Does (loaded_of context.activation) s.budget more (at_place from r memory s.events)
         (then_do (located_in context tree s) go) Good
     by_test true kept (PlainThere there (PartThere {middle = middle} does stand)) =
         let kept_here : (keeps_of_address context.site reference).de ≡ true
@@ -147,7 +147,7 @@ beside_de_then {Good = Good} {context = context} {facts = facts} {last = last} {
         (does bound tree is referred types top base s one memory less
         (room_for (2 * height_of_reference tree) (omega (arith, fits)) room) on_one.ready on_one.known tt)
         (λ place t end same given fewer.
-        subst (λ (state : State). Does context.activation.around.program.script t.budget more state
+        subst (λ (state : State). Does (loaded_of context.activation) t.budget more state
         (go place t) Good) (sym given.is_at)
         (rest place t given.r given.memory middle _ same ((given.holds).d kept_here)
         ((given.holds).e kept_here) (given.holds).hl stand
@@ -169,7 +169,7 @@ beside_de_then {Good = Good} {context = context} {facts = facts} {last = last} {
           e = low_byte (pushed_of StackHl r);
           sp = wrap top;
         } in
-        subst (λ (state : State). Does context.activation.around.program.script t.budget more state
+        subst (λ (state : State). Does (loaded_of context.activation) t.budget more state
         (go place t) Good) (sym given.is_at)
         (pop_goes StackDe given.r sound again two room on.ready
         (pushed_word_small StackHl r on.ready.registers)
@@ -235,14 +235,14 @@ pub one_stored :
     → ByteLiesAt context.activation left (address_on_machine context.activation place) byte
     → StepsStand context (PartDoes context) found middle others last to
     → GoesOn context found top base u.memory u.frame r left
-    → Does context.activation.around.program.script u.budget 0 (at_place middle r left u.events) (go tt u)
+    → Does (loaded_of context.activation) u.budget 0 (at_place middle r left u.events) (go tt u)
     Good)
-    → Does context.activation.around.program.script t.budget 1 (at_place from r ended t.events)
+    → Does (loaded_of context.activation) t.budget 1 (at_place from r ended t.events)
     (then_do (write_byte context.activation.around.program place byte t) go) Good
 one_stored {Good = Good} {context = context} {facts = facts} {last = last} {top = top} {from = from} {to = to}
     {base = base} i others go place byte t r ended sound small hl fits acts asks
     (PlainThere there stand) on rest =
-    let script = context.activation.around.program.script in
+    let loaded = loaded_of context.activation in
     let address : ℕ = address_on_machine context.activation place in
     let size = on.ready.shares.is_memory.size in
     byte_written place byte t go sound small on.ready fits
@@ -257,9 +257,9 @@ one_stored {Good = Good} {context = context} {facts = facts} {last = last} {top 
     (asks (subst (λ (n : ℕ). IsSteady context.activation n) (sym hl) steady.0))
     (acts (from + size_of_instruction i) ended)
     (λ known.
-    subst (λ (budget : ℕ). Does script budget 0 (at_place (from + size_of_instruction i) r left t.events)
+    subst (λ (budget : ℕ). Does loaded budget 0 (at_place (from + size_of_instruction i) r left t.events)
     (go tt u) Good) budget_same
-    (subst (λ (events : List Event). Does script u.budget 0
+    (subst (λ (events : List Event). Does loaded u.budget 0
     (at_place (from + size_of_instruction i) r left events) (go tt u) Good) events_same
     (rest u left (from + size_of_instruction i) _ (record { is = there_is; steady = steady.0 }) stand
     (record {
@@ -300,14 +300,14 @@ pub two_stored :
     → WordLiesAt context.activation left (address_on_machine context.activation place) number
     → StepsStand context (PartDoes context) found middle others last to
     → GoesOn context found top base u.memory u.frame (further r) left
-    → Does context.activation.around.program.script u.budget 0 (at_place middle (further r) left u.events)
+    → Does (loaded_of context.activation) u.budget 0 (at_place middle (further r) left u.events)
     (go tt u) Good)
-    → Does context.activation.around.program.script t.budget 1 (at_place from r ended t.events)
+    → Does (loaded_of context.activation) t.budget 1 (at_place from r ended t.events)
     (then_do (write_scalar context.activation.around.program Address place number t) go) Good
 two_stored {Good = Good} {context = context} {facts = facts} {last = last} {top = top} {from = from} {to = to}
     {base = base} i j others go place number t r ended sound small hl fits acts acts_too asks asks_too
     (PlainThere there (PlainThere next (PlainThere again stand))) on rest =
-    let script = context.activation.around.program.script in
+    let loaded = loaded_of context.activation in
     let program = context.activation.around.program in
     let address : ℕ = address_on_machine context.activation place in
     let bytes = on.ready.registers in
@@ -315,7 +315,7 @@ two_stored {Good = Good} {context = context} {facts = facts} {last = last} {top 
     let once : List ℕ = slice_set ended (word r.h r.l) (number % 256) in
     let once_same : slice_set ended address (number % 256) ≡ once
     = ap (λ (n : ℕ). slice_set ended n (number % 256)) (sym hl) in
-    subst (λ (outcome : Outcome _). Does script t.budget 1 (at_place from r ended t.events) outcome Good)
+    subst (λ (outcome : Outcome _). Does loaded t.budget 1 (at_place from r ended t.events) outcome Good)
     (sym (then_again (write_byte program place (number % 256) t)
     (λ _ t. write_byte program (next_place place) (number / 256) t) go))
     (byte_written place (number % 256) t
@@ -356,9 +356,9 @@ two_stored {Good = Good} {context = context} {facts = facts} {last = last} {top 
     (asks_too (after (after facts i) (Inx Hl)) (record two { pc = wrap place_then }))
     (acts_too place_then once)
     (λ known_twice.
-    subst (λ (budget : ℕ). Does script budget 0 (at_place place_then two twice t.events) (go tt v) Good)
+    subst (λ (budget : ℕ). Does loaded budget 0 (at_place place_then two twice t.events) (go tt v) Good)
     (budget_again ∙ budget_same)
-    (subst (λ (events : List Event). Does script v.budget 0 (at_place place_then two twice events) (go tt v)
+    (subst (λ (events : List Event). Does loaded v.budget 0 (at_place place_then two twice events) (go tt v)
     Good) (events_again ∙ events_same)
     (rest v twice place_then _ lies stand
     (record {
@@ -455,14 +455,14 @@ pub shld_then :
     → WordLiesAt context.activation left (address_on_machine context.activation place) number
     → StepsStand context (PartDoes context) found middle others last to
     → GoesOn context found top base u.memory u.frame r left
-    → Does context.activation.around.program.script u.budget 0 (at_place middle r left u.events) (go tt u)
+    → Does (loaded_of context.activation) u.budget 0 (at_place middle r left u.events) (go tt u)
     Good)
-    → Does context.activation.around.program.script t.budget 1 (at_place from r ended t.events)
+    → Does (loaded_of context.activation) t.budget 1 (at_place from r ended t.events)
     (then_do (write_scalar context.activation.around.program Address place number t) go) Good
 shld_then {Good = Good} {context = context} {facts = facts} {last = last} {top = top} {from = from} {to = to}
     {base = base} others go static place number t r ended sound small h l is_at fits
     (WordThere there stand) on rest =
-    let script = context.activation.around.program.script in
+    let loaded = loaded_of context.activation in
     let address : ℕ = place_at context.activation.layout static in
     word_written place number t go sound small on.ready fits
     (λ u events_same budget_same steady steady_too ready.
@@ -486,9 +486,9 @@ shld_then {Good = Good} {context = context} {facts = facts} {last = last} {top =
       subst (λ (n : ℕ). IsSteadyByte context.activation (wrap (n + 1))) is_at steady_too,
     ) refl
     (λ known.
-    subst (λ (budget : ℕ). Does script budget 0 (at_place (from + 3) r left t.events) (go tt u) Good)
+    subst (λ (budget : ℕ). Does loaded budget 0 (at_place (from + 3) r left t.events) (go tt u) Good)
     budget_same
-    (subst (λ (events : List Event). Does script u.budget 0 (at_place (from + 3) r left events)
+    (subst (λ (events : List Event). Does loaded u.budget 0 (at_place (from + 3) r left events)
     (go tt u) Good) events_same
     (rest u left (from + 3) _ lies stand
     (record {

@@ -1,5 +1,5 @@
 -- Steps of stores: they have one step to spare.
-use Rattle.task_laws.proofs.Prelude.{◌≡◌, ℕ, suc, ◌+◌, List, [], ◌∷◌, refl, subst, ◌∙◌, arith, SourceState, Ended, More, Outside, Outcome, Gave, Stopped, Instr, Registers, State, wrap, act, step_of, size_of_instruction, step_then, Reference, Does, Lands, at_place, IsThere, after_step, plain_step, Asks, facts_after, Facts, after, keeps_of_address, knowing, Context, IsSound, distances_in, Know}
+use Rattle.task_laws.proofs.Prelude.{◌≡◌, ℕ, suc, ◌+◌, List, [], ◌∷◌, refl, subst, ◌∙◌, arith, SourceState, Ended, More, Outside, Outcome, Gave, Stopped, Instr, Registers, State, wrap, act, step_of, size_of_instruction, step_then, Reference, Does, Loaded, loaded_of, Lands, at_place, IsThere, after_step, plain_step, Asks, facts_after, Facts, after, keeps_of_address, knowing, Context, IsSound, distances_in, Know}
 use Rattle.asm8080.specs.declared.item.Item.TheVariants as items
 use Rattle.task_laws.proofs.Machine.Rules.{GoesOn, bytes_at_place}
 
@@ -22,18 +22,20 @@ lands_gaining script budget left from to Good same lands =
 
 -- a step that makes one to spare
 pub does_gaining :
-    {A : Type 0} {script : List (List ℕ)} {budget : ℕ} {from to : State} {outcome : Outcome A}
+    {A : Type 0} {loaded : Loaded} {budget : ℕ} {from to : State} {outcome : Outcome A}
     {Good : A → SourceState → State → Type 0}
-    → step_of script from ≡ to
-    → Does script budget 0 to outcome Good
-    → Does script budget 1 from outcome Good
-does_gaining {script = script} {budget = budget} {from = from} {to = to} {outcome = Gave found t}
+    → step_of loaded.program.script from ≡ to
+    → Does loaded budget 0 to outcome Good
+    → Does loaded budget 1 from outcome Good
+does_gaining {loaded = loaded} {budget = budget} {from = from} {to = to} {outcome = Gave found t}
     {Good = Good} same does =
-    record { told = lands_gaining script budget t.budget from to (Good found t) same does.told }
-does_gaining {script = script} {budget = budget} {from = from} {to = to}
+    record {
+      told = lands_gaining loaded.program.script budget t.budget from to (Good found t) same does.told;
+    }
+does_gaining {loaded = loaded} {budget = budget} {from = from} {to = to}
     {outcome = Stopped Ended t} same does =
     after_step same (record { told = does.told })
-does_gaining {script = script} {budget = budget} {from = from} {to = to}
+does_gaining {loaded = loaded} {budget = budget} {from = from} {to = to}
     {outcome = Stopped More t} same does =
     after_step same (record { told = does.told })
 does_gaining {outcome = Stopped (Outside reason) t} same does = record { told = tt }
@@ -53,9 +55,9 @@ pub plain_gains :
     → act context.activation.around.program.script i (at_place (from + size_of_instruction i) r memory events)
     ≡ at_place (from + size_of_instruction i) now ended events_after
     → (Know context (after facts i) now ended
-    → Does context.activation.around.program.script budget 0
+    → Does (loaded_of context.activation) budget 0
     (at_place (from + size_of_instruction i) now ended events_after) outcome Good)
-    → Does context.activation.around.program.script budget 1 (at_place from r memory events) outcome Good
+    → Does (loaded_of context.activation) budget 1 (at_place from r memory events) outcome Good
 plain_gains {budget = budget} {outcome = outcome} {Good = Good} {context = context} {facts = facts}
     {memory = memory} {events = events} {i = i} {from = from} r now ended events_after sound
     there on asks does rest =

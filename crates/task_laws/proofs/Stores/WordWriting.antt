@@ -1,5 +1,5 @@
 -- Words that are written on both sides.
-use Rattle.task_laws.proofs.Prelude.{◌≡◌, ℕ, ◌+◌, ◌/◌, ◌%◌, ◌<◌, List, slice_set, refl, sym, subst, ◌∙◌, arith, Address, SourceState, Outcome, then_do, InMemory, InTheFrame, next_place, write_byte, write_scalar, Registers, State, wrap, Does, Activation, IsReady, IsSteadyByte, Context, IsSound, address_on_machine}
+use Rattle.task_laws.proofs.Prelude.{◌≡◌, ℕ, ◌+◌, ◌/◌, ◌%◌, ◌<◌, List, slice_set, refl, sym, subst, ◌∙◌, arith, Address, SourceState, Outcome, then_do, InMemory, InTheFrame, next_place, write_byte, write_scalar, Registers, State, wrap, Does, loaded_of, Activation, IsReady, IsSteadyByte, Context, IsSound, address_on_machine}
 use Rattle.meaning.specs.Access.{Place}
 use Rattle.task_laws.proofs.Places.Reading.{FitsIn}
 use Rattle.task_laws.proofs.Stores.Writing.{byte_written}
@@ -42,15 +42,15 @@ pub word_written :
     → IsReady context.activation top base t.memory t.frame r
     (slice_set (slice_set memory (address_on_machine context.activation place) (number % 256))
     (wrap (address_on_machine context.activation place + 1)) (number / 256))
-    → Does context.activation.around.program.script budget more from (go tt t) Good)
-    → Does context.activation.around.program.script budget more from
+    → Does (loaded_of context.activation) budget more from (go tt t) Good)
+    → Does (loaded_of context.activation) budget more from
     (then_do (write_scalar context.activation.around.program Address place number s) go) Good
 word_written {budget = budget} {more = more} {from = from} {Good = Good} {context = context} {top = top}
     {base = base} {memory = memory} {r = r} place number s go sound small ready fits does =
     let program = context.activation.around.program in
     let address : ℕ = address_on_machine context.activation place in
     let next = next_address context.activation place in
-    subst (λ (outcome : Outcome _). Does program.script budget more from outcome Good)
+    subst (λ (outcome : Outcome _). Does (loaded_of context.activation) budget more from outcome Good)
     (sym (then_again (write_byte program place (number % 256) s)
     (λ _ t. write_byte program (next_place place) (number / 256) t) go))
     (byte_written place (number % 256) s

@@ -1,5 +1,5 @@
 -- Bytes that are written, in memory or in the frame, on both sides: an activation remains ready.
-use Rattle.task_laws.proofs.Prelude.{◌≡◌, ◌≢◌, ℕ, zero, suc, ◌+◌, ◌<◌, ◌≤◌, ◌==◌, ◌⊎◌, inl, inr, Bool, true, false, if◌then◌else◌, List, [], ◌∷◌, length, slice_set, slice_index_or, refl, sym, ap, subst, ◌∙◌, arith, cases_lt, length-set, eqb-true, eqb-false, MEMORY_SIZE, byte_at, UndeclaredByte, Constant, SourceState, Outside, Outcome, Gave, Stopped, then_do, InMemory, InTheFrame, frame_bytes, is_constant, is_declared, write_byte, Registers, State, wrap, byte_kept, byte_put, memory_put, Does, Activation, FrameLies, IsReady, LiesWell, Owns, keeps_put, ready_with_variable, IsSteadyByte, declared_is_steady, Context, IsSound, address_on_machine}
+use Rattle.task_laws.proofs.Prelude.{◌≡◌, ◌≢◌, ℕ, zero, suc, ◌+◌, ◌<◌, ◌≤◌, ◌==◌, ◌⊎◌, inl, inr, Bool, true, false, if◌then◌else◌, List, [], ◌∷◌, length, slice_set, slice_index_or, refl, sym, ap, subst, ◌∙◌, arith, cases_lt, length-set, eqb-true, eqb-false, MEMORY_SIZE, byte_at, UndeclaredByte, Constant, SourceState, Outside, Outcome, Gave, Stopped, then_do, InMemory, InTheFrame, frame_bytes, is_constant, is_declared, write_byte, Registers, State, wrap, byte_kept, byte_put, memory_put, Does, loaded_of, Activation, FrameLies, IsReady, LiesWell, MayChange, Owns, keeps_put, ready_with_variable, IsSteadyByte, declared_is_steady, Context, IsSound, address_on_machine}
 use Rattle.meaning.specs.Access.{Place}
 use Rattle.task_laws.proofs.Places.Reading.{FitsIn, frame_is, of_frame}
 
@@ -190,6 +190,9 @@ ready_with_frame activation top base source frame r memory object offset value w
             (λ same. well.placed.apart other there.0 there.1 (omega (arith, same, low, bottom))
             (omega (arith, same, inside, above)))
             ∙ shares.code other there;
+        others =
+            keeps_put (MayChange activation.around.program) activation.image memory address value
+            (inr (omega (arith, low, bottom), omega (arith, inside, above))) shares.others;
       };
       frame_lies =
           put_frame activation frame memory object offset value well shares.is_memory.size
@@ -220,8 +223,8 @@ pub byte_written :
     → IsSteadyByte context.activation (address_on_machine context.activation place)
     → IsReady context.activation top base t.memory t.frame r
     (slice_set memory (address_on_machine context.activation place) byte)
-    → Does context.activation.around.program.script budget more from (go tt t) Good)
-    → Does context.activation.around.program.script budget more from
+    → Does (loaded_of context.activation) budget more from (go tt t) Good)
+    → Does (loaded_of context.activation) budget more from
     (then_do (write_byte context.activation.around.program place byte s) go) Good
 byte_written {budget = budget} {more = more} {from = from} {Good = Good} {context = context} {top = top}
     {base = base} {memory = memory} {r = r} (InMemory address) byte s go sound small ready fits does =
@@ -231,7 +234,7 @@ byte_written {budget = budget} {more = more} {from = from} {Good = Good} {contex
     by_test : (declared constant : Bool)
         → is_declared context.activation.around.program address ≡ declared
         → is_constant context.activation.around.program address ≡ constant
-        → Does context.activation.around.program.script budget more from
+        → Does (loaded_of context.activation) budget more from
         (then_do
         (if declared
         then (if constant then Stopped (Outside Constant) s else Gave (tt {0})

@@ -8,7 +8,7 @@ use Rattle.task_laws.proofs.Words.LogicPairs.{LogicGiven}
 use Rattle.task_laws.proofs.Ranges.Ranges.{bytes_fit_after, fits_means, ready_fits}
 use Rattle.task_laws.proofs.Machine.Rules.{GoesOn, Parted, steps_split}
 use Rattle.task_laws.proofs.Machine.SiteNodes.{value_in}
-use Rattle.task_laws.proofs.Machine.Stages.{at_carried, script_of}
+use Rattle.task_laws.proofs.Machine.Stages.{at_carried, loaded_in}
 use Rattle.task_laws.proofs.Bytes.TwoBytes.{two_bytes}
 use Rattle.task_laws.proofs.Words.WordSums.{TwoWords}
 use Rattle.task_laws.proofs.Numbers.{equals_byte}
@@ -68,7 +68,7 @@ unfolding byte_operation_steps low_number is_of_bytes
 of_bytes_does {context = context} {pushed = pushed} {top = top} {need = need} {to = to} {base = base}
     {facts = facts} {last = last} {first = first} {second = second} operands number from s r memory sound
     asked words bytes right_none left_none none less room height stand going =
-    subst (λ outcome. Does (script_of context) s.budget 0 (at_place from r memory s.events) outcome
+    subst (λ outcome. Does (loaded_in context) s.budget 0 (at_place from r memory s.events) outcome
     (Arrives context.activation top base to (WordIsGiven context last number Address r memory)))
     (given_again (value_in context (BinaryNode Address operators.And first second) s))
     (at_carried from parts.middle parts.found

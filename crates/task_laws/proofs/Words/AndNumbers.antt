@@ -8,7 +8,7 @@ use Rattle.task_laws.proofs.Words.Pairs.{IsOperand}
 use Rattle.task_laws.proofs.Machine.RegisterCode.{effect}
 use Rattle.task_laws.proofs.Machine.Rules.{GoesOn, steps_split}
 use Rattle.task_laws.proofs.Machine.SiteNodes.{value_in}
-use Rattle.task_laws.proofs.Machine.Stages.{Stage, at_byte, at_carried, at_effects, at_end, at_instructions, script_of}
+use Rattle.task_laws.proofs.Machine.Stages.{Stage, at_byte, at_carried, at_effects, at_end, at_instructions, loaded_in}
 use Rattle.task_laws.proofs.Machine.Values.{HasWord, word_given}
 use Rattle.task_laws.proofs.Bytes.Zeros.{low_mask}
 use Rattle.task_laws.proofs.Numbers.{byte_is_word, no_high_byte}
@@ -48,7 +48,7 @@ module _
       → now.a ≡ n
       → StepsStand context (PartDoes context) facts from extension_steps last to
       → Stage context top pushed need base t facts now ended
-      → Does (script_of context) t.budget 0 (at_place from now ended t.events) (Gave n t)
+      → Does (loaded_in context) t.budget 0 (at_place from now ended t.events) (Gave n t)
       (Arrives context.activation top base to (WordIsGiven context last number Address r memory))
   extended_then n t r now memory ended small same stand stage =
       at_instructions (copy L A ∷ set H 0 ∷ []) [] sound (tt, (tt, tt)) stand stage
@@ -69,7 +69,7 @@ module _
         → StepsStand context (PartDoes context) facts from
         (with_number_steps And other (low n) pushed ++ extension_steps) last to
         → GoesOn context facts top base s.memory s.frame r memory
-        → Does (script_of context) s.budget 0 (at_place from r memory s.events)
+        → Does (loaded_in context) s.budget 0 (at_place from r memory s.events)
         (then_do (value_in context tree s) (λ x t. Gave (bit_and x n) t))
         (Arrives context.activation top base to (WordIsGiven context last number Address r memory))
     unfolding with_number_steps immediate_steps
@@ -80,7 +80,7 @@ module _
         stage = record { below = less; room = room; ready = going.ready; known = going.known }
 
         Comes : Type 0
-        Comes = Does (script_of context) s.budget 0 (at_place from r memory s.events)
+        Comes = Does (loaded_in context) s.budget 0 (at_place from r memory s.events)
             (then_do (value_in context tree s) (λ x t. Gave (bit_and x n) t))
             (Arrives context.activation top base to (WordIsGiven context last number Address r memory))
 
@@ -131,7 +131,7 @@ module _
         → StepsStand context (PartDoes context) facts from
         (high_half_steps (knowing context.site facts) other (high n) pushed) last to
         → GoesOn context facts top base s.memory s.frame r memory
-        → Does (script_of context) s.budget 0 (at_place from r memory s.events)
+        → Does (loaded_in context) s.budget 0 (at_place from r memory s.events)
         (then_do (value_in context tree s) (λ x t. Gave (bit_and x n) t))
         (Arrives context.activation top base to (WordIsGiven context last number Address r memory))
     unfolding high_half_steps
@@ -169,7 +169,7 @@ module _
             ((if full then [] else Plain (AccumulateImmediate And (high n)) ∷ [])
             ++ plain (copy H A ∷ set L 0 ∷ [])) last to
             → Stage context top pushed need base t found now ended
-            → Does (script_of context) t.budget 0 (at_place middle now ended t.events) (Gave (bit_and x n) t)
+            → Does (loaded_in context) t.budget 0 (at_place middle now ended t.events) (Gave (bit_and x n) t)
             (Arrives context.activation top base to (WordIsGiven context last number Address r memory))
         masked x t now ended a true is given next =
             let a_small = next.ready.registers.a in
@@ -204,7 +204,7 @@ module _
         → StepsStand context (PartDoes context) facts from
         (logic_with_number_steps (knowing context.site facts) And other n pushed) last to
         → GoesOn context facts top base s.memory s.frame r memory
-        → Does (script_of context) s.budget 0 (at_place from r memory s.events)
+        → Does (loaded_in context) s.budget 0 (at_place from r memory s.events)
         (then_do (value_in context tree s) (λ x t. Gave (bit_and x n) t))
         (Arrives context.activation top base to (WordIsGiven context last number Address r memory))
     unfolding logic_with_number_steps and_with_number_steps
@@ -216,7 +216,7 @@ module _
             (if is_byte then with_number_steps And other (low n) pushed ++ extension_steps
             else if is_high then high_half_steps (knowing context.site facts) other (high n) pushed
             else both_halves_steps And other n pushed) last to
-            → Does (script_of context) s.budget 0 (at_place from r memory s.events)
+            → Does (loaded_in context) s.budget 0 (at_place from r memory s.events)
             (then_do (value_in context tree s) (λ x t. Gave (bit_and x n) t))
             (Arrives context.activation top base to (WordIsGiven context last number Address r memory))
         by true is_high here there given =

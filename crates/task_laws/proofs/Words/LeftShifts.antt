@@ -1,5 +1,5 @@
 -- Shifts of an ADDRESS left by a number.
-use Rattle.task_laws.proofs.Prelude.{◌≡◌, ℕ, ◌+◌, ◌-◌, ◌*◌, ◌/◌, ◌%◌, ◌^◌, ◌<◌, ◌≤◌, Bool, true, false, nat_le, if◌then◌else◌, List, [], ◌∷◌, ◌++◌, replicate, Some, pow-add, refl, sym, ap, ◌∙◌, subst, arith, leb-true, leb-false, lt-ltb, le-ltb, Address, ShiftLeft, height_of, TypedExpression, value, SourceState, Gave, then_do, shifted, Instr, Dad, Hl, A, H, L, Registers, LoadPair, ExpressionNumber, Number, keeps_at, keeps_none, keeps_of_shift, Does, at_place, Arrives, HasRoom, Facts, Step, copy, set, part_of, plain, repeat_steps, keeps, Context, IsSound, nodes_in, StepsStand, PartThere, WordThere, PartDoes, WordIsGiven, left_far_number}
+use Rattle.task_laws.proofs.Prelude.{◌≡◌, ℕ, ◌+◌, ◌-◌, ◌*◌, ◌/◌, ◌%◌, ◌^◌, ◌<◌, ◌≤◌, Bool, true, false, nat_le, if◌then◌else◌, List, [], ◌∷◌, ◌++◌, replicate, Some, pow-add, refl, sym, ap, ◌∙◌, subst, arith, leb-true, leb-false, lt-ltb, le-ltb, Address, ShiftLeft, height_of, TypedExpression, value, SourceState, Gave, then_do, shifted, Instr, Dad, Hl, A, H, L, Registers, LoadPair, ExpressionNumber, Number, keeps_at, keeps_none, keeps_of_shift, Does, loaded_of, at_place, Arrives, HasRoom, Facts, Step, copy, set, part_of, plain, repeat_steps, keeps, Context, IsSound, nodes_in, StepsStand, PartThere, WordThere, PartDoes, WordIsGiven, left_far_number}
 use Rattle.steps8080.specs.declared.step.Task.TheVariants as tasks
 use Rattle.exprgen8080.specs.internal.WordShifts.{shifted_left_steps, zero_steps}
 use Rattle.task_laws.proofs.Machine.Addresses.{registers_end}
@@ -33,7 +33,7 @@ pub zero_does :
     → 2 * height_of tree ≤ need
     → StepsStand context (PartDoes context) facts from (zero_steps other pushed) last to
     → GoesOn context facts top base s.memory s.frame r memory
-    → Does context.activation.around.program.script s.budget 0 (at_place from r memory s.events)
+    → Does (loaded_of context.activation) s.budget 0 (at_place from r memory s.events)
     (then_do (value context.later context.activation.around tree s) (λ x t. Gave (f x) t))
     (Arrives context.activation top base to (WordIsGiven context last number Address r memory))
 unfolding zero_steps
@@ -68,7 +68,7 @@ pub left_does :
     → 2 * height_of tree ≤ need
     → StepsStand context (PartDoes context) facts from (shifted_left_steps other count pushed) last to
     → GoesOn context facts top base s.memory s.frame r memory
-    → Does context.activation.around.program.script s.budget 0 (at_place from r memory s.events)
+    → Does (loaded_of context.activation) s.budget 0 (at_place from r memory s.events)
     (then_do (value context.later context.activation.around tree s)
     (λ x t. Gave (shifted Address ShiftLeft x count) t))
     (Arrives context.activation top base to (WordIsGiven context last number Address r memory))
@@ -89,7 +89,7 @@ left_does {context = context} {pushed = pushed} {top = top} {need = need} {to = 
         then part_of (tasks.Byte other) pushed ∷ plain (copy H A ∷ set L 0 ∷ [])
         ++ repeat_steps (Dad Hl) (count - 8)
         else part_of (tasks.Word other) pushed ∷ repeat_steps (Dad Hl) count) last to
-        → Does context.activation.around.program.script s.budget 0 (at_place from r memory s.events)
+        → Does (loaded_of context.activation) s.budget 0 (at_place from r memory s.events)
         (then_do (value context.later context.activation.around tree s)
         (λ x t. Gave (shifted Address ShiftLeft x count) t))
         (Arrives context.activation top base to (WordIsGiven context last number Address r memory))
@@ -140,7 +140,7 @@ left_does {context = context} {pushed = pushed} {top = top} {need = need} {to = 
         then part_of (tasks.Byte other) pushed ∷ plain (copy H A ∷ set L 0 ∷ [])
         ++ repeat_steps (Dad Hl) (count - 8)
         else part_of (tasks.Word other) pushed ∷ repeat_steps (Dad Hl) count) last to
-        → Does context.activation.around.program.script s.budget 0 (at_place from r memory s.events)
+        → Does (loaded_of context.activation) s.budget 0 (at_place from r memory s.events)
         (then_do (value context.later context.activation.around tree s)
         (λ x t. Gave (shifted Address ShiftLeft x count) t))
         (Arrives context.activation top base to (WordIsGiven context last number Address r memory))

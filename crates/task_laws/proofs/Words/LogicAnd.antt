@@ -1,5 +1,5 @@
 -- AND of two ADDRESSes in HL.
-use Rattle.task_laws.proofs.Prelude.{◌≡◌, ℕ, ◌+◌, ◌*◌, ◌<◌, ◌≤◌, max, ◌||◌, Bool, true, false, if◌then◌else◌, List, ◌++◌, Option, Some, None, refl, sym, ap, ◌∙◌, subst, false≢true, Address, height_of, type_of, TypedExpression, value, SourceState, Gave, And, Registers, ExpressionNumber, Number, keeps_none, Does, at_place, Arrives, HasRoom, Facts, keeps, number_of, pair_order, pair_steps, Operands, Simple, knowing, computed_logic_steps, is_of_bytes, logic_steps, logic_with_number_steps, logic_with_simple_steps, paired_steps, with_simple, Context, IsSound, StepsStand, PartDoes, WordIsGiven, extension_steps, fits_byte, byte_operation_steps}
+use Rattle.task_laws.proofs.Prelude.{◌≡◌, ℕ, ◌+◌, ◌*◌, ◌<◌, ◌≤◌, max, ◌||◌, Bool, true, false, if◌then◌else◌, List, ◌++◌, Option, Some, None, refl, sym, ap, ◌∙◌, subst, false≢true, Address, height_of, type_of, TypedExpression, value, SourceState, Gave, And, Registers, ExpressionNumber, Number, keeps_none, Does, loaded_of, at_place, Arrives, HasRoom, Facts, keeps, number_of, pair_order, pair_steps, Operands, Simple, knowing, computed_logic_steps, is_of_bytes, logic_steps, logic_with_number_steps, logic_with_simple_steps, paired_steps, with_simple, Context, IsSound, StepsStand, PartDoes, WordIsGiven, extension_steps, fits_byte, byte_operation_steps}
 use Rattle.task_laws.proofs.Machine.Rules.{GoesOn}
 use Rattle.task_laws.proofs.Machine.KnownOperands.{number_known, number_small}
 use Rattle.task_laws.proofs.Words.Pairs.{same_rest}
@@ -95,7 +95,7 @@ and_does {context = context} {pushed = pushed} {top = top} {need = need} {to = t
         ]) last to
         → LogicGiven context And from s r memory first second last number top base to
     by_left (Some n) here right_none stand =
-        subst (λ outcome. Does context.activation.around.program.script s.budget 0
+        subst (λ outcome. Does (loaded_of context.activation) s.budget 0
         (at_place from r memory s.events) outcome
         (Arrives context.activation top base to (WordIsGiven context last number Address r memory)))
         (sym (first_known second facts (Number n) (λ x y u. Gave (bits And x y) u) s sound words.one
@@ -120,7 +120,7 @@ and_does {context = context} {pushed = pushed} {top = top} {need = need} {to = t
         ]) last to
         → LogicGiven context And from s r memory first second last number top base to
     by_right (Some n) here stand =
-        subst (λ outcome. Does context.activation.around.program.script s.budget 0
+        subst (λ outcome. Does (loaded_of context.activation) s.budget 0
         (at_place from r memory s.events) outcome
         (Arrives context.activation top base to (WordIsGiven context last number Address r memory)))
         (sym (second_known first facts (Number n) (λ x y u. Gave (bits And x y) u) s sound words.two

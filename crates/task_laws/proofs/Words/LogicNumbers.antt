@@ -1,5 +1,5 @@
 -- AND, OR and XOR of an ADDRESS and a number, byte by byte.
-use Rattle.task_laws.proofs.Prelude.{◌≡◌, ℕ, ◌-◌, ◌*◌, ◌/◌, ◌%◌, ◌<◌, ◌≤◌, ◌==◌, Bool, true, false, if◌then◌else◌, List, [], ◌∷◌, ◌++◌, bit_and, bit_or, bit_xor, refl, sym, ap, ◌∙◌, subst, arith, eqb-true, and_le_l, or_of_16, xor_of_16, Address, height_of, TypedExpression, value, SourceState, Gave, then_do, Instr, AccumulateImmediate, Cma, Operation, And, ExclusiveOr, Or, A, H, L, Registers, ExpressionNumber, keeps_none, Does, at_place, Arrives, HasRoom, Facts, Step, Plain, copy, set, part_of, plain, keeps, both_halves_steps, half_steps, half_through_a_steps, equal_below, Context, IsSound, StepsStand, PartDoes, WordIsGiven, low_is_byte}
+use Rattle.task_laws.proofs.Prelude.{◌≡◌, ℕ, ◌-◌, ◌*◌, ◌/◌, ◌%◌, ◌<◌, ◌≤◌, ◌==◌, Bool, true, false, if◌then◌else◌, List, [], ◌∷◌, ◌++◌, bit_and, bit_or, bit_xor, refl, sym, ap, ◌∙◌, subst, arith, eqb-true, and_le_l, or_of_16, xor_of_16, Address, height_of, TypedExpression, value, SourceState, Gave, then_do, Instr, AccumulateImmediate, Cma, Operation, And, ExclusiveOr, Or, A, H, L, Registers, ExpressionNumber, keeps_none, Does, loaded_of, at_place, Arrives, HasRoom, Facts, Step, Plain, copy, set, part_of, plain, keeps, both_halves_steps, half_steps, half_through_a_steps, equal_below, Context, IsSound, StepsStand, PartDoes, WordIsGiven, low_is_byte}
 use Rattle.steps8080.specs.declared.step.Task.TheVariants as tasks
 use Rattle.task_laws.proofs.Machine.Rules.{GoesOn}
 use Rattle.task_laws.proofs.Machine.RegisterCode.{AreOnRegisters, effect}
@@ -285,7 +285,7 @@ pub halves_do :
     → 2 * height_of tree ≤ need
     → StepsStand context (PartDoes context) facts from (both_halves_steps operation other n pushed) last to
     → GoesOn context facts top base s.memory s.frame r memory
-    → Does context.activation.around.program.script s.budget 0 (at_place from r memory s.events)
+    → Does (loaded_of context.activation) s.budget 0 (at_place from r memory s.events)
     (then_do (value context.later context.activation.around tree s) (λ x t. Gave (bits operation x n) t))
     (Arrives context.activation top base to (WordIsGiven context last number Address r memory))
 unfolding both_halves_steps

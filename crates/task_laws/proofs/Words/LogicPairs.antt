@@ -1,5 +1,5 @@
 -- OR and XOR of two ADDRESSes in HL.
-use Rattle.task_laws.proofs.Prelude.{◌≡◌, ℕ, ◌+◌, ◌*◌, ◌<◌, ◌≤◌, max, Bool, false, if◌then◌else◌, List, ◌++◌, Option, Some, None, refl, sym, ap, ◌∙◌, subst, and_comm, or_comm, xor_comm, Address, height_of, type_of, TypedExpression, value, SourceState, Gave, then_do, Operation, And, ExclusiveOr, Or, Registers, ExpressionNumber, Number, keeps_none, Does, at_place, Arrives, HasRoom, Facts, Site, keeps, number_of, pair_order, pair_steps, Operands, Simple, knowing, both_halves_steps, computed_logic_steps, is_of_bytes, logic_steps, logic_with_number_steps, logic_with_simple_steps, paired_steps, with_simple, Context, IsSound, StepsStand, PartDoes, WordIsGiven}
+use Rattle.task_laws.proofs.Prelude.{◌≡◌, ℕ, ◌+◌, ◌*◌, ◌<◌, ◌≤◌, max, Bool, false, if◌then◌else◌, List, ◌++◌, Option, Some, None, refl, sym, ap, ◌∙◌, subst, and_comm, or_comm, xor_comm, Address, height_of, type_of, TypedExpression, value, SourceState, Gave, then_do, Operation, And, ExclusiveOr, Or, Registers, ExpressionNumber, Number, keeps_none, Does, loaded_of, at_place, Arrives, HasRoom, Facts, Site, keeps, number_of, pair_order, pair_steps, Operands, Simple, knowing, both_halves_steps, computed_logic_steps, is_of_bytes, logic_steps, logic_with_number_steps, logic_with_simple_steps, paired_steps, with_simple, Context, IsSound, StepsStand, PartDoes, WordIsGiven}
 use Rattle.task_laws.proofs.Machine.Rules.{GoesOn}
 use Rattle.task_laws.proofs.Machine.KnownOperands.{number_known, number_small}
 use Rattle.task_laws.proofs.Words.Pairs.{same_rest}
@@ -53,7 +53,7 @@ abbrev pub LogicGiven :
     → (first second : TypedExpression)
     → (last : Facts) → (number : ExpressionNumber) → (top : ℕ) → (base : List ℕ) → (to : ℕ) → Type 0
 LogicGiven context operation from s r memory first second last number top base to =
-    Does context.activation.around.program.script s.budget 0 (at_place from r memory s.events)
+    Does (loaded_of context.activation) s.budget 0 (at_place from r memory s.events)
     (then_do (value context.later context.activation.around first s)
     (λ x t. then_do (value context.later context.activation.around second t)
     (λ y u. Gave (bits operation x y) u)))
@@ -111,7 +111,7 @@ either_does {context = context} {pushed = pushed} {top = top} {need = need} {to 
         ]) last to
         → LogicGiven context operation from s r memory first second last number top base to
     by_left (Some n) here stand =
-        subst (λ outcome. Does context.activation.around.program.script s.budget 0
+        subst (λ outcome. Does (loaded_of context.activation) s.budget 0
         (at_place from r memory s.events) outcome
         (Arrives context.activation top base to (WordIsGiven context last number Address r memory)))
         (sym (first_known second facts (Number n) (λ x y u. Gave (bits operation x y) u) s sound words.one
@@ -146,7 +146,7 @@ either_does {context = context} {pushed = pushed} {top = top} {need = need} {to 
         ]) last to
         → LogicGiven context operation from s r memory first second last number top base to
     by_right (Some n) here stand =
-        subst (λ outcome. Does context.activation.around.program.script s.budget 0
+        subst (λ outcome. Does (loaded_of context.activation) s.budget 0
         (at_place from r memory s.events) outcome
         (Arrives context.activation top base to (WordIsGiven context last number Address r memory)))
         (sym (second_known first facts (Number n) (λ x y u. Gave (bits operation x y) u) s sound words.two

@@ -1,5 +1,5 @@
 -- HL times a number, by sums.
-use Rattle.task_laws.proofs.Prelude.{◌≡◌, ℕ, zero, suc, ◌+◌, ◌*◌, ◌/◌, ◌%◌, ◌^◌, ◌<◌, ◌≤◌, ◌==◌, Bool, true, false, ◌||◌, if◌then◌else◌, List, [], ◌∷◌, ◌++◌, replicate, Option, Some, None, refl, sym, ap, ◌∙◌, subst, arith, eqb-true, eqb-false, eq-eqb, false≢true, true≢false, lt-ltb, div-div-eq-div-mul, pow-suc, Event, value, SourceState, Outcome, Gave, Stopped, then_do, Instr, Dad, Bc, Hl, B, C, H, L, Registers, State, high_byte, low_byte, word, wrap, LoadPair, ExpressionNumber, Number, Does, at_place, Arrives, does_without_step, Facts, Part, Step, Plain, Word, copy, set, part_of, plain, repeat_steps, power_from, power_of_two, bit_steps, chain_from, chain_steps, has_bit, multiple_steps, product_steps, small_multiple_steps, Context, IsSound, StepsStand, PartThere, WordThere, PartDoes, same_Some, suc_moved, word_from_halves}
+use Rattle.task_laws.proofs.Prelude.{◌≡◌, ℕ, zero, suc, ◌+◌, ◌*◌, ◌/◌, ◌%◌, ◌^◌, ◌<◌, ◌≤◌, ◌==◌, Bool, true, false, ◌||◌, if◌then◌else◌, List, [], ◌∷◌, ◌++◌, replicate, Option, Some, None, refl, sym, ap, ◌∙◌, subst, arith, eqb-true, eqb-false, eq-eqb, false≢true, true≢false, lt-ltb, div-div-eq-div-mul, pow-suc, Event, value, SourceState, Outcome, Gave, Stopped, then_do, Instr, Dad, Bc, Hl, B, C, H, L, Registers, State, high_byte, low_byte, word, wrap, LoadPair, ExpressionNumber, Number, Does, loaded_of, at_place, Arrives, does_without_step, Facts, Part, Step, Plain, Word, copy, set, part_of, plain, repeat_steps, power_from, power_of_two, bit_steps, chain_from, chain_steps, has_bit, multiple_steps, product_steps, small_multiple_steps, Context, IsSound, StepsStand, PartThere, WordThere, PartDoes, same_Some, suc_moved, word_from_halves}
 use Rattle.steps8080.specs.declared.step.Task.TheVariants as tasks
 use Rattle.task_laws.proofs.Machine.Addresses.{nothing_goes, registers_end}
 use Rattle.task_laws.proofs.Machine.Rules.{GoesOn, ready_with_registers, word_goes}
@@ -288,7 +288,7 @@ abbrev Reaches : {A : Type 0} → (Outcome A) → (A → SourceState → State �
 Reaches outcome Good context budget more top base source frame memory events last to n r =
     (now : Registers) → WordBeside n r now
     → GoesOn context last top base source frame now memory
-    → Does context.activation.around.program.script budget more (at_place to now memory events) outcome Good
+    → Does (loaded_of context.activation) budget more (at_place to now memory events) outcome Good
 
 pub first_quotient : (number : ℕ) → number < 65536 → number / 2 ^ 16 ≡ 0
 first_quotient number small = omega (arith, small)
@@ -326,7 +326,7 @@ small_goes :
     → GoesOn context facts top base source frame r memory
     → Reaches outcome Good context budget more top base source frame memory events last to
     ((x * number) % 65536) r
-    → Does context.activation.around.program.script budget more (at_place from r memory events) outcome Good
+    → Does (loaded_of context.activation) budget more (at_place from r memory events) outcome Good
 unfolding power_of_two
 small_goes {budget = budget} {more = more} {outcome = outcome} {Good = Good} {context = context}
     {PartIs = PartIs} {last = last} {to = to} {top = top} {base = base} {source = source} {memory = memory}
@@ -339,7 +339,7 @@ small_goes {budget = budget} {more = more} {outcome = outcome} {Good = Good} {co
           | Some power ↦ repeat_steps (Dad Hl) power
           | None ↦ plain (copy B H ∷ copy C L ∷ []) ++ chain_steps number (Dad Hl) (Dad Bc)
         ]) last to
-        → Does context.activation.around.program.script budget more
+        → Does (loaded_of context.activation) budget more
         (at_place from r memory events) outcome Good
     by_power (Some power) is stand =
         registers_end (replicate power (Dad Hl)) r sound (repeated_on (Dad Hl) power tt)
@@ -414,7 +414,7 @@ pub multiple_goes :
     → GoesOn context facts top base source frame r memory
     → Reaches outcome Good context budget more top base source frame memory events last to
     ((x * number) % 65536) r
-    → Does context.activation.around.program.script budget more (at_place from r memory events) outcome Good
+    → Does (loaded_of context.activation) budget more (at_place from r memory events) outcome Good
 multiple_goes {budget = budget} {more = more} {outcome = outcome} {Good = Good} {context = context}
     {PartIs = PartIs} {last = last} {to = to} {top = top} {base = base} {source = source} {memory = memory}
     {frame = frame} {events = events} {facts = facts} {from = from} number x r sound some fits small
@@ -425,7 +425,7 @@ multiple_goes {budget = budget} {more = more} {outcome = outcome} {Good = Good} 
         → StepsStand context PartIs facts from
         (if test then plain (copy H L ∷ set L 0 ∷ []) ++ small_multiple_steps (number / 256)
         else small_multiple_steps number) last to
-        → Does context.activation.around.program.script budget more
+        → Does (loaded_of context.activation) budget more
         (at_place from r memory events) outcome Good
     by_low false is stand = small_goes number x r sound some fits small has stand going rest
     by_low true is stand =
@@ -459,10 +459,10 @@ products_do context sound facts last index stride pushed from to fits stand boun
     without_rest (value context.later context.activation.around tree s) (by_zero (stride == 0) refl stand)
   where
     without_rest : (outcome : Outcome ℕ)
-        → Does context.activation.around.program.script s.budget 0 (at_place from r memory s.events)
+        → Does (loaded_of context.activation) s.budget 0 (at_place from r memory s.events)
         (then_do outcome (λ n t. Gave n t))
         (Arrives context.activation top base to (ProductIsGiven context last index stride r memory))
-        → Does context.activation.around.program.script s.budget 0 (at_place from r memory s.events)
+        → Does (loaded_of context.activation) s.budget 0 (at_place from r memory s.events)
         outcome (Arrives context.activation top base to (ProductIsGiven context last index stride r memory))
     without_rest (Gave n t) does = does
     without_rest (Stopped why t) does = does
@@ -471,7 +471,7 @@ products_do context sound facts last index stride pushed from to fits stand boun
         → StepsStand context (PartDoes context) facts from
         (if test then part_of (tasks.Effects index) pushed ∷ Word (LoadPair Hl) (Number 0) ∷ []
         else part_of (tasks.Word index) pushed ∷ multiple_steps stride) last to
-        → Does context.activation.around.program.script s.budget 0 (at_place from r memory s.events)
+        → Does (loaded_of context.activation) s.budget 0 (at_place from r memory s.events)
         (then_do (value context.later context.activation.around tree s) (λ n t. Gave n t))
         (Arrives context.activation top base to (ProductIsGiven context last index stride r memory))
     by_zero false test (PartThere part rest) =

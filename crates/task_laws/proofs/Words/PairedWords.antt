@@ -1,5 +1,5 @@
 -- Operators with two operands that are put into HL and DE, and then straight-line code.
-use Rattle.task_laws.proofs.Prelude.{◌≡◌, ℕ, ◌+◌, ◌-◌, ◌*◌, ◌/◌, ◌%◌, ◌<◌, ◌≤◌, not, nat_lt, bit_and, bit_or, bit_xor, List, [], ◌∷◌, ◌++◌, append-nil, Option, sym, ap, ◌∙◌, subst, false≢true, Address, height_of, TypedExpression, SourceState, Gave, then_do, Instr, Dad, Operation, And, ExclusiveOr, Or, Subtract, SubtractWithBorrow, De, A, D, E, H, L, bit, HoldBytes, Registers, ExpressionNumber, keeps_none, Does, at_place, Arrives, HasRoom, Facts, Step, copy, with_register, plain, keeps, PairOrder, LeftInHl, RightInHl, pair_in_order_steps, pair_order_by, knowing, Context, IsSound, StepsStand, PartDoes, WordIsGiven, sum_turned}
+use Rattle.task_laws.proofs.Prelude.{◌≡◌, ℕ, ◌+◌, ◌-◌, ◌*◌, ◌/◌, ◌%◌, ◌<◌, ◌≤◌, not, nat_lt, bit_and, bit_or, bit_xor, List, [], ◌∷◌, ◌++◌, append-nil, Option, sym, ap, ◌∙◌, subst, false≢true, Address, height_of, TypedExpression, SourceState, Gave, then_do, Instr, Dad, Operation, And, ExclusiveOr, Or, Subtract, SubtractWithBorrow, De, A, D, E, H, L, bit, HoldBytes, Registers, ExpressionNumber, keeps_none, Does, loaded_of, at_place, Arrives, HasRoom, Facts, Step, copy, with_register, plain, keeps, PairOrder, LeftInHl, RightInHl, pair_in_order_steps, pair_order_by, knowing, Context, IsSound, StepsStand, PartDoes, WordIsGiven, sum_turned}
 use Rattle.task_laws.proofs.Machine.Rules.{GoesOn}
 use Rattle.task_laws.proofs.Machine.RegisterCode.{AreOnRegisters, effect, registers_then}
 use Rattle.task_laws.proofs.Machine.Values.{HasWord, KeepsThem, word_ends}
@@ -51,7 +51,7 @@ pub paired_does :
     (pair_in_order_steps (knowing context.site facts) left right wish pushed
     ++ plain (instructions (pair_order_by (knowing context.site facts) left right wish))) last to
     → GoesOn context facts top base s.memory s.frame r memory
-    → Does context.activation.around.program.script s.budget 0 (at_place from r memory s.events)
+    → Does (loaded_of context.activation) s.budget 0 (at_place from r memory s.events)
     (then_do (Rattle.meaning.specs.Meaning.value context.later context.activation.around first s)
     (λ x t. then_do (Rattle.meaning.specs.Meaning.value context.later context.activation.around second t)
     (λ y u. Gave (f x y) u)))

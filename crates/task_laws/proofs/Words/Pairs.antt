@@ -1,5 +1,5 @@
 -- Two words, one put into HL and the other into DE.
-use Rattle.task_laws.proofs.Prelude.{◌≡◌, ℕ, ◌+◌, ◌-◌, ◌*◌, ◌/◌, ◌%◌, ◌<◌, ◌≤◌, Bool, true, false, ◌&&◌, if◌then◌else◌, List, [], ◌∷◌, ◌++◌, Option, Some, None, refl, sym, ap, ◌∙◌, subst, arith, and_parts, height_of, type_of, TypedExpression, TypesHold, value, SourceState, Outcome, Gave, Stopped, then_do, Xchg, De, A, D, E, StackDe, StackHl, Registers, State, wrap, LoadPair, ExpressionNumber, Place, IsExpression, Does, at_place, HasRoom, place_at, Facts, Step, copy, set, part_of, Site, is_free, keeps, known, may_exchange, expression, fits_byte, append_assoc, Choices, PairForm, RightKnown, LeftKnown, RightKeeps, LeftKeeps, PairOrder, LeftInHl, RightInHl, any_order, choices_of, form_steps, is_free_byte, left_in_hl, order_of, pair_form, pair_in_order_steps, pair_order_by, right_in_hl, wished_steps, with_byte_steps, with_exchange_steps, with_known_steps, knowing, Context, IsSound, nodes_in, StepsStand, PlainThere, WordThere, PartThere, PartDoes}
+use Rattle.task_laws.proofs.Prelude.{◌≡◌, ℕ, ◌+◌, ◌-◌, ◌*◌, ◌/◌, ◌%◌, ◌<◌, ◌≤◌, Bool, true, false, ◌&&◌, if◌then◌else◌, List, [], ◌∷◌, ◌++◌, Option, Some, None, refl, sym, ap, ◌∙◌, subst, arith, and_parts, height_of, type_of, TypedExpression, TypesHold, value, SourceState, Outcome, Gave, Stopped, then_do, Xchg, De, A, D, E, StackDe, StackHl, Registers, State, wrap, LoadPair, ExpressionNumber, Place, IsExpression, Does, loaded_of, at_place, HasRoom, place_at, Facts, Step, copy, set, part_of, Site, is_free, keeps, known, may_exchange, expression, fits_byte, append_assoc, Choices, PairForm, RightKnown, LeftKnown, RightKeeps, LeftKeeps, PairOrder, LeftInHl, RightInHl, any_order, choices_of, form_steps, is_free_byte, left_in_hl, order_of, pair_form, pair_in_order_steps, pair_order_by, right_in_hl, wished_steps, with_byte_steps, with_exchange_steps, with_known_steps, knowing, Context, IsSound, nodes_in, StepsStand, PlainThere, WordThere, PartThere, PartDoes}
 use Rattle.steps8080.specs.declared.step.Task.TheVariants as tasks
 use Rattle.operands8080.specs.{declared.pairs.PairForm.TheVariants.{RightFree, LeftFree, Pushed}, internal.Pairs.{with_stack_steps}}
 use Rattle.task_laws.proofs.Machine.Rules.{GoesOn, more_pushed, pop_goes, push_goes, word_goes}
@@ -67,7 +67,7 @@ module _ (context : Context) (sound : IsSound context) where
       → StepsStand context (PartDoes context) found middle others last to
       → GoesOn context found top base t.memory t.frame now ended
       → Held first second now
-      → Does context.activation.around.program.script t.budget more (at_place middle now ended t.events)
+      → Does (loaded_of context.activation) t.budget more (at_place middle now ended t.events)
       (go first second t) Good
 
   -- the first one into HL, and a known word into DE
@@ -85,7 +85,7 @@ module _ (context : Context) (sound : IsSound context) where
       (with_known_steps first place pushed ++ others) last to
       → GoesOn context facts top base s.memory s.frame r memory
       → Continues more top base s.budget others last to HasBoth go Good
-      → Does context.activation.around.program.script s.budget more (at_place from r memory s.events)
+      → Does (loaded_of context.activation) s.budget more (at_place from r memory s.events)
       (then_do (meant tree s) (λ n t. go n (place_at context.activation.layout place) t)) Good
   known_then {more = more} {go = go} {Good = Good} others place from s r memory operand small less room high
       (PartThere {middle = middle} part (WordThere there rest)) going continue =
@@ -127,7 +127,7 @@ module _ (context : Context) (sound : IsSound context) where
       (with_exchange_steps first second pushed ++ others) last to
       → GoesOn context facts top base s.memory s.frame r memory
       → Continues more top base s.budget others last to (λ m n r. HasBoth n m r) go Good
-      → Does context.activation.around.program.script s.budget more (at_place from r memory s.events)
+      → Does (loaded_of context.activation) s.budget more (at_place from r memory s.events)
       (then_do (meant one s) (λ m t. then_do (meant two t) (λ n u. go m n u))) Good
   exchange_then {pushed = pushed} {go = go} {second = second} others from s r memory one two kept less room
       high higher (PartThere part rest) going continue =
@@ -170,7 +170,7 @@ module _ (context : Context) (sound : IsSound context) where
       (with_byte_steps first second pushed ++ others) last to
       → GoesOn context facts top base s.memory s.frame r memory
       → Continues more top base s.budget others last to HasBoth go Good
-      → Does context.activation.around.program.script s.budget more (at_place from r memory s.events)
+      → Does (loaded_of context.activation) s.budget more (at_place from r memory s.events)
       (then_do (meant one s) (λ m t. then_do (meant two t) (λ n u. go m n u))) Good
   byte_beside_then {pushed = pushed} {facts = facts} {go = go} {second = second} others from s r memory one
       two free fits less room high higher (PartThere {middle = middle} part rest) going continue =
@@ -211,7 +211,7 @@ module _ (context : Context) (sound : IsSound context) where
       (with_stack_steps first second pushed ++ others) last to
       → GoesOn context facts top base s.memory s.frame r memory
       → Continues more top base s.budget others last to (λ m n r. HasBoth n m r) go Good
-      → Does context.activation.around.program.script s.budget more (at_place from r memory s.events)
+      → Does (loaded_of context.activation) s.budget more (at_place from r memory s.events)
       (then_do (meant one s) (λ m t. then_do (meant two t) (λ n u. go m n u))) Good
   stack_then {pushed = pushed} {top = top} {need = need} {go = go} {second = second} {two = second_tree}
       others from s r memory one two less room high higher
@@ -386,11 +386,11 @@ module _ (context : Context) (sound : IsSound context) where
       → StepsStand context (PartDoes context) facts from (form_steps form left right pushed ++ others) last to
       → GoesOn context facts top base s.memory s.frame r memory
       → Continues more top base s.budget others last to (HasPair (order_of form)) go Good
-      → Does context.activation.around.program.script s.budget more (at_place from r memory s.events)
+      → Does (loaded_of context.activation) s.budget more (at_place from r memory s.events)
       (then_do (meant first s) (λ x t. then_do (meant second t) (λ y u. go x y u))) Good
   form_then {more = more} {facts = facts} {go = go} {Good = Good} {first = first} {second = second}
       (RightKnown place) others from s r memory one two allowed less room high higher stand going continue =
-      subst (λ outcome. Does context.activation.around.program.script s.budget more
+      subst (λ outcome. Does (loaded_of context.activation) s.budget more
       (at_place from r memory s.events) outcome Good)
       (sym (same_rest (meant first s) (λ x t. then_do (meant second t) (λ y u. go x y u))
       (λ x t. go x (place_at context.activation.layout place) t)
@@ -402,7 +402,7 @@ module _ (context : Context) (sound : IsSound context) where
       less room high stand going continue)
   form_then {more = more} {facts = facts} {go = go} {Good = Good} {first = first} {second = second}
       (LeftKnown place) others from s r memory one two allowed less room high higher stand going continue =
-      subst (λ outcome. Does context.activation.around.program.script s.budget more
+      subst (λ outcome. Does (loaded_of context.activation) s.budget more
       (at_place from r memory s.events) outcome Good)
       (sym (ap (λ outcome. then_do outcome (λ x t. then_do (meant second t) (λ y u. go x y u)))
       (known_means facts place sound one.is one.types allowed s)))
@@ -492,7 +492,7 @@ module _ (context : Context) (sound : IsSound context) where
       → GoesOn context facts top base s.memory s.frame r memory
       → Continues more top base s.budget others last to
       (HasPair (pair_order_by (knowing context.site facts) left right wish)) go Good
-      → Does context.activation.around.program.script s.budget more (at_place from r memory s.events)
+      → Does (loaded_of context.activation) s.budget more (at_place from r memory s.events)
       (then_do (meant first s) (λ x t. then_do (meant second t) (λ y u. go x y u))) Good
   pair_then {more = more} {pushed = pushed} {top = top} {to = to} {base = base} {facts = facts} {last = last}
       {go = go} {Good = Good} {left = left} {right = right} wish others from s r memory one two less room high

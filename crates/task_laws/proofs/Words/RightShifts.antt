@@ -16,7 +16,7 @@ use Rattle.task_laws.proofs.Ranges.Ranges.{fits_means, ready_fits, value_fits}
 use Rattle.task_laws.proofs.Machine.RegisterCode.{AreOnRegisters, effect, registers_then}
 use Rattle.task_laws.proofs.Machine.Rules.{GoesOn, steps_split}
 use Rattle.task_laws.proofs.Machine.SiteNodes.{value_in}
-use Rattle.task_laws.proofs.Machine.Stages.{Stage, at_byte, at_carried, at_effects, at_instructions, script_of}
+use Rattle.task_laws.proofs.Machine.Stages.{Stage, at_byte, at_carried, at_effects, at_instructions, loaded_in}
 use Rattle.task_laws.proofs.Machine.Values.{HasWord, word_given, word_then}
 use Rattle.task_laws.proofs.Words.WordArithmetic.{has_word}
 use Rattle.task_laws.proofs.Words.WordForms.{straight_does}
@@ -41,7 +41,7 @@ coded_then :
     → f now.a ≡ n
     → StepsStand context (PartDoes context) facts from (steps ++ extension_steps) last to
     → Stage context top pushed need base t facts now ended
-    → Does (script_of context) t.budget 0 (at_place from now ended t.events) (Gave n t)
+    → Does (loaded_in context) t.budget 0 (at_place from now ended t.events) (Gave n t)
     (Arrives context.activation top base to (WordIsGiven context last number Address r memory))
 coded_then {context = context} {from = from} {to = to} {facts = facts} {last = last} code number n t r now
     memory ended sound none small is stand stage =
@@ -120,7 +120,7 @@ module _
       count < 8
       → StepsStand context (PartDoes context) facts from
       (shifted_right_little_steps other count pushed) last to
-      → Does (script_of context) s.budget 0 (at_place from r memory s.events)
+      → Does (loaded_in context) s.budget 0 (at_place from r memory s.events)
       (then_do (value_in context tree s) (λ x t. Gave (x / 2 ^ count) t))
       (Arrives context.activation top base to (WordIsGiven context last number Address r memory))
   unfolding shifted_right_little_steps half_steps quarter_steps word_routine
@@ -133,7 +133,7 @@ module _
           → ((x : ℕ) → x / 2 ^ count ≡ f x)
           → StepsStand context (PartDoes context) facts from
           (part_of (tasks.Word other) pushed ∷ plain instructions) last to
-          → Does (script_of context) s.budget 0 (at_place from r memory s.events)
+          → Does (loaded_in context) s.budget 0 (at_place from r memory s.events)
           (then_do (value_in context tree s) (λ x t. Gave (x / 2 ^ count) t))
           (Arrives context.activation top base to (WordIsGiven context last number Address r memory))
       straight instructions f on makes is stand =
@@ -149,7 +149,7 @@ module _
           else if one then plain half_instructions
           else if two then plain quarter_instructions
           else Plain (set A (count % 256)) ∷ CallRoutine routines.ShiftRightAddress ∷ [])) last to
-          → Does (script_of context) s.budget 0 (at_place from r memory s.events)
+          → Does (loaded_in context) s.budget 0 (at_place from r memory s.events)
           (then_do (value_in context tree s) (λ x t. Gave (x / 2 ^ count) t))
           (Arrives context.activation top base to (WordIsGiven context last number Address r memory))
       by true one two zero_is one_is two_is given =
@@ -178,7 +178,7 @@ module _
       fits_byte (knowing context.site facts) other ≡ true
       → StepsStand context (PartDoes context) facts from
       (byte_shifted_right_steps other count pushed ++ extension_steps) last to
-      → Does (script_of context) s.budget 0 (at_place from r memory s.events)
+      → Does (loaded_in context) s.budget 0 (at_place from r memory s.events)
       (then_do (value_in context tree s) (λ x t. Gave (x / 2 ^ count) t))
       (Arrives context.activation top base to (WordIsGiven context last number Address r memory))
   unfolding byte_shifted_right_steps byte_zero_steps
@@ -196,7 +196,7 @@ module _
           → StepsStand context (PartDoes context) facts from
           ((if most then part_of (tasks.Effects other) pushed ∷ Plain clear_a ∷ []
           else part_of (tasks.Byte other) pushed ∷ right_shift_steps count) ++ extension_steps) last to
-          → Does (script_of context) s.budget 0 (at_place from r memory s.events)
+          → Does (loaded_in context) s.budget 0 (at_place from r memory s.events)
           (then_do (value_in context tree s) (λ x t. Gave (x / 2 ^ count) t))
           (Arrives context.activation top base to (WordIsGiven context last number Address r memory))
       by true is (PartThere part stand) =
@@ -223,7 +223,7 @@ module _
       → StepsStand context (PartDoes context) facts from
       (high_byte_steps (knowing context.site facts) other pushed ++ right_shift_steps (count - 8)
       ++ extension_steps) last to
-      → Does (script_of context) s.budget 0 (at_place from r memory s.events)
+      → Does (loaded_in context) s.budget 0 (at_place from r memory s.events)
       (then_do (value_in context tree s) (λ x t. Gave (x / 2 ^ count) t))
       (Arrives context.activation top base to (WordIsGiven context last number Address r memory))
   high_shift_does highs most few stand =
@@ -251,7 +251,7 @@ module _
       HighHalvesGiven context
       → StepsStand context (PartDoes context) facts from
       (word_shifted_right_steps (knowing context.site facts) other count pushed) last to
-      → Does (script_of context) s.budget 0 (at_place from r memory s.events)
+      → Does (loaded_in context) s.budget 0 (at_place from r memory s.events)
       (then_do (value_in context tree s) (λ x t. Gave (x / 2 ^ count) t))
       (Arrives context.activation top base to (WordIsGiven context last number Address r memory))
   unfolding word_shifted_right_steps
@@ -270,7 +270,7 @@ module _
           then high_byte_steps (knowing context.site facts) other pushed
           ++ right_shift_steps (count - 8) ++ extension_steps
           else shifted_right_little_steps other count pushed) last to
-          → Does (script_of context) s.budget 0 (at_place from r memory s.events)
+          → Does (loaded_in context) s.budget 0 (at_place from r memory s.events)
           (then_do (value_in context tree s) (λ x t. Gave (x / 2 ^ count) t))
           (Arrives context.activation top base to (WordIsGiven context last number Address r memory))
       by_none true most fits more zero_is most_is fits_is more_is given =

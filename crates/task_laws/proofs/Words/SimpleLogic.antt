@@ -1,5 +1,5 @@
 -- AND, OR and XOR of an operand in HL and one with code that does not change HL.
-use Rattle.task_laws.proofs.Prelude.{◌≡◌, ℕ, ◌+◌, ◌*◌, ◌/◌, ◌%◌, ◌<◌, ◌≤◌, max, Bool, true, false, ◌&&◌, List, [], ◌∷◌, Option, Some, None, if◌then◌else◌, refl, sym, ap, ◌∙◌, subst, arith, Address, height_of, type_of, TypedExpression, SourceState, Gave, then_do, Operation, ExclusiveOr, Or, A, L, Registers, ExpressionNumber, Place, keeps_none, Does, at_place, Arrives, HasRoom, Facts, copy, with_register, Site, is_free, keeps, may_exchange, direct_word, fits_byte, is_word_in_hl, Operands, Simple, knowing, exchanged_operand, first_and_simple, logic_with_byte_steps, logic_with_simple_steps, simple_operand, with_simple, Context, IsSound, StepsStand, PartThere, PartDoes, WordIsGiven, high_is_byte, byte_is_low}
+use Rattle.task_laws.proofs.Prelude.{◌≡◌, ℕ, ◌+◌, ◌*◌, ◌/◌, ◌%◌, ◌<◌, ◌≤◌, max, Bool, true, false, ◌&&◌, List, [], ◌∷◌, Option, Some, None, if◌then◌else◌, refl, sym, ap, ◌∙◌, subst, arith, Address, height_of, type_of, TypedExpression, SourceState, Gave, then_do, Operation, ExclusiveOr, Or, A, L, Registers, ExpressionNumber, Place, keeps_none, Does, loaded_of, at_place, Arrives, HasRoom, Facts, copy, with_register, Site, is_free, keeps, may_exchange, direct_word, fits_byte, is_word_in_hl, Operands, Simple, knowing, exchanged_operand, first_and_simple, logic_with_byte_steps, logic_with_simple_steps, simple_operand, with_simple, Context, IsSound, StepsStand, PartThere, PartDoes, WordIsGiven, high_is_byte, byte_is_low}
 use Rattle.exprgen8080.specs.declared.word_operators.Simple.TheVariants as simple
 use Rattle.task_laws.proofs.Bytes.BytesAsked.{WordAtPlace, WordsAtPlaces}
 use Rattle.task_laws.proofs.Loads.DirectWords.{with_word_then}
@@ -105,7 +105,7 @@ simple_then {context = context} {top = top} {need = need} {to = to} {base = base
     let x_small = address_is_word x (type_of first) one_is given.small in
     let y_small = address_is_word read.found (type_of second) two_is
     (value_fits t sound two.is two.types (ready_fits context t going_on.ready) read.is) in
-    subst (λ (n : ℕ). Does context.activation.around.program.script t.budget 0
+    subst (λ (n : ℕ). Does (loaded_of context.activation) t.budget 0
     (at_place middle now ended t.events) (Gave n t)
     (Arrives context.activation top base to (WordIsGiven context last number Address r memory)))
     (bits_turned operation read.found x)
@@ -226,7 +226,7 @@ with_simple_does {context = context} {pushed = pushed} {top = top} {need = need}
     by (LeftIsSimple may simple_is) stand =
         does_exchanged facts (λ x y u. Gave (bits operation x y) u) s sound words.one.is
         words.two.is words.one.types may
-        (subst (λ outcome. Does context.activation.around.program.script s.budget 0
+        (subst (λ outcome. Does (loaded_of context.activation) s.budget 0
         (at_place from r memory s.events) outcome
         (Arrives context.activation top base to (WordIsGiven context last number Address r memory)))
         (same_rest (value_in context second s)

@@ -1,5 +1,5 @@
 -- Products and differences in HL.
-use Rattle.task_laws.proofs.Prelude.{◌≡◌, ℕ, ◌+◌, ◌-◌, ◌*◌, ◌%◌, ◌<◌, ◌≤◌, max, false, if◌then◌else◌, List, [], ◌∷◌, ◌++◌, Option, Some, None, is_some, refl, sym, ap, ◌∙◌, subst, arith, Address, height_of, type_of, TypedExpression, value, SourceState, Gave, then_do, Operation, Subtract, SubtractWithBorrow, Registers, ExpressionNumber, Place, Number, number_of_place, known_number, Nodes, keeps_at, keeps_none, keeps_of_binary, number_at, Does, at_place, Arrives, HasRoom, Facts, CallRoutine, part_of, plain, keeps, known, number_of, fits_byte, PairOrder, LeftInHl, RightInHl, addition_steps, pair_in_order_steps, product_steps, Operands, knowing, difference_steps, left_word, paired_steps, product_order, product_word_steps, taken_from_number_steps, with_word_steps, Context, IsSound, nodes_in, StepsStand, PartDoes, WordIsGiven, computed_product_steps}
+use Rattle.task_laws.proofs.Prelude.{◌≡◌, ℕ, ◌+◌, ◌-◌, ◌*◌, ◌%◌, ◌<◌, ◌≤◌, max, false, if◌then◌else◌, List, [], ◌∷◌, ◌++◌, Option, Some, None, is_some, refl, sym, ap, ◌∙◌, subst, arith, Address, height_of, type_of, TypedExpression, value, SourceState, Gave, then_do, Operation, Subtract, SubtractWithBorrow, Registers, ExpressionNumber, Place, Number, number_of_place, known_number, Nodes, keeps_at, keeps_none, keeps_of_binary, number_at, Does, loaded_of, at_place, Arrives, HasRoom, Facts, CallRoutine, part_of, plain, keeps, known, number_of, fits_byte, PairOrder, LeftInHl, RightInHl, addition_steps, pair_in_order_steps, product_steps, Operands, knowing, difference_steps, left_word, paired_steps, product_order, product_word_steps, taken_from_number_steps, with_word_steps, Context, IsSound, nodes_in, StepsStand, PartDoes, WordIsGiven, computed_product_steps}
 use Rattle.trees.specs.declared.expression.BinaryOperator.TheVariants as operators
 use Rattle.runtime8080.specs.declared.routine.Routine.TheVariants as routines
 use Rattle.steps8080.specs.declared.step.Task.TheVariants as tasks
@@ -54,7 +54,7 @@ pub numbered_product_does :
     → 2 * height_of tree ≤ need
     → StepsStand context (PartDoes context) facts from (product_steps other n pushed) last to
     → GoesOn context facts top base s.memory s.frame r memory
-    → Does context.activation.around.program.script s.budget 0 (at_place from r memory s.events)
+    → Does (loaded_of context.activation) s.budget 0 (at_place from r memory s.events)
     (then_do (value context.later context.activation.around tree s) (λ x t. Gave ((x * n) % 65536) t))
     (Arrives context.activation top base to (WordIsGiven context last number Address r memory))
 numbered_product_does {context = context} {pushed = pushed} {to = to} {facts = facts} {last = last}
@@ -113,7 +113,7 @@ pub product_does :
     → StepsStand context (PartDoes context) facts from
     (product_word_steps (knowing context.site facts) operands pushed) last to
     → GoesOn context facts top base s.memory s.frame r memory
-    → Does context.activation.around.program.script s.budget 0 (at_place from r memory s.events)
+    → Does (loaded_of context.activation) s.budget 0 (at_place from r memory s.events)
     (then_do (value context.later context.activation.around first s)
     (λ x t. then_do (value context.later context.activation.around second t)
     (λ y u. Gave ((x * y) % 65536) u)))
@@ -134,13 +134,13 @@ product_does {context = context} {pushed = pushed} {top = top} {need = need} {to
               (fits_byte (knowing context.site facts) operands.right)) pushed
               ++ (CallRoutine routines.Multiply ∷ [])
         ]) last to
-        → Does context.activation.around.program.script s.budget 0 (at_place from r memory s.events)
+        → Does (loaded_of context.activation) s.budget 0 (at_place from r memory s.events)
         (then_do (value context.later context.activation.around first s)
         (λ x t. then_do (value context.later context.activation.around second t)
         (λ y u. Gave ((x * y) % 65536) u)))
         (Arrives context.activation top base to (WordIsGiven context last number Address r memory))
     by_left (Some n) is none stand =
-        subst (λ outcome. Does context.activation.around.program.script s.budget 0
+        subst (λ outcome. Does (loaded_of context.activation) s.budget 0
         (at_place from r memory s.events) outcome
         (Arrives context.activation top base to (WordIsGiven context last number Address r memory)))
         (sym (first_known second facts (Number n) (λ x y u. Gave ((x * y) % 65536) u) s sound words.one
@@ -176,13 +176,13 @@ product_does {context = context} {pushed = pushed} {top = top} {need = need} {to
                 ++ (CallRoutine routines.Multiply ∷ [])
           ]
         ]) last to
-        → Does context.activation.around.program.script s.budget 0 (at_place from r memory s.events)
+        → Does (loaded_of context.activation) s.budget 0 (at_place from r memory s.events)
         (then_do (value context.later context.activation.around first s)
         (λ x t. then_do (value context.later context.activation.around second t)
         (λ y u. Gave ((x * y) % 65536) u)))
         (Arrives context.activation top base to (WordIsGiven context last number Address r memory))
     by_right (Some n) is stand =
-        subst (λ outcome. Does context.activation.around.program.script s.budget 0
+        subst (λ outcome. Does (loaded_of context.activation) s.budget 0
         (at_place from r memory s.events) outcome
         (Arrives context.activation top base to (WordIsGiven context last number Address r memory)))
         (sym (second_known first facts (Number n) (λ x y u. Gave ((x * y) % 65536) u) s sound words.two
@@ -228,7 +228,7 @@ LeftWordDoes context =
     → StepsStand context (PartDoes context) facts from
     (part_of (tasks.Word operands.right) pushed ∷ with_word_steps place Subtract SubtractWithBorrow) last to
     → GoesOn context facts top base s.memory s.frame r memory
-    → Does context.activation.around.program.script s.budget 0 (at_place from r memory s.events)
+    → Does (loaded_of context.activation) s.budget 0 (at_place from r memory s.events)
     (then_do (value context.later context.activation.around first s)
     (λ x t. then_do (value context.later context.activation.around second t)
     (λ y u. Gave ((x + (65536 - y)) % 65536) u)))
@@ -238,7 +238,7 @@ abbrev DifferenceGiven :
     Context → (from : ℕ) → SourceState → Registers → (memory : List ℕ) → (first second : TypedExpression)
     → (last : Facts) → (number : ExpressionNumber) → (top : ℕ) → (base : List ℕ) → (to : ℕ) → Type 0
 DifferenceGiven context from s r memory first second last number top base to =
-    Does context.activation.around.program.script s.budget 0 (at_place from r memory s.events)
+    Does (loaded_of context.activation) s.budget 0 (at_place from r memory s.events)
     (then_do (value context.later context.activation.around first s)
     (λ x t. then_do (value context.later context.activation.around second t)
     (λ y u. Gave ((x + (65536 - y)) % 65536) u)))
@@ -260,7 +260,7 @@ pub difference_does :
     → StepsStand context (PartDoes context) facts from
     (difference_steps (knowing context.site facts) operands pushed) last to
     → GoesOn context facts top base s.memory s.frame r memory
-    → Does context.activation.around.program.script s.budget 0 (at_place from r memory s.events)
+    → Does (loaded_of context.activation) s.budget 0 (at_place from r memory s.events)
     (then_do (value context.later context.activation.around first s)
     (λ x t. then_do (value context.later context.activation.around second t)
     (λ y u. Gave ((x + (65536 - y)) % 65536) u)))
@@ -314,7 +314,7 @@ difference_does {context = context} {pushed = pushed} {top = top} {need = need} 
         ]) last to
         → DifferenceGiven context from s r memory first second last number top base to
     by_left (Some n) is none stand =
-        subst (λ outcome. Does context.activation.around.program.script s.budget 0
+        subst (λ outcome. Does (loaded_of context.activation) s.budget 0
         (at_place from r memory s.events) outcome
         (Arrives context.activation top base to (WordIsGiven context last number Address r memory)))
         (sym (first_known second facts (Number n)
@@ -346,7 +346,7 @@ difference_does {context = context} {pushed = pushed} {top = top} {need = need} 
         let small =
         address_is_word n (type_of second) words.two_is
         (number_small facts n sound words.two.is words.two.types is) in
-        subst (λ outcome. Does context.activation.around.program.script s.budget 0
+        subst (λ outcome. Does (loaded_of context.activation) s.budget 0
         (at_place from r memory s.events) outcome
         (Arrives context.activation top base to (WordIsGiven context last number Address r memory)))
         (sym (second_known first facts (Number n)

@@ -1,5 +1,5 @@
 -- Values in HL of one operand, and straight-line code.
-use Rattle.task_laws.proofs.Prelude.{◌≡◌, ℕ, ◌+◌, ◌-◌, ◌*◌, ◌/◌, ◌%◌, ◌<◌, ◌≤◌, ◌==◌, Bool, true, false, not, nat_lt, if◌then◌else◌, List, [], ◌∷◌, append-nil, bit_xor, refl, sym, ap, ◌∙◌, subst, arith, xor_self, eqb-true, ScalarType, Byte, Address, UnaryOperator, Not, Negate, height_of, type_of, TypedExpression, value, SourceState, Gave, then_do, result_of_one, values_of, Instr, Cma, Subtract, SubtractWithBorrow, A, H, L, bit, Registers, ExpressionNumber, keeps_none, Does, at_place, Arrives, HasRoom, Facts, Step, Plain, clear_a, copy, high, low, set, with_register, extension_steps, part_of, plain, keeps, taken_from_number_steps, word_unary_steps, Context, IsSound, StepsStand, PartThere, PartDoes, WordIsGiven}
+use Rattle.task_laws.proofs.Prelude.{◌≡◌, ℕ, ◌+◌, ◌-◌, ◌*◌, ◌/◌, ◌%◌, ◌<◌, ◌≤◌, ◌==◌, Bool, true, false, not, nat_lt, if◌then◌else◌, List, [], ◌∷◌, append-nil, bit_xor, refl, sym, ap, ◌∙◌, subst, arith, xor_self, eqb-true, ScalarType, Byte, Address, UnaryOperator, Not, Negate, height_of, type_of, TypedExpression, value, SourceState, Gave, then_do, result_of_one, values_of, Instr, Cma, Subtract, SubtractWithBorrow, A, H, L, bit, Registers, ExpressionNumber, keeps_none, Does, loaded_of, at_place, Arrives, HasRoom, Facts, Step, Plain, clear_a, copy, high, low, set, with_register, extension_steps, part_of, plain, keeps, taken_from_number_steps, word_unary_steps, Context, IsSound, StepsStand, PartThere, PartDoes, WordIsGiven}
 use Rattle.steps8080.specs.declared.step.Task.TheVariants as tasks
 use Rattle.task_laws.proofs.Machine.Rules.{GoesOn}
 use Rattle.task_laws.proofs.Machine.RegisterCode.{AreOnRegisters, effect, registers_then}
@@ -26,7 +26,7 @@ pub straight_does :
     → StepsStand context (PartDoes context) facts from
     (part_of (tasks.Word other) pushed ∷ plain instructions) last to
     → GoesOn context facts top base s.memory s.frame r memory
-    → Does context.activation.around.program.script s.budget 0 (at_place from r memory s.events)
+    → Does (loaded_of context.activation) s.budget 0 (at_place from r memory s.events)
     (then_do (value context.later context.activation.around tree s) (λ x t. Gave (f x) t))
     (Arrives context.activation top base to (WordIsGiven context last number Address r memory))
 straight_does {context = context} {to = to} {last = last} instructions f number from s r memory sound on makes
@@ -109,7 +109,7 @@ pub taken_does :
     → StepsStand context (PartDoes context) facts from
     (part_of (tasks.Word other) pushed ∷ taken_from_number_steps n) last to
     → GoesOn context facts top base s.memory s.frame r memory
-    → Does context.activation.around.program.script s.budget 0 (at_place from r memory s.events)
+    → Does (loaded_of context.activation) s.budget 0 (at_place from r memory s.events)
     (then_do (value context.later context.activation.around tree s)
     (λ x t. Gave ((n + (65536 - x)) % 65536) t))
     (Arrives context.activation top base to (WordIsGiven context last number Address r memory))
@@ -125,7 +125,7 @@ taken_does {context = context} {pushed = pushed} {top = top} {to = to} {base = b
         ∷ plain (
         with_register Subtract L ∷ copy L A
         ∷ set A (high n) ∷ with_register SubtractWithBorrow H ∷ copy H A ∷ [])) last to
-        → Does context.activation.around.program.script s.budget 0 (at_place from r memory s.events)
+        → Does (loaded_of context.activation) s.budget 0 (at_place from r memory s.events)
         (then_do (value context.later context.activation.around tree s)
         (λ x t. Gave ((n + (65536 - x)) % 65536) t))
         (Arrives context.activation top base to (WordIsGiven context last number Address r memory))
@@ -172,7 +172,7 @@ pub unary_does :
     → StepsStand context (PartDoes context) facts from
     (part_of (tasks.Word other) pushed ∷ word_unary_steps operator) last to
     → GoesOn context facts top base s.memory s.frame r memory
-    → Does context.activation.around.program.script s.budget 0 (at_place from r memory s.events)
+    → Does (loaded_of context.activation) s.budget 0 (at_place from r memory s.events)
     (then_do (value context.later context.activation.around tree s)
     (λ x t. Gave (result_of_one Address operator x) t))
     (Arrives context.activation top base to (WordIsGiven context last number Address r memory))
@@ -201,7 +201,7 @@ pub extended_does :
     → StepsStand context (PartDoes context) facts from
     (part_of (tasks.Byte number) pushed ∷ extension_steps) last to
     → GoesOn context facts top base s.memory s.frame r memory
-    → Does context.activation.around.program.script s.budget 0 (at_place from r memory s.events)
+    → Does (loaded_of context.activation) s.budget 0 (at_place from r memory s.events)
     (then_do (value context.later context.activation.around tree s) (λ x t. Gave x t))
     (Arrives context.activation top base to (WordIsGiven context last number Byte r memory))
 extended_does {context = context} {tree = tree} number from s r memory sound operand byte none less room

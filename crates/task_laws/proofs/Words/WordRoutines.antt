@@ -1,5 +1,5 @@
 -- Products, quotients, remainders and shifts in HL by routines.
-use Rattle.task_laws.proofs.Prelude.{◌≡◌, ℕ, ◌+◌, ◌-◌, ◌*◌, ◌/◌, ◌%◌, ◌<◌, ◌≤◌, ◌==◌, Bool, true, false, if◌then◌else◌, List, [], ◌∷◌, ◌++◌, Option, Some, None, refl, sym, ap, ◌∙◌, subst, arith, Address, Byte, Divide, Modulo, Multiply, ShiftFunction, RotateLeft, RotateRight, ShiftLeft, ShiftRight, height_of, TypedExpression, type_of, ShiftsIn, ScalarType, computed, value, SourceState, Gave, then_do, result_of, shifted, values_of, Pop, Push, Xchg, StackHl, HoldBytes, Registers, word, wrap, ExpressionNumber, keeps_none, Does, at_place, Arrives, HasRoom, Facts, CallRoutine, Plain, part_of, is_free, keeps, Shifted, computed_count_steps, count_beside_word_steps, word_routine, PairOrder, LeftInHl, RightInHl, pair_in_order_steps, pair_steps, knowing, Context, IsSound, StepsStand, PartThere, PlainThere, PartDoes, WordIsGiven, mul_comm, word_from_halves}
+use Rattle.task_laws.proofs.Prelude.{◌≡◌, ℕ, ◌+◌, ◌-◌, ◌*◌, ◌/◌, ◌%◌, ◌<◌, ◌≤◌, ◌==◌, Bool, true, false, if◌then◌else◌, List, [], ◌∷◌, ◌++◌, Option, Some, None, refl, sym, ap, ◌∙◌, subst, arith, Address, Byte, Divide, Modulo, Multiply, ShiftFunction, RotateLeft, RotateRight, ShiftLeft, ShiftRight, height_of, TypedExpression, type_of, ShiftsIn, ScalarType, computed, value, SourceState, Gave, then_do, result_of, shifted, values_of, Pop, Push, Xchg, StackHl, HoldBytes, Registers, word, wrap, ExpressionNumber, keeps_none, Does, Loaded, loaded_of, at_place, Arrives, HasRoom, Facts, CallRoutine, Plain, part_of, is_free, keeps, Shifted, computed_count_steps, count_beside_word_steps, word_routine, PairOrder, LeftInHl, RightInHl, pair_in_order_steps, pair_steps, knowing, Context, IsSound, StepsStand, PartThere, PlainThere, PartDoes, WordIsGiven, mul_comm, word_from_halves}
 use Rattle.runtime8080.specs.declared.routine.Routine.TheVariants as routines
 use Rattle.steps8080.specs.declared.step.Task.TheVariants as tasks
 use Rattle.task_laws.proofs.Machine.Rules.{GoesOn, more_pushed, pop_goes, push_goes}
@@ -60,7 +60,7 @@ pub multiply_does :
     (pair_in_order_steps (knowing context.site facts) left right wish pushed
     ++ (CallRoutine routines.Multiply ∷ [])) last to
     → GoesOn context facts top base s.memory s.frame r memory
-    → Does context.activation.around.program.script s.budget 0 (at_place from r memory s.events)
+    → Does (loaded_of context.activation) s.budget 0 (at_place from r memory s.events)
     (then_do (value context.later context.activation.around first s)
     (λ x t. then_do (value context.later context.activation.around second t)
     (λ y u. Gave ((x * y) % 65536) u)))
@@ -82,16 +82,16 @@ multiply_does {context = context} {facts = facts} {left = left} {right = right} 
 
 -- of a division by 0 nothing is asked
 pub divided_does :
-    {script : List (List ℕ)} {budget : ℕ} {from : Rattle.isa8080.specs.State.State} {u : SourceState}
+    {loaded : Loaded} {budget : ℕ} {from : Rattle.isa8080.specs.State.State} {u : SourceState}
     {Good : ℕ → SourceState → Rattle.isa8080.specs.State.State → Type 0}
     (y f : ℕ)
-    → (((y == 0) ≡ false) → Does script budget 0 from (Gave f u) Good)
-    → Does script budget 0 from (computed (if y == 0 then None else Some f) u) Good
-divided_does {script = script} {budget = budget} {from = from} {u = u} {Good = Good} y f does =
+    → (((y == 0) ≡ false) → Does loaded budget 0 from (Gave f u) Good)
+    → Does loaded budget 0 from (computed (if y == 0 then None else Some f) u) Good
+divided_does {loaded = loaded} {budget = budget} {from = from} {u = u} {Good = Good} y f does =
     by (y == 0) refl
   where
     by : (test : Bool) → (y == 0) ≡ test
-        → Does script budget 0 from (computed (if test then None else Some f) u) Good
+        → Does loaded budget 0 from (computed (if test then None else Some f) u) Good
     by true is = record { told = tt }
     by false is = does is
 
@@ -125,7 +125,7 @@ pub quotient_does :
     (pair_steps (knowing context.site facts) left right true pushed ++ (CallRoutine routines.Divide ∷ []))
     last to
     → GoesOn context facts top base s.memory s.frame r memory
-    → Does context.activation.around.program.script s.budget 0 (at_place from r memory s.events)
+    → Does (loaded_of context.activation) s.budget 0 (at_place from r memory s.events)
     (then_do (value context.later context.activation.around first s)
     (λ x t. then_do (value context.later context.activation.around second t)
     (λ y u. computed (result_of Address Divide x y) u)))
@@ -165,7 +165,7 @@ pub remainder_does :
     (pair_steps (knowing context.site facts) left right true pushed
     ++ (CallRoutine routines.Divide ∷ Plain Xchg ∷ [])) last to
     → GoesOn context facts top base s.memory s.frame r memory
-    → Does context.activation.around.program.script s.budget 0 (at_place from r memory s.events)
+    → Does (loaded_of context.activation) s.budget 0 (at_place from r memory s.events)
     (then_do (value context.later context.activation.around first s)
     (λ x t. then_do (value context.later context.activation.around second t)
     (λ y u. computed (result_of Address Modulo x y) u)))
@@ -211,7 +211,7 @@ pub shift_then :
     → now.a ≡ k
     → StepsStand context (PartDoes context) facts from (CallRoutine (word_routine function) ∷ []) last to
     → GoesOn context facts top base t.memory t.frame now ended
-    → Does context.activation.around.program.script t.budget 0 (at_place from now ended t.events)
+    → Does (loaded_of context.activation) t.budget 0 (at_place from now ended t.events)
     (Gave (shifted Address function n k) t)
     (Arrives context.activation top base to (WordIsGiven context last number Address r memory))
 unfolding word_routine
@@ -259,7 +259,7 @@ pub computed_shift_does :
     → StepsStand context (PartDoes context) facts from
     (computed_count_steps (knowing context.site facts) moved pushed) last to
     → GoesOn context facts top base s.memory s.frame r memory
-    → Does context.activation.around.program.script s.budget 0 (at_place from r memory s.events)
+    → Does (loaded_of context.activation) s.budget 0 (at_place from r memory s.events)
     (then_do (value context.later context.activation.around first s)
     (λ n t. then_do (value context.later context.activation.around second t)
     (λ k u. Gave (shifted Address moved.function n k) u)))
@@ -277,7 +277,7 @@ computed_shift_does {context = context} {pushed = pushed} {top = top} {need = ne
         else Plain (Push StackHl) ∷ part_of (tasks.Byte moved.count) ((pushed + 2) % 65536)
         ∷ Plain (Pop StackHl) ∷ [])
         ++ (CallRoutine (word_routine moved.function) ∷ [])) last to
-        → Does context.activation.around.program.script s.budget 0 (at_place from r memory s.events)
+        → Does (loaded_of context.activation) s.budget 0 (at_place from r memory s.events)
         (then_do (value context.later context.activation.around first s)
         (λ n t. then_do (value context.later context.activation.around second t)
         (λ k u. Gave (shifted Address moved.function n k) u)))

@@ -1,5 +1,5 @@
 -- Sums and differences in HL.
-use Rattle.task_laws.proofs.Prelude.{◌≡◌, ℕ, ◌+◌, ◌*◌, ◌/◌, ◌%◌, ◌<◌, ◌≤◌, max, false, if◌then◌else◌, List, [], ◌∷◌, ◌++◌, Option, Some, None, is_some, refl, sym, ap, ◌∙◌, subst, arith, option_map_or, Address, height_of, type_of, TypedExpression, value, SourceState, Outcome, Gave, then_do, Instr, Registers, word, wrap, Expression, ExpressionNumber, Place, keeps_at, keeps_none, keeps_of_binary, known_at, no_traits, Does, at_place, Arrives, HasRoom, place_at, Facts, Plain, part_of, keeps, known, expression, addition_steps, Operands, knowing, sum_steps, Context, IsSound, nodes_in, StepsStand, PartThere, PartDoes, WordIsGiven, sum_turned}
+use Rattle.task_laws.proofs.Prelude.{◌≡◌, ℕ, ◌+◌, ◌*◌, ◌/◌, ◌%◌, ◌<◌, ◌≤◌, max, false, if◌then◌else◌, List, [], ◌∷◌, ◌++◌, Option, Some, None, is_some, refl, sym, ap, ◌∙◌, subst, arith, option_map_or, Address, height_of, type_of, TypedExpression, value, SourceState, Outcome, Gave, then_do, Instr, Registers, word, wrap, Expression, ExpressionNumber, Place, keeps_at, keeps_none, keeps_of_binary, known_at, no_traits, Does, loaded_of, at_place, Arrives, HasRoom, place_at, Facts, Plain, part_of, keeps, known, expression, addition_steps, Operands, knowing, sum_steps, Context, IsSound, nodes_in, StepsStand, PartThere, PartDoes, WordIsGiven, sum_turned}
 use Rattle.trees.specs.declared.expression.BinaryOperator.TheVariants as operators
 use Rattle.steps8080.specs.declared.step.Task.TheVariants as tasks
 use Rattle.task_laws.proofs.Machine.Addresses.{addition_goes}
@@ -75,7 +75,7 @@ pub added_does :
     → StepsStand context (PartDoes context) facts from
     (part_of (tasks.Word other) pushed ∷ addition_steps place) last to
     → GoesOn context facts top base s.memory s.frame r memory
-    → Does context.activation.around.program.script s.budget 0 (at_place from r memory s.events)
+    → Does (loaded_of context.activation) s.budget 0 (at_place from r memory s.events)
     (then_do (value context.later context.activation.around tree s)
     (λ x t. Gave ((x + place_at context.activation.layout place) % 65536) t))
     (Arrives context.activation top base to (WordIsGiven context last number Address r memory))
@@ -191,7 +191,7 @@ pub sum_does :
     → StepsStand context (PartDoes context) facts from
     (sum_steps (knowing context.site facts) operands pushed) last to
     → GoesOn context facts top base s.memory s.frame r memory
-    → Does context.activation.around.program.script s.budget 0 (at_place from r memory s.events)
+    → Does (loaded_of context.activation) s.budget 0 (at_place from r memory s.events)
     (then_do (value context.later context.activation.around first s)
     (λ x t. then_do (value context.later context.activation.around second t)
     (λ y u. Gave ((x + y) % 65536) u)))
@@ -212,13 +212,13 @@ sum_does {context = context} {pushed = pushed} {top = top} {need = need} {to = t
               ++ (Plain (Rattle.isa8080.specs.declared.instr.Instr.TheVariants.Dad
               Rattle.isa8080.specs.declared.instr.Pair.TheVariants.De) ∷ [])
         ]) last to
-        → Does context.activation.around.program.script s.budget 0 (at_place from r memory s.events)
+        → Does (loaded_of context.activation) s.budget 0 (at_place from r memory s.events)
         (then_do (value context.later context.activation.around first s)
         (λ x t. then_do (value context.later context.activation.around second t)
         (λ y u. Gave ((x + y) % 65536) u)))
         (Arrives context.activation top base to (WordIsGiven context last number Address r memory))
     by_left (Some place) is none stand =
-        subst (λ outcome. Does context.activation.around.program.script s.budget 0
+        subst (λ outcome. Does (loaded_of context.activation) s.budget 0
         (at_place from r memory s.events) outcome
         (Arrives context.activation top base to (WordIsGiven context last number Address r memory)))
         (sym (first_known second facts place (λ x y u. Gave ((x + y) % 65536) u) s sound words.one is
@@ -255,13 +255,13 @@ sum_does {context = context} {pushed = pushed} {top = top} {need = need} {to = t
                 Rattle.isa8080.specs.declared.instr.Pair.TheVariants.De) ∷ [])
           ]
         ]) last to
-        → Does context.activation.around.program.script s.budget 0 (at_place from r memory s.events)
+        → Does (loaded_of context.activation) s.budget 0 (at_place from r memory s.events)
         (then_do (value context.later context.activation.around first s)
         (λ x t. then_do (value context.later context.activation.around second t)
         (λ y u. Gave ((x + y) % 65536) u)))
         (Arrives context.activation top base to (WordIsGiven context last number Address r memory))
     by_right (Some place) is stand =
-        subst (λ outcome. Does context.activation.around.program.script s.budget 0
+        subst (λ outcome. Does (loaded_of context.activation) s.budget 0
         (at_place from r memory s.events) outcome
         (Arrives context.activation top base to (WordIsGiven context last number Address r memory)))
         (sym (second_known first facts place (λ x y u. Gave ((x + y) % 65536) u) s sound words.two is))

@@ -1,5 +1,5 @@
 -- Values in HL that are not computed: words in memory, locations, assignments within expressions, and calls.
-use Rattle.task_laws.proofs.Prelude.{◌≡◌, ℕ, ◌+◌, ◌*◌, ◌/◌, ◌%◌, ◌<◌, ◌&&◌, Bool, true, List, [], ◌∷◌, Option, Some, None, is_some, refl, sym, ap, ◌∙◌, subst, arith, IsSomeAnd, slice_get, MEMORY_SIZE, ScalarType, height_of_reference, type_of, type_of_target, IsPartOf, TypedHome, InData, InConstants, Placed, BasedOn, Elsewhere, Nowhere, InFrame, TypedExpression, TypedArguments, TypedObject, TypedReference, TypedTarget, AssignmentNode, CallNode, LocationNode, PartOf, SentTo, StoredIn, ValueNode, HasLocation, IsSeen, RefersToLocation, TypesHold, TypesHoldInTarget, InMemory, home_of, place_of, read_scalar, address_in_memory, based_place, displacement, located, stored, SourceState, Outcome, Gave, then_do, values_of, Registers, State, word, ExpressionNumber, Range, Static, Reference, Target, AreArguments, IsExpression, IsReference, IsTarget, IsStored, IsSent, source, keeps_none, keeps_of_form, place_of_reference, Does, Activation, Arrives, does_without_step, Facts, part_of, keeps, keeps_of_address, word_in_memory_steps, embedded_steps, call_steps, value_task, knowing, Context, InRegister, IsSound, nodes_in, StepsStand, PartThere, IsReferred, IsStoredThere, PartDoes, ResultIsGiven, WordIsGiven, address_on_machine, same_given}
+use Rattle.task_laws.proofs.Prelude.{◌≡◌, ℕ, ◌+◌, ◌*◌, ◌/◌, ◌%◌, ◌<◌, ◌&&◌, Bool, true, List, [], ◌∷◌, Option, Some, None, is_some, refl, sym, ap, ◌∙◌, subst, arith, IsSomeAnd, slice_get, MEMORY_SIZE, ScalarType, height_of_reference, type_of, type_of_target, IsPartOf, TypedHome, InData, InConstants, Placed, BasedOn, Elsewhere, Nowhere, InFrame, TypedExpression, TypedArguments, TypedObject, TypedReference, TypedTarget, AssignmentNode, CallNode, LocationNode, PartOf, SentTo, StoredIn, ValueNode, HasLocation, IsSeen, RefersToLocation, TypesHold, TypesHoldInTarget, InMemory, home_of, place_of, read_scalar, address_in_memory, based_place, displacement, located, stored, SourceState, Outcome, Gave, then_do, values_of, Registers, State, word, ExpressionNumber, Range, Static, Reference, Target, AreArguments, IsExpression, IsReference, IsTarget, IsStored, IsSent, source, keeps_none, keeps_of_form, place_of_reference, Does, Loaded, loaded_of, Activation, Arrives, does_without_step, Facts, part_of, keeps, keeps_of_address, word_in_memory_steps, embedded_steps, call_steps, value_task, knowing, Context, InRegister, IsSound, nodes_in, StepsStand, PartThere, IsReferred, IsStoredThere, PartDoes, ResultIsGiven, WordIsGiven, address_on_machine, same_given}
 use Rattle.trees.specs.declared.declaration.ScalarType.TheVariants as scalars
 use Rattle.meaning.specs.Access.{Place}
 use Rattle.treecode.specs.declared.expression.ExpressionForm.TheVariants as forms
@@ -21,12 +21,12 @@ use Rattle.task_laws.proofs.Words.CarriedWords.{IsCarriedOut}
 
 -- the end of code, with a property in another form
 pub ends_with :
-    {A : Type 0} {script : List (List ℕ)} {activation : Activation} {budget top to : ℕ}
+    {A : Type 0} {loaded : Loaded} {activation : Activation} {budget top to : ℕ}
     {base : List ℕ} {from : State}
     {Holds Other : A → Registers → List ℕ → Type 0} (outcome : Outcome A)
-    → Does script budget 0 from outcome (Arrives activation top base to Holds)
+    → Does loaded budget 0 from outcome (Arrives activation top base to Holds)
     → ((found : A) (now : Registers) (ended : List ℕ) → Holds found now ended → Other found now ended)
-    → Does script budget 0 from outcome (Arrives activation top base to Other)
+    → Does loaded budget 0 from outcome (Arrives activation top base to Other)
 ends_with outcome does turn =
     gives_then outcome does
     (λ found t end arrives spent.
@@ -171,7 +171,7 @@ location_carried {context = context} {last = last} {number = number} {reference 
     let address : ℕ = address_in_memory place in
     let hl : word now.h now.l ≡ address =
     (given.holds).hl ∙ sym (location_is context part place s t sound types.0 same) in
-    subst (λ (state : State). Does context.activation.around.program.script t.budget 0 state (Gave address t)
+    subst (λ (state : State). Does (loaded_of context.activation) t.budget 0 state (Gave address t)
     (Arrives context.activation top base to (WordIsGiven context last number scalars.Address r memory)))
     (sym given.is_at)
     (word_ends t rest (below_memory address now.h now.l bytes.h bytes.l hl)

@@ -1,5 +1,5 @@
 -- The code of values in HL does what the expressions mean.
-use Rattle.task_laws.proofs.Prelude.{◌≡◌, ℕ, ◌+◌, ◌-◌, ◌*◌, ◌/◌, ◌%◌, ◌^◌, ◌<◌, ◌≤◌, ◌==◌, max, Bool, true, false, if◌then◌else◌, bit_and, is_some, [], ◌∷◌, ◌++◌, Option, Some, None, refl, sym, ap, ◌∙◌, subst, arith, append_assoc, ScalarType, Address, Byte, BinaryOperator, ShiftFunction, RotateLeft, RotateRight, ShiftLeft, ShiftRight, Low, High, Double, height_of, type_of, type_of_result, BinaryNode, ConversionNode, FunctionNode, ShiftNode, TypedExpression, TypesHold, value, SourceState, Outcome, Gave, Stopped, then_do, as_type, shifted, Xchg, State, Expression, ExpressionForm, ExpressionNumber, Static, Place, Number, Reference, IsExpression, IsForm, IsNumber, IsValue, IsLocation, IsConstantList, IsConversion, IsEmbedded, IsUnary, IsBinary, IsCallOf, IsFunction, IsShift, IsInput, keeps_none, keeps_of_form, keeps_of, keeps_of_extended, memory_of_form, keeps_of_shift, same_low_byte, traits_at, known_of, no_traits, number_at, traits_of, Traits, option_map_or, expression, Does, at_place, Arrives, place_at, Facts, CallRoutine, Plain, extension_steps, part_of, Site, keeps, known, memory_of, number_of, power, location_address_steps, extended_byte_in_memory_steps, pair_steps, knowing, number_of_two, division_steps, logic_with_number_steps, quotient_steps, remainder_steps, word_binary_steps, computed_count_steps, word_by_number_steps, word_shift_steps, word_shifted_right_steps, computed_word_steps, extended_byte_steps, word_form_steps, word_function_steps, word_of_two_steps, word_steps, Context, IsSound, nodes_in, StepsStand, PartThere, PartDoes, WordDoes, WordIsGiven, Keeps, Nodes, pow-le-pow_right, eqb-false, ne_eqb, and_mask, option_and_then, computed, result_of, power_of_two, same_Some}
+use Rattle.task_laws.proofs.Prelude.{◌≡◌, ℕ, ◌+◌, ◌-◌, ◌*◌, ◌/◌, ◌%◌, ◌^◌, ◌<◌, ◌≤◌, ◌==◌, max, Bool, true, false, if◌then◌else◌, bit_and, is_some, [], ◌∷◌, ◌++◌, Option, Some, None, refl, sym, ap, ◌∙◌, subst, arith, append_assoc, ScalarType, Address, Byte, BinaryOperator, ShiftFunction, RotateLeft, RotateRight, ShiftLeft, ShiftRight, Low, High, Double, height_of, type_of, type_of_result, BinaryNode, ConversionNode, FunctionNode, ShiftNode, TypedExpression, TypesHold, value, SourceState, Outcome, Gave, Stopped, then_do, as_type, shifted, Xchg, State, Expression, ExpressionForm, ExpressionNumber, Static, Place, Number, Reference, IsExpression, IsForm, IsNumber, IsValue, IsLocation, IsConstantList, IsConversion, IsEmbedded, IsUnary, IsBinary, IsCallOf, IsFunction, IsShift, IsInput, keeps_none, keeps_of_form, keeps_of, keeps_of_extended, memory_of_form, keeps_of_shift, same_low_byte, traits_at, known_of, no_traits, number_at, traits_of, Traits, option_map_or, expression, Does, loaded_of, at_place, Arrives, place_at, Facts, CallRoutine, Plain, extension_steps, part_of, Site, keeps, known, memory_of, number_of, power, location_address_steps, extended_byte_in_memory_steps, pair_steps, knowing, number_of_two, division_steps, logic_with_number_steps, quotient_steps, remainder_steps, word_binary_steps, computed_count_steps, word_by_number_steps, word_shift_steps, word_shifted_right_steps, computed_word_steps, extended_byte_steps, word_form_steps, word_function_steps, word_of_two_steps, word_steps, Context, IsSound, nodes_in, StepsStand, PartThere, PartDoes, WordDoes, WordIsGiven, Keeps, Nodes, pow-le-pow_right, eqb-false, ne_eqb, and_mask, option_and_then, computed, result_of, power_of_two, same_Some}
 use Rattle.trees.specs.declared.expression.BinaryOperator.TheVariants as operators
 use Rattle.runtime8080.specs.declared.routine.Routine.TheVariants as routines
 use Rattle.treecode.specs.declared.expression.ExpressionForm.TheVariants as forms
@@ -39,8 +39,8 @@ use Rattle.task_laws.proofs.Numbers.{address_is_word}
 without_rest :
     (context : Context) {from : State} {budget : ℕ} {Good : ℕ → SourceState → State → Type 0}
     (outcome : Outcome ℕ)
-    → Does context.activation.around.program.script budget 0 from (then_do outcome (λ n t. Gave n t)) Good
-    → Does context.activation.around.program.script budget 0 from outcome Good
+    → Does (loaded_of context.activation) budget 0 from (then_do outcome (λ n t. Gave n t)) Good
+    → Does (loaded_of context.activation) budget 0 from outcome Good
 without_rest context (Gave n t) does = does
 without_rest context (Stopped why t) does = does
 
@@ -236,7 +236,7 @@ module _ (context : Context) (sound : IsSound context) (asked : BytesAsked conte
           Address pushed from last to
       by (Some count) is given = λ top need base s r memory less room height going.
           let found = power_means (knowing context.site facts) right count is in
-          subst (λ outcome. Does context.activation.around.program.script s.budget 0
+          subst (λ outcome. Does (loaded_of context.activation) s.budget 0
           (at_place from r memory s.events) outcome
           (Arrives context.activation top base to (WordIsGiven context last number Address r memory)))
           (sym (second_known first facts (Number found.n)
@@ -296,7 +296,7 @@ module _ (context : Context) (sound : IsSound context) (asked : BytesAsked conte
           let small =
           address_is_word n (type_of second) words.two_is
           (number_small facts n sound words.two.is words.two.types found.1) in
-          subst (λ outcome. Does context.activation.around.program.script s.budget 0
+          subst (λ outcome. Does (loaded_of context.activation) s.budget 0
           (at_place from r memory s.events) outcome
           (Arrives context.activation top base to (WordIsGiven context last number Address r memory)))
           (sym (second_known first facts (Number n)
@@ -364,7 +364,7 @@ module _ (context : Context) (sound : IsSound context) (asked : BytesAsked conte
           Address pushed from last to
       by_number ShiftRight n is given form types kept stand =
           λ top need base s r memory less room height going.
-          subst (λ outcome. Does context.activation.around.program.script s.budget 0
+          subst (λ outcome. Does (loaded_of context.activation) s.budget 0
           (at_place from r memory s.events) outcome
           (Arrives context.activation top base to (WordIsGiven context last number Address r memory)))
           (sym (second_known first facts (Number n)
@@ -377,7 +377,7 @@ module _ (context : Context) (sound : IsSound context) (asked : BytesAsked conte
           going highs given)
       by_number ShiftLeft n is given form types kept stand =
           λ top need base s r memory less room height going.
-          subst (λ outcome. Does context.activation.around.program.script s.budget 0
+          subst (λ outcome. Does (loaded_of context.activation) s.budget 0
           (at_place from r memory s.events) outcome
           (Arrives context.activation top base to (WordIsGiven context last number Address r memory)))
           (sym (second_known first facts (Number n)
@@ -646,7 +646,7 @@ module _ (context : Context) (sound : IsSound context) (asked : BytesAsked conte
             | Some reference ↦ extended_byte_in_memory_steps (knowing context.site facts) reference pushed
             | None ↦ part_of (tasks.Byte number) pushed ∷ extension_steps
           ]) last to
-          → Does context.activation.around.program.script s.budget 0 (at_place from r memory s.events)
+          → Does (loaded_of context.activation) s.budget 0 (at_place from r memory s.events)
           (value context.later context.activation.around tree s)
           (Arrives context.activation top base to (WordIsGiven context last number Byte r memory))
       by_memory (Some reference) here none byte given =
@@ -668,7 +668,7 @@ module _ (context : Context) (sound : IsSound context) (asked : BytesAsked conte
             | Byte ↦ extended_byte_steps (knowing context.site facts) number pushed
             | Address ↦ word_form_steps (knowing context.site facts) node.found.form pushed
           ]) last to
-          → Does context.activation.around.program.script s.budget 0 (at_place from r memory s.events)
+          → Does (loaded_of context.activation) s.budget 0 (at_place from r memory s.events)
           (value context.later context.activation.around tree s)
           (Arrives context.activation top base to (WordIsGiven context last number scalar r memory))
       by_type node Byte byte none given =
@@ -687,13 +687,13 @@ module _ (context : Context) (sound : IsSound context) (asked : BytesAsked conte
               | None ↦ []
             ]
           ]) last to
-          → Does context.activation.around.program.script s.budget 0 (at_place from r memory s.events)
+          → Does (loaded_of context.activation) s.budget 0 (at_place from r memory s.events)
           (value context.later context.activation.around tree s)
           (Arrives context.activation top base to (WordIsGiven context last number (type_of tree) r memory))
       by_known (Some place) here given =
           let small = known_small facts place sound is types here in
           let word_value : ℕ = place_at context.activation.layout place in
-          subst (λ outcome. Does context.activation.around.program.script s.budget 0
+          subst (λ outcome. Does (loaded_of context.activation) s.budget 0
           (at_place from r memory s.events) outcome
           (Arrives context.activation top base to (WordIsGiven context last number (type_of tree) r memory)))
           (sym (known_means facts place sound is types here s))

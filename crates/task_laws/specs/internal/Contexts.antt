@@ -27,7 +27,7 @@ pub use Rattle.treecode.specs.Nodes.{NumbersAreWords}
 use Rattle.treecode.specs.Nodes.{Nodes, home_at, nodes_of}
 use Rattle.treecode.specs.Resolved.{Resolves}
 use Rattle.frames.specs.Frames.{distance_of}
-use Rattle.code_meaning.specs.Activations.{Activation, Arrives, HasRoom, IsReady, IsThere, LiesWell}
+use Rattle.code_meaning.specs.Activations.{Activation, Arrives, HasRoom, IsReady, IsThere, LiesWell, loaded_of}
 use Rattle.code_meaning.specs.Landing.{Does, at_place}
 use Rattle.code_meaning.specs.Holding.{Distances, place_at}
 use Rattle.steps8080.specs.declared.sites.site.Site.{Site}
@@ -67,7 +67,7 @@ CallsDo context =
     → bytes_pushed values ≤ pushed
     → IsReady context.activation top base s.memory s.frame r memory
     → ArgumentsLie heading.parameter_types values top r memory
-    → Does context.activation.around.program.script s.budget 0 (at_place from r memory s.events)
+    → Does (loaded_of context.activation) s.budget 0 (at_place from r memory s.events)
     (called_for context.later
     (callee_in context.activation.around procedure) values context.activation.around s)
     (Arrives context.activation (top + bytes_pushed values) base (from + 3) (ResultLies heading.result))

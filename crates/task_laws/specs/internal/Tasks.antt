@@ -16,7 +16,7 @@ use Rattle.treecode.specs.declared.lists.Range.{Range}
 use Rattle.treecode.specs.declared.reference.Reference.{Reference}
 use Rattle.treecode.specs.declared.reference.Target.{Target}
 use Rattle.treecode.specs.Lowered.{AreArguments, IsExpression, IsReference, IsTarget}
-use Rattle.code_meaning.specs.Activations.{Activation, Arrives, HasRoom, IsReady}
+use Rattle.code_meaning.specs.Activations.{Activation, Arrives, HasRoom, IsReady, loaded_of}
 use Rattle.code_meaning.specs.Landing.{Does, at_place}
 use Rattle.code_meaning.specs.Holding.{FactsHold}
 use Rattle.steps8080.specs.declared.facts.Facts.{Facts}
@@ -48,7 +48,7 @@ Carries context before pushed need more from to Asked meant Holds =
     → IsReady context.activation top base s.memory s.frame r memory
     → Know context before r memory
     → Asked r
-    → Does context.activation.around.program.script s.budget more (at_place from r memory s.events) (meant s)
+    → Does (loaded_of context.activation) s.budget more (at_place from r memory s.events) (meant s)
     (Arrives context.activation top base to (Holds r memory))
 
 -- no condition
@@ -220,7 +220,7 @@ BranchDoes context before condition label sense pushed from after to =
     → HasRoom context.activation top pushed (2 * height_of tree)
     → IsReady context.activation top base s.memory s.frame r memory
     → Know context before r memory
-    → Does context.activation.around.program.script s.budget 0 (at_place from r memory s.events)
+    → Does (loaded_of context.activation) s.budget 0 (at_place from r memory s.events)
     (value context.later context.activation.around tree s)
     (Parts context after tree label sense top base to)
 
