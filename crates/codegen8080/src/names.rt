@@ -114,6 +114,8 @@ pub(crate) fn listed_names(
     ensures { IfOk result (λ listed. AreListed externals.now numbered.now listed.numbers.items listed.names) }
 {
     let Some(count) = numbered.count() else {
+        // A counter ends: code numbers 65535 names at most. Code and data within their segments refer to fewer, but no law
+        // counts them.
         return Err(AllocError);
     };
     let numbers = numbered.numbers();

@@ -6,6 +6,7 @@ ghost use Rattle.typed_trees.specs.Jumps.{JumpsAreSound};
 ghost use Rattle.typed_trees.specs.Views.{module_view};
 ghost use Rattle.layout.specs.Views.{layout_view};
 ghost use Rattle.treecode.specs.Lowered.{IsLowered};
+ghost use Rattle.codegen8080.specs.internal.Standing.{BodiesStand};
 ghost use Rattle.generation.specs.internal.TreeCode.{KeepsModule};
 
 use layout::Layout;
@@ -16,10 +17,11 @@ use typed_trees::Typed;
 /// A typed module as tree code, with its objects where its storage has them. Where the module is soundly typed and this is
 /// its storage, the tree code has the charges of the module and its code bound, and all code that is generated of it does
 /// on the machine what the module says.
-#[tactic(auto, using(crate::proofs::TreeCode::keeps_result))]
+#[tactic(auto, using(crate::proofs::TreeCode::keeps_result, codegen8080::proofs::LoweredStand::stands_result))]
 pub fn lower(alloc: Global, typed: &Typed, storage: &Layout) -> Result<TreeModule, AllocError>
     requires jumps { JumpsAreSound (module_view typed.now) }
     ensures lowered { IfOk result (IsLowered (module_view typed.now) (layout_view storage.now)) }
+    ensures stand { IfOk result BodiesStand }
     ensures keeps { IfOk result (KeepsModule (module_view typed.now) (layout_view storage.now)) }
 {
     treecode::lower(alloc, typed, storage)
