@@ -10,7 +10,7 @@ use Rattle.asm8080.specs.declared.item.Item.{Item}
 use Rattle.asm8080.specs.Items.{Layout, Stands}
 use Rattle.asm8080.specs.Standing.{Keeps}
 use Rattle.code_meaning.specs.Landing.{at_place}
-pub use Rattle.code_meaning.specs.Sharing.{IsOfStack, IsVariable, Loaded, MayChange, Shares}
+pub use Rattle.code_meaning.specs.Sharing.{IsVariable, Loaded, MayChange, Shares}
 
 -- An activation: its surroundings; the labels and targets of its module's code; the memory as it was loaded,
 -- with which all code is compared; the lowest byte of the stack that it may change; the stack pointer when

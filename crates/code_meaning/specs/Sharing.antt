@@ -1,7 +1,8 @@
 -- The bytes of a program that the machine has as the source has them, and those that may change.
-use Rattle.std.specs.Prelude.{◌≡◌, ℕ, ◌+◌, ◌<◌, ◌≤◌, ◌⊎◌, true, false, List, length}
+use Rattle.std.specs.Prelude.{◌≡◌, ℕ, ◌⊎◌, true, false, List, length}
 use Rattle.mem80.specs.declared.memory.TheConstants.{MEMORY_SIZE}
 use Rattle.mem80.specs.Memory.{IsMemory, byte_at}
+use Rattle.mem80.specs.Range.{IsIn}
 use Rattle.meaning.specs.Access.{is_constant, is_declared}
 use Rattle.meaning.specs.Outcomes.{Program}
 use Rattle.asm8080.specs.Standing.{AgreesIn, Keeps}
@@ -10,15 +11,9 @@ use Rattle.asm8080.specs.Standing.{AgreesIn, Keeps}
 abbrev pub IsVariable : Program → (address : ℕ) → Type 0
 IsVariable program address = (is_declared program address ≡ true) × (is_constant program address ≡ false)
 
--- a byte of the stack of the program
-abbrev pub IsOfStack : Program → (address : ℕ) → Type 0
-IsOfStack program address =
-    (program.placement.stack.start ≤ address)
-    × (address < program.placement.stack.start + program.placement.stack.len)
-
--- a byte that a run of the program may change
+-- a byte that a run of the program may change: a variable, or one of the stack
 abbrev pub MayChange : Program → (address : ℕ) → Type 0
-MayChange program address = IsVariable program address ⊎ IsOfStack program address
+MayChange program address = IsVariable program address ⊎ IsIn address program.placement.stack
 
 -- A memory with the bytes of the source's memory at declared addresses, and with the code as it was loaded.
 -- Of the memory as it was loaded no bytes changed but variables and those of the stack.

@@ -1,17 +1,31 @@
--- What is given from outside matters only as far as the budget lasts: of statements and of calls.
-use Rattle.meaning.proofs.Prelude.{◌≡◌, ℕ, zero, suc, ◌+◌, ◌-◌, ◌<◌, ◌≤◌, ◌==◌, Bool, true, false, List, [], ◌∷◌, Option, Some, None, cond, nat_lt, arith, refl, sym, ap, ◌∙◌, option_map_or, common_steps, charge_of, TypedExpression, TypedArguments, TypedIteration, TypedStatement, LabelStatement, NullStatement, AssignmentStatement, CallStatement, MoveStatement, ReturnStatement, HaltStatement, GotoStatement, IfStatement, DoStatement, WhileStatement, IterateStatement, CaseStatement, TypedElse, NoElse, ElseStatement, TypedStatements, NoStatements, MoreStatements, TypedList, ListOf, TypedProcedure, TypedModule, InProgram, Stack, as_type, is_true, values_of, Surroundings, place_of, IsMeantBelow, Later, Turn, WhileTurn, IterateTurn, after_turn, called, called_for, callee_in, caught_in, charged, done, done_all, done_case, done_else, done_list, entered, frame_of, going_on, iterated, landed, later_by, moved, next_turn, nothing_later, parameters_set, procedure_at, read_variable, rest_from, rest_of, returned, step_value, stepped, stored_in_each, turn_of, value, value_of_flow, values, write_variable, Program, State, Stop, More, Outside, Outcome, Gave, Stopped, then_do, taking_one, Flow, Onward, Returned, Jumped, Agrees, Follows, Continues, nothing_else, jump_took, Keeps, LaterKeeps}
-use Rattle.meaning.proofs.Kept.{changes_scalar, continues_itself, reads_scalar}
-use Rattle.meaning.proofs.KeptParts.{call_keeps, moved_keeps, targets_keep, value_keeps, values_keep}
-use Rattle.meaning.proofs.KeptStatements.{less_budget, list_keeps, statement_keeps, statements_keep, step_value_keeps}
-use Rattle.meaning.proofs.KeptCalls.{later_keeps, sets_parameters}
-use Rattle.meaning.proofs.Agreement.{equal_then, same_calls, same_targets, same_value, same_values}
+-- What is given from outside matters only as far as the budget lasts: an instance of `Preserves`.
+use Rattle.meaning.proofs.Prelude.{Agrees, Bool, Continues, Extra, Flow, Gave, InProgram, IsMeantBelow, Jumped, Keeps, Later, LaterKeeps, List, More, None, Onward, Option, Outcome, Program, Returned, Some, State, Stopped, Surroundings, Turn, TypedList, TypedStatements, ap, arith, called, caught_in, common_steps, cond, false, going_on, jump_took, landed, later_by, nothing_else, procedure_at, refl, rest_from, rest_of, suc, taking_one, then_do, true, turn_of, value_of_flow, zero, ℕ, ◌-◌, ◌<◌, ◌==◌, ◌∙◌, ◌≡◌, ◌≤◌}
+use Rattle.meaning.proofs.Kept.{less_budget}
+use Rattle.meaning.proofs.KeptParts.{FlowKeeps, KeepsBelow, ValueKeeps, keeps_all}
+use Rattle.meaning.proofs.KeptCalls.{later_keeps}
+use Rattle.meaning.proofs.Preserves.{Preserves, in_frame_of_its_own, no_condition, of_found, of_rest, of_turn, one_after}
+
+-- equal parts after the same part, and after equal parts
+equal_after : {A B : Type 0} (program : Program) (extra : Extra A) (s : State) (outcome : Outcome A)
+    (go else_go : A → State → Outcome B) → Keeps program extra s outcome
+    → ((found : A) (t : State) → Continues program s t → extra s.budget found t.budget
+    → go found t ≡ else_go found t) → then_do outcome go ≡ then_do outcome else_go
+equal_after program extra s (Gave found t) go else_go kept rest = rest found t kept.0 kept.1
+equal_after program extra s (Stopped why t) go else_go kept rest = refl
+
+equal_then : {A B : Type 0} (program : Program) (extra : Extra A) (s : State) (outcome other : Outcome A)
+    (go else_go : A → State → Outcome B) → outcome ≡ other → Keeps program extra s outcome
+    → ((found : A) (t : State) → Continues program s t → extra s.budget found t.budget
+    → go found t ≡ else_go found t) → then_do outcome go ≡ then_do other else_go
+equal_then program extra s outcome other go else_go same kept rest =
+    equal_after program extra s outcome go else_go kept rest ∙ ap (λ one. then_do one else_go) same
 
 same_if : {A : Type 0} (test : Bool) (one other else_one else_other : A) → (test ≡ true → one ≡ other)
     → (test ≡ false → else_one ≡ else_other) → cond test one else_one ≡ cond test other else_other
 same_if true one other else_one else_other on off = on refl
 same_if false one other else_one else_other on off = off refl
 
-pub same_taking : {A : Type 0} (program : Program) (s : State) (go other : State → Outcome A)
+same_taking : {A : Type 0} (program : Program) (s : State) (go other : State → Outcome A)
     → ((t : State) → Continues program s t → suc t.budget ≤ s.budget → go t ≡ other t)
     → taking_one s go ≡ taking_one s other
 same_taking program s go other rest =
@@ -27,315 +41,150 @@ same_going Onward go other t same = same
 same_going (Returned found) go other t same = refl
 same_going (Jumped label) go other t same = refl
 
-module _ (number : ℕ) (one other : Later) (kept : LaterKeeps number one)
-    (same : Agrees number one other) where
-  same_turns : (turn : Turn) (flow : Flow) (around : Surroundings) (t : State) → suc t.budget < number
-      → after_turn one around turn flow t ≡ after_turn other around turn flow t
-  same_turns turn Onward around t below = same.again turn around t below
-  same_turns turn (Returned found) around t below = refl
-  same_turns turn (Jumped label) around t below = refl
+-- two meanings do the same from each state on whose budget is below a number
+abbrev SameBelow : {A : Type 0} → ℕ → (State → Outcome A) → (State → Outcome A) → Type 0
+SameBelow number f g = (s : State) → s.budget < number → f s ≡ g s
 
-  same_landed : (list : TypedList) (label : ℕ) (rest : Option TypedStatements) (around : Surroundings)
-      (t : State) → suc t.budget < number
-      → landed one around list label rest t ≡ landed other around list label rest t
-  same_landed list label (Some rest) around t below = same.onto list rest around t below
-  same_landed list label None around t below = refl
+abbrev ValueAgrees : Program → ℕ → (A : Type 0) → (State → Outcome A) → (State → Outcome A) → Type 0
+ValueAgrees program number A f g = ValueKeeps program number A f g × SameBelow number f g
 
-  same_caught : (list : TypedList) (flow : Flow) (around : Surroundings) (before : ℕ) (t : State)
-      → jump_took before flow t.budget → before < number
-      → caught_in one around list flow t ≡ caught_in other around list flow t
-  same_caught list Onward around before t took below = refl
-  same_caught list (Returned found) around before t took below = refl
-  same_caught list (Jumped label) around before t took below =
-      same_landed list label (rest_from label list) around t (omega (arith, took, below))
+abbrev FlowAgrees : Program → ℕ → (State → Outcome Flow) → (State → Outcome Flow) → Type 0
+FlowAgrees program number f g = FlowKeeps program number f g × SameBelow number f g
 
-  same_returned : (expression : Option TypedExpression) (around : Surroundings) (s : State)
-      → s.budget < number → returned one around expression s ≡ returned other around expression s
-  same_returned None around s below = refl
-  same_returned (Some expression) around s below =
-      equal_then around.program nothing_else s (value one around expression s)
-      (value other around expression s) _ _
-      (same_value number one other kept same expression around s below)
-      (value_keeps number one kept expression around s below) (λ found t first more. refl)
+module _ (program : Program) (number : ℕ) where
+  same_then : {A B : Type 0} (f g : State → Outcome A) (p q : A → State → Outcome B)
+      → KeepsBelow program number nothing_else f → SameBelow number f g
+      → ((found : A) → SameBelow number (p found) (q found))
+      → SameBelow number (λ s. then_do (f s) p) (λ s. then_do (g s) q)
+  same_then f g p q kept same rest s below =
+      equal_then program nothing_else s (f s) (g s) p q (same s below) (kept s below)
+      (λ found t first more. rest found t (omega (arith, first.follows.budget, below)))
 
-  same_step : (step : Option TypedExpression) (around : Surroundings) (s : State) → s.budget < number
-      → step_value one around step s ≡ step_value other around step s
-  same_step None around s below = refl
-  same_step (Some step) around s below = same_value number one other kept same step around s below
+  same_after : (f g p q : State → Outcome Flow) → KeepsBelow program number jump_took f
+      → SameBelow number f g → SameBelow number p q → SameBelow number (one_after f p) (one_after g q)
+  same_after f g p q kept same rest s below =
+      equal_then program jump_took s (f s) (g s) _ _ (same s below) (kept s below)
+      (λ flow t first took. same_going flow p q t (rest t (omega (arith, first.follows.budget, below))))
 
-  same_next : (head : TypedIteration) (body : TypedList) (sum : ℕ) (around : Surroundings) (s : State)
-      → suc s.budget < number → next_turn one around head body sum s ≡ next_turn other around head body sum s
-  same_next head body sum around s below =
-      same_if (nat_lt sum (values_of head.scalar)) (one.again (IterateTurn head body) around s)
-      (other.again (IterateTurn head body) around s) (Gave Onward s) (Gave Onward s)
-      (λ on. same.again (IterateTurn head body) around s below) (λ off. refl)
-
-  same_stepped : (head : TypedIteration) (body : TypedList) (flow : Flow) (around : Surroundings) (s : State)
-      → suc s.budget < number → stepped one around head body flow s ≡ stepped other around head body flow s
-  same_stepped head body Onward around s below =
-      equal_then around.program nothing_else s (step_value one around head.step s)
-      (step_value other around head.step s) _ _ (same_step head.step around s (omega (arith, below)))
-      (step_value_keeps number one kept head.step around s (omega (arith, below)))
-      (λ step t first more.
-      equal_then around.program nothing_else t (read_variable around head t) (read_variable around head t) _ _
-      refl (reads_scalar around.program head.scalar (place_of around head.variable) t)
-      (λ found u second last.
-      equal_then around.program nothing_else u
-      (write_variable around head (as_type head.scalar (found + step)) u)
-      (write_variable around head (as_type head.scalar (found + step)) u) _ _ refl
-      (changes_scalar around.program head.scalar (place_of around head.variable)
-      (as_type head.scalar (found + step)) u)
-      (λ done v third end. same_next head body (found + step) around v
-      (omega (arith, first.follows.budget, second.follows.budget, third.follows.budget, below)))))
-  same_stepped head body (Returned found) around s below = refl
-  same_stepped head body (Jumped label) around s below = refl
-
-  same_iterated : (head : TypedIteration) (body : TypedList) (body_done other_body : State → Outcome Flow)
-      (around : Surroundings) → ((t : State) → t.budget < number → body_done t ≡ other_body t)
-      → ((t : State) → t.budget < number → Keeps around.program jump_took t (body_done t))
-      → (s : State) → s.budget < number → iterated one around head body body_done s
-      ≡ iterated other around head body other_body s
-  same_iterated head body body_done other_body around bodies body_kept s below =
-      equal_then around.program nothing_else s (value one around head.last s)
-      (value other around head.last s) _ _
-      (same_value number one other kept same head.last around s below)
-      (value_keeps number one kept head.last around s below)
-      (λ last t first more.
-      equal_then around.program nothing_else t (read_variable around head t) (read_variable around head t) _ _
-      refl (reads_scalar around.program head.scalar (place_of around head.variable) t)
-      (λ found u second end.
-      same_if (nat_lt last found) (Gave Onward u) (Gave Onward u)
-      (taking_one u (λ v. then_do (body_done v) (stepped one around head body)))
-      (taking_one u (λ v. then_do (other_body v) (stepped other around head body)))
-      (λ on. refl)
-      (λ off.
-      same_taking around.program u (λ v. then_do (body_done v) (stepped one around head body))
-      (λ v. then_do (other_body v) (stepped other around head body))
-      (λ v third less.
-      let under : v.budget < number =
-      omega (arith, first.follows.budget, second.follows.budget, less, below) in
-      equal_then around.program jump_took v (body_done v) (other_body v) (stepped one around head body)
-      (stepped other around head body) (bodies v under) (body_kept v under)
-      (λ flow w fourth took. same_stepped head body flow around w
-      (omega (arith, first.follows.budget, second.follows.budget, less, fourth.follows.budget, below)))))))
-
-  mutual
-    pub same_statement : (statement : TypedStatement) (around : Surroundings) (s : State) → s.budget < number
-        → done one around statement s ≡ done other around statement s
-    same_statement (LabelStatement label) around s below = refl
-    same_statement NullStatement around s below = refl
-    same_statement (AssignmentStatement targets expression) around s below =
-        equal_then around.program nothing_else s (value one around expression s)
-        (value other around expression s) _ _
-        (same_value number one other kept same expression around s below)
-        (value_keeps number one kept expression around s below)
-        (λ found t first more.
-        let under : t.budget < number = omega (arith, first.follows.budget, below) in
-        equal_then around.program nothing_else t (stored_in_each one around targets found t)
-        (stored_in_each other around targets found t) _ _
-        (same_targets number one other kept same targets found around t under)
-        (targets_keep number one kept targets found around t under)
-        (λ done u second last. refl))
-    same_statement (CallStatement procedure arguments) around s below =
-        equal_then around.program nothing_else s (values one around arguments s)
-        (values other around arguments s) _ _
-        (same_values number one other kept same arguments around s below)
-        (values_keep number one kept arguments around s below)
-        (λ given t first more.
-        let under : t.budget < number = omega (arith, first.follows.budget, below) in
-        equal_then around.program nothing_else t (called_for one (callee_in around procedure) given around t)
-        (called_for other (callee_in around procedure) given around t) _ _
-        (same_calls number one other kept same (callee_in around procedure) given around t under)
-        (call_keeps number one kept (callee_in around procedure) given around t under)
-        (λ done u second last. refl))
-    same_statement (MoveStatement count source destination) around s below =
-        equal_then around.program nothing_else s (value one around count s) (value other around count s) _ _
-        (same_value number one other kept same count around s below)
-        (value_keeps number one kept count around s below)
-        (λ bytes t first more.
-        let under : t.budget < number = omega (arith, first.follows.budget, below) in
-        equal_then around.program nothing_else t (value one around source t) (value other around source t) _ _
-        (same_value number one other kept same source around t under)
-        (value_keeps number one kept source around t under)
-        (λ from u second last.
-        let lower : u.budget < number = omega (arith, second.follows.budget, under) in
-        equal_then around.program nothing_else u (value one around destination u)
-        (value other around destination u) _ _
-        (same_value number one other kept same destination around u lower)
-        (value_keeps number one kept destination around u lower) (λ to v third end. refl)))
-    same_statement (ReturnStatement expression) around s below = same_returned expression around s below
-    same_statement HaltStatement around s below = refl
-    same_statement (GotoStatement label) around s below = refl
-    same_statement (IfStatement condition body otherwise) around s below =
-        equal_then around.program nothing_else s (value one around condition s)
-        (value other around condition s) _ _
-        (same_value number one other kept same condition around s below)
-        (value_keeps number one kept condition around s below)
-        (λ found t first more.
-        let under : t.budget < number = omega (arith, first.follows.budget, below) in
-        same_if (is_true found) (done one around body t) (done other around body t)
-        (done_else one around otherwise t) (done_else other around otherwise t)
-        (λ on. same_statement body around t under) (λ off. same_else otherwise around t under))
-    same_statement (DoStatement body) around s below = same_list body around s below
-    same_statement (WhileStatement condition body) around s below =
-        equal_then around.program nothing_else s (value one around condition s)
-        (value other around condition s) _ _
-        (same_value number one other kept same condition around s below)
-        (value_keeps number one kept condition around s below)
-        (λ found t first more.
-        same_if (is_true found)
-        (taking_one t (λ u. then_do (done_list one around body u)
-        (after_turn one around (WhileTurn condition body))))
-        (taking_one t (λ u. then_do (done_list other around body u)
-        (after_turn other around (WhileTurn condition body)))) (Gave Onward t) (Gave Onward t)
-        (λ on.
-        same_taking around.program t
-        (λ u. then_do (done_list one around body u) (after_turn one around (WhileTurn condition body)))
-        (λ u. then_do (done_list other around body u)
-        (after_turn other around (WhileTurn condition body)))
-        (λ u second less.
-        let under : u.budget < number = omega (arith, first.follows.budget, less, below) in
-        equal_then around.program jump_took u (done_list one around body u) (done_list other around body u)
-        (after_turn one around (WhileTurn condition body))
-        (after_turn other around (WhileTurn condition body)) (same_list body around u under)
-        (list_keeps number one kept body around u under)
-        (λ flow v third took. same_turns (WhileTurn condition body) flow around v
-        (omega (arith, first.follows.budget, less, third.follows.budget, below)))))
-        (λ off. refl))
-    same_statement (IterateStatement head body) around s below =
-        equal_then around.program nothing_else s (value one around head.first s)
-        (value other around head.first s) _ _
-        (same_value number one other kept same head.first around s below)
-        (value_keeps number one kept head.first around s below)
-        (λ found t first more.
-        equal_then around.program nothing_else t (write_variable around head (as_type head.scalar found) t)
-        (write_variable around head (as_type head.scalar found) t) _ _ refl
-        (changes_scalar around.program head.scalar (place_of around head.variable)
-        (as_type head.scalar found) t)
-        (λ done u second last.
-        same_iterated head body (λ v. done_list one around body v) (λ v. done_list other around body v) around
-        (λ v under. same_list body around v under)
-        (λ v under. list_keeps number one kept body around v under) u
-        (omega (arith, first.follows.budget, second.follows.budget, below))))
-    same_statement (CaseStatement choice statements) around s below =
-        equal_then around.program nothing_else s (value one around choice s) (value other around choice s) _ _
-        (same_value number one other kept same choice around s below)
-        (value_keeps number one kept choice around s below)
-        (λ found t first more. same_case statements found around t
-        (omega (arith, first.follows.budget, below)))
-
-    pub same_else : (otherwise : TypedElse) (around : Surroundings) (s : State) → s.budget < number
-        → done_else one around otherwise s ≡ done_else other around otherwise s
-    same_else NoElse around s below = refl
-    same_else (ElseStatement statement) around s below = same_statement statement around s below
-
-    pub same_case : (statements : TypedStatements) (found : ℕ) (around : Surroundings) (s : State)
-        → s.budget < number → done_case one around statements found s
-        ≡ done_case other around statements found s
-    same_case NoStatements found around s below = refl
-    same_case (MoreStatements first others) zero around s below = same_statement first around s below
-    same_case (MoreStatements first others) (suc found) around s below = same_case others found around s below
-
-    pub same_statements : (statements : TypedStatements) (around : Surroundings) (s : State)
-        → s.budget < number → done_all one around statements s ≡ done_all other around statements s
-    same_statements NoStatements around s below = refl
-    same_statements (MoreStatements statement others) around s below =
-        equal_then around.program jump_took s (done one around statement s)
-        (done other around statement s) _ _ (same_statement statement around s below)
-        (statement_keeps number one kept statement around s below)
-        (λ flow t first took. same_going flow (λ u. done_all one around others u)
-        (λ u. done_all other around others u) t
-        (same_statements others around t (omega (arith, first.follows.budget, below))))
-
-    pub same_list : (list : TypedList) (around : Surroundings) (s : State) → s.budget < number
-        → done_list one around list s ≡ done_list other around list s
-    same_list (ListOf first_label places statements) around s below =
-        equal_then around.program jump_took s (done_all one around statements s)
-        (done_all other around statements s) (caught_in one around (ListOf first_label places statements))
-        (caught_in other around (ListOf first_label places statements))
-        (same_statements statements around s below)
-        (statements_keep number one kept statements around s below)
-        (λ flow t first took. same_caught (ListOf first_label places statements) flow around
-        s.budget t took below)
-
-  pub same_turn : (turn : Turn) (around : Surroundings) (s : State) → s.budget < number
-      → turn_of one turn around s ≡ turn_of other turn around s
-  same_turn (WhileTurn condition body) around s below =
-      same_statement (WhileStatement condition body) around s below
-  same_turn (IterateTurn head body) around s below =
-      same_iterated head body (done_list one around body) (done_list other around body) around
-      (λ t under. same_list body around t under)
-      (λ t under. list_keeps number one kept body around t under) s below
-
-  pub same_rest : (list : TypedList) (rest : TypedStatements) (around : Surroundings) (s : State)
-      → s.budget < number → rest_of one list rest around s ≡ rest_of other list rest around s
-  same_rest list rest around s below =
-      equal_then around.program jump_took s (done_all one around rest s) (done_all other around rest s)
-      (caught_in one around list) (caught_in other around list) (same_statements rest around s below)
-      (statements_keep number one kept rest around s below)
-      (λ flow t first took. same_caught list flow around s.budget t took below)
-
-  same_entered : (typed : TypedModule) (at : ℕ) (procedure : TypedProcedure) (arguments : List ℕ)
-      (around : Surroundings) (s : State) → s.budget < number
-      → entered one typed at procedure arguments around s
-      ≡ entered other typed at procedure arguments around s
-  same_entered typed at procedure arguments around s below =
-      equal_then around.program nothing_else (record s { frame = frame_of at typed })
-      (parameters_set around procedure.parameter_types procedure.parameters arguments
-      (record s { frame = frame_of at typed })) _ _ _ refl
-      (sets_parameters procedure.parameter_types procedure.parameters arguments around
-      (record s { frame = frame_of at typed }))
+  same_in_frame : (frame : List (List ℕ)) (sets : State → Outcome (Unit {0})) (f g : State → Outcome Flow)
+      → KeepsBelow program number nothing_else sets → SameBelow number f g
+      → SameBelow number (in_frame_of_its_own frame sets f) (in_frame_of_its_own frame sets g)
+  same_in_frame frame sets f g kept same s below =
+      let entry : State = record s { frame = frame } in
+      equal_then program nothing_else entry (sets entry) (sets entry) _ _ refl (kept entry below)
       (λ done t first more.
-      let under : t.budget < number = omega (arith, first.follows.budget, below) in
-      equal_then around.program jump_took t (done_list one around procedure.body t)
-      (done_list other around procedure.body t) _ _ (same_list procedure.body around t under)
-      (list_keeps number one kept procedure.body around t under) (λ flow u second took. refl))
+      ap (λ (outcome : Outcome Flow).
+      then_do outcome (λ flow u. Gave (value_of_flow flow) (record u { frame = s.frame })))
+      (same t (omega (arith, first.follows.budget, below))))
 
-  same_found : (found : Option (TypedModule × TypedProcedure)) (at : InProgram) (arguments : List ℕ)
-      (around : Surroundings) (s : State) → s.budget < number
-      → option_map_or
-      (λ (one_found : TypedModule × TypedProcedure).
-      charged (charge_of one_found.1) (record around { number_of_module = at.number_of_module }) s
-      (λ within u. entered one one_found.0 at.number one_found.1 arguments within u))
-      found (Gave 0 s)
-      ≡ option_map_or
-      (λ (one_found : TypedModule × TypedProcedure).
-      charged (charge_of one_found.1) (record around { number_of_module = at.number_of_module }) s
-      (λ within u. entered other one_found.0 at.number one_found.1 arguments within u))
-      found (Gave 0 s)
-  same_found None at arguments around s below = refl
-  same_found (Some found) at arguments around s below =
-      same_if (nat_lt around.room (charge_of found.1)) (Stopped (Outside Stack) s)
-      (Stopped (Outside Stack) s) _ _
-      (λ on. refl)
-      (λ off. same_entered found.0 at.number found.1 arguments
-      (record around { number_of_module = at.number_of_module; room = around.room - charge_of found.1 }) s
-      below)
+same_turning : (program : Program) (number : ℕ) (f g p q : State → Outcome Flow)
+    → KeepsBelow program number jump_took f → SameBelow number f g → SameBelow (number - 1) p q
+    → SameBelow number (λ s. taking_one s (one_after f p)) (λ s. taking_one s (one_after g q))
+same_turning program number f g p q kept same rest s below =
+    same_taking program s (one_after f p) (one_after g q)
+    (λ t first less.
+    same_after program (number - 1) f g p q (λ u under. kept u (omega (arith, under)))
+    (λ u under. same u (omega (arith, under))) rest t (omega (arith, less, below)))
 
-  pub same_called : (at : InProgram) (arguments : List ℕ) (around : Surroundings) (s : State)
-      → s.budget < suc number → called one at arguments around s ≡ called other at arguments around s
-  same_called at arguments around s below =
-      same_taking around.program s _ _
-      (λ t first less. same_found (procedure_at around.program.modules at) at arguments around t
-      (omega (arith, less, below)))
+module _ (number : ℕ) (one other : Later) (kept : LaterKeeps number one)
+    (same : Agrees number one other) (around : Surroundings) where
+  same_landed : (list : TypedList) (label : ℕ) (rest : Option TypedStatements) (t : State)
+      → suc t.budget < number → landed one around list label rest t ≡ landed other around list label rest t
+  same_landed list label (Some rest) t below = same.onto list rest around t below
+  same_landed list label None t below = refl
+
+  same_caught : (list : TypedList) (flow : Flow) (before : ℕ) (t : State) → jump_took before flow t.budget
+      → before < number → caught_in one around list flow t ≡ caught_in other around list flow t
+  same_caught list Onward before t took below = refl
+  same_caught list (Returned found) before t took below = refl
+  same_caught list (Jumped label) before t took below =
+      same_landed list label (rest_from label list) t (omega (arith, took, below))
+
+  agrees_all : Preserves one other around no_condition (ValueAgrees around.program number)
+      (λ c. FlowAgrees around.program number) (λ c. FlowAgrees around.program (number - 1))
+  agrees_all =
+      let keeps = keeps_all number one kept around in
+      record {
+        gives = λ A found. (keeps.gives A found, λ s below. refl);
+        goes_outside = λ reason. (keeps.goes_outside reason, λ s below. refl);
+        reads = λ place. (keeps.reads place, λ s below. refl);
+        writes = λ place byte. (keeps.writes place byte, λ s below. refl);
+        takes_in = λ port. (keeps.takes_in port, λ s below. refl);
+        puts_out = λ from port sent. (keeps.puts_out from port sent, λ s below. refl);
+        calls = λ at arguments.
+            (keeps.calls at arguments, λ s below. same.call at arguments around s below);
+        enters = λ c frame sets f g first second. (
+          keeps.enters c frame sets f f first.0 second.0,
+          same_in_frame around.program number frame sets f g first.0 second.1,
+        );
+        then_gives = λ A B f g p q first rest. (
+          keeps.then_gives A B f f p p first.0 (λ found. (rest found).0),
+          same_then around.program number f g p q first.0 first.1 (λ found. (rest found).1),
+        );
+        goes_on = λ c. (keeps.goes_on c, λ s below. refl);
+        returns = λ c expression found holds. (keeps.returns c expression found holds, λ s below. refl);
+        ends = λ c. (keeps.ends c, λ s below. refl);
+        jumps = λ c label holds. (keeps.jumps c label holds, λ s below. refl);
+        then_does = λ c A f g p q first rest. (
+          keeps.then_does c A f f p p first.0 (λ found. (rest found).0),
+          same_then around.program number f g p q first.0 first.1 (λ found. (rest found).1),
+        );
+        follows = λ c f g p q first rest. (
+          keeps.follows c f f p p first.0 rest.0,
+          same_after around.program number f g p q first.0 first.1 rest.1,
+        );
+        lists = λ c list f g holds first. (
+          keeps.lists c list f f holds first.0,
+          λ s below. equal_then around.program jump_took s (f s) (g s) _ _ (first.1 s below)
+              (first.0 s below) (λ flow t so_far took. same_caught list flow s.budget t took below),
+        );
+        turns = λ c f g p q first rest. (
+          keeps.turns c f f p p first.0 rest.0,
+          same_turning around.program number f g p q first.0 first.1 rest.1,
+        );
+        taken_on = λ c. (keeps.taken_on c, λ s below. refl);
+        taken_again = λ c turn holds.
+            (keeps.taken_again c turn holds, λ s below. same.again turn around s (omega (arith, below)));
+        then_taken = λ c A f g p q first rest. (
+          keeps.then_taken c A f f p p first.0 (λ found. (rest found).0),
+          same_then around.program (number - 1) f g p q (λ s under. first.0 s (omega (arith, under)))
+              (λ s under. first.1 s (omega (arith, under))) (λ found. (rest found).1),
+        );
+      }
+
+same_called : (number : ℕ) (one other : Later) → LaterKeeps number one → Agrees number one other
+    → (at : InProgram) (arguments : List ℕ) (around : Surroundings) (s : State) → s.budget < suc number
+    → called one at arguments around s ≡ called other at arguments around s
+same_called number one other kept same at arguments around s below =
+    same_taking around.program s _ _
+    (λ t first less.
+    (of_found one other around (ValueAgrees around.program number) (λ c. FlowAgrees around.program number)
+    (λ c. FlowAgrees around.program (number - 1))
+    (λ module_is room. agrees_all number one other kept same
+    (record around { number_of_module = module_is; room = room }))
+    (procedure_at around.program.modules at) at arguments).1 t (omega (arith, less, below)))
 
 -- where the budget is below a number, a greater number changes nothing
-pub agrees_next : (number : ℕ) → Agrees number (later_by number) (later_by (suc number))
+agrees_next : (number : ℕ) → Agrees number (later_by number) (later_by (suc number))
 agrees_next zero = record {
   call = λ at arguments around s below. absurd (omega (arith, below));
   again = λ turn around s below. absurd (omega (arith, below));
   onto = λ list rest around s below. absurd (omega (arith, below));
 }
 agrees_next (suc number) =
+    let one : Later = later_by number in
+    let other : Later = later_by (suc number) in
     let kept = later_keeps number in
     let same = agrees_next number in
     record {
-      call = λ at arguments around s below. same_called number (later_by number) (later_by (suc number)) kept
-          same at arguments around s below;
-      again = λ turn around s below. same_turn number (later_by number) (later_by (suc number)) kept same turn
-          around s (omega (arith, below));
-      onto = λ list rest around s below. same_rest number (later_by number) (later_by (suc number)) kept same
-          list rest around s (omega (arith, below));
+      call = λ at arguments around s below. same_called number one other kept same at arguments around
+          s below;
+      again = λ turn around s below.
+          (of_turn one other around no_condition _ _ _ (agrees_all number one other kept same around) tt
+          turn tt).1 s (omega (arith, below));
+      onto = λ list rest around s below.
+          (of_rest one other around no_condition _ _ _ (agrees_all number one other kept same around) tt
+          list rest tt tt).1 s (omega (arith, below));
     }
 
 -- so calls, turns and what follows jumps are what they are defined as, with the same number

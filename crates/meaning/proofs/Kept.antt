@@ -1,6 +1,5 @@
 -- What holds along each run.
-use Rattle.meaning.proofs.Prelude.{◌≡◌, ◌≢◌, ℕ, zero, suc, ◌+◌, ◌-◌, ◌*◌, ◌<◌, ◌≤◌, ◌==◌, ◌%◌, ◌/◌, ◌&&◌, Bool, true, false, List, [], ◌∷◌, ◌++◌, length, map, Option, Some, None, cond, nat_lt, slice_set, slice_index, slice_index_or, arith, refl, sym, ap, subst, ◌∙◌, append-nil, append_assoc, option_map_or, map-set_same, length-set, get_or-set_other, common_steps, MEMORY_SIZE, byte_at, Event, IsBeginning, ScalarType, Byte, Address, UndeclaredByte, Constant, Place, InMemory, InTheFrame, Surroundings, frame_bytes, is_constant, is_declared, next_place, read_byte, read_scalar, write_byte, write_scalar, Program, State, Stop, Ended, More, Outside, Outcome, Gave, Stopped, then_do, taking_one, Flow, Onward, Returned, Jumped, Follows, Continues, IsSpent, Extra, nothing_else, jump_took, Keeps, LaterKeeps}
-use Rattle.meaning.specs.declared.reason.Reason.{Reason}
+use Rattle.meaning.proofs.Prelude.{Address, Bool, Byte, Continues, Event, Extra, Flow, Follows, Gave, InMemory, InTheFrame, IsBeginning, Jumped, Keeps, List, More, Onward, Outcome, Place, Program, Returned, ScalarType, State, Stopped, [], ap, append-nil, append_assoc, arith, common_steps, cond, false, frame_bytes, get_or-set_other, going_on, is_constant, is_declared, jump_took, length, length-set, map-set_same, next_place, nothing_else, read_byte, read_scalar, refl, slice_set, subst, suc, sym, taking_one, then_do, true, write_byte, write_scalar, ℕ, ◌%◌, ◌++◌, ◌-◌, ◌/◌, ◌==◌, ◌∙◌, ◌∷◌, ◌≡◌, ◌≢◌, ◌≤◌}
 
 module _ (program : Program) where
   pub follows_itself : (s : State) → Follows program s s
@@ -151,3 +150,45 @@ module _ (program : Program) where
       keeps_then nothing_else nothing_else nothing_weakens s (write_byte program place (number % 256) s) _
       (changes_byte place (number % 256) s)
       (λ done t first more. changes_byte (next_place place) (number / 256) t)
+
+-- one part after another, judged from where the first began
+pub keeps_after : {A B : Type 0} (program : Program) (one : Extra A) (two : Extra B) (s : State)
+    (outcome : Outcome A) (go : A → State → Outcome B) → Keeps program one s outcome
+    → ((found : A) (t : State) → Continues program s t → one s.budget found t.budget
+    → Keeps program two s (go found t)) → Keeps program two s (then_do outcome go)
+keeps_after program one two s (Gave found t) go kept rest = rest found t kept.0 kept.1
+keeps_after program one two s (Stopped why t) go kept rest = kept
+
+-- a flow from a later state on
+pub flow_before : (program : Program) (s t : State) (outcome : Outcome Flow) → Continues program s t
+    → Keeps program jump_took t outcome → Keeps program jump_took s outcome
+flow_before program s t outcome first kept =
+    from_before program jump_took (jump_weakens program) s t outcome first kept
+
+-- one is taken of the budget
+pub less_budget : (program : Program) (s : State) → Continues program s (record s { budget = s.budget - 1 })
+less_budget program s = record {
+  follows =
+      record { budget = omega arith; events = (follows_itself program s).events; size = refl; constants = λ address is. refl; undeclared = λ address is. refl };
+  frame = refl;
+}
+
+takes_by : {A : Type 0} (program : Program) (extra : Extra A) (s : State) (go : State → Outcome A)
+    (test : Bool) → (s.budget == 0) ≡ test
+    → ((t : State) → Continues program s t → suc t.budget ≤ s.budget → Keeps program extra s (go t))
+    → Keeps program extra s (cond test (Stopped More s) (go (record s { budget = s.budget - 1 })))
+takes_by program extra s go true is rest = (follows_itself program s, grind (arith, common_steps, is))
+takes_by program extra s go false is rest =
+    rest (record s { budget = s.budget - 1 }) (less_budget program s) (grind (arith, common_steps, is))
+
+pub takes_one : {A : Type 0} (program : Program) (extra : Extra A) (s : State) (go : State → Outcome A)
+    → ((t : State) → Continues program s t → suc t.budget ≤ s.budget → Keeps program extra s (go t))
+    → Keeps program extra s (taking_one s go)
+takes_one program extra s go rest = takes_by program extra s go (s.budget == 0) refl rest
+
+pub goes_on : (program : Program) (flow : Flow) (go : State → Outcome Flow) (s t : State)
+    → Continues program s t → jump_took s.budget flow t.budget → Keeps program jump_took t (go t)
+    → Keeps program jump_took s (going_on flow go t)
+goes_on program Onward go s t first took rest = flow_before program s t (go t) first rest
+goes_on program (Returned found) go s t first took rest = (first, tt)
+goes_on program (Jumped label) go s t first took rest = (first, took)

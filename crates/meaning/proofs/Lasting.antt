@@ -1,13 +1,15 @@
--- A run with more budget comes to the same, or goes on where the other wanted more: of expressions.
-use Rattle.meaning.proofs.Prelude.{◌≡◌, ℕ, zero, suc, ◌+◌, ◌-◌, ◌*◌, ◌<◌, ◌≤◌, ◌==◌, ◌%◌, ◌/◌, ◌&&◌, Bool, true, false, List, [], ◌∷◌, Option, Some, None, cond, arith, refl, sym, ap, subst, ◌∙◌, common_steps, MEMORY_SIZE, ScalarType, Byte, Address, TypedExpression, NumberNode, ValueNode, LocationNode, ListNode, ConversionNode, AssignmentNode, UnaryNode, BinaryNode, CallNode, FunctionNode, ShiftNode, InputNode, TypedReference, PartOf, Subscript, NoSubscript, At, TypedTarget, StoredIn, SentTo, TypedArguments, NoArguments, MoreArguments, Home, InData, InConstants, Placed, BasedOn, Elsewhere, Nowhere, InFrame, InProgram, as_type, result_of, Place, InMemory, InTheFrame, Surroundings, home_of, is_constant, is_declared, next_place, place_of, read_byte, read_scalar, write_byte, write_scalar, Later, based_place, called_for, callee_in, computed, displacement, located, moved, stored, stored_in_each, value, values, Program, State, Stop, Ended, More, Outside, Outcome, Gave, Stopped, then_do, taking_one, ComesAfter, Continues, Extra, nothing_else, Keeps, LaterAdds, LaterKeeps, LaterLasts, Lasts, with_more}
-use Rattle.meaning.proofs.Kept.{changes_byte, changes_scalar, reads_byte, reads_scalar}
-use Rattle.meaning.proofs.KeptParts.{displacement_keeps, located_keeps, stored_keeps, value_keeps, values_keep}
-use Rattle.meaning.proofs.KeptStatements.{less_budget}
-use Rattle.meaning.proofs.Added.{adds_base, adds_call, adds_computed, adds_displacement, adds_moved, adds_place, adds_read_scalar, adds_stored, adds_taking, adds_targets, adds_then, adds_value, adds_values, adds_write, adds_write_scalar, adds_read, after_beginning, begins_itself}
+-- A run with more budget comes to the same, or goes on where the other wanted more: an instance of
+-- `Preserves`.
+use Rattle.meaning.proofs.Prelude.{Bool, ComesAfter, Continues, Ended, Extra, Flow, Gave, InMemory, InProgram, InTheFrame, Jumped, Keeps, Lasts, Later, LaterAdds, LaterKeeps, LaterLasts, List, More, None, Onward, Option, Outcome, Outside, Place, Program, Returned, Some, State, Stopped, Surroundings, Turn, TypedList, TypedStatements, ap, arith, called, caught_in, common_steps, cond, done_list, false, going_on, is_constant, is_declared, jump_took, landed, later_by, nothing_else, procedure_at, read_byte, refl, rest_from, rest_of, subst, suc, sym, taking_one, then_do, true, turn_of, with_more, write_byte, zero, ℕ, ◌+◌, ◌-◌, ◌<◌, ◌==◌, ◌≡◌, ◌≤◌}
+use Rattle.meaning.proofs.Kept.{less_budget}
+use Rattle.meaning.proofs.KeptParts.{FlowKeeps, KeepsBelow, ValueKeeps, keeps_all}
+use Rattle.meaning.proofs.KeptCalls.{later_keeps}
+use Rattle.meaning.proofs.Added.{Adds, adds_after, adds_all, adds_caught, adds_found, adds_going, adds_then, after_beginning, begins_itself, later_adds}
+use Rattle.meaning.proofs.Preserves.{Preserves, in_frame_of_its_own, no_condition, of_found, of_list, of_rest, of_turn, one_after}
 
 module _ (more : ℕ) where
   -- one part after another
-  pub lasts_then : {A B : Type 0} (program : Program) (extra : Extra A) (s : State)
+  lasts_then : {A B : Type 0} (program : Program) (extra : Extra A) (s : State)
       (outcome other : Outcome A) (go else_go : A → State → Outcome B) → Lasts more outcome other
       → Keeps program extra s outcome
       → ((found : A) (t : State) → Continues program s t → extra s.budget found t.budget
@@ -49,7 +51,7 @@ module _ (more : ℕ) where
       (other (record s { budget = budget }))) same
       (rest (record s { budget = s.budget - 1 }) (less_budget program s) (omega (arith, at_least)))
 
-  pub lasts_taking : {A : Type 0} (program : Program) (s : State) (go other : State → Outcome A)
+  lasts_taking : {A : Type 0} (program : Program) (s : State) (go other : State → Outcome A)
       → ((t : State) → ComesAfter t (other t))
       → ((t : State) → Continues program s t → suc t.budget ≤ s.budget
       → Lasts more (go t) (other (with_more more t)))
@@ -58,13 +60,13 @@ module _ (more : ℕ) where
       taken_by program s go other (s.budget == 0) (s.budget + more == 0) refl refl adds rest
 
   module _ (program : Program) where
-    pub lasts_read : (place : Place) (s : State)
+    lasts_read : (place : Place) (s : State)
         → Lasts more (read_byte program place s) (read_byte program place (with_more more s))
     lasts_read (InMemory address) s =
         lasts_if (is_declared program address) _ _ _ _ (λ on. refl) (λ off. refl)
     lasts_read (InTheFrame object offset is_inside) s = lasts_if is_inside _ _ _ _ (λ on. refl) (λ off. refl)
 
-    pub lasts_write : (place : Place) (byte : ℕ) (s : State)
+    lasts_write : (place : Place) (byte : ℕ) (s : State)
         → Lasts more (write_byte program place byte s) (write_byte program place byte (with_more more s))
     lasts_write (InMemory address) byte s =
         lasts_if (is_declared program address) _ _ _ _
@@ -72,231 +74,225 @@ module _ (more : ℕ) where
     lasts_write (InTheFrame object offset is_inside) byte s =
         lasts_if is_inside _ _ _ _ (λ on. refl) (λ off. refl)
 
-    pub lasts_read_scalar : (scalar : ScalarType) (place : Place) (s : State)
-        → Lasts more (read_scalar program scalar place s)
-        (read_scalar program scalar place (with_more more s))
-    lasts_read_scalar Byte place s = lasts_read place s
-    lasts_read_scalar Address place s =
-        lasts_then program nothing_else s (read_byte program place s)
-        (read_byte program place (with_more more s)) _ _ (lasts_read place s) (reads_byte program place s)
-        (λ low t first last.
-        lasts_then program nothing_else t (read_byte program (next_place place) t)
-        (read_byte program (next_place place) (with_more more t)) _ _ (lasts_read (next_place place) t)
-        (reads_byte program (next_place place) t)
-        (λ high u second end. refl) (λ high u. begins_itself u))
-        (λ low t. adds_then t (read_byte program (next_place place) t) _
-        (adds_read program (next_place place) t) (λ high u. begins_itself u))
+  lasts_going : (flow : Flow) (go other : State → Outcome Flow) (t : State)
+      → Lasts more (go t) (other (with_more more t))
+      → Lasts more (going_on flow go t) (going_on flow other (with_more more t))
+  lasts_going Onward go other t rest = rest
+  lasts_going (Returned found) go other t rest = refl
+  lasts_going (Jumped label) go other t rest = refl
 
-    pub lasts_write_scalar : (scalar : ScalarType) (place : Place) (number : ℕ) (s : State)
-        → Lasts more (write_scalar program scalar place number s)
-        (write_scalar program scalar place number (with_more more s))
-    lasts_write_scalar Byte place number s = lasts_write place (number % 256) s
-    lasts_write_scalar Address place number s =
-        lasts_then program nothing_else s (write_byte program place (number % 256) s)
-        (write_byte program place (number % 256) (with_more more s)) _ _
-        (lasts_write place (number % 256) s) (changes_byte program place (number % 256) s)
-        (λ done t first last. lasts_write (next_place place) (number / 256) t)
-        (λ done t. adds_write program (next_place place) (number / 256) t)
+  -- of two meanings, from each state on whose budget is below a number
+  abbrev LastsBelow : {A : Type 0} → ℕ → (State → Outcome A) → (State → Outcome A) → Type 0
+  LastsBelow number f g = (s : State) → s.budget < number → Lasts more (f s) (g (with_more more s))
 
-    pub lasts_moved : (count source destination : ℕ) (s : State)
-        → Lasts more (moved program count source destination s)
-        (moved program count source destination (with_more more s))
-    lasts_moved zero source destination s = refl
-    lasts_moved (suc count) source destination s =
-        lasts_then program nothing_else s (read_byte program (InMemory (source % MEMORY_SIZE)) s)
-        (read_byte program (InMemory (source % MEMORY_SIZE)) (with_more more s)) _ _
-        (lasts_read (InMemory (source % MEMORY_SIZE)) s)
-        (reads_byte program (InMemory (source % MEMORY_SIZE)) s)
-        (λ byte t first last.
-        lasts_then program nothing_else t (write_byte program (InMemory (destination % MEMORY_SIZE)) byte t)
-        (write_byte program (InMemory (destination % MEMORY_SIZE)) byte (with_more more t)) _ _
-        (lasts_write (InMemory (destination % MEMORY_SIZE)) byte t)
-        (changes_byte program (InMemory (destination % MEMORY_SIZE)) byte t)
-        (λ done u second end. lasts_moved count (source + 1) (destination + 1) u)
-        (λ done u. adds_moved program count (source + 1) (destination + 1) u))
-        (λ byte t. adds_then t (write_byte program (InMemory (destination % MEMORY_SIZE)) byte t) _
-        (adds_write program (InMemory (destination % MEMORY_SIZE)) byte t)
-        (λ done u. adds_moved program count (source + 1) (destination + 1) u))
+  abbrev ValueLasts : Program → ℕ → (A : Type 0) → (State → Outcome A) → (State → Outcome A) → Type 0
+  ValueLasts program number A f g = ValueKeeps program number A f g × (Adds g × LastsBelow number f g)
 
-  lasts_computed : (found : Option ℕ) (s : State)
-      → Lasts more (computed found s) (computed found (with_more more s))
-  lasts_computed (Some found) s = refl
-  lasts_computed None s = refl
+  abbrev FlowLasts : Program → ℕ → (State → Outcome Flow) → (State → Outcome Flow) → Type 0
+  FlowLasts program number f g = FlowKeeps program number f g × (Adds g × LastsBelow number f g)
 
-  lasts_base : (home : Home) (around : Surroundings) (object bytes : ℕ) (is_inside : Bool) (s : State)
-      → Lasts more (based_place home around object bytes is_inside s)
-      (based_place home around object bytes is_inside (with_more more s))
-  lasts_base (BasedOn base) around object bytes is_inside s =
-      lasts_then around.program nothing_else s (read_scalar around.program Address (place_of around base) s)
-      (read_scalar around.program Address (place_of around base) (with_more more s)) _ _
-      (lasts_read_scalar around.program Address (place_of around base) s)
-      (reads_scalar around.program Address (place_of around base) s) (λ start t first last. refl)
-      (λ start t. begins_itself t)
-  lasts_base (InData initial) around object bytes is_inside s = refl
-  lasts_base (InConstants initial) around object bytes is_inside s = refl
-  lasts_base (Placed address) around object bytes is_inside s = refl
-  lasts_base Elsewhere around object bytes is_inside s = refl
-  lasts_base Nowhere around object bytes is_inside s = refl
-  lasts_base (InFrame procedure) around object bytes is_inside s = refl
+  module _ (program : Program) (number : ℕ) where
+    below_then : {A B : Type 0} (f g : State → Outcome A) (p q : A → State → Outcome B)
+        → KeepsBelow program number nothing_else f → LastsBelow number f g
+        → ((found : A) → Adds (q found)) → ((found : A) → LastsBelow number (p found) (q found))
+        → LastsBelow number (λ s. then_do (f s) p) (λ s. then_do (g s) q)
+    below_then f g p q kept lasts adds rest s below =
+        lasts_then program nothing_else s (f s) (g (with_more more s)) p q (lasts s below) (kept s below)
+        (λ found t first end. rest found t (omega (arith, first.follows.budget, below)))
+        (λ found t. adds found t)
 
-  module _ (number : ℕ) (one other : Later) (kept : LaterKeeps number one) (adds : LaterAdds other)
-      (lasts : LaterLasts number more one other) where
-    below_after : (program : Program) (s t : State) → Continues program s t
-        → s.budget < number → t.budget < number
-    below_after program s t first below = omega (arith, first.follows.budget, below)
+    below_after : (f g p q : State → Outcome Flow) → KeepsBelow program number jump_took f
+        → LastsBelow number f g → Adds q → LastsBelow number p q
+        → LastsBelow number (one_after f p) (one_after g q)
+    below_after f g p q kept lasts adds rest s below =
+        lasts_then program jump_took s (f s) (g (with_more more s)) _ _ (lasts s below) (kept s below)
+        (λ flow t first took. lasts_going flow p q t (rest t (omega (arith, first.follows.budget, below))))
+        (λ flow t. adds_going flow q t (adds t))
 
-    pub lasts_call : (at : Option InProgram) (arguments : List ℕ) (around : Surroundings) (s : State)
-        → s.budget < number → Lasts more (called_for one at arguments around s)
-        (called_for other at arguments around (with_more more s))
-    lasts_call (Some at) arguments around s below = lasts.call at arguments around s below
-    lasts_call None arguments around s below = refl
+    below_in_frame : (frame : List (List ℕ)) (sets : State → Outcome (Unit {0}))
+        (f g : State → Outcome Flow) → ValueLasts program number _ sets sets → FlowLasts program number f g
+        → LastsBelow number (in_frame_of_its_own frame sets f) (in_frame_of_its_own frame sets g)
+    below_in_frame frame sets f g first second s below =
+        let entry : State = record s { frame = frame } in
+        lasts_then program nothing_else entry (sets entry) (sets (with_more more entry)) _ _
+        (first.1.1 entry below) (first.0 entry below)
+        (λ done t so_far end.
+        let under : t.budget < number = omega (arith, so_far.follows.budget, below) in
+        lasts_then program jump_took t (f t) (g (with_more more t)) _ _ (second.1.1 t under)
+        (second.0 t under) (λ flow u then_so took. refl) (λ flow u. begins_itself u))
+        (λ done t. adds_then t (g t) _ (second.1.0 t) (λ flow u. begins_itself u))
 
-    mutual
-      pub lasts_value : (expression : TypedExpression) (around : Surroundings) (s : State) → s.budget < number
-          → Lasts more (value one around expression s) (value other around expression (with_more more s))
-      lasts_value (NumberNode scalar found origin) around s below = refl
-      lasts_value (ValueNode scalar reference) around s below =
-          lasts_then around.program nothing_else s (located one around reference s)
-          (located other around reference (with_more more s)) _ _ (lasts_place reference around s below)
-          (located_keeps number one kept reference around s below)
-          (λ place t first last. lasts_read_scalar around.program scalar place t)
-          (λ place t. adds_read_scalar around.program scalar place t)
-      lasts_value (LocationNode reference) around s below =
-          lasts_then around.program nothing_else s (located one around reference s)
-          (located other around reference (with_more more s)) _ _ (lasts_place reference around s below)
-          (located_keeps number one kept reference around s below)
-          (λ place t first last. refl) (λ place t. begins_itself t)
-      lasts_value (ListNode list) around s below = refl
-      lasts_value (ConversionNode scalar inner) around s below =
-          lasts_then around.program nothing_else s (value one around inner s)
-          (value other around inner (with_more more s)) _ _ (lasts_value inner around s below)
-          (value_keeps number one kept inner around s below)
-          (λ found t first last. refl) (λ found t. begins_itself t)
-      lasts_value (AssignmentNode target inner) around s below =
-          lasts_then around.program nothing_else s (value one around inner s)
-          (value other around inner (with_more more s)) _ _ (lasts_value inner around s below)
-          (value_keeps number one kept inner around s below)
-          (λ found t first last.
-          lasts_then around.program nothing_else t (stored one around target found t)
-          (stored other around target found (with_more more t)) _ _
-          (lasts_stored target found around t (below_after around.program s t first below))
-          (stored_keeps number one kept target found around t
-          (below_after around.program s t first below)) (λ done u second end. refl)
-          (λ done u. begins_itself u))
-          (λ found t. adds_then t (stored other around target found t) _
-          (adds_stored other adds target found around t) (λ done u. begins_itself u))
-      lasts_value (UnaryNode scalar operator operand) around s below =
-          lasts_then around.program nothing_else s (value one around operand s)
-          (value other around operand (with_more more s)) _ _ (lasts_value operand around s below)
-          (value_keeps number one kept operand around s below)
-          (λ found t first last. refl) (λ found t. begins_itself t)
-      lasts_value (BinaryNode operands operator left right) around s below =
-          lasts_then around.program nothing_else s (value one around left s)
-          (value other around left (with_more more s)) _ _ (lasts_value left around s below)
-          (value_keeps number one kept left around s below)
-          (λ found t first last.
-          lasts_then around.program nothing_else t (value one around right t)
-          (value other around right (with_more more t)) _ _
-          (lasts_value right around t (below_after around.program s t first below))
-          (value_keeps number one kept right around t (below_after around.program s t first below))
-          (λ second_found u second end. lasts_computed (result_of operands operator found second_found) u)
-          (λ second_found u. adds_computed (result_of operands operator found second_found) u))
-          (λ found t. adds_then t (value other around right t) _ (adds_value other adds right around t)
-          (λ second_found u. adds_computed (result_of operands operator found second_found) u))
-      lasts_value (CallNode procedure scalar arguments) around s below =
-          lasts_then around.program nothing_else s (values one around arguments s)
-          (values other around arguments (with_more more s)) _ _ (lasts_values arguments around s below)
-          (values_keep number one kept arguments around s below)
-          (λ given t first last. lasts_call (callee_in around procedure) given around t
-          (below_after around.program s t first below))
-          (λ given t. adds_call other adds (callee_in around procedure) given around t)
-      lasts_value (FunctionNode function operand) around s below =
-          lasts_then around.program nothing_else s (value one around operand s)
-          (value other around operand (with_more more s)) _ _ (lasts_value operand around s below)
-          (value_keeps number one kept operand around s below)
-          (λ found t first last. refl) (λ found t. begins_itself t)
-      lasts_value (ShiftNode scalar function shift_of count) around s below =
-          lasts_then around.program nothing_else s (value one around shift_of s)
-          (value other around shift_of (with_more more s)) _ _ (lasts_value shift_of around s below)
-          (value_keeps number one kept shift_of around s below)
-          (λ found t first last.
-          lasts_then around.program nothing_else t (value one around count t)
-          (value other around count (with_more more t)) _ _
-          (lasts_value count around t (below_after around.program s t first below))
-          (value_keeps number one kept count around t (below_after around.program s t first below))
-          (λ by u second end. refl) (λ by u. begins_itself u))
-          (λ found t. adds_then t (value other around count t) _ (adds_value other adds count around t)
-          (λ by u. begins_itself u))
-      lasts_value (InputNode port) around s below = refl
+  below_turns : (program : Program) (number : ℕ) (f g p q : State → Outcome Flow)
+      → FlowLasts program number f g → FlowLasts program (number - 1) p q
+      → LastsBelow number (λ s. taking_one s (one_after f p)) (λ s. taking_one s (one_after g q))
+  below_turns program number f g p q first rest s below =
+      lasts_taking program s (one_after f p) (one_after g q) (adds_after g q first.1.0 rest.1.0)
+      (λ t so_far less.
+      below_after program (number - 1) f g p q (λ u under. first.0 u (omega (arith, under)))
+      (λ u under. first.1.1 u (omega (arith, under))) rest.1.0 rest.1.1 t (omega (arith, less, below)))
 
-      pub lasts_values : (arguments : TypedArguments) (around : Surroundings) (s : State) → s.budget < number
-          → Lasts more (values one around arguments s) (values other around arguments (with_more more s))
-      lasts_values NoArguments around s below = refl
-      lasts_values (MoreArguments argument others) around s below =
-          lasts_then around.program nothing_else s (value one around argument s)
-          (value other around argument (with_more more s)) _ _ (lasts_value argument around s below)
-          (value_keeps number one kept argument around s below)
-          (λ found t first last.
-          lasts_then around.program nothing_else t (values one around others t)
-          (values other around others (with_more more t)) _ _
-          (lasts_values others around t (below_after around.program s t first below))
-          (values_keep number one kept others around t (below_after around.program s t first below))
-          (λ numbers u second end. refl) (λ numbers u. begins_itself u))
-          (λ found t. adds_then t (values other around others t) _ (adds_values other adds others around t)
-          (λ numbers u. begins_itself u))
+module _ (more number : ℕ) (one other : Later) (kept : LaterKeeps number one) (adds : LaterAdds other)
+    (lasts : LaterLasts number more one other) where
+  module _ (around : Surroundings) where
+    lasts_landed : (list : TypedList) (label : ℕ) (rest : Option TypedStatements) (t : State)
+        → suc t.budget < number
+        → Lasts more (landed one around list label rest t)
+        (landed other around list label rest (with_more more t))
+    lasts_landed list label (Some rest) t below = lasts.onto list rest around t below
+    lasts_landed list label None t below = refl
 
-      pub lasts_place : (reference : TypedReference) (around : Surroundings) (s : State) → s.budget < number
-          → Lasts more (located one around reference s) (located other around reference (with_more more s))
-      lasts_place (PartOf object subscript member offset member_subscript) around s below =
-          lasts_then around.program nothing_else s (displacement one around subscript s)
-          (displacement other around subscript (with_more more s)) _ _
-          (lasts_displacement subscript around s below)
-          (displacement_keeps number one kept subscript around s below)
-          (λ found t first last.
-          lasts_then around.program nothing_else t (displacement one around member_subscript t)
-          (displacement other around member_subscript (with_more more t)) _ _
-          (lasts_displacement member_subscript around t (below_after around.program s t first below))
-          (displacement_keeps number one kept member_subscript around t
-          (below_after around.program s t first below))
-          (λ two u second end. lasts_base (home_of around object) around object
-          (found.bytes + offset + two.bytes) (found.is_inside && two.is_inside) u)
-          (λ two u. adds_base (home_of around object) around object (found.bytes + offset + two.bytes)
-          (found.is_inside && two.is_inside) u))
-          (λ found t. adds_then t (displacement other around member_subscript t) _
-          (adds_displacement other adds member_subscript around t)
-          (λ two u. adds_base (home_of around object) around object (found.bytes + offset + two.bytes)
-          (found.is_inside && two.is_inside) u))
+    lasts_caught : (list : TypedList) (flow : Flow) (before : ℕ) (t : State)
+        → jump_took before flow t.budget → before < number
+        → Lasts more (caught_in one around list flow t) (caught_in other around list flow (with_more more t))
+    lasts_caught list Onward before t took below = refl
+    lasts_caught list (Returned found) before t took below = refl
+    lasts_caught list (Jumped label) before t took below =
+        lasts_landed list label (rest_from label list) t (omega (arith, took, below))
 
-      pub lasts_displacement : (subscript : Subscript) (around : Surroundings) (s : State) → s.budget < number
-          → Lasts more (displacement one around subscript s)
-          (displacement other around subscript (with_more more s))
-      lasts_displacement NoSubscript around s below = refl
-      lasts_displacement (At stride count index) around s below =
-          lasts_then around.program nothing_else s (value one around index s)
-          (value other around index (with_more more s)) _ _ (lasts_value index around s below)
-          (value_keeps number one kept index around s below)
-          (λ found t first last. refl) (λ found t. begins_itself t)
+    lasts_all : Preserves one other around no_condition (ValueLasts more around.program number)
+        (λ c. FlowLasts more around.program number) (λ c. FlowLasts more around.program (number - 1))
+    lasts_all =
+        let keeps = keeps_all number one kept around in
+        let added = adds_all other adds around in
+        record {
+          gives = λ A found. (keeps.gives A found, (added.gives A found, λ s below. refl));
+          goes_outside = λ reason.
+              (keeps.goes_outside reason, (added.goes_outside reason, λ s below. refl));
+          reads = λ place.
+              (keeps.reads place, (added.reads place, λ s below. lasts_read more around.program place s));
+          writes = λ place byte. (
+            keeps.writes place byte,
+            (added.writes place byte, λ s below. lasts_write more around.program place byte s),
+          );
+          takes_in = λ port. (keeps.takes_in port, (added.takes_in port, λ s below. refl));
+          puts_out = λ from port sent.
+              (keeps.puts_out from port sent, (added.puts_out from port sent, λ s below. refl));
+          calls = λ at arguments. (
+            keeps.calls at arguments,
+            (added.calls at arguments, λ s below. lasts.call at arguments around s below),
+          );
+          enters = λ c frame sets f g first second. (
+            keeps.enters c frame sets f f first.0 second.0,
+            (
+              added.enters c frame sets g g first.1.0 second.1.0,
+              below_in_frame more around.program number frame sets f g first second,
+            ),
+          );
+          then_gives = λ A B f g p q first rest. (
+            keeps.then_gives A B f f p p first.0 (λ found. (rest found).0),
+            (
+              added.then_gives A B g g q q first.1.0 (λ found. (rest found).1.0),
+              below_then more around.program number f g p q first.0 first.1.1 (λ found. (rest found).1.0)
+                  (λ found. (rest found).1.1),
+            ),
+          );
+          goes_on = λ c. (keeps.goes_on c, (added.goes_on c, λ s below. refl));
+          returns = λ c expression found holds. (
+            keeps.returns c expression found holds,
+            (added.returns c expression found holds, λ s below. refl),
+          );
+          ends = λ c. (keeps.ends c, (added.ends c, λ s below. refl));
+          jumps = λ c label holds. (
+            keeps.jumps c label holds,
+            (
+              added.jumps c label holds,
+              λ s below. lasts_taking more around.program s (λ t. Gave (Jumped label) t)
+                  (λ t. Gave (Jumped label) t) (λ t. begins_itself t) (λ t so_far less. refl),
+            ),
+          );
+          then_does = λ c A f g p q first rest. (
+            keeps.then_does c A f f p p first.0 (λ found. (rest found).0),
+            (
+              added.then_does c A g g q q first.1.0 (λ found. (rest found).1.0),
+              below_then more around.program number f g p q first.0 first.1.1 (λ found. (rest found).1.0)
+                  (λ found. (rest found).1.1),
+            ),
+          );
+          follows = λ c f g p q first rest. (
+            keeps.follows c f f p p first.0 rest.0,
+            (
+              added.follows c g g q q first.1.0 rest.1.0,
+              below_after more around.program number f g p q first.0 first.1.1 rest.1.0 rest.1.1,
+            ),
+          );
+          lists = λ c list f g holds first. (
+            keeps.lists c list f f holds first.0,
+            (
+              added.lists c list g g holds first.1.0,
+              λ s below. lasts_then more around.program jump_took s (f s) (g (with_more more s)) _ _
+                  (first.1.1 s below) (first.0 s below)
+                  (λ flow t so_far took. lasts_caught list flow s.budget t took below)
+                  (λ flow t. adds_caught other adds around list flow t),
+            ),
+          );
+          turns = λ c f g p q first rest. (
+            keeps.turns c f f p p first.0 rest.0,
+            (
+              added.turns c g g q q first.1.0 rest.1.0,
+              below_turns more around.program number f g p q first rest,
+            ),
+          );
+          taken_on = λ c. (keeps.taken_on c, (added.taken_on c, λ s below. refl));
+          taken_again = λ c turn holds. (
+            keeps.taken_again c turn holds,
+            (added.taken_again c turn holds, λ s below. lasts.again turn around s (omega (arith, below))),
+          );
+          then_taken = λ c A f g p q first rest. (
+            keeps.then_taken c A f f p p first.0 (λ found. (rest found).0),
+            (
+              added.then_taken c A g g q q first.1.0 (λ found. (rest found).1.0),
+              below_then more around.program (number - 1) f g p q
+                  (λ s under. first.0 s (omega (arith, under))) (λ s under. first.1.1 s (omega (arith, under)))
+                  (λ found. (rest found).1.0) (λ found. (rest found).1.1),
+            ),
+          );
+        }
 
-      pub lasts_stored : (target : TypedTarget) (found : ℕ) (around : Surroundings) (s : State)
-          → s.budget < number → Lasts more (stored one around target found s)
-          (stored other around target found (with_more more s))
-      lasts_stored (StoredIn from to reference) found around s below =
-          lasts_then around.program nothing_else s (located one around reference s)
-          (located other around reference (with_more more s)) _ _ (lasts_place reference around s below)
-          (located_keeps number one kept reference around s below)
-          (λ place t first last. lasts_write_scalar around.program to place (as_type to found) t)
-          (λ place t. adds_write_scalar around.program to place (as_type to found) t)
-      lasts_stored (SentTo from port) found around s below = refl
+  pub lasts_list : (list : TypedList) (around : Surroundings) (s : State) → s.budget < number
+      → Lasts more (done_list one around list s) (done_list other around list (with_more more s))
+  lasts_list list around s below =
+      (of_list one other around no_condition _ _ _ (lasts_all around) tt list tt).1.1 s below
 
-    pub lasts_targets : (targets : List TypedTarget) (found : ℕ) (around : Surroundings) (s : State)
-        → s.budget < number → Lasts more (stored_in_each one around targets found s)
-        (stored_in_each other around targets found (with_more more s))
-    lasts_targets [] found around s below = refl
-    lasts_targets (target ∷ others) found around s below =
-        lasts_then around.program nothing_else s (stored one around target found s)
-        (stored other around target found (with_more more s)) _ _
-        (lasts_stored target found around s below)
-        (stored_keeps number one kept target found around s below)
-        (λ done t first last. lasts_targets others found around t
-        (below_after around.program s t first below))
-        (λ done t. adds_targets other adds others found around t)
+  lasts_turn : (turn : Turn) (around : Surroundings) (s : State) → s.budget < number
+      → Lasts more (turn_of one turn around s) (turn_of other turn around (with_more more s))
+  lasts_turn turn around s below =
+      (of_turn one other around no_condition _ _ _ (lasts_all around) tt turn tt).1.1 s below
+
+  lasts_rest : (list : TypedList) (rest : TypedStatements) (around : Surroundings) (s : State)
+      → s.budget < number → Lasts more (rest_of one list rest around s)
+      (rest_of other list rest around (with_more more s))
+  lasts_rest list rest around s below =
+      (of_rest one other around no_condition _ _ _ (lasts_all around) tt list rest tt tt).1.1 s below
+
+  lasts_called : (at : InProgram) (arguments : List ℕ) (around : Surroundings) (s : State)
+      → s.budget < suc number → Lasts more (called one at arguments around s)
+      (called other at arguments around (with_more more s))
+  lasts_called at arguments around s below =
+      lasts_taking more around.program s _ _
+      (λ t. adds_found other adds (procedure_at around.program.modules at) at arguments around t)
+      (λ t so_far less.
+      (of_found one other around (ValueLasts more around.program number)
+      (λ c. FlowLasts more around.program number) (λ c. FlowLasts more around.program (number - 1))
+      (λ module_is room. lasts_all (record around { number_of_module = module_is; room = room }))
+      (procedure_at around.program.modules at) at arguments).1.1 t (omega (arith, less, below)))
+
+pub later_lasts : (number more : ℕ) → LaterLasts number more (later_by number) (later_by (number + more))
+later_lasts zero more = record {
+  call = λ at arguments around s below. absurd (omega (arith, below));
+  again = λ turn around s below. absurd (omega (arith, below));
+  onto = λ list rest around s below. absurd (omega (arith, below));
+}
+later_lasts (suc number) more =
+    let kept = later_keeps number in
+    let adds = later_adds (number + more) in
+    let lasts = later_lasts number more in
+    let same : suc (number + more) ≡ suc number + more = omega arith in
+    subst (λ count. LaterLasts (suc number) more (later_by (suc number)) (later_by count)) same
+    (record {
+      call = λ at arguments around s below. lasts_called more number (later_by number)
+          (later_by (number + more)) kept adds lasts at arguments around s below;
+      again = λ turn around s below. lasts_turn more number (later_by number) (later_by (number + more)) kept
+          adds lasts turn around s (omega (arith, below));
+      onto = λ list rest around s below. lasts_rest more number (later_by number) (later_by (number + more))
+          kept adds lasts list rest around s (omega (arith, below));
+    })

@@ -1,10 +1,9 @@
 -- Runs of one program with a budget and with a greater one.
-use Rattle.meaning.proofs.Prelude.{◌≡◌, ℕ, suc, ◌+◌, ◌-◌, Bool, true, false, List, [], ◌∷◌, Option, Some, None, find, nat_lt, arith, refl, sym, ap, subst, ◌∙◌, option_map_or, Event, IsBeginning, charge_of, TypedModule, is_main, Placement, starting_memory, Stack, Surroundings, done_list, later_by, State, Stop, Ended, More, Outside, Outcome, Gave, Stopped, Flow, Onward, ComesAfter, Lasts, with_more}
+use Rattle.meaning.proofs.Prelude.{Ended, Event, Flow, Gave, IsBeginning, Lasts, List, More, None, Onward, Option, Outcome, Outside, Placement, Some, Stack, State, Stop, Stopped, Surroundings, TypedModule, [], ap, arith, charge_of, done_list, find, is_main, later_by, nat_lt, option_map_or, refl, starting_memory, subst, suc, with_more, ℕ, ◌+◌, ◌-◌, ◌≡◌}
 use Rattle.meaning.specs.Run.{Run, main_done, number_of_main, run_of, source_run}
-use Rattle.meaning.proofs.Added.{adds_if, adds_list, begins_itself, later_adds}
+use Rattle.meaning.proofs.Added.{later_adds}
 use Rattle.meaning.proofs.KeptCalls.{later_keeps}
-use Rattle.meaning.proofs.Lasting.{lasts_if}
-use Rattle.meaning.proofs.LastingStatements.{lasts_list, later_lasts}
+use Rattle.meaning.proofs.Lasting.{lasts_if, lasts_list, later_lasts}
 
 -- A run with more budget: it is the same, but where the first wanted more it goes on from there.
 abbrev pub LastsAs : (end : Stop) → Run → Run → Type 0

@@ -172,10 +172,14 @@ returned later around None s = Gave (Returned 0) s
 returned later around (Some expression) s =
     then_do (value later around expression s) (λ number t. Gave (Returned number) t)
 
+-- the run after a statement that did not return or jump
+abbrev pub going_on : Flow → (State → Outcome Flow) → State → Outcome Flow
+going_on Onward go s = go s
+going_on flow go s = Gave flow s
+
 -- after a turn of a loop: the next turn, if the turn did not return or jump
 abbrev pub after_turn : Later → Surroundings → Turn → Flow → State → Outcome Flow
-after_turn later around turn Onward s = later.again turn around s
-after_turn later around turn flow s = Gave flow s
+after_turn later around turn flow s = going_on flow (later.again turn around) s
 
 -- the rest of a list from a label on, if it holds the label
 abbrev pub dropped : ℕ → TypedStatements → TypedStatements
@@ -210,11 +214,6 @@ abbrev pub step_value : Later → Surroundings → Option TypedExpression → St
 step_value later around None s = Gave 1 s
 step_value later around (Some step) s = value later around step s
 
--- the run after a statement that did not return or jump
-abbrev pub going_on : Flow → (State → Outcome Flow) → State → Outcome Flow
-going_on Onward go s = go s
-going_on flow go s = Gave flow s
-
 -- After the body of an iterative DO the step is evaluated, and the variable read again and changed by it. The
 -- loop ends if the sum exceeds the type of the variable.
 abbrev pub next_turn : Later → Surroundings → TypedIteration → TypedList → (sum : ℕ) → State → Outcome Flow
@@ -222,14 +221,14 @@ next_turn later around head body sum s =
     if nat_lt sum (values_of head.scalar) then later.again (IterateTurn head body) around s else Gave Onward s
 
 abbrev pub stepped : Later → Surroundings → TypedIteration → TypedList → Flow → State → Outcome Flow
-stepped later around head body Onward s =
-    then_do (step_value later around head.step s)
+stepped later around head body flow s =
+    going_on flow (λ r.
+    then_do (step_value later around head.step r)
     (λ step t.
     then_do (read_variable around head t)
     (λ number u.
     then_do (write_variable around head (as_type head.scalar (number + step)) u)
-    (λ _ v. next_turn later around head body (number + step) v)))
-stepped later around head body flow s = Gave flow s
+    (λ _ v. next_turn later around head body (number + step) v)))) s
 
 -- A turn of an iterative DO: the last value is evaluated, and then the variable is read, which must not be
 -- above it. What the body does is given.

@@ -13,7 +13,7 @@ unfoldable pub use Rattle.typing.specs.internal.Typing.{typing_of}
 pub use Rattle.layout.proofs.{Declared.{Decides-declared, Decides-holds, writable_told}, Mains.{main_counted}, Meant.{MeansObject, MeansProcedure, external_object_meant, external_procedure_meant, procedures_agree}, StartingBytes.{starts_as}, Visibilities.{not_external}}
 pub use Rattle.layout.specs.{Joined.{DeclaredObject, DeclaredProcedure, InProgram, agree, is_main, is_public_procedure, object_meant, procedure_meant}, Lawful.{HasAddresses, IsLawful}, Placement.{AtPiece, ConstantPiece, EndsInMemory, IsDeclared, IsWritable, ModulePlacement, PieceKind, PlacedPiece, Placement, StaticPiece, holds_byte, is_declared, kind_of, list_piece, object_piece, piece_of, pieces_of_module}, Sound.{IsSoundlyTyped}, StartingMemory.{StartsAs, meant_in, values_in}}
 unfoldable pub use Rattle.layout.specs.{StartingMemory.{starting_memory}}
-pub use Rattle.meaning.proofs.{AgreementStatements.{later_is_meant}, Kept.{follows_itself, reads_scalar}, KeptCalls.{later_keeps, sets_parameters}, KeptParts.{displacement_keeps, located_keeps, stored_keeps, value_keeps, values_keep}, KeptStatements.{list_keeps, statement_keeps}, LabelPlaces.{rest_at}, Staying.{Stays, body_stays, no_jump, rest_is_dropped}}
-pub use Rattle.meaning.specs.{Access.{InMemory, Place, Surroundings, address_of, frame_bytes, home_in, home_of, is_constant, place_in, place_of, read_scalar}, Meaning.{Displacement, IterateTurn, Later, Turn, WhileTurn, after_turn, based_place, called, called_for, callee_in, caught_in, charged, displaced, displacement, done, done_all, done_case, done_else, done_list, dropped, entered, frame_of, going_on, is_frame_of, iterated, landed, later_by, located, moved, parameters_set, procedure_at, read_variable, rest_from, rest_of, returned, step_value, stepped, stored, stored_in_each, turn_of, value, values, write_variable}, Outcomes.{Flow, Gave, Jumped, Onward, Outcome, Outside, Program, Returned, State, Stopped, taking_one, then_do}, Run.{main_done, number_of_main}, Values.{as_type, is_true, values_of}, declared.reason.Reason.TheVariants.{Stack}, internal.Kept.{Continues, Extra, Follows, Keeps, body_of_turn, jump_took, nothing_else}}
+pub use Rattle.meaning.proofs.{AgreementStatements.{later_is_meant}, Kept.{follows_itself, reads_scalar}, KeptCalls.{later_keeps, sets_parameters}, KeptParts.{displacement_keeps, located_keeps, stored_keeps, value_keeps, values_keep}, KeptStatements.{list_keeps, statement_keeps}, LabelPlaces.{rest_at}, Staying.{Stays, body_stays, no_jump}}
+pub use Rattle.meaning.specs.{Access.{InMemory, Place, Surroundings, address_of, frame_bytes, home_in, home_of, is_constant, place_in, place_of, read_scalar}, Meaning.{Displacement, Later, based_place, called, callee_in, charged, displaced, displacement, done, done_list, entered, frame_of, is_frame_of, later_by, located, parameters_set, procedure_at, rest_from, stored, value, values}, Outcomes.{Flow, Gave, Jumped, Onward, Outcome, Outside, Program, Returned, State, Stopped, then_do}, Run.{main_done, number_of_main}, declared.reason.Reason.TheVariants.{Stack}, internal.Kept.{Continues, Extra, Follows, Keeps, jump_took, nothing_else}}
 pub use Rattle.meaning_laws.specs.Meant.{CallIsMeant, CalleeIsMeant, ChangesWritable, GivesBytes, GivesInMemory, GivesSoMany, HasAddress, HasBytes, HasMain, IsCallee, IsNamed, IsPlaced, IsThere, IsWhole, JumpTakesOne, Leaves, LeavesBytes, LeavesFrame, LeavesMain, LeavesProcedure, LiesThere, ListIsPlaced, ObjectIsMeant, OnlyWritableDiffer, ParametersAreThere, ReferenceIsMeant, VariableIsMeant}
 pub use Rattle.meaning_laws.specs.Places.{ArePlaceable, HasDeclaredBytes, IsPlaceable, LiesIfPublic, LocatesObject, LocatesObjects, LocationLies, LocationsLie, ObjectsLie, PublicsLie, StandsForBytes}

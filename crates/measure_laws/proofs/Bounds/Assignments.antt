@@ -1,10 +1,10 @@
 -- Assignments.
-use Rattle.measure_laws.proofs.Prelude.{◌≡◌, ℕ, ◌+◌, ◌-◌, ◌<◌, ◌≤◌, Bool, true, false, if◌then◌else◌, is_some, nat_eq, nat_lt, List, [], ◌∷◌, sum_by, Option, Some, None, refl, sym, ap, subst, ◌∙◌, arith, eqb-true, sum_by-cons, ScalarType, Byte, Address, SentTo, StoredIn, TypedExpression, TypedModule, TypedTarget, TypesHoldInTarget, TypesHoldInTargets, Within, weight_of_expression, weight_of_storing, weight_of_target, Storage, ExpressionNumber, Range, Target, AreTargets, IsSent, IsStored, IsTarget, MoreTargets, NoTargets, nodes_of, target_at, Facts, Site, known, number, expression, scalar, knowing, Body, Planned, any_target, assignment_steps, each_at, each_steps, from_type, several_by, several_steps, single_steps, store_at, takes_byte, takes_word, together_steps, types_by, value_steps, part, steps_from, site_of, bytes_for, none_passes, BodyGround, IsWithinLevel, AimHolds, ◌*◌, PlanFootprint, height_of_target, height_of_targets}
+use Rattle.measure_laws.proofs.Prelude.{◌≡◌, ℕ, ◌+◌, ◌-◌, ◌<◌, ◌≤◌, Bool, true, false, if◌then◌else◌, is_some, nat_eq, nat_lt, List, [], ◌∷◌, sum_by, Option, Some, None, refl, sym, ap, subst, ◌∙◌, arith, eqb-true, sum_by-cons, ScalarType, Byte, Address, SentTo, StoredIn, TypedExpression, TypedModule, TypedTarget, TypesHoldInTarget, TypesHoldInTargets, Within, weight_of_expression, weight_of_storing, weight_of_target, Storage, ExpressionNumber, Range, Target, AreTargets, IsSent, IsStored, IsTarget, MoreTargets, NoTargets, nodes_of, target_at, Facts, Site, known, number, expression, scalar, knowing, Body, Planned, any_target, assignment_steps, each_at, each_steps, from_type, several_by, single_steps, store_at, takes_byte, takes_word, together_steps, types_by, value_steps, part, steps_from, site_of, bytes_for, none_passes, BodyGround, IsWithinLevel, AimHolds, ◌*◌, PlanFootprint, height_of_target, height_of_targets}
 use Rattle.steps8080.specs.declared.step.Task.TheVariants as tasks
 use Rattle.statements8080.specs.internal.Assignments.{stores_steps}
 use Rattle.measure_laws.proofs.{Bounds.KnownValues.{known_byte_small, known_word_small}, Bounds.ExpressionParts.{target_weighs, weight_beside}, Bounds.Singles.{ValueFits, single_fits}, Bounds.Targets.{EachFits, targets_fit}, Bounds.Ranges.{item_there}}
 use Rattle.measure_laws.proofs.Footprints.Trees.{aim_holds}
-use Rattle.measure_laws.proofs.{Bounds.Fitting.{both_fit, less_fits, none_fit}, Bounds.Planning.{byte_fits, store_fits, word_fits}}
+use Rattle.measure_laws.proofs.{Bounds.Fitting.{asking_fits, both_fit, less_fits, none_fit}, Bounds.Planning.{byte_fits, store_fits, word_fits}}
 
 -- a number is known at every site
 pub number_anywhere :
@@ -165,8 +165,9 @@ module _ (at : BodyGround) where
             → PlanFootprint at (together_steps at.body targets value from) most
         together_fits from lighter = less_fits (both_fit (first from) stores) (omega arith)
           where
-            first : (there : ScalarType) → PlanFootprint at
-                (value_steps value there) (bytes_for (weight_of_expression tree))
+            first :
+                (there : ScalarType)
+                → PlanFootprint at (value_steps value there) (bytes_for (weight_of_expression tree))
             first Byte = byte_fits at value 0 is
             first Address = word_fits at value 0 is
 
@@ -197,8 +198,9 @@ module _ (at : BodyGround) where
             (omega (arith, less)) found))
         several_fits true true has_bytes has_words type_is = by (number site value) refl
           where
-            each : (given : ℕ) → number site value ≡ Some given → PlanFootprint at
-                (each_steps at.body site targets value) most
+            each :
+                (given : ℕ) → number site value ≡ Some given
+                → PlanFootprint at (each_steps at.body site targets value) most
             each given is_number =
                 less_fits
                 (targets_fit of targets (each_at at.body site targets value)
@@ -257,18 +259,10 @@ module _ (at : BodyGround) where
                 (none_fit {most = 0}))
                 (omega (arith, weighs, sum))
 
-        assigned_fits :
-            scalar site value ≡ of
-            → (one : Bool) → nat_eq targets.count 1 ≡ one
-            → PlanFootprint at
-            (if one then each_steps at.body site targets value else several_steps at.body site targets value)
-            most
-        assigned_fits type_is true is_one = only_fits (eqb-true targets.count 1 is_one)
-        assigned_fits type_is false is_one =
-            several_fits (any_target takes_byte at.body targets 0 targets.count)
-            (any_target takes_word at.body targets 0 targets.count) refl refl type_is
-
         pub assignment_fits :
             scalar site value ≡ of
             → PlanFootprint at (assignment_steps at.body site targets value) most
-        assignment_fits type_is = assigned_fits type_is (nat_eq targets.count 1) refl
+        assignment_fits type_is =
+            asking_fits (nat_eq targets.count 1) (λ one. only_fits (eqb-true targets.count 1 one))
+            (λ several. several_fits (any_target takes_byte at.body targets 0 targets.count)
+            (any_target takes_word at.body targets 0 targets.count) refl refl type_is)

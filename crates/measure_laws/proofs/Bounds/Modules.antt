@@ -1,4 +1,5 @@
--- The code of a module takes at most as many bytes as its bound.
+-- The code of a module takes at most as many bytes as its bound, and refers only to labels that may be
+-- referred to.
 use Rattle.measure_laws.proofs.Prelude.{◌≡◌, ℕ, suc, ◌+◌, ◌*◌, ◌≤◌, Bool, true, false, List, [], ◌∷◌, ◌++◌, length, slice_get, sum_by, Some, refl, sym, ap, subst, ◌∙◌, arith, sum_by-cons, HasParameters, BodyIsSound, TypedModule, TypedProcedure, TypesHoldInList, TypesHoldInProcedure, Within, WithinMain, WithinProcedure, code_bound, constant_bytes, weight_of, weight_of_list, Storage, Code, ObjectModule, length_of, Hlt, Item, set_bytes, size_of_items, size_in_parts, places_length, set_length, Routine, size_of_routine, TreeModule, ProcedureKind, TreeProcedure, HasBody, IsList, IsLowered, IsProcedure, labels_numbered_in_list, nodes_of, has_frame, parameter_count, has_parameters, numbered_at, Written, has_routine, Body, Here, AreCodeOf, AreRoutines, IsCodeOf, IsCodeOfMain, IsCodeOfRoutine, IsCodeWritten, IsEndCode, IsGenerated, IsOwnCode, IsProcedureCode, all_routines, contents_items, has_main, with_targets, bytes_for, IsSound, Content, Place, address_items, content_items, site_of, ItemsBind, ItemsGo, Knows, BodyGround, ListFootprint, inr, holds_for_item, FRAME_LIMIT, height_of_list}
 use Rattle.typed_trees.specs.Weight.{weight_of_procedure}
 use Rattle.treecode.specs.declared.procedure.ProcedureKind.TheVariants as kinds

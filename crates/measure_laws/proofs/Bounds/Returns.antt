@@ -104,8 +104,7 @@ module _ (at : BodyGround) where
 
   kept_fits :
       (free bytes : ℕ) (result : Option ScalarType) → bytes ≤ FRAME_LIMIT + 2
-      → PlanMeasured at free
-      (kept_steps result (Lxi Hl bytes ∷ Dad Sp ∷ Sphl ∷ [])) (free + bytes) 15
+      → PlanMeasured at free (kept_steps result (Lxi Hl bytes ∷ Dad Sp ∷ Sphl ∷ [])) (free + bytes) 15
   unfolding kept_steps
   kept_fits free bytes (Some Address) small =
       then_fit (code_fits (steps.Plain Xchg) refl refl)
@@ -146,8 +145,8 @@ module _ (at : BodyGround) where
   -- a return over words, if at least as many bytes are free as at the level
   elsewhere_fits :
       (words free : ℕ) → at.level ≤ free
-      → PlanMeasured at free
-      (plain (Pop StackHl) ∷ (pops_steps words ++ (plain Pchl ∷ []))) at.level (9 + 3 * words)
+      → PlanMeasured at free (plain (Pop StackHl) ∷ (pops_steps words ++ (plain Pchl ∷ [])))
+      at.level (9 + 3 * words)
   elsewhere_fits words free enough =
       let dropped = pops_drop words (free + 2) in
       less_fits
