@@ -65,9 +65,9 @@ fn put_mark(places: &mut Vec<Option<u128>>, item: Item, offset: u128)
     ensures { (places.new).items ≡ with_mark item offset (places.old).items }
 {
     if let Item::Mark(label) = item
-        && label < places.len()
+        && (label as usize) < places.len()
     {
-        places[label] = Some(offset);
+        places[label as usize] = Some(offset);
     }
 }
 
@@ -121,7 +121,7 @@ fn reference_word(reference: Reference, places: &[Option<u128>]) -> u16
     ensures { result ≡ word_of (layout_from (place_in places.now)) reference }
 {
     match reference {
-        Reference::AtLabel(label) => place_word(places, label),
+        Reference::AtLabel(label) => place_word(places, label as usize),
         Reference::AtTarget(_, offset) => offset,
         Reference::AtNumber(number) => number,
     }
@@ -187,14 +187,12 @@ fn push_word(bytes: &mut Vec<u8>, word: u16) -> Result<(), AllocError>
     Ok(())
 }
 
-// Adds `count` bytes of 0. Fails past the greatest usize, which is out of memory.
+// Adds `count` bytes of 0.
 fn push_zeros(bytes: &mut Vec<u8>, count: u16) -> Result<(), AllocError>
+    requires { length (bytes.old).items + count ≤ SEGMENT_LIMIT }
     ensures { OnOk result ((bytes.new).items ≡ (bytes.old).items ++ replicate count 0) }
 {
-    let Some(end) = bytes.len().checked_add(count as usize) else {
-        return Err(AllocError);
-    };
-    bytes.resize(end, 0)
+    bytes.resize(bytes.len() + count as usize, 0)
 }
 
 // Whether the bytes of an item are set.
@@ -204,19 +202,18 @@ fn is_set(item: Item) -> bool
     !matches!(item, Item::Gap(_))
 }
 
-// Adds a flag for each byte of an item: whether it is set. Fails past the greatest usize, which is out of memory.
+// Adds a flag for each byte of an item: whether it is set.
 fn push_flags(flags: &mut Vec<bool>, item: Item) -> Result<(), AllocError>
+    requires { length (flags.old).items + size_of item ≤ SEGMENT_LIMIT }
     ensures { OnOk result ((flags.new).items ≡ (flags.old).items ++ flags_of_item item) }
 {
-    let Some(end) = flags.len().checked_add(item_size(item) as usize) else {
-        return Err(AllocError);
-    };
-    flags.resize(end, is_set(item))
+    flags.resize(flags.len() + item_size(item) as usize, is_set(item))
 }
 
 // Adds an item, whose labels have places in a table.
 fn push_item(code: &mut CodeParts, item: Item, places: &[Option<u128>]) -> Result<(), AllocError>
-    requires { length code.old.bytes + size_of item ≤ SEGMENT_LIMIT }
+    requires bytes { length code.old.bytes + size_of item ≤ SEGMENT_LIMIT }
+    requires flags { length code.old.is_set + size_of item ≤ SEGMENT_LIMIT }
     ensures { OnOk result (code.new ≡ with_item (layout_from (place_in places.now)) code.old item) }
 {
     let offset = code.bytes.len();

@@ -86,7 +86,7 @@ impl CodeBytes {
     pub fn place(&self, label: Label) -> u16
         ensures { result ≡ place_of self.now label }
     {
-        place_word(self.places.as_slice(), label.number)
+        place_word(self.places.as_slice(), label.number as usize)
     }
 
     /// The bytes, with nothing added to the words that are fixed. They are no more than a segment has.

@@ -21,7 +21,7 @@ use std::marker::Model;
 /// A place in code, to be bound once.
 #[derive(Clone, Copy)]
 pub struct Label {
-    pub(crate) number: usize,
+    pub(crate) number: u32,
 }
 
 impl Model for Label {
@@ -34,12 +34,11 @@ impl Model for Label {
     ghost inverse = { λ number. record { number = number } };
 }
 
-/// Code to which more is added at its end. If memory runs out, or it has a label whose number passes 32
-/// bits, it stays as it was.
+/// Code to which more is added at its end. If memory runs out, it stays as it was.
 #[derive(Drop)]
 pub struct Code {
     items: Vec<StoredItem>,
-    labels: usize,
+    labels: u32,
 }
 
 impl Model for Code {
@@ -184,19 +183,20 @@ impl Code {
         ensures count { result ≡ self.now.labels }
         ensures valid { IsAssembly self.now }
     {
-        self.labels
+        self.labels as usize
     }
 
-    /// A label that is not bound yet. Fails if there are as many as can be counted.
+    /// A label that is not bound yet. Fails if there are as many as 32 bits count.
     pub fn label(&mut self) -> Result<Label, AllocError>
         ensures ok { IfOk result (λ label. label ≡ self.old.labels) }
         ensures unbound { IfOk result (λ label. is_bound label self.old.items ≡ false) }
         ensures valid { IsAssembly self.old }
         ensures more { OnOk result (self.new ≡ record self.old { labels = self.old.labels + 1 }) }
         ensures err { OnErr result (self.new ≡ self.old) }
-        ensures full { OnErr result (self.old.labels + 1 ≡ 2 ^ 64) }
+        ensures full { OnErr result (self.old.labels + 1 ≡ 2 ^ 32) }
     {
         let Some(labels) = self.labels.checked_add(1) else {
+            // The last number of 32 bits is in use.
             return Err(AllocError);
         };
         let label = Label {
@@ -211,10 +211,9 @@ impl Code {
         ensures known { IfSome result (λ label. label < self.now.labels) }
         ensures same { IfSome result (λ label. label ≡ number) }
     {
-        if number < self.labels {
-            Some(Label { number })
-        } else {
-            None
+        match u32::try_from(number) {
+            Ok(number) if number < self.labels => Some(Label { number }),
+            _ => None,
         }
     }
 
@@ -264,7 +263,7 @@ impl Code {
     {
         let alloc = *self.items.allocator();
         let items = self.items.as_slice();
-        let (table, size) = label_places(alloc, items, self.labels)?;
+        let (table, size) = label_places(alloc, items, self.labels as usize)?;
         let places = table.as_slice();
         if !all_placed(places) {
             return Err(Failure::Fault(Fault::UnboundLabel));

@@ -30,7 +30,7 @@ pub enum WordForm {
 #[derive(Clone, Copy)]
 pub enum Reference {
     /// The place of a label, by its number.
-    AtLabel(usize),
+    AtLabel(u32),
     /// A number of bytes after the origin of a target's offsets, modulo 65536.
     AtTarget(Target, u16),
     /// A number, which nothing moves.
@@ -51,5 +51,5 @@ pub enum Item {
     /// A number of bytes that stay unset.
     Gap(u16),
     /// The place of a label, by its number.
-    Mark(usize),
+    Mark(u32),
 }

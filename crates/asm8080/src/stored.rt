@@ -1,8 +1,7 @@
 //! Items as code keeps them.
 
-ghost use Rattle.std.specs.Prelude.{◌≡◌, ◌++◌, [], ◌∷◌, if◌then◌else◌, Some, OnErr, OnOk};
-ghost use Rattle.asm8080.specs.declared.item.Item.TheVariants.{WithWord, Address, Mark};
-ghost use Rattle.asm8080.specs.internal.Stored.{has_short_label, is_short, is_short_label};
+ghost use Rattle.std.specs.Prelude.{◌≡◌, ◌++◌, [], ◌∷◌, OnErr, OnOk};
+ghost use Rattle.asm8080.specs.declared.item.Item.TheVariants.{WithWord, Address};
 
 use crate::item::{Item, Reference, WordForm};
 use isa8080::Instr;
@@ -39,7 +38,7 @@ pub(crate) enum StoredForm {
     Mark(u32),
 }
 
-/// An item in less memory. The number of its label, if it has one, is below 2^32.
+/// An item in less memory.
 #[derive(Drop)]
 pub(crate) struct StoredItem {
     form: StoredForm,
@@ -57,19 +56,12 @@ impl Model for StoredItem {
     ghost view = { λ stored. item_of stored.form };
 }
 
-// The number of a label in 32 bits.
-fn short_label(label: usize) -> Option<u32>
-    ensures { result ≡ if is_short_label label then Some label else None }
-{
-    u32::try_from(label).ok()
-}
-
 // An instruction with its word.
-fn stored_word(form: WordForm, reference: Reference) -> Option<StoredItem>
-    ensures { result ≡ if has_short_label reference then Some (WithWord form reference) else None }
+fn stored_word(form: WordForm, reference: Reference) -> StoredItem
+    ensures { result ≡ WithWord form reference }
 {
     let form = match reference {
-        Reference::AtLabel(label) => StoredForm::LabelWord(form, short_label(label)?),
+        Reference::AtLabel(label) => StoredForm::LabelWord(form, label),
         Reference::AtTarget(Target::InSegment(segment), offset) => {
             StoredForm::SegmentWord(form, segment, offset)
         }
@@ -78,15 +70,15 @@ fn stored_word(form: WordForm, reference: Reference) -> Option<StoredItem>
         }
         Reference::AtNumber(number) => StoredForm::NumberWord(form, number),
     };
-    Some(StoredItem { form })
+    StoredItem { form }
 }
 
 // A word of data.
-fn stored_address(reference: Reference) -> Option<StoredItem>
-    ensures { result ≡ if has_short_label reference then Some (Address reference) else None }
+fn stored_address(reference: Reference) -> StoredItem
+    ensures { result ≡ Address reference }
 {
     let form = match reference {
-        Reference::AtLabel(label) => StoredForm::LabelAddress(short_label(label)?),
+        Reference::AtLabel(label) => StoredForm::LabelAddress(label),
         Reference::AtTarget(Target::InSegment(segment), offset) => {
             StoredForm::SegmentAddress(segment, offset)
         }
@@ -95,22 +87,13 @@ fn stored_address(reference: Reference) -> Option<StoredItem>
         }
         Reference::AtNumber(number) => StoredForm::NumberAddress(number),
     };
-    Some(StoredItem { form })
-}
-
-// The place of a label.
-fn stored_mark(label: usize) -> Option<StoredItem>
-    ensures { result ≡ if is_short_label label then Some (Mark label) else None }
-{
-    Some(StoredItem {
-        form: StoredForm::Mark(short_label(label)?),
-    })
+    StoredItem { form }
 }
 
 impl StoredItem {
-    // An item as it is kept; none if the number of its label passes 32 bits.
-    fn of(item: Item) -> Option<StoredItem>
-        ensures { result ≡ if is_short item then Some item else None }
+    // An item as it is kept.
+    fn of(item: Item) -> StoredItem
+        ensures { result ≡ item }
     {
         let form = match item {
             Item::Plain(instruction) => StoredForm::Plain(instruction),
@@ -118,9 +101,9 @@ impl StoredItem {
             Item::Byte(value) => StoredForm::Byte(value),
             Item::Address(reference) => return stored_address(reference),
             Item::Gap(count) => StoredForm::Gap(count),
-            Item::Mark(label) => return stored_mark(label),
+            Item::Mark(label) => StoredForm::Mark(label),
         };
-        Some(StoredItem { form })
+        StoredItem { form }
     }
 
     /// The item.
@@ -129,9 +112,7 @@ impl StoredItem {
     {
         match self.form {
             StoredForm::Plain(instruction) => Item::Plain(instruction),
-            StoredForm::LabelWord(form, label) => {
-                Item::WithWord(form, Reference::AtLabel(label as usize))
-            }
+            StoredForm::LabelWord(form, label) => Item::WithWord(form, Reference::AtLabel(label)),
             StoredForm::SegmentWord(form, segment, offset) => {
                 Item::WithWord(
                     form,
@@ -145,7 +126,7 @@ impl StoredItem {
                 Item::WithWord(form, Reference::AtNumber(number))
             }
             StoredForm::Byte(value) => Item::Byte(value),
-            StoredForm::LabelAddress(label) => Item::Address(Reference::AtLabel(label as usize)),
+            StoredForm::LabelAddress(label) => Item::Address(Reference::AtLabel(label)),
             StoredForm::SegmentAddress(segment, offset) => {
                 Item::Address(Reference::AtTarget(Target::InSegment(segment), offset))
             }
@@ -154,19 +135,16 @@ impl StoredItem {
             }
             StoredForm::NumberAddress(number) => Item::Address(Reference::AtNumber(number)),
             StoredForm::Gap(count) => Item::Gap(count),
-            StoredForm::Mark(label) => Item::Mark(label as usize),
+            StoredForm::Mark(label) => Item::Mark(label),
         }
     }
 }
 
-/// Adds an item. Fails if memory runs out or a label's number passes 32 bits, and then the items stay as they were.
+/// Adds an item. Fails if memory runs out, and then the items stay as they were.
 pub(crate) fn store(items: &mut Vec<StoredItem>, item: Item) -> Result<(), AllocError>
     ensures items { OnOk result ((items.new).items ≡ (items.old).items ++ item ∷ []) }
     ensures err { OnErr result ((items.new).items ≡ (items.old).items) }
 {
-    let Some(stored) = StoredItem::of(item) else {
-        return Err(AllocError);
-    };
-    items.push(stored)?;
+    items.push(StoredItem::of(item))?;
     Ok(())
 }

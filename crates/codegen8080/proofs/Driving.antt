@@ -1,6 +1,9 @@
 -- The code of statements as it is written step by step.
 use Rattle.codegen8080.proofs.Prelude.{◌≡◌, ℕ, suc, ◌+◌, ◌-◌, ◌≤◌, ◌<◌, inl, Bool, true, List, [], ◌++◌, length, Option, Some, None, Result, Ok, Err, OnOk, slice_get, drop, refl, sym, ap, subst, ◌∙◌, arith, append_assoc, append-nil, drop_at, drop_all, IfOk, Item, Range, TreeStatement, StatementNumber, Facts, Step, label_after, Writes, writes_nothing, writes_then, Site, Emission, knowing, EmitsSteps, HasAll, NotesCalled, are_kept, are_labels_kept, emits_then, has_itself, none_is, notes_then, Body, Planned, Generator, Here, AddsList, AddsPlanned, AddsStatement, AddsStep, here_of, AreAllCarriedOut, AreCarriedOut, HoldsNoStatement, IsCarriedOut, IsListCarriedOut, ListCarriedOut, ListPlanned, MoreStatements, NoStatements, NoneCarriedOut, StatementCarriedOut, StatementPlanned, StepCarriedOut, carried_steps, here_after, site_of, waiting_after, AreAllLabelled, AreStepsLabelled, IsListLabelled, IsStatementLabelled, LabelledList, LabelledStatement, LabelledStatements, LabelledSteps, statement_labels, statement_steps, CarriesOut, drop_found}
+use Rattle.treecode.specs.Nodes.{nodes_of}
 use Rattle.statements8080.specs.declared.plan.Planned.TheVariants as planned
+use Rattle.codegen8080.specs.internal.Standing.{StepsStand}
+use Rattle.codegen8080.proofs.Standing.{step_there}
 
 -- steps that may not be added, after others
 pub emits_after : (site : Site) (first second : List Step) (before between after : Emission)
@@ -222,6 +225,12 @@ pub record IsCarrying
   pub notes : NotesCalled body.tree.now before.emission.is_called.items now.emission.is_called.items list
   pub plan : now.plan.list.items ≡ before.plan.list.items
 
+-- The same for steps that stand: those that remain stand too.
+pub record IsCarryingBelow
+    (bound : ℕ) (body : Body) (before now : Generator) (waiting : Option Facts) (start index : ℕ) : Type 0 where
+  pub carrying : IsCarrying body before now waiting start index
+  pub stand : StepsStand (nodes_of body.tree.now) bound (drop index now.plan.list.items)
+
 pub carrying_begins : (body : Body) (before : Generator) (start : ℕ)
     → IsCarrying body before before None start start
 carrying_begins body before start = record {
@@ -281,6 +290,28 @@ module _ (body : Body) (before now : Generator) (waiting : Option Facts) (start 
     called = so_far.called;
     notes = so_far.notes;
     plan = so_far.plan;
+  }
+
+  -- the steps that remain stand too
+  pub step_passed_below : (bound : ℕ) (next : Generator) (waits : Option Facts) (step : Planned)
+      → IsCarryingBelow bound body before now waiting start index
+      → slice_get now.plan.list.items index ≡ Some step
+      → CarriesOut body step waiting now next waits
+      → IsCarryingBelow bound body before next waits start (index + 1)
+  step_passed_below bound next waits step so_far is carries = record {
+    carrying = step_passed next waits step so_far.carrying is carries;
+    stand = subst (λ (steps : List Planned). StepsStand (nodes_of body.tree.now) bound (drop (index + 1) steps))
+        (sym carries.plan) (step_there now.plan.list.items index step is so_far.stand).1;
+  }
+
+  pub none_passed_below : (bound : ℕ)
+      → IsCarryingBelow bound body before now waiting start index
+      → slice_get now.plan.list.items index ≡ None
+      → IsCarryingBelow bound body before now waiting start (index + 1)
+  none_passed_below bound so_far none = record {
+    carrying = none_passed so_far.carrying none;
+    stand = subst (λ (steps : List Planned). StepsStand (nodes_of body.tree.now) bound steps)
+        (none_is now.plan.list.items index none) so_far.stand;
   }
 
   pub carrying_ends : (after : Generator)

@@ -4,6 +4,9 @@ pub mod KeptSegments
 pub mod NewNames
 pub mod Planning
 pub mod CodeLaws
+pub mod Standing
+pub mod PlansStand
+pub mod LoweredStand
 pub mod Driving
 pub mod BodyParts
 pub mod ModuleParts

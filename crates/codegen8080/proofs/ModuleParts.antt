@@ -1,5 +1,6 @@
 -- The code of a module, from the code of its parts.
 use Rattle.codegen8080.proofs.Prelude.{◌≡◌, ℕ, zero, suc, ◌+◌, inl, inr, Bool, true, false, List, length-replicate, replicate, slice_index_or, [], ◌∷◌, ◌++◌, Option, Some, None, Result, Ok, Err, OnOk, slice_get, length, take, drop, ◌-◌, ◌<◌, arith, refl, sym, ap, subst, ◌∙◌, append_assoc, append-nil, add-one, option_map, none-some, Item, Routine, Content, TreeModule, ProcedureKind, TreeProcedure, Extends, entry, no_facts, label_after, Written, Writes, in_front, items_stay, writes_nothing, writes_then, has_routine, index_of_routine, module_routine_label, HasAll, IsEmpty, NotesCalled, has_itself, none_noted, notes_then, Generator, LabelledList, LabelledSteps, AreRoutines, IsCodeOfRoutine, IsCodeWritten, IsMainCode, IsMainLabelled, IsOwnCode, IsProcedureCode, IsProcedureLabelled, all_routines, content_items, contents_items, has_main, entry_labels, entry_steps, AddsCalled, AddsCodeOfMain, AddsMain, AddsOwnCode, AddsProcedure, AddsProcedures, AddsRoutineIf, AddsRoutines, LabelledCode, LabelledCodeOfMain, LabelledEnd, LabelledProcedure, LabelledProcedures, same_Some, nothing_there}
+use Rattle.codegen8080.specs.internal.Standing.{AllStand}
 use Rattle.asm8080.specs.declared.item.Item.TheVariants as items
 use Rattle.treecode.specs.declared.procedure.ProcedureKind.TheVariants as kinds
 use Rattle.codegen8080.proofs.BodyParts.{end_kept}
@@ -153,6 +154,29 @@ procedures_begin tree before whole = record {
   called = has_itself before.emission.is_called.items;
   notes = λ routine given. inl given;
 }
+
+-- The same for procedures whose bodies stand: those that remain stand too.
+pub record StandingArePut
+    (tree : TreeModule) (before now : Generator) (number : ℕ) (whole left : List TreeProcedure) : Type 0 where
+  pub putting : AreBeingPut tree before now number whole left
+  pub stand : AllStand tree left
+
+pub standing_begins :
+    (tree : TreeModule) (before : Generator) (whole : List TreeProcedure)
+    → AllStand tree whole
+    → StandingArePut tree before before 0 whole whole
+standing_begins tree before whole stand = record { putting = procedures_begin tree before whole; stand = stand }
+
+-- the bodies after the first one
+pub others_stand :
+    (tree : TreeModule) (left : List TreeProcedure) (first : TreeProcedure)
+    → slice_get left 0 ≡ Some first
+    → AllStand tree left
+    → AllStand tree (take (length left - 1) (drop 1 left))
+others_stand tree [] first at stand = absurd (none-some first at)
+others_stand tree (one ∷ others) first at stand =
+    subst (AllStand tree) (sym (take_all others (length (one ∷ others) - 1) (omega arith)))
+    (λ number procedure there. stand (suc number) procedure there)
 
 pub procedures_go_on :
     (tree : TreeModule) (before now next : Generator) (number following : ℕ) (whole : List TreeProcedure)

@@ -1,6 +1,9 @@
 -- Names that are listed one by one.
-use Rattle.codegen8080.proofs.Prelude.{◌≡◌, ℕ, zero, suc, ◌+◌, ◌-◌, ◌<◌, List, [], ◌∷◌, ◌++◌, Option, Some, None, length, take, drop, slice_get, set, length-set, IfNone, IfSome, refl, sym, ap, subst, ◌∙◌, arith, append_assoc, append-nil, none-some, Public, Assembled, ExternalName, PublicName, AreDifferent, IsNumbering, entries, entry, used_names, AreListed, ArePublicsIn, FollowPlaces, HavePlaces, IsPublicIn, used_name, Linkage, same_Some}
+use Rattle.codegen8080.proofs.Prelude.{◌≡◌, ℕ, zero, suc, ◌+◌, ◌-◌, ◌<◌, List, [], ◌∷◌, ◌++◌, Option, Some, None, length, take, drop, slice_get, set, length-set, IfNone, IfSome, refl, sym, ap, subst, ◌∙◌, arith, append_assoc, append-nil, none-some, map, true, false, Public, are_new, is_among, Assembled, ExternalName, Object, Procedure, PublicName, PublicPlace, AreDifferent, IsNumbering, entries, entry, used_names, AreListed, ArePublicsIn, FollowPlaces, HavePlaces, IsPublicIn, used_name, IsPublicHere, Linkage, names_of, names_of_externals, names_of_publics, same_Some}
+use Rattle.std.specs.List.{AllByRecursion}
+use Rattle.treecode.specs.declared.place.Place.TheVariants as places
 use Rattle.codegen8080.proofs.ModuleParts.{take_all}
+use Rattle.codegen8080.proofs.NewNames.{first_is_new, others_are_new, others_are_newer, public_names}
 
 -- a table agrees with another but for numbers that remain
 abbrev KeepPlaces : (left : List (Option ℕ)) → (places final : List ℕ) → Type 0
@@ -205,16 +208,47 @@ pub record IsListingNames
   pub names_are : names.externals ++ used_names left rest ≡ used_names numbers externals
   pub as_many : length left ≡ length rest
   pub publics : names.publics ≡ []
+  pub new : are_new (names_of_externals rest) names.externals ≡ true
 
 pub listing_names_begins : (externals : List ExternalName) (numbers : List (Option ℕ)) (names : Linkage)
     → length numbers ≡ length externals
+    → are_new (names_of_externals externals) [] ≡ true
     → names ≡ record { externals = []; publics = [] }
     → IsListingNames externals numbers externals numbers names
-listing_names_begins externals numbers names as_many none = record {
+listing_names_begins externals numbers names as_many new none = record {
   names_are = ap (λ (linkage : Linkage). linkage.externals ++ used_names numbers externals) none;
   as_many = as_many;
   publics = ap (λ (linkage : Linkage). linkage.publics) none;
+  new = ap (λ (linkage : Linkage). are_new (names_of_externals externals) linkage.externals) none ∙ new;
 }
+
+-- the next name is new, and the others are after it
+pub next_name_is_new :
+    (externals : List ExternalName) (numbers : List (Option ℕ)) (rest : List ExternalName)
+    (left : List (Option ℕ)) (names : Linkage) (external : ExternalName)
+    → slice_get rest 0 ≡ Some external
+    → IsListingNames externals numbers rest left names
+    → is_among external.name (names_of names) ≡ false
+next_name_is_new externals numbers [] left names external at listing = absurd (none-some external at)
+next_name_is_new externals numbers (first ∷ rest) left names external at listing =
+    let here : external ≡ first = same_Some external first (sym at) in
+    ap (λ (one : ExternalName). is_among one.name (names_of names)) here
+    ∙ ap
+    (λ (publics : List Public).
+    is_among first.name (names.externals ++ map (λ (public : Public). public.name) publics))
+    listing.publics
+    ∙ ap (is_among first.name) (append-nil names.externals)
+    ∙ first_is_new first.name (names_of_externals rest) names.externals listing.new
+
+new_after_used :
+    (number : Option ℕ) (external : ExternalName) (rest : List ExternalName) (known : List (List ℕ))
+    → are_new (names_of_externals (external ∷ rest)) known ≡ true
+    → are_new (names_of_externals rest) (known ++ used_name number external) ≡ true
+new_after_used None external rest known new =
+    ap (are_new (names_of_externals rest)) (append-nil known)
+    ∙ others_are_new external.name (names_of_externals rest) known new
+new_after_used (Some number) external rest known new =
+    others_are_newer external.name (names_of_externals rest) known new
 
 pub listing_names_step :
     (externals : List ExternalName) (numbers : List (Option ℕ)) (rest : List ExternalName)
@@ -248,6 +282,8 @@ listing_names_step externals numbers (first ∷ rest) (known ∷ left) names aft
           ∙ listing.names_are;
       as_many = omega (arith, as_many);
       publics = publics;
+      new = ap (are_new (names_of_externals rest)) (more ∙ ap (λ list. names.externals ++ list) front)
+          ∙ new_after_used known first rest names.externals listing.new;
     } in
     subst (λ list. IsListingNames externals numbers list (take (length (known ∷ left) - 1) left) after)
     (sym (take_all rest (length (first ∷ rest) - 1) (omega arith)))
@@ -288,17 +324,67 @@ pub record IsAddingPublics
   pub left_is : (more : List Public)
       → ArePublicsIn labels bytes left more
       → ArePublicsIn labels bytes publics (now.publics ++ more)
+  pub new : are_new (names_of_publics left) (names_of now) ≡ true
+  pub here : AllByRecursion IsPublicHere left
 
 pub publics_begin :
     (labels : List (Option ℕ)) (bytes : Assembled) (publics : List PublicName) (before : Linkage)
     → before.publics ≡ []
+    → are_new (names_of_publics publics) (names_of before) ≡ true
+    → AllByRecursion IsPublicHere publics
     → IsAddingPublics labels bytes publics before before publics
-publics_begin labels bytes publics before none = record {
+publics_begin labels bytes publics before none new here = record {
   externals = refl;
   left_is =
       λ more are. subst (λ (list : List Public). ArePublicsIn labels bytes publics (list ++ more)) (sym none)
       are;
+  new = new;
+  here = here;
 }
+
+-- the next one is new and has its place here
+pub next_public_is_new :
+    (labels : List (Option ℕ)) (bytes : Assembled) (publics : List PublicName) (before now : Linkage)
+    (left : List PublicName) (name : PublicName)
+    → slice_get left 0 ≡ Some name
+    → IsAddingPublics labels bytes publics before now left
+    → is_among name.name (names_of now) ≡ false
+next_public_is_new labels bytes publics before now [] name at adding = absurd (none-some name at)
+next_public_is_new labels bytes publics before now (first ∷ left) name at adding =
+    ap (λ (one : PublicName). is_among one.name (names_of now)) (same_Some name first (sym at))
+    ∙ first_is_new first.name (names_of_publics left) (names_of now) adding.new
+
+pub next_public_is_here :
+    (labels : List (Option ℕ)) (bytes : Assembled) (publics : List PublicName) (before now : Linkage)
+    (left : List PublicName) (name : PublicName)
+    → slice_get left 0 ≡ Some name
+    → IsAddingPublics labels bytes publics before now left
+    → IsPublicHere name
+next_public_is_here labels bytes publics before now [] name at adding = absurd (none-some name at)
+next_public_is_here labels bytes publics before now (first ∷ left) name at adding =
+    subst IsPublicHere (same_Some first name at) adding.here.0
+
+-- a public has the name of its PUBLIC name
+pub public_is_named :
+    (labels : List (Option ℕ)) (bytes : Assembled) (name : List ℕ) (place : PublicPlace) (public : Public)
+    → IsPublicIn labels bytes name place public
+    → public.name ≡ name
+public_is_named labels bytes name (Object (places.Number number)) public is = ap (λ (one : Public). one.name) is
+public_is_named labels bytes name (Object (places.Code offset)) public is = ap (λ (one : Public). one.name) is
+public_is_named labels bytes name (Object (places.Data offset)) public is = ap (λ (one : Public). one.name) is
+public_is_named labels bytes name (Object (places.External offset index)) public is = absurd is
+public_is_named labels bytes name (Procedure number) public is = ap (λ (one : Public). one.name) is
+
+-- the names after one more public
+names_after :
+    (now next : Linkage) (public : Public)
+    → next.externals ≡ now.externals
+    → next.publics ≡ now.publics ++ public ∷ []
+    → names_of next ≡ names_of now ++ public.name ∷ []
+names_after now next public externals more =
+    ap (λ (list : List (List ℕ)). names_of (record { externals = list; publics = next.publics })) externals
+    ∙ ap (λ (list : List Public). names_of (record { externals = now.externals; publics = list })) more
+    ∙ public_names now.externals now.publics public
 
 pub publics_step :
     (labels : List (Option ℕ)) (bytes : Assembled) (publics : List PublicName) (before now next : Linkage)
@@ -322,6 +408,12 @@ publics_step labels bytes publics before now next (first ∷ left) name public a
           (sym (append_assoc now.publics (public ∷ []) others)
           ∙ ap (λ (list : List Public). list ++ others) (sym more))
           (adding.left_is (public ∷ others) (is_here, are));
+      new = ap (are_new (names_of_publics left))
+          (names_after now next public externals more
+          ∙ ap (λ (list : List ℕ). names_of now ++ list ∷ [])
+          (public_is_named labels bytes first.name first.place public is_here))
+          ∙ others_are_newer first.name (names_of_publics left) (names_of now) adding.new;
+      here = adding.here.1;
     } in
     subst (IsAddingPublics labels bytes publics before next)
     (sym (take_all left (length (first ∷ left) - 1) (omega arith))) stepped

@@ -1,6 +1,6 @@
 -- Distinct names, and one more.
-use Rattle.codegen8080.proofs.Prelude.{◌≡◌, ℕ, Bool, true, false, not, List, [], ◌∷◌, ◌++◌, map, if◌then◌else◌, refl, sym, ap, ◌∙◌, list_all, bytes_eq, is_name, Public, are_new, is_among, is_valid_public, IsLinkage, Linkage, names_of, and_from, and_parts, append-nil, or_from, or_parts}
-use Rattle.indexmap.specs.IndexSet.{insert_key}
+use Rattle.codegen8080.proofs.Prelude.{◌≡◌, ℕ, Bool, true, false, not, List, [], ◌∷◌, ◌++◌, map, Option, Some, None, refl, sym, ap, ◌∙◌, list_all, bytes_eq, is_name, Public, are_new, is_among, is_valid_public, ExternalName, TreeModule, used_names, IsLinkable, IsLinkage, Linkage, names_of, names_of_externals, names_of_publics, and_from, and_parts, append-nil, or_from, or_parts}
+use Rattle.std.proofs.lemmas.Bool.{not-true}
 
 new_after :
     (names known : List (List ℕ)) (name : List ℕ)
@@ -79,12 +79,107 @@ linkage_with_name before after name more is valid absent publics = record {
   publics = publics;
 }
 
--- the set of names includes it
-pub grown_known :
-    (known new : List (List ℕ)) (before after : Linkage) (name : List ℕ)
-    → known ≡ names_of before → is_among name known ≡ false → new ≡ insert_key bytes_eq known name
-    → names_of after ≡ names_of before ++ name ∷ []
-    → new ≡ names_of after
-grown_known known new before after name is absent inserted more =
-    inserted ∙ ap (λ b. if b then known else known ++ name ∷ []) absent
-    ∙ ap (λ (k : List (List ℕ)). k ++ name ∷ []) is ∙ sym more
+-- Names that are new stay new where fewer are known.
+pub new_to_fewer :
+    (names known fewer : List (List ℕ))
+    → ((name : List ℕ) → is_among name known ≡ false → is_among name fewer ≡ false)
+    → are_new names known ≡ true → are_new names fewer ≡ true
+new_to_fewer [] known fewer less new = refl
+new_to_fewer (name ∷ names) known fewer less new =
+    let parts = and_parts (not (is_among name known)) (are_new names (name ∷ known)) new in
+    and_from (not (is_among name fewer)) (are_new names (name ∷ fewer))
+    (ap not (less name (not-true (is_among name known) parts.0)))
+    (new_to_fewer names (name ∷ known) (name ∷ fewer)
+    (λ other absent.
+    let both = or_parts (bytes_eq other name) (is_among other known) absent in
+    or_from (bytes_eq other name) (is_among other fewer) both.0 (less other both.1))
+    parts.1)
+
+-- the first of them
+pub first_is_new : (name : List ℕ) (names known : List (List ℕ)) → are_new (name ∷ names) known ≡ true
+    → is_among name known ≡ false
+first_is_new name names known new =
+    not-true (is_among name known)
+    (and_parts (not (is_among name known)) (are_new names (name ∷ known)) new).0
+
+-- the others, whether the first is known or not
+pub others_are_new : (name : List ℕ) (names known : List (List ℕ)) → are_new (name ∷ names) known ≡ true
+    → are_new names known ≡ true
+others_are_new name names known new =
+    new_to_fewer names (name ∷ known) known
+    (λ other absent. (or_parts (bytes_eq other name) (is_among other known) absent).1)
+    (and_parts (not (is_among name known)) (are_new names (name ∷ known)) new).1
+
+known_at_end : (names : List (List ℕ)) (name other : List ℕ) → is_among other (name ∷ names) ≡ false
+    → is_among other (names ++ name ∷ []) ≡ false
+known_at_end [] name other absent = absent
+known_at_end (first ∷ names) name other absent =
+    let both = or_parts (bytes_eq other name) (is_among other (first ∷ names)) absent in
+    let rest = or_parts (bytes_eq other first) (is_among other names) both.1 in
+    or_from (bytes_eq other first) (is_among other (names ++ name ∷ [])) rest.0
+    (known_at_end names name other (or_from (bytes_eq other name) (is_among other names) both.0 rest.1))
+
+pub others_are_newer : (name : List ℕ) (names known : List (List ℕ)) → are_new (name ∷ names) known ≡ true
+    → are_new names (known ++ name ∷ []) ≡ true
+others_are_newer name names known new =
+    new_to_fewer names (name ∷ known) (known ++ name ∷ []) (known_at_end known name)
+    (and_parts (not (is_among name known)) (are_new names (name ∷ known)) new).1
+
+-- Of new names the last are new to what is known and to the first.
+pub new_in_parts :
+    (names more known : List (List ℕ)) → are_new (names ++ more) known ≡ true
+    → (are_new names known ≡ true)
+    × ((fewer : List (List ℕ))
+    → ((name : List ℕ) → is_among name names ≡ false → is_among name known ≡ false
+    → is_among name fewer ≡ false)
+    → are_new more fewer ≡ true)
+new_in_parts [] more known new =
+    (refl, (λ fewer less. new_to_fewer more known fewer (λ name absent. less name refl absent) new))
+new_in_parts (first ∷ names) more known new =
+    let parts = and_parts (not (is_among first known)) (are_new (names ++ more) (first ∷ known)) new in
+    let rest = new_in_parts names more (first ∷ known) parts.1 in (
+      and_from (not (is_among first known)) (are_new names (first ∷ known)) parts.0 rest.0,
+      λ fewer less.
+          rest.1 fewer
+          (λ name absent unknown.
+          let both = or_parts (bytes_eq name first) (is_among name known) unknown in
+          less name (or_from (bytes_eq name first) (is_among name names) both.0 absent) both.1),
+    )
+
+-- what is no EXTERNAL name is none that code refers to
+none_used :
+    (numbers : List (Option ℕ)) (externals : List ExternalName) (name : List ℕ)
+    → is_among name (names_of_externals externals) ≡ false
+    → is_among name (used_names numbers externals) ≡ false
+none_used [] externals name absent = refl
+none_used (None ∷ numbers) [] name absent = refl
+none_used (Some number ∷ numbers) [] name absent = refl
+none_used (None ∷ numbers) (external ∷ externals) name absent =
+    none_used numbers externals name
+    (or_parts (bytes_eq name external.name) (is_among name (names_of_externals externals)) absent).1
+none_used (Some number ∷ numbers) (external ∷ externals) name absent =
+    let both = or_parts (bytes_eq name external.name) (is_among name (names_of_externals externals)) absent in
+    or_from (bytes_eq name external.name) (is_among name (used_names numbers externals)) both.0
+    (none_used numbers externals name both.1)
+
+-- The PUBLIC names of tree code are new to the EXTERNAL ones that are listed.
+pub publics_are_new :
+    (tree : TreeModule) (numbers : List (Option ℕ)) (names : Linkage)
+    → IsLinkable tree
+    → names.externals ≡ used_names numbers tree.externals.items
+    → names.publics ≡ []
+    → are_new (names_of_publics tree.publics.items) (names_of names) ≡ true
+publics_are_new tree numbers names linkable are none =
+    (new_in_parts (names_of_externals tree.externals.items) (names_of_publics tree.publics.items) []
+    linkable.different).1
+    (names_of names)
+    (λ name absent _.
+    ap (λ (publics : List Public). is_among name (names.externals ++ map (λ (p : Public). p.name) publics)) none
+    ∙ ap (is_among name) (append-nil names.externals ∙ are)
+    ∙ none_used numbers tree.externals.items name absent)
+
+pub externals_are_new :
+    (tree : TreeModule) → IsLinkable tree → are_new (names_of_externals tree.externals.items) [] ≡ true
+externals_are_new tree linkable =
+    (new_in_parts (names_of_externals tree.externals.items) (names_of_publics tree.publics.items) []
+    linkable.different).0

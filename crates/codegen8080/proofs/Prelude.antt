@@ -31,5 +31,5 @@ pub use Rattle.codegen8080.specs.declared.meeting.Here.{Here}
 pub use Rattle.codegen8080.specs.internal.Bodies.{AddsCalled, AddsCodeOfMain, AddsEnd, AddsEntry, AddsMain, AddsOwn, AddsOwnCode, AddsProcedure, AddsProcedures, AddsRoutineIf, AddsRoutines, LabelledCode, LabelledCodeOfMain, LabelledEnd, LabelledProcedure, LabelledProcedures, first_routines, last_routines, next_routines}
 pub use Rattle.codegen8080.specs.internal.Carrying.{CarriesOut}
 pub use Rattle.codegen8080.specs.internal.Listing.{AreListed, ArePublicsIn, FollowPlaces, HavePlaces, IsMadeOf, IsPlaceAfter, IsPublicIn, used_name}
-pub use Rattle.codegen8080.specs.internal.Names.{IsLinkage, Linkage, names_of}
+pub use Rattle.codegen8080.specs.internal.Names.{HasOwnPlace, IsLinkable, IsLinkage, IsOwnPlace, IsPublicHere, Linkage, names_of, names_of_externals, names_of_publics}
 pub use Rattle.codegen8080.specs.internal.Segments.{IsKept, KeepsFixes, listed_target, retarget}

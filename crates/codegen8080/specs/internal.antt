@@ -10,6 +10,7 @@ pub mod Refusals
 pub mod Marking
 pub mod Names
 pub mod Segments
+pub mod Standing
 pub mod Carrying
 pub mod Bodies
 pub mod Listing

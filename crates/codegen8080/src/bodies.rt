@@ -5,6 +5,7 @@ ghost use Rattle.treecode.specs.Nodes.{nodes_of};
 ghost use Rattle.treecode.specs.Rising.{NumbersRise};
 ghost use Rattle.steps8080.specs.Step.{label_after, label_of};
 ghost use Rattle.codegen8080.specs.internal.Modules.{IsFrameOf};
+ghost use Rattle.codegen8080.specs.internal.Standing.{BodyStands};
 ghost use Rattle.codegen8080.specs.internal.Procedures.{entry_labels, entry_steps};
 ghost use Rattle.codegen8080.specs.internal.Bodies.{AddsEnd, AddsEntry, AddsMain, AddsOwn, AddsProcedure};
 
@@ -102,7 +103,8 @@ fn put_own(
     procedure: &TreeProcedure,
     entry: LabelNumber,
 ) -> Result<(), AllocError>
-    requires { NumbersRise (nodes_of tree.now) }
+    requires rise { NumbersRise (nodes_of tree.now) }
+    requires stands { BodyStands tree.now procedure.now }
     ensures { OnOk result (AddsOwn tree.now entry.index procedure.now generator.old generator.new) }
 {
     let frame = frame_of(alloc, procedure)?;
@@ -112,7 +114,7 @@ fn put_own(
     generator.emission.add(&site_of(&body), Step::Mark(entry))?;
     generator.goes_on = true;
     put_entry(generator, &body)?;
-    generator.list(&body, procedure.body, u32::MAX)?;
+    generator.list(&body, procedure.body, tree.statements.len())?;
     put_end(generator, &body)?;
     Ok(())
 }
@@ -125,7 +127,8 @@ pub(crate) fn put_procedure(
     procedure: &TreeProcedure,
     number: u32,
 ) -> Result<(), AllocError>
-    requires { NumbersRise (nodes_of tree.now) }
+    requires rise { NumbersRise (nodes_of tree.now) }
+    requires stands { BodyStands tree.now procedure.now }
     ensures { OnOk result (AddsProcedure tree.now number procedure.now generator.old generator.new) }
 {
     match procedure.kind {
@@ -147,7 +150,8 @@ pub(crate) fn put_main(
     tree: &TreeModule,
     entry: LabelNumber,
 ) -> Result<(), AllocError>
-    requires { NumbersRise (nodes_of tree.now) }
+    requires rise { NumbersRise (nodes_of tree.now) }
+    requires stands { BodyStands tree.now tree.now.main }
     ensures { OnOk result (AddsMain tree.now entry.index generator.old generator.new) }
 {
     let frame = FramePlan::empty(alloc);
@@ -159,7 +163,7 @@ pub(crate) fn put_main(
         .emission
         .writer
         .stack_end(WordForm::LoadPair(Pair::Sp))?;
-    generator.list(&body, tree.main.body, u32::MAX)?;
+    generator.list(&body, tree.main.body, tree.statements.len())?;
     generator
         .emission
         .add(&site_of(&body), Step::Plain(Instr::Hlt))?;

@@ -1,6 +1,6 @@
 //! Emission of planned code of statements.
 
-ghost use Rattle.std.specs.Prelude.{◌≡◌, ◌<◌, ◌+◌, [], ◌++◌, drop, take, length, slice_get, Some, IfOk, OnOk};
+ghost use Rattle.std.specs.Prelude.{◌≡◌, ◌+◌, true, [], ◌++◌, drop, take, length, slice_get, is_some, Some, IfOk, OnOk};
 ghost use Rattle.treecode.specs.Nodes.{item_of, nodes_of};
 ghost use Rattle.treecode.specs.Rising.{NumbersRise};
 ghost use Rattle.steps8080.specs.Step.{label_after};
@@ -8,6 +8,7 @@ ghost use Rattle.exprgen8080.specs.internal.Emitted.{IsEmpty};
 ghost use Rattle.exprgen8080.specs.internal.Emission.{knowing};
 ghost use Rattle.codegen8080.specs.internal.Driven.{AddsList, AddsPlanned, AddsStatement, AddsStep, here_of};
 ghost use Rattle.codegen8080.specs.internal.Generated.{HoldsNoStatement, site_of};
+ghost use Rattle.codegen8080.specs.internal.Standing.{ListStands, StatementStands, StepStands, StepsStand};
 ghost use Rattle.codegen8080.specs.internal.Statements.{statement_labels, statement_steps};
 ghost use Rattle.codegen8080.specs.internal.Carrying.{CarriesOut};
 
@@ -29,20 +30,25 @@ pub(crate) struct Generator {
     pub marks: Marks,
 }
 
-// The statement at an index in a list. Its number must be below a bound; fails if it is not.
-fn item_below(
-    tree: &TreeModule,
-    list: Range,
-    index: u32,
-    bound: u32,
-) -> Result<StatementNumber, AllocError>
-    ensures found { IfOk result
-        (λ number. slice_get tree.now.lists.items (list.first + index) ≡ Some number) }
-    ensures below { IfOk result (λ number. number.index < bound) }
+// The statement at an index in a list, which has one there.
+fn item_at(tree: &TreeModule, list: Range, index: u32) -> StatementNumber
+    requires { is_some (item_of (nodes_of tree.now).lists list index) ≡ true }
+    ensures { slice_get tree.now.lists.items (list.first + index) ≡ Some result }
 {
     match tree.item(list, index) {
-        Some(number) if number.index < bound => Ok(number),
-        _ => Err(AllocError),
+        Some(number) => number,
+        None => unreachable!(),
+    }
+}
+
+// The statement with a number, which is there.
+fn statement_at(tree: &TreeModule, number: StatementNumber) -> Statement
+    requires { is_some (slice_get (nodes_of tree.now).statements number.index) ≡ true }
+    ensures { slice_get (nodes_of tree.now).statements number.index ≡ Some result }
+{
+    match tree.statement(number) {
+        Some(statement) => statement,
+        None => unreachable!(),
     }
 }
 
@@ -134,42 +140,38 @@ impl Generator {
         Ok(())
     }
 
-    // Adds the code of a statement. Fails if the number of a part is not below its own, which the tree code of `lower`
-    // rules out.
+    // Adds the code of a statement.
     #[cycle(statement)]
     fn statement(&mut self, body: &Body<'_>, number: StatementNumber) -> Result<(), AllocError>
-        requires { NumbersRise (nodes_of body.now.tree.now) }
+        requires rise { NumbersRise (nodes_of body.now.tree.now) }
+        requires stands { StatementStands (nodes_of body.now.tree.now) number.index }
         ensures code { OnOk result (AddsStatement body.now number self.old self.new) }
         ensures plan { OnOk result (self.new.plan.list.items ≡ self.old.plan.list.items) }
     {
-        let Some(statement) = body.tree.statement(number) else {
-            return Err(AllocError);
-        };
+        let statement = statement_at(body.tree, number);
         let part = CodePart::Statement(number);
         self.marks.put(&self.emission.writer, part)?;
         let start = self.plan.count();
         self.plan_next(body, statement)?;
         self.goes_on = true;
-        self.planned(body, start, number.index)
+        self.planned(body, start, number.index as usize)
     }
 
-    // Carries out a step. The number of a statement in it must be below a bound.
+    // Carries out a step. The number of a statement in it is below a bound.
     #[cycle(statement)]
     fn carry_out(
         &mut self,
         body: &Body<'_>,
         step: Planned,
         waiting: Option<Facts>,
-        bound: u32,
+        bound: usize,
     ) -> Result<Option<Facts>, AllocError>
-        requires { NumbersRise (nodes_of body.now.tree.now) }
+        requires rise { NumbersRise (nodes_of body.now.tree.now) }
+        requires stands { StepStands (nodes_of body.now.tree.now) bound step }
         ensures { IfOk result (λ waits. CarriesOut body.now step waiting self.old self.new waits) }
     {
         match step {
             Planned::Statement(part) => {
-                if part.index >= bound {
-                    return Err(AllocError);
-                }
                 self.statement(body, part)?;
                 Ok(waiting)
             }
@@ -181,16 +183,17 @@ impl Generator {
         }
     }
 
-    /// Adds the code of the planned steps from an index on, and removes them. The numbers of statements in them must be
-    /// below a bound.
+    /// Adds the code of the planned steps from an index on, and removes them. The numbers of statements in them are below a
+    /// bound.
     #[cycle(statement)]
     pub(crate) fn planned(
         &mut self,
         body: &Body<'_>,
         start: usize,
-        bound: u32,
+        bound: usize,
     ) -> Result<(), AllocError>
-        requires { NumbersRise (nodes_of body.now.tree.now) }
+        requires rise { NumbersRise (nodes_of body.now.tree.now) }
+        requires stand { StepsStand (nodes_of body.now.tree.now) bound (drop start self.old.plan.list.items) }
         ensures code { OnOk result
             (AddsPlanned body.now (drop start self.old.plan.list.items) self.old self.new) }
         ensures plan { OnOk result (self.new.plan.list.items ≡ take start self.old.plan.list.items) }
@@ -206,21 +209,22 @@ impl Generator {
         Ok(())
     }
 
-    /// Adds the code of the statements of a list, one after another. Their numbers must be below a bound.
+    /// Adds the code of the statements of a list, one after another. Their numbers are below a bound.
     #[cycle(statement)]
     pub(crate) fn list(
         &mut self,
         body: &Body<'_>,
         list: Range,
-        bound: u32,
+        bound: usize,
     ) -> Result<(), AllocError>
-        requires { NumbersRise (nodes_of body.now.tree.now) }
+        requires rise { NumbersRise (nodes_of body.now.tree.now) }
+        requires stands { ListStands (nodes_of body.now.tree.now) bound list }
         ensures code { OnOk result (AddsList body.now list self.old self.new) }
         ensures plan { OnOk result (self.new.plan.list.items ≡ self.old.plan.list.items) }
     {
         self.goes_on = true;
         for index in 0..list.count {
-            let item = item_below(body.tree, list, index, bound)?;
+            let item = item_at(body.tree, list, index);
             self.statement(body, item)?;
         }
         Ok(())

@@ -1,14 +1,14 @@
 //! The EXTERNAL and PUBLIC names of a module, without duplicates.
 
-ghost use Rattle.std.specs.Prelude.{◌≡◌, [], ◌∷◌, ◌++◌, length, map, IfOk, IsTrue};
+ghost use Rattle.std.specs.Prelude.{◌≡◌, [], ◌∷◌, ◌++◌, false, length, map, IfOk, IsTrue};
 ghost use Rattle.symbols.specs.Names.{is_name};
-ghost use Rattle.object_modules.specs.Module.{may_have_publics};
+ghost use Rattle.object_modules.specs.Module.{is_among, may_have_publics};
 ghost use Rattle.object_modules.specs.Views.{owned_public_view};
+ghost use Rattle.codegen8080.specs.internal.Names.{names_of};
 
 use object_modules::{Name, OwnedPublic};
 use std::alloc::{AllocError, Global};
 use std::marker::Model;
-use symbols::NameSet;
 
 /// Returns the name, which is valid.
 pub(crate) fn valid(name: Name) -> Name
@@ -21,7 +21,6 @@ pub(crate) fn valid(name: Name) -> Name
 
 /// The EXTERNAL names that a module refers to, and its PUBLIC names, both in the order of the text, without duplicates.
 pub(crate) struct LinkageNames {
-    known: NameSet,
     externals: Vec<Name>,
     publics: Vec<OwnedPublic>,
 }
@@ -29,7 +28,7 @@ pub(crate) struct LinkageNames {
 impl Model for LinkageNames {
     ghost use Rattle.std.specs.Prelude.{◌≡◌, map};
     ghost use Rattle.object_modules.specs.Views.{owned_public_view};
-    ghost use Rattle.codegen8080.specs.internal.Names.{IsLinkage, Linkage, names_of};
+    ghost use Rattle.codegen8080.specs.internal.Names.{IsLinkage, Linkage};
 
     ghost Value = { Linkage };
 
@@ -38,13 +37,10 @@ impl Model for LinkageNames {
       publics = map owned_public_view names.publics.items;
     } };
 
-    ghost invariant = { λ names. let linkage : Linkage = record {
+    ghost invariant = { λ names. IsLinkage (record {
       externals = names.externals.items;
       publics = map owned_public_view names.publics.items;
-    } in record {
-      known : names.known ≡ names_of linkage;
-      is : IsLinkage linkage;
-    } };
+    }) };
 }
 
 impl LinkageNames {
@@ -53,7 +49,6 @@ impl LinkageNames {
         ensures { result ≡ record { externals = []; publics = [] } }
     {
         LinkageNames {
-            known: NameSet::new(alloc),
             externals: Vec::new(alloc),
             publics: Vec::new(alloc),
         }
@@ -66,53 +61,37 @@ impl LinkageNames {
         self.externals.len()
     }
 
-    /// Adds an EXTERNAL name, before any PUBLIC one. Fails on a duplicate, which the tree code of `lower` rules out.
+    /// Adds an EXTERNAL name, which is new, before any PUBLIC one.
     pub(crate) fn with_external(self, name: Name) -> Result<LinkageNames, AllocError>
-        requires { self.publics ≡ [] }
+        requires first { self.publics ≡ [] }
+        requires new { is_among name (names_of self) ≡ false }
         ensures publics { IfOk result (λ names. names.publics ≡ []) }
         ensures externals { IfOk result (λ names. names.externals ≡ self.externals ++ name ∷ []) }
     {
         let name = valid(name);
-        if self.known.contains(name) {
-            return Err(AllocError);
-        }
         let LinkageNames {
-            mut known,
             mut externals,
             publics,
         } = self;
-        known.insert(name)?;
         externals.push(name)?;
-        Ok(LinkageNames {
-            known,
-            externals,
-            publics,
-        })
+        Ok(LinkageNames { externals, publics })
     }
 
-    /// Adds a PUBLIC name. Fails on a duplicate, which the tree code of `lower` rules out.
+    /// Adds a PUBLIC name, which is new.
     pub(crate) fn with_public(self, public: OwnedPublic) -> Result<LinkageNames, AllocError>
-        requires { IsTrue (may_have_publics public.segment) }
+        requires may { IsTrue (may_have_publics public.segment) }
+        requires new { is_among public.name (names_of self) ≡ false }
         ensures externals { IfOk result (λ names. names.externals ≡ self.externals) }
         ensures publics { IfOk result
             (λ names. names.publics ≡ self.publics ++ owned_public_view public ∷ []) }
     {
-        let name = valid(public.name);
-        if self.known.contains(name) {
-            return Err(AllocError);
-        }
+        let _ = valid(public.name);
         let LinkageNames {
-            mut known,
             externals,
             mut publics,
         } = self;
-        known.insert(name)?;
         publics.push(public)?;
-        Ok(LinkageNames {
-            known,
-            externals,
-            publics,
-        })
+        Ok(LinkageNames { externals, publics })
     }
 
     /// The EXTERNAL names and the PUBLIC ones.
@@ -120,11 +99,7 @@ impl LinkageNames {
         ensures externals { result.0.items ≡ self.externals }
         ensures publics { map owned_public_view result.1.items ≡ self.publics }
     {
-        let LinkageNames {
-            known: _,
-            externals,
-            publics,
-        } = self;
+        let LinkageNames { externals, publics } = self;
         (externals, publics)
     }
 }
@@ -133,7 +108,6 @@ impl LinkageNames {
 impl Drop for LinkageNames {
     fn drop(self) {
         let LinkageNames {
-            known: _,
             externals: _,
             publics: _,
         } = self;

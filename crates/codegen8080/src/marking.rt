@@ -5,6 +5,7 @@ ghost use Rattle.failure.specs.Failure.{IfFault};
 ghost use Rattle.treecode.specs.Nodes.{nodes_of};
 ghost use Rattle.treecode.specs.Rising.{NumbersRise};
 ghost use Rattle.codegen8080.specs.internal.Marking.{AreMarksOf, routine_mark};
+ghost use Rattle.codegen8080.specs.internal.Standing.{BodiesStand};
 ghost use Rattle.codegen8080.specs.internal.Refusals.{MayRefuse};
 ghost use Rattle.codegen8080.specs.internal.Marks.{PutsMark, marks_from};
 
@@ -128,7 +129,8 @@ fn put_routines(
 /// Where the parts of the code that `generate` makes of a module begin, in the order of the code. A module is refused only
 /// as `generate` refuses it.
 pub fn code_marks(alloc: Global, tree: &TreeModule) -> Result<Vec<Mark>, Failure<Fault>>
-    requires { NumbersRise (nodes_of tree.now) }
+    requires rise { NumbersRise (nodes_of tree.now) }
+    requires stands { BodiesStand tree.now }
     ensures made { IfOk result (λ marks. AreMarksOf tree.now marks.items) }
     ensures refused { IfFault result (λ fault. MayRefuse tree.now fault) }
 {

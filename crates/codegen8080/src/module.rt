@@ -7,8 +7,10 @@ ghost use Rattle.treecode.specs.Rising.{NumbersRise};
 ghost use Rattle.codegen8080.specs.internal.Modules.{IsCodeWritten, IsGenerated, all_routines, content_items, contents_items, has_main};
 ghost use Rattle.codegen8080.specs.internal.Refusals.{IsNoSegment, MayRefuse};
 ghost use Rattle.codegen8080.specs.internal.Bodies.{AddsCalled, AddsCodeOfMain, AddsOwnCode, AddsProcedures, AddsRoutines, first_routines, last_routines, next_routines};
+ghost use Rattle.codegen8080.specs.internal.Standing.{AllStand, BodiesStand, BodyStands};
 ghost use Rattle.codegen8080.specs.internal.Segments.{KeepsFixes};
 ghost use Rattle.codegen8080.specs.internal.Listing.{AreNamesOf, start_in};
+ghost use Rattle.codegen8080.specs.internal.Names.{IsLinkable};
 ghost use Rattle.steps8080.specs.Externals.{Extends};
 ghost use Rattle.steps8080.specs.Writer.{Finishes, NumbersNames, Writes, numbered};
 
@@ -65,14 +67,15 @@ fn is_main(tree: &TreeModule) -> bool
 }
 
 // Adds the code of procedures, numbered from 0.
-#[tactic(auto, using(crate::proofs::ModuleParts::procedures_begin))]
+#[tactic(auto, using(crate::proofs::ModuleParts::standing_begins))]
 fn put_procedures(
     alloc: Global,
     generator: &mut Generator,
     tree: &TreeModule,
     procedures: &[TreeProcedure],
 ) -> Result<(), AllocError>
-    requires { NumbersRise (nodes_of tree.now) }
+    requires rise { NumbersRise (nodes_of tree.now) }
+    requires stands { AllStand tree.now procedures.now }
     ensures { OnOk result (AddsProcedures tree.now 0 procedures.now generator.old generator.new) }
 {
     let mut left = procedures;
@@ -93,7 +96,8 @@ fn put_main_if_any(
     tree: &TreeModule,
     start: LabelNumber,
 ) -> Result<(), AllocError>
-    requires { NumbersRise (nodes_of tree.now) }
+    requires rise { NumbersRise (nodes_of tree.now) }
+    requires stands { BodyStands tree.now tree.now.main }
     ensures { OnOk result (AddsCodeOfMain tree.now start.index generator.old generator.new) }
 {
     if is_main(tree) {
@@ -184,7 +188,8 @@ fn put_own_code(
     generator: &mut Generator,
     tree: &TreeModule,
 ) -> Result<LabelNumber, AllocError>
-    requires { NumbersRise (nodes_of tree.now) }
+    requires rise { NumbersRise (nodes_of tree.now) }
+    requires stands { BodiesStand tree.now }
     ensures { IfOk result (λ start. AddsOwnCode tree.now start.index generator.old generator.new) }
 {
     put_contents(&mut generator.emission.writer, tree.constants.as_slice())?;
@@ -196,7 +201,8 @@ fn put_own_code(
 
 /// The code segment of a module: its constants, its main program, its procedures and the routines that these call.
 pub(crate) fn code_of(alloc: Global, tree: &TreeModule) -> Result<ModuleCode, AllocError>
-    requires { NumbersRise (nodes_of tree.now) }
+    requires rise { NumbersRise (nodes_of tree.now) }
+    requires stands { BodiesStand tree.now }
     ensures { IfOk result (λ code. IsCodeWritten tree.now code.start.index code.writer) }
 {
     let mut generator = Generator::new(alloc, tree)?;
@@ -264,7 +270,8 @@ fn names_of(
     externals: &Externals,
     code: &Finished,
 ) -> Result<ListedNames, AllocError>
-    requires { length externals.now ≡ length tree.now.externals.items }
+    requires as_many { length externals.now ≡ length tree.now.externals.items }
+    requires linkable { IsLinkable tree.now }
     ensures { IfOk result (λ names. AreNamesOf tree.now externals.now code.now.bytes code.now.labels.items
         names.numbers.items names.names) }
 {
@@ -277,7 +284,9 @@ fn names_of(
 /// its PUBLIC names, and the EXTERNAL names that it refers to. A module is refused only if its code or its data exceed
 /// 65535 bytes.
 pub fn generate(alloc: Global, tree: &TreeModule) -> Result<ObjectModule, Failure<Fault>>
-    requires { NumbersRise (nodes_of tree.now) }
+    requires rise { NumbersRise (nodes_of tree.now) }
+    requires stands { BodiesStand tree.now }
+    requires linkable { IsLinkable tree.now }
     ensures made { IfOk result (λ object. IsGenerated tree.now object) }
     ensures refused { IfFault result (λ fault. MayRefuse tree.now fault) }
 {

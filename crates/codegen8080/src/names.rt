@@ -1,11 +1,13 @@
 //! The PUBLIC and EXTERNAL names of a module in its object module.
 
-ghost use Rattle.std.specs.Prelude.{◌≡◌, ◌+◌, ◌<◌, [], ◌++◌, length, set, IfNone, IfOk, IfSome, IsTrue};
+ghost use Rattle.std.specs.Prelude.{◌≡◌, ◌+◌, ◌<◌, [], ◌++◌, false, length, set, IfNone, IfOk, IfSome, IsTrue};
+ghost use Rattle.std.specs.List.{AllByRecursion};
 ghost use Rattle.steps8080.specs.Externals.{IsNumbering};
-ghost use Rattle.object_modules.specs.Module.{may_have_publics};
+ghost use Rattle.object_modules.specs.Module.{are_new, is_among, may_have_publics};
 ghost use Rattle.object_modules.specs.Views.{owned_public_view};
 ghost use Rattle.codegen8080.specs.internal.Modules.{IsAtPlace, used_names};
 ghost use Rattle.codegen8080.specs.internal.Listing.{AreListed, ArePublicsIn, FollowPlaces, IsPublicIn, used_name};
+ghost use Rattle.codegen8080.specs.internal.Names.{HasOwnPlace, IsOwnPlace, IsPublicHere, names_of, names_of_externals, names_of_publics};
 
 use crate::linkage::LinkageNames;
 use exprgen8080::{Externals, Finished, LabelNumber};
@@ -63,13 +65,14 @@ fn places_of(alloc: Global, numbers: &[Option<u16>], count: u16) -> Result<Vec<u
     Ok(places)
 }
 
-// Adds a name, if code refers to it.
+// Adds a name, which is new, if code refers to it.
 fn with_used(
     names: LinkageNames,
     external: ExternalName,
     number: Option<u16>,
 ) -> Result<LinkageNames, AllocError>
-    requires { names.publics ≡ [] }
+    requires first { names.publics ≡ [] }
+    requires new { is_among external.name (names_of names) ≡ false }
     ensures publics { IfOk result (λ after. after.publics ≡ []) }
     ensures externals { IfOk result
         (λ after. after.externals ≡ names.externals ++ used_name number external) }
@@ -86,7 +89,8 @@ fn names_with(
     externals: &[ExternalName],
     numbers: &[Option<u16>],
 ) -> Result<LinkageNames, AllocError>
-    requires { length numbers.now ≡ length externals.now }
+    requires as_many { length numbers.now ≡ length externals.now }
+    requires new { IsTrue (are_new (names_of_externals externals.now) []) }
     ensures names { IfOk result (λ names. names.externals ≡ used_names numbers.now externals.now) }
     ensures publics { IfOk result (λ names. names.publics ≡ []) }
 {
@@ -110,10 +114,13 @@ pub(crate) fn listed_names(
     externals: &[ExternalName],
     numbered: &Externals,
 ) -> Result<ListedNames, AllocError>
-    requires { length numbered.now ≡ length externals.now }
+    requires as_many { length numbered.now ≡ length externals.now }
+    requires new { IsTrue (are_new (names_of_externals externals.now) []) }
     ensures { IfOk result (λ listed. AreListed externals.now numbered.now listed.numbers.items listed.names) }
 {
     let Some(count) = numbered.count() else {
+        // A counter ends: code numbers 65535 names at most. Code and data within their segments refer to fewer, but no law
+        // counts them.
         return Err(AllocError);
     };
     let numbers = numbered.numbers();
@@ -125,54 +132,57 @@ pub(crate) fn listed_names(
     })
 }
 
-// A public name of an object. Fails if the object is in another module, which the tree code of `lower` rules out.
-fn public_object(name: Name, place: Place) -> Result<OwnedPublic, AllocError>
-    ensures may { IfOk result (λ public. IsTrue (may_have_publics public.segment)) }
-    ensures is { IfOk result (λ public. IsAtPlace name place (owned_public_view public)) }
+// A public name of an object, which is in this module.
+fn public_object(name: Name, place: Place) -> OwnedPublic
+    requires { IsOwnPlace place }
+    ensures may { IsTrue (may_have_publics result.segment) }
+    ensures is { IsAtPlace name place (owned_public_view result) }
 {
     match place {
-        Place::Number(offset) => Ok(OwnedPublic {
+        Place::Number(offset) => OwnedPublic {
             segment: Segment::Absolute,
             offset,
             name,
-        }),
-        Place::Code(offset) => Ok(OwnedPublic {
+        },
+        Place::Code(offset) => OwnedPublic {
             segment: Segment::Code,
             offset,
             name,
-        }),
-        Place::Data(offset) => Ok(OwnedPublic {
+        },
+        Place::Data(offset) => OwnedPublic {
             segment: Segment::Data,
             offset,
             name,
-        }),
-        Place::External { .. } => Err(AllocError),
+        },
+        Place::External { .. } => unreachable!(),
     }
 }
 
 // A public name, with its place in code.
-fn public_of(name: Name, place: PublicPlace, code: &Finished) -> Result<OwnedPublic, AllocError>
-    ensures may { IfOk result (λ public. IsTrue (may_have_publics public.segment)) }
-    ensures is { IfOk result (λ public. IsPublicIn code.now.labels.items code.now.bytes name place
-        (owned_public_view public)) }
+fn public_of(name: Name, place: PublicPlace, code: &Finished) -> OwnedPublic
+    requires { HasOwnPlace place }
+    ensures may { IsTrue (may_have_publics result.segment) }
+    ensures is { IsPublicIn code.now.labels.items code.now.bytes name place (owned_public_view result) }
 {
     match place {
         PublicPlace::Object(place) => public_object(name, place),
-        PublicPlace::Procedure(number) => Ok(OwnedPublic {
+        PublicPlace::Procedure(number) => OwnedPublic {
             segment: Segment::Code,
             offset: code.place(LabelNumber { index: number }),
             name,
-        }),
+        },
     }
 }
 
-// Adds PUBLIC names.
+// Adds PUBLIC names, which are new.
 fn with_all_publics(
     names: LinkageNames,
     publics: &[PublicName],
     code: &Finished,
 ) -> Result<LinkageNames, AllocError>
-    requires { names.publics ≡ [] }
+    requires first { names.publics ≡ [] }
+    requires new { IsTrue (are_new (names_of_publics publics.now) (names_of names)) }
+    requires here { AllByRecursion IsPublicHere publics.now }
     ensures externals { IfOk result (λ after. after.externals ≡ names.externals) }
     ensures publics { IfOk result
         (λ after. ArePublicsIn code.now.labels.items code.now.bytes publics.now after.publics) }
@@ -180,7 +190,7 @@ fn with_all_publics(
     let mut names = names;
     let mut left = publics;
     while let [public, others @ ..] = left {
-        names = names.with_public(public_of(public.name, public.place, code)?)?;
+        names = names.with_public(public_of(public.name, public.place, code))?;
         left = others;
     }
     Ok(names)
@@ -192,7 +202,9 @@ pub(crate) fn with_publics(
     tree: &TreeModule,
     code: &Finished,
 ) -> Result<ListedNames, AllocError>
-    requires { listed.names.publics ≡ [] }
+    requires first { listed.names.publics ≡ [] }
+    requires new { IsTrue (are_new (names_of_publics tree.now.publics.items) (names_of listed.names)) }
+    requires here { AllByRecursion IsPublicHere tree.now.publics.items }
     ensures names { IfOk result (λ after. after.names.externals ≡ listed.names.externals) }
     ensures numbers { IfOk result (λ after. after.numbers ≡ listed.numbers) }
     ensures publics { IfOk result

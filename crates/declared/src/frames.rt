@@ -40,6 +40,7 @@ fn add_zeros(bytes: &mut Vec<u8>, count: usize) -> Result<(), AllocError>
         (λ _. bytes.new.items ≡ bytes.old.items) }
 {
     let Some(end) = bytes.len().checked_add(count) else {
+        // No memory has so many bytes.
         return Err(AllocError);
     };
     bytes.resize(end, 0)
@@ -120,6 +121,7 @@ impl<'a> Frames<'a> {
         if let Some(caller) = self.current {
             if let Err(_) = self.callers.push(caller) {
                 self.bytes.truncate(base);
+                // Memory ran out.
                 return Err(AllocError);
             }
         }

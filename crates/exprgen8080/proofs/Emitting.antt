@@ -1,6 +1,11 @@
 -- The code of steps as it is written step by step.
 use Rattle.exprgen8080.proofs.Prelude.{◌≡◌, ◌==◌, ◌||◌, ◌⊎◌, inl, inr, ℕ, ◌+◌, ◌≤◌, ◌<◌, zero, suc, Bool, true, false, set, slice_index_or, List, [], ◌∷◌, ◌++◌, length, Some, None, slice_get, drop, take, refl, sym, ap, subst, ◌∙◌, arith, append_assoc, append-nil, list_any-append, drop_at, drop_all, take_at, Item, CallTo, TreeModule, Facts, Part, Step, AddsWithLabels, label_after, Writes, jump_item, Site, Emission, AreWritten, IsWritten, NoneWritten, PlainWritten, WordWritten, JumpWritten, MarkWritten, RoutineWritten, CallWritten, TestWritten, HoldsWritten, ChangeWritten, PartWritten, Planned, call_items, call_routine, calls_label, has_routine, module_label_of_routine, module_routine_label, index_of_routine, knowing, test_items, AddsItems, Emits, EmitsSteps, HasAll, IsAlone, NotesCalled, NotesOnly, after_step, step_items, task_labels, task_steps, AreLabelled, IsLabelled, drop_found, AreBelow, rank, NumbersRise, nodes_of}
+use Rattle.std.specs.Prelude.{Option}
+use Rattle.std.proofs.lemmas.Option.{slice_get_past}
 use Rattle.runtime8080.specs.declared.routine.Routine.{Routine}
+use Rattle.treecode.specs.declared.procedure.TreeProcedure.{TreeProcedure}
+use Rattle.steps8080.specs.Facts.{no_facts}
+use Rattle.exprgen8080.specs.internal.Emission.{items_of_call, module_call_items}
 use Rattle.steps8080.specs.declared.step.Step.TheVariants as steps
 use Rattle.steps8080.proofs.Numbered.{either_true, is_itself, writes_nothing, writes_then}
 use Rattle.exprgen8080.proofs.Ranks.Tasks.{next_below, parts_below}
@@ -23,14 +28,33 @@ note_kept before after index same = subst (λ to. HasAll before to) (sym same)
     (λ routine given. kept_at before index (index_of_routine routine) given)
 
 -- no routine is marked
-pub note_none : (called : List Bool) (index : ℕ) → NotesOnly index called called
-note_none called index = λ other given. inl given
-
 pub none_noted : (tree : TreeModule) (before after : Emission) (list : List Item)
     → after.is_called ≡ before.is_called
     → NotesCalled tree before.is_called.items after.is_called.items list
 none_noted tree before after list same = λ routine given.
     inl (ap (λ flags. has_routine flags.items routine) (sym same) ∙ given)
+
+-- a call of a procedure that is not there has no items
+pub no_call_added : (tree : TreeModule) (procedure : ℕ) (before after : Emission)
+    → length tree.procedures.items ≤ procedure
+    → after ≡ record before { facts = after.facts }
+    → after.facts ≡ no_facts
+    → AddsItems before after (module_call_items tree procedure) no_facts
+no_call_added tree procedure before after past same facts = record {
+  writes = subst (Writes before.writer after.writer) (sym no_items)
+      (subst (λ writer. Writes before.writer writer []) (sym (ap (λ (to : Emission). to.writer) same))
+      (writes_nothing before.writer));
+  facts = facts;
+  called = subst (λ (to : Emission). HasAll before.is_called.items to.is_called.items) (sym same)
+      (has_itself before.is_called.items);
+  steps = ap (λ (to : Emission). to.steps) same;
+}
+  where
+    no_items : module_call_items tree procedure ≡ []
+    no_items = ap (λ (entry : Option TreeProcedure). elim entry [
+      | Some found ↦ items_of_call procedure found.kind
+      | None ↦ []
+    ]) (slice_get_past tree.procedures.items procedure past)
 
 -- one routine is marked
 pub note_only : (before after : List Bool) (index : ℕ) → after ≡ set before index true

@@ -1,6 +1,6 @@
 //! Emission of planned code.
 
-ghost use Rattle.std.specs.Prelude.{◌≡◌, ◌∷◌, ◌<◌, [], true, false, slice_index_or, IfOk, OnOk};
+ghost use Rattle.std.specs.Prelude.{◌≡◌, ◌∷◌, ◌<◌, [], true, IfOk, OnOk};
 ghost use Rattle.asm8080.specs.declared.item.Item.TheVariants.{Plain, Mark};
 ghost use Rattle.asm8080.specs.declared.item.WordForm.TheVariants.{CallTo};
 ghost use Rattle.treecode.specs.Nodes.{nodes_of};
@@ -8,8 +8,9 @@ ghost use Rattle.treecode.specs.Rising.{NumbersRise};
 ghost use Rattle.steps8080.specs.Facts.{after, after_form, after_word, no_facts};
 ghost use Rattle.steps8080.specs.Writer.{jump_item, word_item};
 ghost use Rattle.exprgen8080.specs.internal.Emission.{after_test, has_routine, index_of_routine, knowing, module_call_items, module_label_of_routine, module_routine_label, test_items};
-ghost use Rattle.exprgen8080.specs.internal.Emitted.{AddsItems, Emits, EmitsSteps, HasAll, IsAlone, IsEmpty, IsNoPart, NotesCalled, NotesOnly, after_step, step_items};
+ghost use Rattle.exprgen8080.specs.internal.Emitted.{AddsItems, Emits, EmitsSteps, HasAll, IsAlone, IsEmpty, IsNoPart, NotesCalled, after_step, step_items};
 
+use crate::called::CalledRoutines;
 use crate::forms::plan_task;
 use asm8080::WordForm;
 use isa8080::{Instr, Operand, Operation, Register};
@@ -33,7 +34,8 @@ pub const ROUTINES: [Routine; 9] = [
 
 // The index of a routine in `ROUTINES`.
 fn routine_index(routine: Routine) -> u32
-    ensures { result ≡ index_of_routine routine }
+    ensures index { result ≡ index_of_routine routine }
+    ensures low { result < 9 }
 {
     match routine {
         Routine::Multiply => 0,
@@ -54,7 +56,7 @@ pub struct Emission {
     pub steps: Steps,
     pub facts: Facts,
     /// Whether the code calls each routine.
-    pub is_called: Vec<bool>,
+    pub is_called: CalledRoutines,
 }
 
 impl Emission {
@@ -67,7 +69,7 @@ impl Emission {
             writer: Writer::new(alloc, tree.externals.len())?,
             steps: Steps::new(alloc, procedures.saturating_add(9)),
             facts: Facts::none(),
-            is_called: vec![in alloc; false; 9]?,
+            is_called: CalledRoutines::none(alloc)?,
         })
     }
 
@@ -82,7 +84,7 @@ impl Emission {
             facts: _,
             is_called,
         } = self;
-        (writer, is_called)
+        (writer, is_called.into_flags())
     }
 
     /// The site at the end of the code, in the body of the given site.
@@ -147,21 +149,6 @@ impl Emission {
         self.plain(Instr::Accumulate(Operation::Or, Operand::Of(Register::A)))
     }
 
-    // Notes that the code calls a routine, by its index.
-    #[tactic(auto, using(crate::proofs::Emitting::note_kept, crate::proofs::Emitting::note_only, crate::proofs::Emitting::note_none))]
-    fn note(&mut self, index: usize) -> Result<(), AllocError>
-        ensures noted { OnOk result (slice_index_or self.new.is_called.items index false ≡ true) }
-        ensures kept { OnOk result (HasAll self.old.is_called.items self.new.is_called.items) }
-        ensures only { NotesOnly index self.old.is_called.items self.new.is_called.items }
-        ensures called { self.new ≡ record self.old { is_called = self.new.is_called } }
-    {
-        if index >= self.is_called.len() {
-            return Err(AllocError);
-        }
-        self.is_called[index] = true;
-        Ok(())
-    }
-
     // Adds a call of a routine.
     #[tactic(auto, using(crate::proofs::Emitting::call_noted))]
     fn call_routine(&mut self, tree: &TreeModule, routine: Routine) -> Result<(), AllocError>
@@ -172,13 +159,13 @@ impl Emission {
             (jump_item CallTo (module_label_of_routine tree.now routine) ∷ []) }
     {
         let index = routine_index(routine);
-        self.note(index as usize)?;
+        self.is_called.note(index as usize);
         self.facts = Facts::none();
         self.writer
             .jump(WordForm::CallTo, routine_label(tree, index))
     }
 
-    // Adds a call of a procedure. Fails if there is no procedure with this number; the tree code of `lower` has it.
+    // Adds a call of a procedure: no items if there is none with this number.
     fn call_procedure(&mut self, tree: &TreeModule, procedure: u32) -> Result<(), AllocError>
         ensures items { OnOk result (AddsItems self.old self.new
             (module_call_items tree.now procedure) no_facts) }
@@ -192,7 +179,7 @@ impl Emission {
                     .writer
                     .jump(WordForm::CallTo, LabelNumber { index: procedure }),
             },
-            None => Err(AllocError),
+            None => Ok(()),
         }
     }
 

@@ -4,6 +4,7 @@
 mod byte_operators;
 mod byte_shifts;
 mod bytes;
+mod called;
 mod calls;
 mod effects;
 mod emission;
@@ -16,6 +17,7 @@ mod words;
 
 pub use byte_operators::{ByteForm, Operands};
 pub use byte_shifts::Shifted;
+pub use called::CalledRoutines;
 pub use emission::{Emission, ROUTINES, routine_label};
 pub use steps8080::{
     Base, Externals, Facts, Finished, LabelNumber, Located, Part, Site, Step, Steps, Task, Writer,

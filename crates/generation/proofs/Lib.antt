@@ -3,5 +3,6 @@ pub mod Bounding
 pub mod Contract
 pub mod Counting
 pub mod TreeCode
+pub mod Linkable
 pub mod Programs
 pub mod Doing

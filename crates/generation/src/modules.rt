@@ -5,7 +5,9 @@ ghost use Rattle.std.specs.Prelude.{IfOk};
 ghost use Rattle.failure.specs.Failure.{IfFault};
 ghost use Rattle.treecode.specs.Nodes.{nodes_of};
 ghost use Rattle.treecode.specs.Rising.{NumbersRise};
+ghost use Rattle.codegen8080.specs.internal.Standing.{BodiesStand};
 ghost use Rattle.codegen8080.specs.internal.Modules.{IsGenerated};
+ghost use Rattle.codegen8080.specs.internal.Names.{IsLinkable};
 ghost use Rattle.codegen8080.specs.internal.Refusals.{MayRefuse};
 ghost use Rattle.image_laws.specs.Objects.{IsObjectOf};
 ghost use Rattle.image_laws.specs.Segments.{HasSegments};
@@ -28,7 +30,9 @@ use treecode::TreeModule;
 /// length (G1) only where that bound passes 65535.
 #[tactic(auto, using(crate::proofs::Contract::soundly_made, crate::proofs::Contract::code_does, crate::proofs::Contract::object_is, crate::proofs::Contract::segments_are, crate::proofs::Contract::names_are, crate::proofs::Counting::counted, crate::proofs::Bounding::within_bound, crate::proofs::Bounding::refusal_past_bound, crate::proofs::Bounding::refusal_makes_none))]
 pub fn generate(alloc: Global, tree: &TreeModule) -> Result<ObjectModule, Failure<Fault>>
-    requires { NumbersRise (nodes_of tree.now) }
+    requires rise { NumbersRise (nodes_of tree.now) }
+    requires stands { BodiesStand tree.now }
+    requires linkable { IsLinkable tree.now }
     ensures made { IfOk result (λ object. IsGenerated tree.now object) }
     ensures sound { IfOk result (OfItsModule tree.now IsSoundlyMade) }
     ensures does { IfOk result (OfItsModule tree.now DoesWhereItLies) }

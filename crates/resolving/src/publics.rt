@@ -38,6 +38,7 @@ fn insert(table: &mut IndexMap<Name, Found>, name: Name, found: Found) -> Result
 {
     match table.insert(name, found) {
         Ok(_) => Ok(()),
+        // A table fails only if memory runs out.
         Err(_) => Err(AllocError),
     }
 }

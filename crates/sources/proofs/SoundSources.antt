@@ -2,12 +2,17 @@
 use Rattle.sources.proofs.Prelude.{ℕ, List, All-cons, All-nil, All-weaker, ListsGlobals, TypedModule, IsSourceOf, AreSourcesOf, HasTyping, IsSoundlyTyped}
 use Rattle.std.specs.Prelude.{[], ◌∷◌, All}
 use Rattle.typing_rules.proofs.ModulesTyped.{module_is}
-use Rattle.typed_laws.proofs.Formed.{derived_is_soundly_typed}
+use Rattle.typed_laws.specs.GlobalNames.{GlobalNamesDiffer}
+use Rattle.typed_laws.proofs.{Formed.{derived_is_soundly_typed}, GlobalNames.{global_names_differ}}
 
 pub typed_text_is_soundly_typed : (text : List ℕ) (typed : TypedModule) → HasTyping text typed
     → IsSoundlyTyped typed
 typed_text_is_soundly_typed text typed has =
     derived_is_soundly_typed has.read.output has.tree typed has.read.derived (module_is has.typing)
+
+pub typed_text_has_names_that_differ : (text : List ℕ) (typed : TypedModule) → HasTyping text typed
+    → GlobalNamesDiffer typed
+typed_text_has_names_that_differ text typed has = global_names_differ has.tree typed (module_is has.typing)
 
 pub source_is_soundly_typed : (text : List ℕ) (typed : TypedModule) → IsSourceOf text typed → IsSoundlyTyped typed
 source_is_soundly_typed text typed source = typed_text_is_soundly_typed text typed source.typing

@@ -10,4 +10,5 @@ pub mod internal
 pub mod ProgramFaults
 pub mod Programs
 pub use Rattle.typed_laws.specs.Facts
+pub use Rattle.typed_laws.specs.GlobalNames
 pub use Rattle.layout.specs.Sound

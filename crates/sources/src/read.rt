@@ -16,6 +16,7 @@ ghost use Rattle.typed_trees.specs.Numbers.{NumbersFitInModule};
 ghost use Rattle.layout.specs.Storage.{storage_with};
 ghost use Rattle.layout.specs.Views.{layout_view};
 ghost use Rattle.layout.specs.Sound.{IsSoundlyTyped};
+ghost use Rattle.typed_laws.specs.GlobalNames.{GlobalNamesDiffer};
 ghost use Rattle.sources.specs.Reading.{HasTyping, IsSource, IsSourceOf, IsText};
 ghost use Rattle.sources.specs.Causes.{HasReadCause, IsSyntaxFault};
 ghost use Rattle.sources.specs.internal.Steps.{failure_as};
@@ -110,12 +111,13 @@ pub struct SourceModule {
     pub storage: Layout,
 }
 
-/// The typed module that a text is, with its storage. It is soundly typed. A text that is a source is not refused, unless memory
-/// runs out.
+/// The typed module that a text is, with its storage. It is soundly typed, and no two of its PUBLIC and EXTERNAL names are the
+/// same. A text that is a source is not refused, unless memory runs out.
 #[tactic(auto, using(crate::proofs::ReadLemmas::is_source, crate::proofs::ReadLemmas::stored, crate::proofs::OneSource::source_accepted))]
 pub fn read_source(alloc: Global, text: &[u8]) -> Result<SourceModule, Failure<ReadFault>>
     ensures source { IfOk result (λ read. IsSourceOf text.now (module_view read.typed)) }
     ensures sound { IfOk result (λ read. IsSoundlyTyped (module_view read.typed)) }
+    ensures names { IfOk result (λ read. GlobalNamesDiffer (module_view read.typed)) }
     ensures storage { IfOk result
         (λ read. layout_view read.storage ≡ storage_with (module_view read.typed)) }
     ensures storable { IfOk result (λ read. IsStorable (module_view read.typed)) }

@@ -48,6 +48,7 @@ impl Externals {
     {
         let index = name as usize;
         if index >= self.numbers.len() {
+            // A place has a name of its module: no clause of tree code says so.
             return Err(AllocError);
         }
         if let Some(number) = self.numbers[index] {

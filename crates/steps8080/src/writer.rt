@@ -265,6 +265,7 @@ impl Writer {
         let label = self.label_of(number)?;
         let index = number.index as usize;
         if self.is_marked[index] {
+            // A plan marks each label once: no clause of a plan says so.
             return Err(AllocError);
         }
         self.code.bind(label)?;

@@ -2,7 +2,10 @@
 use Rattle.tool.proofs.Prelude.{◌≡◌, Err, Ok, ℕ, ◌+◌, ◌<◌, ◌≤◌, List, [], ◌∷◌, ◌++◌, length, drop, get_or, arith, refl, sym, ap, ◌∙◌, subst, add-one, append-nil, append_assoc, ⊎_elim, drop_of_length-le, drop-cons, cases_lt, get_or-map, length-map, IsErrAnd, Result, TypedModule, ObjectModule, Storage, storage_with, Plan, HasReadCause, IsSourceOf, IsSoundTreeCode, MakesNone, OfItsModule, IsSoundlyMade, IsSoundlyTyped, text_of, texts_of, Compiled, ToolFault, TooManySources, Source, Code, Program, Link, Locate, IsCompiledTo, AreWithoutFault, HasCause, IsInOrder, HasNoObject, IsRefusedAlone, IsWithoutFault, AreCompiled, HasCompileCause, HasGenerationCause, HasSource, HasSourceCause, IsCompiled, IsNotCompiled, failure_of_code, keeps_contract, module_in}
 use Rattle.failure.specs.{Failure.{IfFault}, declared.Failure.{Failure, TheVariants.{Fault, Memory}}}
 use Rattle.treecode.specs.{declared.module.TreeModule.{TreeModule}, Lowered.{IsLowered}}
+use Rattle.codegen8080.specs.internal.Names.{IsLinkable}
 use Rattle.codegen8080.specs.declared.fault.Fault as code_fault
+unfoldable use Rattle.generation.specs.internal.TreeCode.{KeepsNames}
+use Rattle.sources.specs.GlobalNames.{GlobalNamesDiffer}
 use Rattle.sources.specs.declared.sources.Source as declared_source
 
 pub has_source : (text : List ℕ) (typed : TypedModule) → IsSourceOf text typed → HasSource typed
@@ -22,6 +25,15 @@ sound_tree_code typed storage tree sound has is lowered = record {
   laid_out = has.source.storage ∙ ap Ok (sym is);
   lowered = lowered;
 }
+
+-- and it can have an object module, since the names of the module differ
+pub linkable : (typed : TypedModule) (tree : TreeModule)
+    → KeepsNames typed tree
+    → GlobalNamesDiffer typed
+    → IsSoundlyTyped typed
+    → IsLinkable tree
+unfolding KeepsNames
+linkable typed tree keeps differ sound = keeps differ sound.storable
 
 -- its object module is made of it
 pub made_of : (typed : TypedModule) (tree : TreeModule) (object : ObjectModule)

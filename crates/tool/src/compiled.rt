@@ -10,6 +10,7 @@ ghost use Rattle.sources.specs.Reading.{IsSourceOf};
 ghost use Rattle.object_modules.specs.Module.{length_of};
 ghost use Rattle.object_modules.specs.declared.segment.Segment.TheVariants as segments;
 ghost use Rattle.generation.specs.internal.Typed.{IsSoundlyMade};
+ghost use Rattle.sources.specs.GlobalNames.{GlobalNamesDiffer};
 ghost use Rattle.sources.specs.Sound.{IsSoundlyTyped};
 ghost use Rattle.sources.specs.Programs.{texts_of};
 ghost use Rattle.tool.specs.Made.{IsCompiledTo};
@@ -62,6 +63,7 @@ pub fn compile_all(alloc: Global, sources: &[Source]) -> Result<Vec<Compiled>, F
 fn read(alloc: Global, file: usize, text: &[u8]) -> Result<SourceModule, Failure<ToolFault>>
     ensures source { IfOk result (λ read. IsSourceOf text.now (module_view read.typed)) }
     ensures sound { IfOk result (λ read. IsSoundlyTyped (module_view read.typed)) }
+    ensures names { IfOk result (λ read. GlobalNamesDiffer (module_view read.typed)) }
     ensures storage { IfOk result
         (λ read. layout_view read.storage ≡ storage_with (module_view read.typed)) }
     ensures jumps { IfOk result (λ read. JumpsAreSound (module_view read.typed)) }
@@ -82,6 +84,7 @@ fn object_of(
 ) -> Result<ObjectModule, Failure<ToolFault>>
     requires source { HasSource (module_view source.now.typed) }
     requires sound { IsSoundlyTyped (module_view source.now.typed) }
+    requires names { GlobalNamesDiffer (module_view source.now.typed) }
     requires jumps { JumpsAreSound (module_view source.now.typed) }
     requires storage { layout_view source.now.storage ≡ storage_with (module_view source.now.typed) }
     ensures made { IfOk result (IsSoundlyMade (module_view source.now.typed)) }

@@ -138,7 +138,7 @@ impl Lowering {
                 self.label_count = count;
                 Ok(())
             }
-            // More labels than can be counted: out of memory.
+            // No number of 32 bits is left for a label.
             None => Err(AllocError),
         }
     }
@@ -198,8 +198,10 @@ fn label_after(first: u32, index: usize) -> Result<u32, AllocError>
     match u32::try_from(index) {
         Ok(index) => match first.checked_add(index) {
             Some(label) => Ok(label),
+            // The number of the label passes 32 bits.
             None => Err(AllocError),
         },
+        // The index of the label passes 32 bits.
         Err(_) => Err(AllocError),
     }
 }

@@ -265,6 +265,7 @@ pub(crate) fn next_index(count: usize) -> Result<u32, AllocError>
 {
     match u32::try_from(count) {
         Ok(index) => Ok(index),
+        // The table has more entries than 32 bits count.
         Err(_) => Err(AllocError),
     }
 }

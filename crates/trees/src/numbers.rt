@@ -11,6 +11,7 @@ pub fn next_number(number: u32) -> Result<u32, AllocError>
 {
     match number.checked_add(1) {
         Some(next) => Ok(next),
+        // The last number of 32 bits is in use.
         None => Err(AllocError),
     }
 }

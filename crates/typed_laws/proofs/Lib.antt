@@ -2,6 +2,8 @@ mod Prelude
 pub mod DeclaredObjects
 pub mod TextParts
 pub mod Facts
+pub mod SameGlobals
+pub mod GlobalNames
 pub mod Formed
 pub mod Heights
 pub mod Plain

@@ -1,5 +1,4 @@
 -- Items as code keeps them.
-use Rattle.std.specs.Prelude.{ℕ, ◌^◌, Bool, true, nat_lt}
 use Rattle.object_modules.specs.declared.segment.Target.TheVariants.{InSegment, External}
 use Rattle.asm8080.specs.declared.item.Reference.{Reference}
 use Rattle.asm8080.specs.declared.item.Reference.TheVariants.{AtLabel, AtTarget, AtNumber}
@@ -22,20 +21,3 @@ item_of (stored.ExternalAddress number offset) = Address (AtTarget (External num
 item_of (stored.NumberAddress number) = Address (AtNumber number)
 item_of (stored.Gap count) = Gap count
 item_of (stored.Mark label) = Mark label
-
--- whether the number of a label fits 32 bits
-abbrev pub is_short_label : (label : ℕ) → Bool
-is_short_label label = nat_lt label (2 ^ 32)
-
--- whether a reference counts from no label, or from one with such a number
-abbrev pub has_short_label : Reference → Bool
-has_short_label (AtLabel label) = is_short_label label
-has_short_label (AtTarget target offset) = true
-has_short_label (AtNumber number) = true
-
--- whether an item has no label, or one with such a number
-abbrev pub is_short : Item → Bool
-is_short (WithWord form reference) = has_short_label reference
-is_short (Address reference) = has_short_label reference
-is_short (Mark label) = is_short_label label
-is_short item = true

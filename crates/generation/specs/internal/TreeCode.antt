@@ -1,14 +1,17 @@
 -- What tree code of a module keeps of the module: its charges, its code bound, and what its code does.
-use Rattle.std.specs.Prelude.{◌≡◌, ℕ, Ok, Some, slice_get}
+use Rattle.std.specs.Prelude.{◌≡◌, ℕ, [], ◌∷◌, None, Ok, Some, slice_get}
 use Rattle.object_modules.specs.Module.{IsObjectModule, ObjectModule}
+use Rattle.typed_trees.specs.Storable.{IsStorable}
 use Rattle.typed_trees.specs.TypedTrees.{TypedModule, TypedProcedure}
 use Rattle.typed_trees.specs.Weight.{code_bound}
+use Rattle.layout.specs.Joined.{first_repeated, globals_of}
 use Rattle.layout.specs.Sound.{IsSoundlyTyped}
 use Rattle.layout.specs.Storage.{Storage, storage_of}
 use Rattle.treecode.specs.declared.module.TreeModule.{TreeModule}
 use Rattle.treecode.specs.declared.procedure.TreeProcedure.{TreeProcedure}
 use Rattle.frames.specs.Charges.{IsChargedAs}
 use Rattle.codegen8080.specs.internal.Modules.{IsGenerated}
+use Rattle.codegen8080.specs.internal.Names.{IsLinkable}
 use Rattle.program_laws.specs.OneModule.{DoesWhereItLies}
 use Rattle.measure_laws.specs.Bounds.{bound_of_tree}
 
@@ -33,3 +36,9 @@ pub record KeepsItsModule (typed : TypedModule) (tree : TreeModule) : Type 0 whe
 unfoldable pub KeepsModule : TypedModule → Storage → TreeModule → Type 0
 KeepsModule typed storage tree =
     IsSoundlyTyped typed → storage_of typed ≡ Ok storage → KeepsItsModule typed tree
+
+-- The names of tree code of a module can be listed in an object module, if no two of the PUBLIC and EXTERNAL names of the
+-- module are the same and its objects have places.
+unfoldable pub KeepsNames : TypedModule → TreeModule → Type 0
+KeepsNames typed tree =
+    first_repeated [] (globals_of (typed ∷ [])) ≡ None → IsStorable typed → IsLinkable tree

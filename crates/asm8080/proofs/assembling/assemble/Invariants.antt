@@ -7,4 +7,5 @@ invariant-loop-stored l = record {
       with_items (layout_from (place_in l.places)) l.code (drop l.stored-index l.items)
       ≡ with_items (layout_from (place_in l.places)) no_code l.items;
   room : length l.code.bytes + size_of_items (drop l.stored-index l.items) ≤ SEGMENT_LIMIT;
+  flags : length l.code.is_set + size_of_items (drop l.stored-index l.items) ≤ SEGMENT_LIMIT;
 }

@@ -1,4 +1,5 @@
 use Rattle.codegen8080.proofs.BodyParts.{entry_added}
+use Rattle.codegen8080.proofs.{PlansStand.{entry_stands}, Standing.{planned_stand}}
 use Rattle.codegen8080.proofs.bodies.put_entry.Goals as goal
 
 pub returns : goal.returns
@@ -8,3 +9,9 @@ returns c =
     c.in_ok-plan_next_entry.ensures.labels
     c.plan_next_entry.ensures.goes_on
     c.in_ok-plan_next_entry.ensures.plan c.count-start.ensures c.planned.ensures.code
+
+pub planned-requires-clause-stand : goal.planned-requires-clause-stand
+planned-requires-clause-stand c =
+    planned_stand c.args.generator.now.plan.list.items c.plan_next_entry.new.generator.plan.list.items _
+    c.count-start.result c.in_ok-plan_next_entry.ensures.plan c.count-start.ensures
+    (entry_stands c.args.body.now c.args.generator.now.emission.steps.labels)

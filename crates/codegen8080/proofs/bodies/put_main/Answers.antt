@@ -1,5 +1,6 @@
-use Rattle.codegen8080.proofs.Prelude.{refl, ap, ◌∙◌, subst, sym, HasNothing, TreeModule, Site, Emission, Generator}
+use Rattle.codegen8080.proofs.Prelude.{◌≡◌, ℕ, length, rules, refl, ap, ◌∙◌, subst, sym, HasNothing, TreeModule, Site, Emission, Generator}
 use Rattle.treecode.specs.{Nodes.{nodes_of}, Rising.{NumbersRise}}
+use Rattle.codegen8080.specs.internal.Standing.{ListStands}
 use Rattle.codegen8080.proofs.BodyParts.{main_added}
 use Rattle.codegen8080.proofs.bodies.put_main.Goals as goal
 
@@ -18,11 +19,18 @@ returns c =
     c.in_ok-add.ensures c.in_ok-stack_end.ensures refl
     c.in_ok-list.ensures.code c.in_ok-add-2.ensures
 
-pub list-requires : goal.list-requires
-list-requires c =
-    subst (λ (tree : TreeModule). NumbersRise (nodes_of tree)) (sym c.body_of-body.ensures.tree) c.requires
+pub list-requires-clause-rise : goal.list-requires-clause-rise
+list-requires-clause-rise c =
+    subst (λ (tree : TreeModule). NumbersRise (nodes_of tree)) (sym c.body_of-body.ensures.tree) c.requires.rise
 
 pub add-requires-2 : goal.add-requires-2
 add-requires-2 c =
     subst (λ (tree : TreeModule). NumbersRise (nodes_of tree))
-    (sym (ap (λ (site : Site). site.tree.now) c.site_of-2.ensures ∙ c.body_of-body.ensures.tree)) c.requires
+    (sym (ap (λ (site : Site). site.tree.now) c.site_of-2.ensures ∙ c.body_of-body.ensures.tree)) c.requires.rise
+
+pub list-requires-clause-stands : goal.list-requires-clause-stands
+list-requires-clause-stands c =
+    let counted : c.len.result ≡ length c.args.tree.now.statements.items = search rules in
+    subst (λ (tree : TreeModule). ListStands (nodes_of tree) c.len.result c.args.tree.now.main.body)
+    (sym c.body_of-body.ensures.tree)
+    (subst (λ (bound : ℕ). ListStands (nodes_of c.args.tree.now) bound c.args.tree.now.main.body) (sym counted) c.requires.stands)

@@ -1,5 +1,6 @@
-use Rattle.codegen8080.proofs.Prelude.{true, refl, subst, sym, TreeModule, Generator, IsFrameOf}
+use Rattle.codegen8080.proofs.Prelude.{◌≡◌, ℕ, length, rules, true, refl, subst, sym, TreeModule, Generator, IsFrameOf}
 use Rattle.treecode.specs.{Nodes.{nodes_of}, Rising.{NumbersRise}}
+use Rattle.codegen8080.specs.internal.Standing.{ListStands}
 use Rattle.codegen8080.proofs.BodyParts.{own_added}
 use Rattle.codegen8080.proofs.bodies.put_own.Goals as goal
 
@@ -20,12 +21,19 @@ returns c =
 
 pub put_entry-requires : goal.put_entry-requires
 put_entry-requires c =
-    subst (λ (tree : TreeModule). NumbersRise (nodes_of tree)) (sym c.body_of-body.ensures.tree) c.requires
+    subst (λ (tree : TreeModule). NumbersRise (nodes_of tree)) (sym c.body_of-body.ensures.tree) c.requires.rise
 
-pub list-requires : goal.list-requires
-list-requires c =
-    subst (λ (tree : TreeModule). NumbersRise (nodes_of tree)) (sym c.body_of-body.ensures.tree) c.requires
+pub list-requires-clause-rise : goal.list-requires-clause-rise
+list-requires-clause-rise c =
+    subst (λ (tree : TreeModule). NumbersRise (nodes_of tree)) (sym c.body_of-body.ensures.tree) c.requires.rise
 
 pub put_end-requires : goal.put_end-requires
 put_end-requires c =
-    subst (λ (tree : TreeModule). NumbersRise (nodes_of tree)) (sym c.body_of-body.ensures.tree) c.requires
+    subst (λ (tree : TreeModule). NumbersRise (nodes_of tree)) (sym c.body_of-body.ensures.tree) c.requires.rise
+
+pub list-requires-clause-stands : goal.list-requires-clause-stands
+list-requires-clause-stands c =
+    let counted : c.len.result ≡ length c.args.tree.now.statements.items = search rules in
+    subst (λ (tree : TreeModule). ListStands (nodes_of tree) c.len.result c.args.procedure.now.body)
+    (sym c.body_of-body.ensures.tree)
+    (subst (λ (bound : ℕ). ListStands (nodes_of c.args.tree.now) bound c.args.procedure.now.body) (sym counted) c.requires.stands)

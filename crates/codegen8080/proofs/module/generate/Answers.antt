@@ -3,8 +3,8 @@ use Rattle.codegen8080.proofs.ObjectParts.{generated, made_of_same}
 use Rattle.codegen8080.proofs.Refused.{code_refused, data_refused}
 use Rattle.codegen8080.proofs.module.generate.Goals as goal
 
-pub names_of-requires : goal.names_of-requires
-names_of-requires c =
+pub names_of-requires-clause-as_many : goal.names_of-requires-clause-as_many
+names_of-requires-clause-as_many c =
     ap (λ table. length table) c.in_ok-variables.ensures.externals
     ∙ c.in_ok-variables_of.ensures.count
     ∙ ap (λ table. length table) c.in_ok-code.ensures.externals

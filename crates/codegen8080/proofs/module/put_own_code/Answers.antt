@@ -1,4 +1,5 @@
-use Rattle.codegen8080.proofs.Prelude.{refl, ap, subst, LabelNumber, Writes, Emission, contents_items, AddsProcedures}
+use Rattle.codegen8080.proofs.Prelude.{refl, ap, sym, subst, LabelNumber, Writes, Emission, contents_items, AddsProcedures}
+use Rattle.codegen8080.specs.internal.Standing.{AllStand}
 use Rattle.codegen8080.proofs.ModuleParts.{own_code_added}
 use Rattle.codegen8080.proofs.module.put_own_code.Goals as goal
 
@@ -21,3 +22,7 @@ returns c =
     (λ procedures. AddsProcedures c.args.tree.now 0 procedures c.put_main_if_any.new.generator
     c.put_procedures.new.generator)
     c.as_slice-2.ensures.value c.in_ok-put_procedures.ensures)
+
+pub put_procedures-requires-clause-stands : goal.put_procedures-requires-clause-stands
+put_procedures-requires-clause-stands c =
+    subst (AllStand c.args.tree.now) (sym c.as_slice-2.ensures.value) c.requires.stands.procedures

@@ -1,6 +1,11 @@
 use Rattle.tool.proofs.Prelude.{module_view, layout_view}
-use Rattle.tool.proofs.CompiledLemmas.{generation_refused, made_of, sound_tree_code}
+use Rattle.tool.proofs.CompiledLemmas.{generation_refused, linkable, made_of, sound_tree_code}
 use Rattle.tool.proofs.compiled.object_of.Goals as goal
+
+pub generate-generated-requires-clause-linkable : goal.generate-generated-requires-clause-linkable
+generate-generated-requires-clause-linkable c =
+    linkable (module_view c.args.source.now.typed) c.in_ok-tree.tree c.in_ok-tree.ensures.names
+    c.requires.names c.requires.sound
 
 pub returns-in-Ok-clause-made : goal.returns-in-Ok-clause-made
 returns-in-Ok-clause-made c =

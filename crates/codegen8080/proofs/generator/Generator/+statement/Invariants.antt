@@ -1,5 +1,5 @@
 use Rattle.codegen8080.proofs.Prelude.{◌+◌}
-use Rattle.codegen8080.proofs.Driving.{IsCarrying, IsListing}
+use Rattle.codegen8080.proofs.Driving.{IsCarryingBelow, IsListing}
 use Rattle.codegen8080.proofs.generator.Generator.+statement.Given as goal
 
 abbrev pub decreases-statement : goal.decreases-statement
@@ -15,7 +15,7 @@ abbrev pub decreases-list : goal.decreases-list
 decreases-list l = l.bound + l.bound + l.bound + l.bound
 
 abbrev pub invariant-planned-loop-index : goal.invariant-planned-loop-index
-invariant-planned-loop-index l = IsCarrying l.body l.fn.self l.self l.waiting l.fn.start l.index
+invariant-planned-loop-index l = IsCarryingBelow l.bound l.body l.fn.self l.self l.waiting l.fn.start l.index
 
 abbrev pub invariant-list-loop-index : goal.invariant-list-loop-index
 invariant-list-loop-index l = IsListing l.body l.fn.list l.fn.self l.self l.index

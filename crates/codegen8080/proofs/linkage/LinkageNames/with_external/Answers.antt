@@ -1,5 +1,5 @@
-use Rattle.codegen8080.proofs.Prelude.{◌≡◌, false, List, ℕ, [], ◌∷◌, ◌++◌, map, ap, sym, ◌∙◌, rules, is_among, owned_public_view, Linkage, names_of}
-use Rattle.codegen8080.proofs.NewNames.{external_names, linkage_with_name, grown_known}
+use Rattle.codegen8080.proofs.Prelude.{◌≡◌, List, ℕ, [], ◌∷◌, ◌++◌, map, ap, ◌∙◌, rules, owned_public_view, Linkage, names_of}
+use Rattle.codegen8080.proofs.NewNames.{external_names, linkage_with_name}
 use Rattle.codegen8080.proofs.linkage.LinkageNames.with_external.Goals as goal
 
 pub invariant_of-result : goal.invariant_of-result
@@ -13,18 +13,9 @@ invariant_of-result c =
       publics = map owned_public_view c.self.inside.publics.items;
     } in
     let none : map owned_public_view c.self.inside.publics.items ≡ [] = search rules in
-    let absent : is_among c.valid-name.result c.self.inside.known ≡ false = search rules in
     let more : names_of after ≡ names_of before ++ c.valid-name.result ∷ [] =
     ap (λ (e : List (List ℕ)). names_of (record { externals = e; publics = after.publics }))
     c.in_ok-push.ensures.items
     ∙ external_names before.externals before.publics c.valid-name.result none in
-    record {
-      known =
-          grown_known c.self.inside.known c.insert.new.self before after c.valid-name.result
-          c.self.invariant.known absent c.in_ok-insert.ensures more;
-      is =
-          linkage_with_name before after c.valid-name.result more c.self.invariant.is
-          c.valid-name.ensures.valid
-          (ap (is_among c.valid-name.result) (sym c.self.invariant.known) ∙ absent)
-          c.self.invariant.is.publics;
-    }
+    linkage_with_name before after c.valid-name.result more c.self.invariant c.valid-name.ensures.valid
+    (search rules) c.self.invariant.publics
