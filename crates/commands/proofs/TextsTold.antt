@@ -1,6 +1,7 @@
 -- Texts of the command line that are refused.
 use Rattle.commands.proofs.Prelude.{◌≡◌, ◌⊎◌, ℕ, List, Err, Ok, Option, Some, codes, inl, inr, refl, subst, arith, Kinds, kind_of, DisplayHelp, DisplayVersion, status_of, Tells, refusal_line, Ending, Done, Refused, WrongLine, Limit, Stopped, Outside, IsFaultOf, PlaceWanted, Wanted, wants_place, Read, ◌>>=◌, jump_read, only_file, plan_read, LineFault, Help, Version, Wrong, Plan, AsksHelpAtMost, RefusesNoText, TellsText, TellsTextByWords, IsWrong, PlaceAction, Hex, Listing, Symbols, RefusesPlaceText, TellsObjectText}
 use Rattle.command_line.specs.declared.orders.PlaceAction.TheVariants.{Locate}
+use Rattle.commands.specs.Orders.{AsksNoHelp}
 
 pub text_by_words : (found : Option Wanted) (wanted : Wanted) (old new : Option (List ℕ)) → found ≡ Some wanted → TellsText wanted old new → TellsTextByWords found old new
 text_by_words found wanted old new e told = rw e told
@@ -20,6 +21,15 @@ help_at_most kinds (Wrong error) help is wrong = neither (help (kind_of error) i
     neither : (kind_of error ≡ DisplayHelp) ⊎ (kind_of error ≡ DisplayVersion) → ⊥
     neither (inl asked) = is.0 asked
     neither (inr asked) = is.1 asked
+
+-- words that do not ask for help or the version have another fault
+pub none_asked : (kinds : Kinds) (fault : LineFault) → AsksNoHelp kinds → IsFaultOf kinds fault → IsWrong fault
+none_asked kinds (Help error) none is = none.0 is.1
+none_asked kinds (Version error) none is = none.1 is.1
+none_asked kinds (Wrong error) none is = tt
+
+pub wrong_not_done : (ending : Ending) → ending ≡ WrongLine → ending ≡ Done → ⊥
+wrong_not_done ending wrong done = cc
 
 pub done_or_refused : (ending : Ending) → (ending ≡ Done) ⊎ (ending ≡ Refused) → ending ≡ WrongLine → ⊥
 done_or_refused ending (inl done) wrong = cc

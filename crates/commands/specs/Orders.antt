@@ -110,9 +110,8 @@ pub record PrintsNeedWanted (need : NeedWanted) (files : Option Directory)
   pub planned : plan_read need.plan ≡ Ok plan
   pub printed : PrintsNeedOf files need.files old new
 
--- what an order that places prints, one that tells a need, and one to explain a number; one to compile or to
--- link prints nothing.
--- What one to run sources or objects or to interpret prints is said below, and of one to convert in Converting
+-- What an order that places prints, one that tells a need, and one to explain a number; one to compile or to link prints
+-- nothing. What one to run sources or objects or to interpret prints is said below, and of one to convert in Converting.
 abbrev pub PrintsAsWanted : Wanted → Option Directory → (old new : Option (List ℕ)) → Type 0
 PrintsAsWanted (wants_place place) files old new = PrintsWanted place files old new
 PrintsAsWanted (wants_need need) files old new = PrintsNeedWanted need files old new
@@ -233,7 +232,8 @@ RefusesAsWanted (wants_explain explain) files new before after err_old err_new o
     (after ≡ before) × RefusesPage explain err_old err_new out_old out_new
 RefusesAsWanted (wants_convert convert) files new before after err_old err_new out_old out_new = Unit {0}
 
--- the files that an order reads, in their order, and then the one that it writes
+-- the files that an order reads, in their order, and then the one that it writes, but for those of ports and a table of
+-- lines, of which more is said where they can't be written
 abbrev pub names_of : Wanted → List (List ℕ)
 names_of (wants_compile compile) = compile.source ∷ compile.object ∷ []
 names_of (wants_program program) = program.files ++ names_in program.input_files
@@ -335,6 +335,10 @@ TellsTextByWords (Some wanted) old new = TellsText wanted old new
 abbrev pub RefusesNoText : Option Wanted → Type 0
 RefusesNoText None = Unit {0}
 RefusesNoText (Some wanted) = (text : List ℕ) → RefusesText wanted text → ⊥
+
+-- `clap` does not find that the words ask for help or for the version
+abbrev pub AsksNoHelp : Kinds → Type 0
+AsksNoHelp kinds = (IsAmong DisplayHelp kinds → ⊥) × (IsAmong DisplayVersion kinds → ⊥)
 
 -- `clap` finds no fault in the words, or only that they ask for help or for the version
 abbrev pub AsksHelpAtMost : Kinds → Type 0

@@ -33,7 +33,7 @@ takes_object action texts = false
 -- the text of a program that was built from texts: its listing, or its symbols
 abbrev pub ShowsProgram : PlaceAction → (texts : List (List ℕ)) → Construction → (text : List ℕ) → Type 0
 ShowsProgram Listing texts built text = ListsProgram texts built text
-ShowsProgram Symbols texts built text = SymbolsOfProgram built text
+ShowsProgram Symbols texts built text = SymbolsOfProgram texts built text
 ShowsProgram action texts built text = ⊥
 
 -- a program was built of texts, which are not too many, at a plan, and has this text

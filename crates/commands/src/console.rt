@@ -8,7 +8,7 @@ ghost use Rattle.clap.specs.Words.{fault_of};
 ghost use Rattle.host.specs.Files.{KeepsFiles};
 ghost use Rattle.command_line.specs.Command.{plm_app, place_in, wanted_by, wanted_in, wants_place};
 ghost use Rattle.command_line.specs.Settings.{plan_read};
-ghost use Rattle.commands.specs.Orders.{AsksHelpAtMost, ChangesAsWanted, ChangesByWords, PrintsAsWanted, PrintsByWords, PrintsObject, PrintsWanted, RefusesAsWanted, RefusesByWords, RefusesNoText, RefusesObject, RefusesPlaced, RunsAsWanted, RunsByWords, StopsAsWanted, StopsByWords, QuietAsWanted, QuietByWords, TellsObjectText, TellsText, TellsTextByWords, WritesAsWanted, WritesByWords, names_by_words, names_of};
+ghost use Rattle.commands.specs.Orders.{AsksHelpAtMost, AsksNoHelp, ChangesAsWanted, ChangesByWords, PrintsAsWanted, PrintsByWords, PrintsObject, PrintsWanted, RefusesAsWanted, RefusesByWords, RefusesNoText, RefusesObject, RefusesPlaced, RunsAsWanted, RunsByWords, StopsAsWanted, StopsByWords, QuietAsWanted, QuietByWords, TellsObjectText, TellsText, TellsTextByWords, WritesAsWanted, WritesByWords, names_by_words, names_of};
 ghost use Rattle.commands.specs.Converting.{ConvertsAsWanted, ConvertsByWords, TellsAsWanted, TellsByWords, TellsOutput};
 ghost use Rattle.commands.specs.internal.LineFaults.{IsWrong};
 
@@ -40,7 +40,8 @@ use std::io::Write;
 /// written: then a beginning of what is printed of them may be there.
 /// A run with files of ports that is refused has begun none of them, and printed nothing, unless it had ended. Once it had,
 /// the files before one that could not be written are whole, and those after it as they were; standard output comes last.
-/// With status 2 no file changes.
+/// With status 2 no file changes, and nothing is printed. Words with a fault that do not ask for help or for the version never
+/// end with status 0.
 #[tactic(auto, using(crate::proofs::OrdersKept::status_bound, crate::proofs::OrdersKept::done_is, crate::proofs::OrdersKept::not_done, crate::proofs::OrdersKept::not_refused, crate::proofs::OrdersKept::not_wrong, crate::proofs::OrdersKept::refused_is, crate::proofs::TextsTold::wrong_is))]
 pub fn run_command<F: Files, O: Write, E: Write>(
     alloc: Global,
@@ -69,6 +70,8 @@ pub fn run_command<F: Files, O: Write, E: Write>(
     ensures not_wrong { AsksHelpAtMost (fault_of plm_app (texts words.now)) →
         (fault_of plm_app (texts words.now) ≡ [] → RefusesNoText (wanted_by (texts words.now))) →
         result ≡ 2 → ⊥ }
+    ensures usage { (fault_of plm_app (texts words.now) ≡ [] → ⊥) →
+        AsksNoHelp (fault_of plm_app (texts words.now)) → result ≡ 0 → ⊥ }
     ensures told { result ≡ 1 → TellsByWords (wanted_by (texts words.now))
         (TellsOutput (F.failures files.old) (F.failures files.new) (E.contents err.old) (E.contents err.new))
         (TellsRefusal (F.files files.old) (names_by_words (wanted_by (texts words.now)))
@@ -81,8 +84,7 @@ pub fn run_command<F: Files, O: Write, E: Write>(
         (wanted_by (texts words.now)) (F.files files.old) (F.files files.new)
         (F.failures files.old) (F.failures files.new)
         (E.contents err.old) (E.contents err.new) (O.contents out.old) (O.contents out.new) }
-    ensures silent { fault_of plm_app (texts words.now) ≡ [] → result ≡ 2 →
-        O.contents out.new ≡ O.contents out.old }
+    ensures silent { result ≡ 2 → O.contents out.new ≡ O.contents out.old }
     ensures faulty { (fault_of plm_app (texts words.now) ≡ [] → ⊥) → result ≤ 2 }
     ensures count { (result ≡ 1 → ⊥) → F.failures files.new ≡ F.failures files.old }
     ensures quiet { (result ≡ 1 → ⊥) → (result ≡ 2 → ⊥) → QuietByWords
@@ -120,6 +122,8 @@ fn end_words<F: Files, O: Write, E: Write>(
     ensures not_wrong { AsksHelpAtMost (fault_of plm_app (texts words.now)) →
         (fault_of plm_app (texts words.now) ≡ [] → RefusesNoText (wanted_by (texts words.now))) →
         result ≡ Ending.WrongLine → ⊥ }
+    ensures usage { (fault_of plm_app (texts words.now) ≡ [] → ⊥) →
+        AsksNoHelp (fault_of plm_app (texts words.now)) → result ≡ Ending.Done → ⊥ }
     ensures told { result ≡ Ending.Refused → TellsByWords (wanted_by (texts words.now))
         (TellsOutput (F.failures files.old) (F.failures files.new) (E.contents err.old) (E.contents err.new))
         (TellsRefusal (F.files files.old) (names_by_words (wanted_by (texts words.now)))
@@ -132,8 +136,7 @@ fn end_words<F: Files, O: Write, E: Write>(
         (wanted_by (texts words.now)) (F.files files.old) (F.files files.new)
         (F.failures files.old) (F.failures files.new)
         (E.contents err.old) (E.contents err.new) (O.contents out.old) (O.contents out.new) }
-    ensures silent { fault_of plm_app (texts words.now) ≡ [] → result ≡ Ending.WrongLine →
-        O.contents out.new ≡ O.contents out.old }
+    ensures silent { result ≡ Ending.WrongLine → O.contents out.new ≡ O.contents out.old }
     ensures faulty { (fault_of plm_app (texts words.now) ≡ [] → ⊥) → status_of result ≤ 2 }
     ensures count { (result ≡ Ending.Refused → ⊥) → F.failures files.new ≡ F.failures files.old }
     ensures quiet { (result ≡ Ending.Refused → ⊥) → (result ≡ Ending.WrongLine → ⊥)
@@ -151,6 +154,8 @@ fn end_words<F: Files, O: Write, E: Write>(
 fn end_line<O: Write, E: Write>(fault: &LineFault, out: &mut O, err: &mut E) -> Ending
     ensures ending { status_of result ≤ 2 }
     ensures not_wrong { result ≡ Ending.WrongLine → IsWrong fault.now }
+    ensures usage { IsWrong fault.now → result ≡ Ending.WrongLine }
+    ensures silent { result ≡ Ending.WrongLine → O.contents out.new ≡ O.contents out.old }
     ensures told { result ≡ Ending.Refused → TellsOther (E.contents err.old) (E.contents err.new) }
     ensures quiet { (result ≡ Ending.Refused → ⊥) → (result ≡ Ending.WrongLine → ⊥) →
         E.contents err.new ≡ E.contents err.old }

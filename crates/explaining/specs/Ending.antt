@@ -4,7 +4,7 @@ use Rattle.clap.specs.Words.{Text, fault_of}
 use Rattle.host.specs.Files.{Directory, KeepsFiles}
 use Rattle.host.specs.Refusals.{TellsRefusal}
 use Rattle.command_line.specs.Command.{plm_app, wanted_by}
-use Rattle.commands.specs.Orders.{AsksHelpAtMost, ChangesByWords, PrintsByWords, QuietByWords, RefusesByWords, RefusesNoText, RunsByWords, StopsByWords, TellsTextByWords, WritesByWords, names_by_words}
+use Rattle.commands.specs.Orders.{AsksHelpAtMost, AsksNoHelp, ChangesByWords, PrintsByWords, QuietByWords, RefusesByWords, RefusesNoText, RunsByWords, StopsByWords, TellsTextByWords, WritesByWords, names_by_words}
 use Rattle.commands.specs.Converting.{ConvertsByWords, TellsByWords, TellsOutput}
 use Rattle.explaining.specs.Growing.{Grows}
 use Rattle.explaining.specs.Looking.{Looks}
@@ -28,13 +28,14 @@ pub record Ends
       TellsTextByWords (wanted_by words) err_old err_new
   pub not_wrong : AsksHelpAtMost (fault_of plm_app words) →
       (fault_of plm_app words ≡ [] → RefusesNoText (wanted_by words)) → status ≡ 2 → ⊥
+  pub usage : (fault_of plm_app words ≡ [] → ⊥) → AsksNoHelp (fault_of plm_app words) → status ≡ 0 → ⊥
   pub told : status ≡ 1 → TellsByWords (wanted_by words) (TellsOutput before after err_old err_new)
       (TellsRefusal files (names_by_words (wanted_by words)) before after err_old err_new)
   pub converted : fault_of plm_app words ≡ [] → ConvertsByWords
       (wanted_by words) files new status before after err_old err_new out_old out_new
   pub refused : fault_of plm_app words ≡ [] → status ≡ 1 → RefusesByWords
       (wanted_by words) files new before after err_old err_new out_old out_new
-  pub silent : fault_of plm_app words ≡ [] → status ≡ 2 → out_new ≡ out_old
+  pub silent : status ≡ 2 → out_new ≡ out_old
   pub faulty : (fault_of plm_app words ≡ [] → ⊥) → status ≤ 2
   pub count : (status ≡ 1 → ⊥) → after ≡ before
   pub quiet : (status ≡ 1 → ⊥) → (status ≡ 2 → ⊥) → QuietByWords (wanted_by words) err_old err_new

@@ -1,5 +1,5 @@
 -- Names that are added.
-use Rattle.listings.proofs.{Prelude.{◌≡◌, inl, inr, ℕ, zero, suc, ◌-◌, ◌<◌, ◌≤◌, Bool, true, false, cond, List, [], ◌∷◌, ◌++◌, Contains, drop, filter, flat_map, get_or, length, take, map, filter_map, zip, slice_get, Option, Some, None, option_map, refl, ap, sym, subst, ◌∙◌, arith, append-nil, append_assoc, map-append, Contains-append_left, Contains-append_right, none-some, same_Some, slice_get-map, AllByRecursion, cons_option, option_to_list, Symbol, Public, Routine, TypedModule, TypedProcedure, object_view, procedure_view, constant_bytes, CodeObject, CodeProcedure, IsInCode, code_address, is_private, names_in_code, object_symbol, procedure_symbol, public_place, routine_names, symbol_of, NameText, Declared, Named, ModuleView, AddsNames, AddsNamesSoFar, HasNames, IsNameAmong, IsNameIn, code_size, object_names, public_names, typed_of, named_view, named_with, routine_name, text_of_name}, Adding.{split_first}}
+use Rattle.listings.proofs.{Prelude.{◌≡◌, inl, inr, ℕ, zero, suc, ◌-◌, ◌<◌, ◌≤◌, Bool, true, false, cond, List, [], ◌∷◌, ◌++◌, Contains, drop, filter, flat_map, get_or, length, take, map, filter_map, zip, slice_get, Option, Some, None, option_map, refl, ap, sym, subst, ◌∙◌, arith, append-nil, append_assoc, map-append, Contains-append_left, Contains-append_right, none-some, same_Some, slice_get-map, AllByRecursion, cons_option, option_to_list, Symbol, Public, Routine, TypedModule, TypedProcedure, object_view, procedure_view, constant_bytes, CodeObject, CodeProcedure, BeginsInCode, code_address, is_private, names_in_code, object_symbol, procedure_symbol, public_place, routine_names, symbol_of, NameText, Declared, Named, ModuleView, AddsNames, AddsNamesSoFar, HasNames, IsNameAmong, IsNameIn, code_size, object_names, public_names, typed_of, named_view, named_with, routine_name, text_of_name}, Adding.{split_first}}
 use Rattle.runtime8080.specs.declared.routine.Routine.TheVariants as routines
 
 -- what stands at a place is an element
@@ -201,7 +201,7 @@ names_joined P old now new so_far more = record {
 
 pub part_named : (view : ModuleView) (text : NameText) (place address : ℕ) (old new : List Named)
     → Contains (names_in_code (typed_of view)) (text_of_name text)
-    → IsInCode (constant_bytes (typed_of view)) (code_size view) place
+    → BeginsInCode (constant_bytes (typed_of view)) (code_size view) place
     → address ≡ code_address view.code_base place → new ≡ old ++ named_with address text ∷ []
     → AddsNames (IsNameIn view) old new
 part_named view text place address old new name in_code is added = record {

@@ -16,7 +16,7 @@ pub use Rattle.object_commands.proofs.Lines.{hole_is}
 pub use Rattle.object_commands.specs.{Listing.{part_line}, Placing.{address_digits, range_line}}
 pub use Rattle.listings.specs.Listing.{AllThere, IsNoCodeAt, IsShown, ListsModule, Part as ShownPart, ShowsByte, before_lines, byte_among, cell_of, cells_from, cells_in, cells_of, instr_text, is_address_at, lines_of, listed_from, margin, name_line, numbered_line, part_lines, parts_beside, parts_in, parts_text, sizes_text}
 unfoldable pub use Rattle.listings.specs.Listing.{byte_in}
-pub use Rattle.listings.specs.Names.{AreNamesOf, IsCodeName, IsCodeNameAmong, IsInCode, code_address, code_place, is_private, module_symbols, names_in_code, object_symbol, procedure_symbol, procedure_symbols, public_place, public_symbols, routine_names, symbol_of}
+pub use Rattle.listings.specs.Names.{AreNamesOf, BeginsInCode, IsCodeName, IsCodeNameAmong, IsInCode, code_address, code_place, is_private, module_symbols, names_in_code, object_symbol, procedure_symbol, procedure_symbols, public_place, public_symbols, routine_names, symbol_of}
 pub use Rattle.listings.specs.Programs.{AreListed, ListsProgram, next_module, no_module}
 pub use Rattle.listings.specs.Symbols.{AreCodeOf, AreOwnersOf, HasSymbols, HaveSymbols, IsCodeOf, IsOwnerBy, IsOwnerOf, SymbolsOfProgram, is_own, line_if, next_symbols, no_symbols, object_line, procedure_line, procedure_with, source_line}
 pub use Rattle.listings.specs.declared.image.Coded.{Coded}

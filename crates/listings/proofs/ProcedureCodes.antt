@@ -1,11 +1,16 @@
 -- Where the code of procedures is.
-use Rattle.listings.proofs.{Prelude.{◌≡◌, ℕ, ◌-◌, ◌<◌, ◌≤◌, ◌==◌, Bool, true, false, cond, List, drop, get_or, length, list_any, map, min, take, Option, Some, None, Result, Ok, Err, ap, sym, subst, ◌∙◌, arith, IfOk, IfSome, ObjectModule, length_of, Code, TypedProcedure, CodeProcedure, procedure_view, IsInCode, public_place, IsCodeOf, procedure_with}, Adding.{split_first}}
+use Rattle.listings.proofs.{Prelude.{◌≡◌, ℕ, ◌-◌, ◌<◌, ◌≤◌, ◌==◌, Bool, true, false, cond, List, drop, get_or, length, list_any, map, min, take, Option, Some, None, Result, Ok, Err, ap, sym, subst, ◌∙◌, arith, IfOk, IfSome, ObjectModule, length_of, Code, TypedProcedure, CodeProcedure, procedure_view, BeginsInCode, IsInCode, public_place, IsCodeOf, procedure_with}, Adding.{split_first}}
 pub use Rattle.trees.proofs.Keys.{names_equal}
 
 -- a place that is tested
 pub in_code : (constants kept place size length : ℕ) → kept ≡ min constants 4294967295 → kept ≤ place
     → place ≤ length → length ≡ size → length < 65536 → IsInCode constants size place
 in_code constants kept place size length is past within sized small =
+    record { past = omega (arith, is, past, within, small); within = omega (arith, within, sized) }
+
+pub begins_there : (constants kept place size length : ℕ) → kept ≡ min constants 4294967295 → kept ≤ place → place < length → length ≡ size → length < 65536
+    → BeginsInCode constants size place
+begins_there constants kept place size length is past within sized small =
     record { past = omega (arith, is, past, within, small); within = omega (arith, within, sized) }
 
 -- a procedure that begins where its name is public, and one that has none
@@ -21,13 +26,20 @@ begun_anywhere (Ok place) found none =
 begun_anywhere (Err fault) found none = tt
 
 -- the code of a procedure, from where it begins up to where it ends
-pub code_between : (constants : ℕ) (object : ObjectModule) (procedure : TypedProcedure) (place end size : ℕ)
-    → IsInCode constants (length_of object Code) place
-    → IsInCode constants (length_of object Code) end → size ≡ end - place
+pub code_between : (constants : ℕ) (object : ObjectModule) (procedure : TypedProcedure)
+    (place end size length : ℕ) → BeginsInCode constants (length_of object Code) place
+    → IsInCode constants (length_of object Code) end → length ≡ length_of object Code
+    → (place < length → place < end) → size ≡ end - place
     → IfSome (public_place object.publics procedure) (λ there. there ≡ place)
     → IsCodeOf constants object procedure place size
-code_between constants object procedure place end size begins ends sized there =
-    record { past = begins.past; within = omega (arith, begins.within, ends.within, sized); named = there }
+code_between constants object procedure place end size length begins ends whole later sized there =
+    let up : place < end = later (omega (arith, begins.within, whole)) in
+    record {
+      past = begins.past;
+      some = omega (arith, up, sized);
+      within = omega (arith, up, ends.within, sized);
+      named = there;
+    }
 
 -- the first procedure of those that are left has an object as a parameter, or it has not
 abbrev with_first : CodeProcedure → (left : List CodeProcedure) → (has : Bool) → (object : ℕ)

@@ -120,6 +120,11 @@ next_count number next size total (c ∷ text) some next_is size_is so_far =
     ap (λ (n : ℕ). length (lines_of (drop (n + 1) (c ∷ text)))) size_is in
     omega (arith, whole, same, next_is, so_far)
 
+pub line_counted : (number next size total : ℕ) (text after : List ℕ) → 1 ≤ length text → next ≡ number + 1 → size ≡ first_length text → after ≡ drop (size + 1) text
+    → number + length (lines_of text) ≡ total → next + length (lines_of after) ≡ total
+line_counted number next size total text after some next_is size_is left so_far =
+    ap (λ (l : List ℕ). next + length (lines_of l)) left ∙ next_count number next size total text some next_is size_is so_far
+
 -- no line is left
 pub lines_done : (name_at : ℕ → Option Symbol) (number : ℕ) (text : List ℕ) (parts : List (ℕ × Part))
     (now all : List ℕ) → length text < 1

@@ -1,5 +1,5 @@
 -- The symbols of a program.
-use Rattle.listings.proofs.{Prelude.{◌≡◌, inl, inr, ℕ, ◌+◌, ◌-◌, ◌<◌, ◌≤◌, Bool, true, false, cond, List, [], ◌∷◌, ◌++◌, drop, flat_map, get_or, length, nil_from_length, map, slice_get, take, zip, codes, min, Option, Some, None, refl, ap, sym, subst, ◌∙◌, arith, append-nil, append_assoc, All-from_recursion, AllPairs-cons, none-some, AllByRecursion, AllPairs, IfSome, ModulePlacement, PieceKind, kind_of, address_digits, range_line, ObjectModule, Construction, size_of_object, TypedModule, TypedObject, TypedProcedure, object_view, procedure_view, constant_bytes, CodeObject, CodeProcedure, code_address, AreCodeOf, AreOwnersOf, HasSymbols, HaveSymbols, IsCodeOf, IsOwnerBy, IsOwnerOf, SymbolsOfProgram, is_own, line_if, next_symbols, no_symbols, object_line, procedure_line, procedure_with, source_line, ModuleView, Adds, IsBegun, AreViews, Follow, code_size, data_size, object_of, placed_of, typed_of, HasLine, HasObjectLines, HasProcedureLines, HasSourceLines, HasSymbolsOf, HaveSymbolsOf, IsPlaceIn, Rises, has_kind, line_of, own_of, owner_text, procedure_names}, Adding.{text_ended, gone_on, split_first}, NamesAdded.{name_contained}}
+use Rattle.listings.proofs.{Prelude.{◌≡◌, inl, inr, ℕ, ◌+◌, ◌-◌, ◌<◌, ◌≤◌, Bool, true, false, cond, List, [], ◌∷◌, ◌++◌, drop, flat_map, get_or, length, nil_from_length, map, slice_get, take, zip, codes, min, Option, Some, None, refl, ap, sym, subst, ◌∙◌, arith, append-nil, append_assoc, All-from_recursion, AllPairs-cons, none-some, AllByRecursion, AllPairs, IfSome, ModulePlacement, PieceKind, kind_of, address_digits, range_line, ObjectModule, Construction, program_modules, size_of_object, TypedModule, TypedObject, TypedProcedure, object_view, procedure_view, constant_bytes, CodeObject, CodeProcedure, code_address, AreCodeOf, AreOwnersOf, HasSymbols, HaveSymbols, IsCodeOf, IsOwnerBy, IsOwnerOf, SymbolsOfProgram, is_own, line_if, next_symbols, no_symbols, object_line, procedure_line, procedure_with, source_line, ModuleView, Adds, IsBegun, AreViews, Follow, code_size, data_size, object_of, placed_of, text_of, typed_of, HasLine, HasObjectLines, HasProcedureLines, HasSourceLines, HasSymbolsOf, HaveSymbolsOf, IsPlaceIn, Rises, has_kind, line_of, lines_of, own_of, owner_text, procedure_names}, Adding.{text_ended, gone_on, split_first}, NamesAdded.{name_contained}}
 use Rattle.listings.specs.internal.Symbols.{no_view}
 use Rattle.listings.specs.internal.Symbols.{next_view}
 use Rattle.std.specs.Fmt.{decimal}
@@ -313,35 +313,41 @@ rises_later : (number next : ℕ) (lines : List (ℕ × ℕ)) → number ≤ nex
 rises_later number next [] up rising = tt
 rises_later number next (line ∷ lines) up rising = (omega (arith, up, rising.0), rising.1)
 
-line_before : (view : ModuleView) (number : ℕ) (place : Option ℕ) (more : List ℕ)
-    → IfSome place (IsPlaceIn view) → HasSourceLines view (number + 1) more
-    → HasSourceLines view number (line_of view number place ++ more)
-line_before view number None more in_code others =
-    record { lines = others.lines; rising = rises_later number (number + 1) others.lines (omega arith) others.rising; each = others.each; text_is = others.text_is }
-line_before view number (Some place) more in_code others = record {
+line_before : (view : ModuleView) (end number : ℕ) (place : Option ℕ) (more : List ℕ) → number < end
+    → IfSome place (IsPlaceIn view) → HasSourceLines view end (number + 1) more
+    → HasSourceLines view end number (line_of view number place ++ more)
+line_before view end number None more below in_code others = record {
+  lines = others.lines;
+  rising = rises_later number (number + 1) others.lines (omega arith) others.rising;
+  below = others.below;
+  each = others.each;
+  text_is = others.text_is;
+}
+line_before view end number (Some place) more below in_code others = record {
   lines = (number, place) ∷ others.lines;
   rising = (omega arith, others.rising);
+  below = (below, others.below);
   each = (in_code, others.each);
   text_is =
       ap (λ (text : List ℕ). source_line (typed_of view).name view.code_base (number, place) ++ text)
       others.text_is;
 }
 
-pub line_next : (view : ModuleView) (number next : ℕ) (old now new : List ℕ)
-    → IsBegun (HasSourceLines view) 1 number old now → Adds (HasLine view number) now new → next ≡ number + 1
-    → IsBegun (HasSourceLines view) 1 next old new
-line_next view number next old now new so_far adds is =
-    gone_on (HasSourceLines view) 1 number next old now new adds.text so_far adds.added
-    (λ (text : List ℕ) others. subst (λ (line : List ℕ). HasSourceLines view number (line ++ text))
+pub line_next : (view : ModuleView) (end number next : ℕ) (old now new : List ℕ) → number < end
+    → IsBegun (HasSourceLines view end) 1 number old now → Adds (HasLine view number) now new
+    → next ≡ number + 1 → IsBegun (HasSourceLines view end) 1 next old new
+line_next view end number next old now new below so_far adds is =
+    gone_on (HasSourceLines view end) 1 number next old now new adds.text so_far adds.added
+    (λ (text : List ℕ) others. subst (λ (line : List ℕ). HasSourceLines view end number (line ++ text))
     (sym (adds.holds).text_is)
-    (line_before view number (adds.holds).place text (adds.holds).in_code
-    (subst (λ (n : ℕ). HasSourceLines view n text) is others)))
+    (line_before view end number (adds.holds).place text below (adds.holds).in_code
+    (subst (λ (n : ℕ). HasSourceLines view end n text) is others)))
 
-pub lines_ended : (view : ModuleView) (number : ℕ) (old now : List ℕ)
-    → IsBegun (HasSourceLines view) 1 number old now → Adds (HasSourceLines view 1) old now
-lines_ended view number old now so_far =
-    text_ended (HasSourceLines view) 1 number old now so_far
-    (record { lines = []; rising = tt; each = tt; text_is = refl })
+pub lines_ended : (view : ModuleView) (end number : ℕ) (old now : List ℕ)
+    → IsBegun (HasSourceLines view end) 1 number old now → Adds (HasSourceLines view end 1) old now
+lines_ended view end number old now so_far =
+    text_ended (HasSourceLines view end) 1 number old now so_far
+    (record { lines = []; rising = tt; below = tt; each = tt; text_is = refl })
 
 -- rising numbers
 above : (number : ℕ) (address : ℕ) (lines : List (ℕ × ℕ)) → Rises (number + 1) lines
@@ -359,34 +365,48 @@ rising_pairs number (line ∷ lines) rising =
     (All-from_recursion (λ (other : ℕ × ℕ). line.0 < other.0) lines (above line.0 0 lines rising.1))
     (rising_pairs (line.0 + 1) lines rising.1)
 
--- a module
-pub symbols_joined : (view : ModuleView) (old procedures objects new : List ℕ)
+-- lines below the number after the last one are lines of the source
+of_source : (end count : ℕ) (lines : List (ℕ × ℕ)) → end ≡ count + 1
+    → AllByRecursion (λ (line : ℕ × ℕ). line.0 < end) lines
+    → AllByRecursion (λ (line : ℕ × ℕ). line.0 ≤ count) lines
+of_source end count [] is below = tt
+of_source end count (line ∷ lines) is below =
+    (omega (arith, is, below.0), of_source end count lines is below.1)
+
+-- a module, of which each line has an entry
+pub symbols_joined : (view : ModuleView) (count : ℕ) (entries first : List (Option ℕ))
+    (old procedures objects new : List ℕ)
+    → count ≡ length (lines_of (text_of view)) → length entries ≡ count + 1 → first ≡ entries
     → Adds (HasProcedureLines view (typed_of view).procedures) old procedures
     → Adds (HasObjectLines (typed_of view) (0, ((typed_of view).objects, view.placed.now.objects.items)))
-    procedures objects → Adds (HasSourceLines view 1) objects new
+    procedures objects → Adds (HasSourceLines view (length first) 1) objects new
     → Adds (HasSymbolsOf view) old new
-symbols_joined view old procedures objects new first second third = record {
-  text = first.text ++ second.text ++ third.text;
+symbols_joined view count entries first old procedures objects new counted each same begun second third = record {
+  text = begun.text ++ second.text ++ third.text;
   holds = record {
-    places = (first.holds).places;
+    places = (begun.holds).places;
     owners = (second.holds).owners;
     lines = (third.holds).lines;
-    each_procedure = (first.holds).each;
+    each_procedure = (begun.holds).each;
     each_object = (second.holds).each;
     from_one =
         All-from_recursion (λ (line : ℕ × ℕ). 0 < line.0) (third.holds).lines
         (above 0 0 (third.holds).lines (third.holds).rising);
+    of_source =
+        All-from_recursion (λ (line : ℕ × ℕ). line.0 ≤ length (lines_of (text_of view))) (third.holds).lines
+        (of_source (length first) (length (lines_of (text_of view))) (third.holds).lines
+        (ap length same ∙ each ∙ ap (λ (n : ℕ). n + 1) counted) (third.holds).below);
     rising = rising_pairs 1 (third.holds).lines (third.holds).rising;
     each_line =
         All-from_recursion (λ (line : ℕ × ℕ). IsPlaceIn view line.1) (third.holds).lines (third.holds).each;
-    text_is = cc ((first.holds).text_is, (second.holds).text_is, (third.holds).text_is);
+    text_is = cc ((begun.holds).text_is, (second.holds).text_is, (third.holds).text_is);
   };
   added =
       third.added
       ∙ ap (λ (l : List ℕ). l ++ third.text)
-      (second.added ∙ ap (λ (l : List ℕ). l ++ second.text) first.added
-      ∙ append_assoc old first.text second.text)
-      ∙ append_assoc old (first.text ++ second.text) third.text;
+      (second.added ∙ ap (λ (l : List ℕ). l ++ second.text) begun.added
+      ∙ append_assoc old begun.text second.text)
+      ∙ append_assoc old (begun.text ++ second.text) third.text;
 }
 
 pub module_next : (all left : List ModuleView) (view d : ModuleView) (old now new : List ℕ) → 1 ≤ length left
@@ -411,23 +431,26 @@ modules_ended views left lines so_far none =
 -- the program
 all_symbols : (code_base data_base code_end data_end : ℕ) (views : List ModuleView) (text : List ℕ)
     → Follow code_base data_base views code_end data_end → HaveSymbolsOf views text
-    → HaveSymbols code_base (map typed_of views) (map object_of views) (map placed_of views) text
+    → HaveSymbols code_base (map text_of views) (map typed_of views) (map object_of views)
+    (map placed_of views) text
 all_symbols code_base data_base code_end data_end views text follow no_view = no_symbols
 all_symbols code_base data_base code_end data_end views text follow
     (next_view view others first more here later) =
     next_symbols
-    (subst (λ (a : ℕ). HasSymbols a (typed_of view) (object_of view) (placed_of view) first) follow.0
-    here)
+    (subst (λ (a : ℕ). HasSymbols a (text_of view) (typed_of view) (object_of view) (placed_of view) first)
+    follow.0 here)
     (all_symbols (code_base + code_size view) (data_base + data_size view) code_end data_end others
     more follow.2 later)
 
 pub program_symbols : (texts : List (List ℕ)) (built : Construction) (views : List ModuleView) (text : List ℕ)
-    → AreViews texts built views → HaveSymbolsOf views text → SymbolsOfProgram built text
+    → AreViews texts built views → HaveSymbolsOf views text → SymbolsOfProgram texts built text
 program_symbols texts built views text are have =
-    subst (λ (modules : List TypedModule). HaveSymbols built.plan.code modules built.objects
-    built.placement.modules text) are.typed_of_each
-    (subst (λ (objects : List ObjectModule). HaveSymbols built.plan.code (map typed_of views) objects
-    built.placement.modules text) are.object_of_each
-    (subst (λ (placed : List ModulePlacement). HaveSymbols built.plan.code (map typed_of views)
-    (map object_of views) placed text) are.placed_of_each
-    (all_symbols built.plan.code built.plan.data_base are.code_end are.data_end views text are.follow have)))
+    subst (λ (sources : List (List ℕ)). HaveSymbols built.plan.code sources (program_modules built.program)
+    built.objects built.placement.modules text) are.text_of_each
+    (subst (λ (modules : List TypedModule). HaveSymbols built.plan.code (map text_of views) modules
+    built.objects built.placement.modules text) are.typed_of_each
+    (subst (λ (objects : List ObjectModule). HaveSymbols built.plan.code (map text_of views)
+    (map typed_of views) objects built.placement.modules text) are.object_of_each
+    (subst (λ (placed : List ModulePlacement). HaveSymbols built.plan.code (map text_of views)
+    (map typed_of views) (map object_of views) placed text) are.placed_of_each
+    (all_symbols built.plan.code built.plan.data_base are.code_end are.data_end views text are.follow have))))

@@ -1,5 +1,5 @@
 -- The names that stand for addresses in the listing of a program.
-use Rattle.std.specs.Prelude.{◌≡◌, ◌⊎◌, ℕ, ◌+◌, ◌%◌, ◌≤◌, ◌==◌, Bool, true, false, ◌&&◌, if◌then◌else◌}
+use Rattle.std.specs.Prelude.{◌≡◌, ◌⊎◌, ℕ, ◌+◌, ◌%◌, ◌<◌, ◌≤◌, ◌==◌, Bool, true, false, ◌&&◌, if◌then◌else◌}
 use Rattle.std.specs.Prelude.{List, [], ◌∷◌, ◌++◌, codes, All, Contains, filter, filter_map, flat_map, map, zip, Option, Some, None, option_map}
 use Rattle.std.specs.Str.{bytes_eq}
 use Rattle.layout.specs.Placement.{ModulePlacement}
@@ -100,12 +100,17 @@ pub record IsInCode (constants size place : ℕ) : Type 0 where
   pub past : constants ≤ place
   pub within : place ≤ size
 
--- The name of such a procedure or of a routine stands for an address in the code of its module. Which one no definition
--- says.
+-- a place where a byte of that code lies
+pub record BeginsInCode (constants size place : ℕ) : Type 0 where
+  pub past : constants ≤ place
+  pub within : place < size
+
+-- The name of such a procedure or of a routine stands for the address of a byte in the code of its module. Of which one no
+-- definition says.
 pub record IsCodeName (code_base : ℕ) (typed : TypedModule) (object : ObjectModule) (symbol : Symbol) : Type 0 where
   pub name : Contains (names_in_code typed) symbol.name
   pub place : ℕ
-  pub in_code : IsInCode (constant_bytes typed) (length_of object Code) place
+  pub in_code : BeginsInCode (constant_bytes typed) (length_of object Code) place
   pub address : symbol.address ≡ code_address code_base place
 
 -- one of modules whose code begins at an address, one after another, has this name in its code

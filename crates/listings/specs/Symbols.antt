@@ -1,7 +1,7 @@
--- The symbols of a program: its procedures, its variables, and the lines of its sources, with addresses. Where the code
--- of a line begins no definition says, nor where a procedure ends, where one begins that is not PUBLIC, and in which
--- procedure a variable is declared that is no parameter: rows of tests try it.
-use Rattle.std.specs.Prelude.{◌≡◌, ◌⊎◌, ℕ, ◌+◌, ◌<◌, ◌≤◌, ◌==◌, min, List, [], ◌∷◌, ◌++◌, codes, All, AllPairs, Contains, filter, find, flat_map, map, zip}
+-- The symbols of a program: its procedures, its variables, and the lines of its sources, with addresses. Which
+-- lines have code, and where it begins, no definition says, nor where a procedure ends, where one begins that is not PUBLIC,
+-- and in which procedure a variable is declared that is no parameter: rows of tests try it.
+use Rattle.std.specs.Prelude.{◌≡◌, ◌⊎◌, ℕ, ◌+◌, ◌<◌, ◌≤◌, ◌==◌, min, List, [], ◌∷◌, ◌++◌, codes, length, All, AllPairs, Contains, filter, find, flat_map, map, zip}
 use Rattle.std.specs.Prelude.{Bool, true, false, Option, Some, None, IfSome}
 use Rattle.std.specs.Fmt.{decimal}
 use Rattle.std.specs.List.{list_any}
@@ -16,6 +16,7 @@ use Rattle.typed_trees.specs.TypedTrees.{TypedModule, TypedObject, TypedProcedur
 use Rattle.typed_trees.specs.Weight.{constant_bytes}
 use Rattle.typed_trees.specs.declared.parts.Visibility.{Visibility}
 use Rattle.typed_trees.specs.declared.parts.Visibility.TheVariants.{External}
+use Rattle.listings.specs.Listing.{lines_of}
 use Rattle.listings.specs.Names.{IsInCode, code_address, public_place}
 
 -- the line of a procedure of a module whose code begins at an address: the names of the module and of the procedure, the
@@ -49,10 +50,11 @@ is_own visibility = true
 abbrev pub own_procedures : TypedModule → List TypedProcedure
 own_procedures typed = filter (λ (procedure : TypedProcedure). is_own procedure.visibility) typed.procedures
 
--- The code of a procedure from a place on: it lies in the code of its module, after the constants, and that of a PUBLIC
--- procedure begins where the object module has its name.
+-- The code of a procedure from a place on: it lies in the code of its module, after the constants, and has a byte at least;
+-- and that of a PUBLIC procedure begins where the object module has its name.
 pub record IsCodeOf (constants : ℕ) (object : ObjectModule) (procedure : TypedProcedure) (place size : ℕ) : Type 0 where
   pub past : constants ≤ place
+  pub some : 0 < size
   pub within : place + size ≤ length_of object Code
   pub named : IfSome (public_place object.publics procedure) (λ begun. begun ≡ place)
 
@@ -87,17 +89,18 @@ AreOwnersOf typed number (object ∷ objects) (owner ∷ owners) =
     IsOwnerOf typed number object owner × AreOwnersOf typed (number + 1) objects owners
 AreOwnersOf typed number objects owners = ⊥
 
--- A module that is placed, with its code from an address on, has these symbols: its procedures but the EXTERNAL ones, each
--- once; its objects that lie somewhere, each once, with their addresses and their sizes; and some of its lines, by rising
--- numbers from one on, each with an address in its code.
-pub record HasSymbols (code_base : ℕ) (typed : TypedModule) (object : ObjectModule) (placed : ModulePlacement)
-    (text : List ℕ) : Type 0 where
+-- A module of this source that is placed, with its code from an address on, has these symbols: its procedures but the
+-- EXTERNAL ones, each once; its objects that lie somewhere, each once, with their addresses and their sizes; and some of
+-- the lines of the source, by rising numbers from one on, each with an address in its code.
+pub record HasSymbols (code_base : ℕ) (source : List ℕ) (typed : TypedModule) (object : ObjectModule)
+    (placed : ModulePlacement) (text : List ℕ) : Type 0 where
   pub places : List (ℕ × ℕ)
   pub owners : List (List ℕ)
   pub lines : List (ℕ × ℕ)
   pub each_procedure : AreCodeOf (constant_bytes typed) object (own_procedures typed) places
   pub each_object : AreOwnersOf typed 0 typed.objects owners
   pub from_one : All (λ (line : ℕ × ℕ). 0 < line.0) lines
+  pub of_source : All (λ (line : ℕ × ℕ). line.0 ≤ length (lines_of source)) lines
   pub rising : AllPairs (λ (one other : ℕ × ℕ). one.0 < other.0) lines
   pub each_line : All (λ (line : ℕ × ℕ). IsInCode (constant_bytes typed) (length_of object Code) line.1) lines
   pub text_is : text
@@ -105,16 +108,19 @@ pub record HasSymbols (code_base : ℕ) (typed : TypedModule) (object : ObjectMo
       ++ flat_map (object_line typed.name) (zip (zip typed.objects placed.objects) owners)
       ++ flat_map (source_line typed.name code_base) lines
 
--- modules whose code begins at an address, one after another, have these symbols
+-- modules of these sources whose code begins at an address, one after another, have these symbols
 pub data HaveSymbols :
-    (code_base : ℕ) → List TypedModule → List ObjectModule → List ModulePlacement → (text : List ℕ) → Type 0 where
-  no_symbols : {code_base : ℕ} → HaveSymbols code_base [] [] [] []
-  next_symbols : {code_base : ℕ} {typed : TypedModule} {modules : List TypedModule} {object : ObjectModule}
-      {objects : List ObjectModule} {placed : ModulePlacement} {others : List ModulePlacement} {first more : List ℕ}
-      → HasSymbols code_base typed object placed first
-      → HaveSymbols (code_base + length_of object Code) modules objects others more
-      → HaveSymbols code_base (typed ∷ modules) (object ∷ objects) (placed ∷ others) (first ++ more)
+    (code_base : ℕ) → (sources : List (List ℕ)) → List TypedModule → List ObjectModule → List ModulePlacement
+    → (text : List ℕ) → Type 0 where
+  no_symbols : {code_base : ℕ} → HaveSymbols code_base [] [] [] [] []
+  next_symbols : {code_base : ℕ} {source first more : List ℕ} {sources : List (List ℕ)} {typed : TypedModule}
+      {modules : List TypedModule} {object : ObjectModule} {objects : List ObjectModule} {placed : ModulePlacement}
+      {others : List ModulePlacement}
+      → HasSymbols code_base source typed object placed first
+      → HaveSymbols (code_base + length_of object Code) sources modules objects others more
+      → HaveSymbols code_base (source ∷ sources) (typed ∷ modules) (object ∷ objects) (placed ∷ others) (first ++ more)
 
-abbrev pub SymbolsOfProgram : Construction → (text : List ℕ) → Type 0
-SymbolsOfProgram built text =
-    HaveSymbols built.plan.code (program_modules built.program) built.objects built.placement.modules text
+-- the program of these sources has these symbols
+abbrev pub SymbolsOfProgram : (sources : List (List ℕ)) → Construction → (text : List ℕ) → Type 0
+SymbolsOfProgram sources built text =
+    HaveSymbols built.plan.code sources (program_modules built.program) built.objects built.placement.modules text

@@ -2,7 +2,7 @@
 
 ghost use Rattle.std.specs.Prelude.{◌≡◌, OnOk};
 ghost use Rattle.typed_trees.specs.Weight.{constant_bytes};
-ghost use Rattle.listings.specs.Names.{IsInCode, code_address};
+ghost use Rattle.listings.specs.Names.{BeginsInCode, IsInCode, code_address};
 ghost use Rattle.listings.specs.internal.Programs.{code_size, typed_of};
 
 use crate::constants::constant_size;
@@ -27,6 +27,20 @@ pub(crate) fn expect_in_code(view: &ModuleView, place: u32) -> Result<(), AllocE
         Ok(())
     } else {
         // The marks of the module's own source are in its code: no clause of `code_marks` says so.
+        Err(AllocError)
+    }
+}
+
+/// Fails unless a byte of the code of a module, after its constants, lies at a place. Those at which the marks of the module's
+/// own source say that a procedure or a routine begins are such places.
+#[tactic(auto, using(crate::proofs::ProcedureCodes::begins_there))]
+pub(crate) fn expect_begin(view: &ModuleView, place: u32) -> Result<(), AllocError>
+    ensures { OnOk result (BeginsInCode (constant_bytes (typed_of view.now)) (code_size view.now) place) }
+{
+    let length = view.object.length(Segment::Code) as u32;
+    if constant_size(view.typed) <= place && place < length {
+        Ok(())
+    } else {
         Err(AllocError)
     }
 }

@@ -14,6 +14,7 @@ mod places;
 mod procedures;
 mod programs;
 mod symbol_lines;
+mod text_lines;
 mod views;
 
 pub use origins::{CodeLines, CodeOrigin, SourceLine, code_lines};

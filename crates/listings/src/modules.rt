@@ -1,13 +1,13 @@
 //! The listing of a module: its lines, each with its code, and what begins in no line.
 
-ghost use Rattle.std.specs.Prelude.{◌≡◌, ◌∷◌, ◌++◌, ◌+◌, ◌%◌, ◌≤◌, [], IfOk, OnOk, drop, length, map};
+ghost use Rattle.std.specs.Prelude.{◌≡◌, ◌∷◌, ◌++◌, ◌%◌, [], IfOk, OnOk, length, map};
 ghost use Rattle.std.specs.List.{AllByRecursion};
 ghost use Rattle.mem80.specs.declared.memory.TheConstants.{MEMORY_SIZE};
 ghost use Rattle.object_commands.specs.Placing.{range_line};
 ghost use Rattle.object_modules.specs.Image.{range_at};
 ghost use Rattle.listings.specs.Listing.{cells_in, lines_of, listed_from, sizes_text};
 ghost use Rattle.listings.specs.internal.Adding.{Adds};
-ghost use Rattle.listings.specs.internal.Modules.{code_text, first_length};
+ghost use Rattle.listings.specs.internal.Modules.{code_text};
 ghost use Rattle.listings.specs.internal.Parts.{AddsParts, IsGood, IsLone, lined};
 ghost use Rattle.listings.specs.internal.Programs.{IsPartOfCode, ListsView, code_size, data_size, typed_of};
 ghost use Rattle.listings.specs.internal.Views.{name_at, named_view};
@@ -17,6 +17,7 @@ use crate::lines::{put_line, put_parts_beside, put_parts_in};
 use crate::named::Named;
 use crate::parts::{CodeSegment, Part, push_bytes, push_code};
 use crate::places::put_range;
+use crate::text_lines::{after_line, line_length};
 use crate::views::ModuleView;
 use mem80::Piece;
 use object_modules::{Name, Segment};
@@ -58,36 +59,6 @@ fn data_parts(alloc: Global, pieces: &[Piece], view: &ModuleView) -> Result<Vec<
     let count = view.object.length(Segment::Data) as u32;
     push_bytes(&mut parts, pieces, view.data_base, count)?;
     Ok(parts)
-}
-
-// How many bytes come before the first line feed.
-#[tactic(auto, using(crate::proofs::SourceLines::length_more, crate::proofs::SourceLines::length_here, crate::proofs::SourceLines::length_done))]
-fn line_length(text: &[u8]) -> usize
-    ensures length { result ≡ first_length text.now }
-    ensures within { result ≤ length text.now }
-{
-    let mut count: usize = 0;
-    let mut rest = text;
-    while let [byte, more @ ..] = rest {
-        if *byte == b'\n' {
-            return count;
-        }
-        count += 1;
-        rest = more;
-    }
-    count
-}
-
-// The text after a line of this length, and after the line feed at its end.
-#[tactic(auto, using(crate::proofs::SourceLines::none_left))]
-fn after_line(text: &[u8], length: usize) -> &[u8]
-    ensures { result.now ≡ drop (length + 1) text.now }
-{
-    if length < text.len() {
-        &text[length + 1..]
-    } else {
-        &[]
-    }
 }
 
 // Adds the lines of a source, each with the parts below it, and answers how many they are.

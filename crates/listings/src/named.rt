@@ -6,7 +6,7 @@ ghost use Rattle.listings.specs.Names.{is_private, module_symbols, names_in_code
 ghost use Rattle.listings.specs.internal.Programs.{AddsNames, HasNames, IsNameAmong, IsNameIn, object_names, object_of, pair_of, public_names, typed_of};
 ghost use Rattle.listings.specs.internal.Views.{name_at, named_view, routine_name, text_of_name};
 
-use crate::code_places::{address_of, expect_in_code};
+use crate::code_places::{address_of, expect_begin};
 use crate::procedures::{procedure_at, public_place};
 use crate::views::ModuleView;
 use codegen8080::CodePart;
@@ -115,7 +115,7 @@ fn put_part(names: &mut Vec<Named>, view: &ModuleView, mark: SourceMark) -> Resu
         return Ok(());
     };
     let place = mark.place as u32;
-    expect_in_code(view, place)?;
+    expect_begin(view, place)?;
     let address = address_of(view.code_base, place);
     names.push(Named { address, text })?;
     Ok(())

@@ -1,6 +1,6 @@
 //! The procedures of a module: where their code begins, and which objects are their parameters.
 
-ghost use Rattle.std.specs.Prelude.{◌≡◌, ◌==◌, IfOk, IfSome, Some, map, option_map, slice_get};
+ghost use Rattle.std.specs.Prelude.{◌≡◌, ◌<◌, ◌==◌, IfOk, IfSome, Some, map, option_map, slice_get};
 ghost use Rattle.std.specs.List.{list_any};
 ghost use Rattle.std.specs.Str.{bytes_eq};
 ghost use Rattle.object_modules.specs.Views.{owned_public_view};
@@ -10,7 +10,7 @@ ghost use Rattle.listings.specs.Names.{code_place, is_code, public_place};
 ghost use Rattle.listings.specs.Symbols.{IsCodeOf, procedure_with};
 ghost use Rattle.listings.specs.internal.Programs.{object_of, typed_of};
 
-use crate::code_places::expect_in_code;
+use crate::code_places::{expect_begin, expect_in_code};
 use crate::views::ModuleView;
 use codegen8080::CodePart;
 use object_modules::{Name, ObjectModule, OwnedPublic, Segment};
@@ -93,7 +93,9 @@ fn goes_on(part: CodePart) -> bool {
 }
 
 // Where code that begins at a place ends: where another procedure or a routine begins, or where all code ends.
-fn end_of(marks: &[SourceMark], place: u32, length: u32) -> u32 {
+fn end_of(marks: &[SourceMark], place: u32, length: u32) -> u32
+    ensures { place < length → place < result }
+{
     for mark in marks {
         if place < mark.place as u32 && !goes_on(mark.part) {
             return mark.place as u32;
@@ -134,7 +136,7 @@ pub(crate) fn code_of(
     let length = view.object.length(Segment::Code) as u32;
     let place = begin_of(view, procedure, number)?;
     let end = end_of(view.marks.marks.as_slice(), place, length);
-    expect_in_code(view, place)?;
+    expect_begin(view, place)?;
     expect_in_code(view, end)?;
     Ok(ProcedureCode {
         place,

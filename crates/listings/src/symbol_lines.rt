@@ -1,6 +1,6 @@
 //! The symbols of a program: its procedures, its variables and the lines of its code, with their addresses.
 
-ghost use Rattle.std.specs.Prelude.{◌≡◌, ◌≤◌, ◌++◌, ◌∷◌, [], IfOk, None, OnOk, codes, false, length};
+ghost use Rattle.std.specs.Prelude.{◌≡◌, ◌+◌, ◌≤◌, ◌++◌, ◌∷◌, [], IfOk, None, OnOk, codes, false, length};
 ghost use Rattle.layout.specs.Placement.{kind_of};
 ghost use Rattle.object_commands.specs.Placing.{range_line};
 ghost use Rattle.typed_trees.specs.Views.{object_view, procedure_view};
@@ -14,6 +14,7 @@ ghost use Rattle.listings.specs.internal.Symbols.{HasLine, HasObjectLines, HasPr
 use crate::code_places::{address_of, expect_in_code};
 use crate::places::{put_address, put_range};
 use crate::procedures::{code_of, procedure_at, procedure_with};
+use crate::text_lines::line_count;
 use crate::views::{ModuleView, all_marks, views_of};
 use object_modules::Name;
 use std::alloc::{AllocError, Global};
@@ -187,24 +188,27 @@ fn put_objects(lines: &mut Vec<u8>, view: &ModuleView) -> io::Result<()>
 }
 
 // Notes the place of a mark for its line, unless that has one.
-fn note(first: &mut Vec<Option<u32>>, line: u32, place: u32) -> Result<(), AllocError> {
+fn note(first: &mut Vec<Option<u32>>, line: u32, place: u32)
+    ensures { length first.new.items ≡ length first.old.items }
+{
     let index = line as usize;
-    if index >= first.len() {
-        first.resize(index + 1, None)?;
-    }
     if let Some(None) = first.get(index) {
         first[index] = Some(place);
     }
-    Ok(())
 }
 
-// The place of the first code of each line, by the line's number.
-fn first_code(alloc: Global, marks: &[SourceMark]) -> Result<Vec<Option<u32>>, AllocError> {
+// The place of the first code of each line of a source of so many lines, by the line's number. What is in no line has 0.
+fn first_code(
+    alloc: Global,
+    marks: &[SourceMark],
+    count: u32,
+) -> Result<Vec<Option<u32>>, AllocError>
+    ensures { IfOk result (λ first. length first.items ≡ count + 1) }
+{
     let mut first = Vec::new(alloc);
+    first.resize(count as usize + 1, None)?;
     for mark in marks {
-        if mark.line > 0 {
-            note(&mut first, mark.line, mark.place as u32)?;
-        }
+        note(&mut first, mark.line, mark.place as u32);
     }
     Ok(first)
 }
@@ -248,7 +252,8 @@ fn put_line_if(
 // Adds the lines of the lines of a module in which code begins.
 #[tactic(auto, using(crate::proofs::Adding::text_begun, crate::proofs::SymbolTexts::line_next, crate::proofs::SymbolTexts::lines_ended))]
 fn put_lines(lines: &mut Vec<u8>, view: &ModuleView, first: &[Option<u32>]) -> io::Result<()>
-    ensures { OnOk result (Adds (HasSourceLines view.now 1) lines.old.items lines.new.items) }
+    ensures { OnOk result
+        (Adds (HasSourceLines view.now (length first.now) 1) lines.old.items lines.new.items) }
 {
     for number in 1..first.len() {
         put_line_if(lines, view, number, first[number])?;
@@ -263,7 +268,8 @@ fn put_module(alloc: Global, lines: &mut Vec<u8>, view: &ModuleView) -> io::Resu
 {
     put_procedures(lines, view)?;
     put_objects(lines, view)?;
-    let first = first_code(alloc, view.marks.marks.as_slice())?;
+    let count = line_count(view.text)?;
+    let first = first_code(alloc, view.marks.marks.as_slice(), count)?;
     put_lines(lines, view, first.as_slice())
 }
 
@@ -289,7 +295,7 @@ fn symbols_in(alloc: Global, views: &[ModuleView]) -> Result<Vec<u8>, AllocError
 pub fn symbols_of(alloc: Global, built: &Built, sources: &[Source]) -> Result<Vec<u8>, AllocError>
     requires few { length sources.now ≤ MOST_SOURCES }
     requires program { IsProgramOf (texts_of sources.now) (program_modules built.now.program) }
-    ensures symbols { IfOk result (λ lines. SymbolsOfProgram built.now lines.items) }
+    ensures symbols { IfOk result (λ lines. SymbolsOfProgram (texts_of sources.now) built.now lines.items) }
 {
     let marks = all_marks(alloc, sources)?;
     let views = views_of(alloc, built, sources, marks.as_slice())?;

@@ -1,7 +1,7 @@
 //! What is printed of the numbers of faults of a source, and of its code. `tools/faults --write` makes it of docs/faults.md.
 
 /// The pages, with form feeds between them. Each begins with its number, on a line of its own.
-pub const SOURCES: [u8; 17469] = *b"\
+pub const SOURCES: [u8; 17576] = *b"\
 C1
 
 A character that is not allowed there, or a string that is not closed on its
@@ -346,19 +346,19 @@ Printed: `C15 wrong.plm 2`. Cure: one character at a time, from an array:
 `DECLARE TEXT(*) BYTE DATA ('HELLO'), I BYTE;` and `DO I = 0 TO LAST(TEXT);
 OUTPUT(1) = TEXT(I); END;`.
 
-You have                                   Write
------------------------------------------  -------------------------------------
-a string of over two characters in an      an array with DATA, as above
+You have                                     Write
+-------------------------------------------  -----------------------------------
+a string of over two characters in an        an array with DATA, as above
   expression
-`BYTE INITIAL (256)`, or `0 - 1` there     a number up to 255, or an ADDRESS
-more values than the object has elements   a greater dimension, or `(*)`
-`DECLARE A(0) BYTE`                        a dimension of 1 or more
-`INPUT(256)`                               a port of 0 to 255
-`AT (.X)` where X is EXTERNAL, or          an X with a place of its own; in
-  `INITIAL (.X)` where X is BASED            INITIAL it may be EXTERNAL
-`BYTE INITIAL (.X)`                        `ADDRESS INITIAL (.X)`
-a 17th parameter                           the location of a structure as one
-                                             parameter
+`BYTE INITIAL (256)`, or `0 - 1` there       a number up to 255, or an ADDRESS
+more values than the object has elements     a greater dimension, or `(*)`
+`DECLARE A(0) BYTE`                          a dimension of 1 or more
+`INPUT(256)`                                 a port of 0 to 255
+`AT (.X)` where X is EXTERNAL or BASED, or   an X with a place of its own; in
+  `INITIAL (.X)` where X is BASED              INITIAL it may be EXTERNAL
+`BYTE INITIAL (.X)`                          `ADDRESS INITIAL (.X)`
+a 17th parameter                             the location of a structure as one
+                                               parameter
 \x0cC16
 
 A write to an object with DATA. DATA lies with the code, as it did in the ROM of
@@ -376,8 +376,9 @@ Printed: `C16 wrong.plm 3`. Cure: INITIAL for DATA.
 
 The location of a procedure, or of a variable or a parameter of a REENTRANT
 procedure. These have no address that lasts, or none that the language could
-use. In old sources it is usually a table of procedures that are called through
-a variable, which is left out.
+use. The location of a BASED variable is what its base holds, so it is allowed
+there too. In old sources it is usually a table of procedures that are called
+through a variable, which is left out.
 
 wrong.plm:
 

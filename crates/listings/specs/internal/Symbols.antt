@@ -1,5 +1,5 @@
 -- Lines of symbols that are added to others.
-use Rattle.std.specs.Prelude.{◌≡◌, ℕ, ◌+◌, ◌≤◌, Bool, true, false, List, [], ◌∷◌, ◌++◌, codes, filter, flat_map, map, zip, Option, Some, None, IfSome}
+use Rattle.std.specs.Prelude.{◌≡◌, ℕ, ◌+◌, ◌<◌, ◌≤◌, Bool, true, false, List, [], ◌∷◌, ◌++◌, codes, filter, flat_map, map, zip, Option, Some, None, IfSome}
 use Rattle.std.specs.List.{AllByRecursion}
 use Rattle.layout.specs.Placement.{PieceKind}
 use Rattle.typed_trees.specs.TypedTrees.{TypedModule, TypedObject, TypedProcedure}
@@ -7,7 +7,7 @@ use Rattle.typed_trees.specs.Weight.{constant_bytes}
 use Rattle.listings.specs.Names.{IsInCode}
 use Rattle.listings.specs.Symbols.{AreCodeOf, AreOwnersOf, HasSymbols, is_own, object_line, procedure_line, source_line}
 use Rattle.listings.specs.declared.views.ModuleView.{ModuleView}
-use Rattle.listings.specs.internal.Programs.{code_size, object_of, placed_of, typed_of}
+use Rattle.listings.specs.internal.Programs.{code_size, object_of, placed_of, text_of, typed_of}
 
 -- the procedures that are not EXTERNAL
 abbrev pub own_of : List TypedProcedure → List TypedProcedure
@@ -54,10 +54,11 @@ abbrev pub line_of : ModuleView → (number : ℕ) → (place : Option ℕ) → 
 line_of view number None = []
 line_of view number (Some place) = source_line (typed_of view).name view.code_base (number, place)
 
--- the lines of source lines, from a number on
-pub record HasSourceLines (view : ModuleView) (number : ℕ) (text : List ℕ) : Type 0 where
+-- the lines of source lines, from a number on and below another
+pub record HasSourceLines (view : ModuleView) (end number : ℕ) (text : List ℕ) : Type 0 where
   pub lines : List (ℕ × ℕ)
   pub rising : Rises number lines
+  pub below : AllByRecursion (λ (line : ℕ × ℕ). line.0 < end) lines
   pub each : AllByRecursion (λ (line : ℕ × ℕ). IsPlaceIn view line.1) lines
   pub text_is : text ≡ flat_map (source_line (typed_of view).name view.code_base) lines
 
@@ -69,7 +70,8 @@ pub record HasLine (view : ModuleView) (number : ℕ) (text : List ℕ) : Type 0
 
 -- the symbols of a module, and of modules, one after another
 abbrev pub HasSymbolsOf : ModuleView → (text : List ℕ) → Type 0
-HasSymbolsOf view text = HasSymbols view.code_base (typed_of view) (object_of view) (placed_of view) text
+HasSymbolsOf view text =
+    HasSymbols view.code_base (text_of view) (typed_of view) (object_of view) (placed_of view) text
 
 pub data HaveSymbolsOf : List ModuleView → (text : List ℕ) → Type 0 where
   no_view : HaveSymbolsOf [] []

@@ -1,4 +1,4 @@
-use Rattle.commands.proofs.{Prelude.{◌≤◌, ℕ, subst, sym, ◌∙◌}, ProgramsTold.{runs_by_status}, OrdersKept.{converts_with_status, refused_is}, TextsTold.{wrong_is}}
+use Rattle.commands.proofs.{Prelude.{◌≤◌, ℕ, subst, sym, ◌∙◌}, ProgramsTold.{runs_by_status}, OrdersKept.{converts_with_status, done_is, refused_is}, TextsTold.{wrong_is}}
 use Rattle.commands.proofs.console.run_command.Goals as goal
 
 pub returns-clause-not_wrong : goal.returns-clause-not_wrong
@@ -11,7 +11,10 @@ pub returns-clause-refused : goal.returns-clause-refused
 returns-clause-refused g c = λ clean one. c.end_words-ending.ensures.refused clean (refused_is _ (sym c.status.ensures ∙ one))
 
 pub returns-clause-silent : goal.returns-clause-silent
-returns-clause-silent g c = λ clean two. c.end_words-ending.ensures.silent clean (wrong_is _ (sym c.status.ensures ∙ two))
+returns-clause-silent g c = λ two. c.end_words-ending.ensures.silent (wrong_is _ (sym c.status.ensures ∙ two))
+
+pub returns-clause-usage : goal.returns-clause-usage
+returns-clause-usage g c = λ fault none zero. c.end_words-ending.ensures.usage fault none (done_is _ (sym c.status.ensures ∙ zero))
 
 pub returns-clause-faulty : goal.returns-clause-faulty
 returns-clause-faulty g c = λ fault. subst (λ (s : ℕ). s ≤ 2) (sym c.status.ensures) (c.end_words-ending.ensures.faulty fault)

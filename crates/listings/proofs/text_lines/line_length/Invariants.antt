@@ -1,5 +1,5 @@
 use Rattle.listings.proofs.Prelude.{◌≡◌, ◌+◌, length, first_length}
-use Rattle.listings.proofs.modules.line_length.Given as goal
+use Rattle.listings.proofs.text_lines.line_length.Given as goal
 
 -- the bytes so far, and those of the rest before its first line feed, are all
 abbrev pub invariant-loop-rest : goal.invariant-loop-rest

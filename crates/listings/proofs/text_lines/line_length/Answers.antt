@@ -1,5 +1,5 @@
 use Rattle.listings.proofs.{Prelude.{refl}, SourceLines.{length_done, length_more, within_more}}
-use Rattle.listings.proofs.modules.line_length.Goals as goal
+use Rattle.listings.proofs.text_lines.line_length.Goals as goal
 
 pub loop-rest-preserved : goal.loop-rest-preserved
 loop-rest-preserved c = record {
