@@ -112,6 +112,26 @@ pub fn complement_carry(flags: &mut LazyFlags)
     flags.set_cy(!carry);
 }
 
+/// INR: a byte counted up, which sets the flags but CY.
+#[inline(always)]
+pub fn increment(byte: u8, registers: &mut MachineRegisters) -> u8
+    ensures value { result ≡ (increment_of byte registers.old.flags).value }
+    ensures registers { registers.new
+        ≡ record registers.old { flags = (increment_of byte registers.old.flags).flags } }
+{
+    alu8080::increment(byte, &mut registers.flags)
+}
+
+/// DCR: a byte counted down, which sets the flags but CY.
+#[inline(always)]
+pub fn decrement(byte: u8, registers: &mut MachineRegisters) -> u8
+    ensures value { result ≡ (decrement_of byte registers.old.flags).value }
+    ensures registers { registers.new
+        ≡ record registers.old { flags = (decrement_of byte registers.old.flags).flags } }
+{
+    alu8080::decrement(byte, &mut registers.flags)
+}
+
 /// INR M: counts the byte at the address in H and L up.
 #[inline(always)]
 pub fn increment_memory<M: MachineMemory>(registers: &mut MachineRegisters, memory: &mut M)
@@ -122,7 +142,7 @@ pub fn increment_memory<M: MachineMemory>(registers: &mut MachineRegisters, memo
         ≡ (let byte = slice_index (M.bytes memory.old) (pair_in Hl registers.old) in
         slice_set (M.bytes memory.old) (pair_in Hl registers.old) (increment_of byte registers.old.flags).value) }
 {
-    let value = alu8080::increment(byte_at_hl(registers, memory), &mut registers.flags);
+    let value = increment(byte_at_hl(registers, memory), registers);
     put_at_hl(value, registers, memory);
 }
 
@@ -136,7 +156,7 @@ pub fn decrement_memory<M: MachineMemory>(registers: &mut MachineRegisters, memo
         ≡ (let byte = slice_index (M.bytes memory.old) (pair_in Hl registers.old) in
         slice_set (M.bytes memory.old) (pair_in Hl registers.old) (decrement_of byte registers.old.flags).value) }
 {
-    let value = alu8080::decrement(byte_at_hl(registers, memory), &mut registers.flags);
+    let value = decrement(byte_at_hl(registers, memory), registers);
     put_at_hl(value, registers, memory);
 }
 

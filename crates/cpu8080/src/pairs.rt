@@ -173,25 +173,50 @@ pub fn fetch_word<M: MachineMemory>(pc: &mut u16, memory: &M) -> u16
     word
 }
 
-/// The byte some places after an address, within the memory.
+/// The byte after the first one of the instruction that begins so many places after an address, within the memory.
 #[inline(always)]
-pub fn byte_after<M: MachineMemory>(address: u16, distance: u16, memory: &M) -> u8
-    requires { address + distance < MEMORY_SIZE }
-    ensures { result ≡ byte_at (M.bytes memory.now) (address + distance) }
+pub fn byte_after<M: MachineMemory>(start: u16, distance: u16, memory: &M) -> u8
+    requires { start + (distance + 1) < MEMORY_SIZE }
+    ensures { result ≡ byte_at (M.bytes memory.now) (start + (distance + 1)) }
 {
-    memory.get(address.wrapping_add(distance))
+    memory.get(start.wrapping_add(distance + 1))
 }
 
-/// The 16-bit value some places after an address, within the memory, its low byte first.
+/// The 16-bit value after the first byte of the instruction that begins so many places after an address, within the
+/// memory, its low byte first.
 #[inline(always)]
-pub fn word_after<M: MachineMemory>(address: u16, distance: u16, memory: &M) -> u16
-    requires { address + distance + 1 < MEMORY_SIZE }
+pub fn word_after<M: MachineMemory>(start: u16, distance: u16, memory: &M) -> u16
+    requires { start + (distance + 2) < MEMORY_SIZE }
     ensures { result
-        ≡ byte_at (M.bytes memory.now) (address + distance)
-        + 256 * byte_at (M.bytes memory.now) (address + (distance + 1)) }
+        ≡ byte_at (M.bytes memory.now) (start + (distance + 1))
+        + 256 * byte_at (M.bytes memory.now) (start + (distance + 2)) }
 {
     word_with(
-        byte_after(address, distance + 1, memory),
-        byte_after(address, distance, memory),
+        memory.get(start.wrapping_add(distance + 2)),
+        memory.get(start.wrapping_add(distance + 1)),
     )
+}
+
+/// The byte at the address in the instruction that begins so many places after an address, within the memory.
+#[inline(always)]
+pub fn byte_named<M: MachineMemory>(start: u16, distance: u16, memory: &M) -> u8
+    requires { start + (distance + 2) < MEMORY_SIZE }
+    ensures { result
+        ≡ (let address = byte_at (M.bytes memory.now) (start + (distance + 1))
+        + 256 * byte_at (M.bytes memory.now) (start + (distance + 2)) in
+        byte_at (M.bytes memory.now) address) }
+{
+    memory.get(word_after(start, distance, memory))
+}
+
+/// The 16-bit value at that address, its low byte first.
+#[inline(always)]
+pub fn word_named<M: MachineMemory>(start: u16, distance: u16, memory: &M) -> u16
+    requires { start + (distance + 2) < MEMORY_SIZE }
+    ensures { result
+        ≡ (let address = byte_at (M.bytes memory.now) (start + (distance + 1))
+        + 256 * byte_at (M.bytes memory.now) (start + (distance + 2)) in
+        word_at (M.bytes memory.now) address) }
+{
+    word_in(word_after(start, distance, memory), memory)
 }

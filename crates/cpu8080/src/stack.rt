@@ -68,21 +68,21 @@ pub fn jump_if<M: MachineMemory>(condition: bool, pc: &mut u16, memory: &M)
     }
 }
 
-/// A jump at the end of a line, whose address lies so many bytes after the program counter: goes on there, or after the
-/// instruction.
+/// Where a jump goes on that ends a line, and begins so many bytes after the start of the line: at the address in it, or
+/// after it.
 #[inline(always)]
-pub fn jump_after<M: MachineMemory>(condition: bool, distance: u16, pc: &mut u16, memory: &M)
-    requires within { pc.old + distance + 1 < MEMORY_SIZE }
+pub fn jump_after<M: MachineMemory>(condition: bool, start: u16, distance: u16, memory: &M) -> u16
+    requires within { start + (distance + 2) < MEMORY_SIZE }
     requires near { distance < 256 }
-    ensures { pc.new
+    ensures { result
         ≡ (if condition
-        then byte_at (M.bytes memory.now) (pc.old + distance) + 256 * byte_at (M.bytes memory.now) (pc.old + (distance + 1))
-        else wrap (pc.old + (distance + 2))) }
+        then byte_at (M.bytes memory.now) (start + (distance + 1)) + 256 * byte_at (M.bytes memory.now) (start + (distance + 2))
+        else wrap (start + (distance + 3))) }
 {
     if condition {
-        *pc = word_after(*pc, distance, memory);
+        word_after(start, distance, memory)
     } else {
-        *pc = pc.wrapping_add(distance + 2);
+        start.wrapping_add(distance + 3)
     }
 }
 
@@ -105,27 +105,28 @@ pub fn return_if<M: MachineMemory>(
     }
 }
 
-/// A return at the end of a line, which ends so many bytes after the program counter: goes on at the address on top of
-/// the stack, or after the instruction.
+/// Where a return goes on that ends a line, and begins so many bytes after the start of the line: at the address that it
+/// takes from the stack, or after it.
 #[inline(always)]
 pub fn return_after<M: MachineMemory>(
     condition: bool,
+    start: u16,
     distance: u16,
-    pc: &mut u16,
     registers: &mut MachineRegisters,
     memory: &M,
-)
-    ensures place { pc.new
-        ≡ (if condition then word_at (M.bytes memory.now) registers.old.sp else wrap (pc.old + distance)) }
+) -> u16
+    requires { distance < 256 }
+    ensures place { result
+        ≡ (if condition then word_at (M.bytes memory.now) registers.old.sp else wrap (start + (distance + 1))) }
     ensures registers { registers.new
         ≡ (if condition
         then record registers.old { sp = wrap (registers.old.sp + 2) }
         else registers.old) }
 {
     if condition {
-        *pc = pop(registers, memory);
+        pop(registers, memory)
     } else {
-        *pc = pc.wrapping_add(distance);
+        start.wrapping_add(distance + 1)
     }
 }
 
@@ -169,23 +170,24 @@ pub fn call_if<M: MachineMemory>(
     }
 }
 
-/// A call of the address that lies so many bytes after the program counter, within the memory.
+/// Where a call goes on that ends a line, and begins so many bytes after the start of the line: at the address in it. It
+/// puts that of the next instruction on the stack.
 #[inline(always)]
 pub fn call_after<M: MachineMemory>(
+    start: u16,
     distance: u16,
-    pc: &mut u16,
     registers: &mut MachineRegisters,
     memory: &mut M,
-)
-    requires within { pc.old + distance + 1 < MEMORY_SIZE }
+) -> u16
+    requires within { start + (distance + 2) < MEMORY_SIZE }
     requires near { distance < 256 }
-    ensures place { pc.new
-        ≡ byte_at (M.bytes memory.old) (pc.old + distance) + 256 * byte_at (M.bytes memory.old) (pc.old + (distance + 1)) }
+    ensures place { result
+        ≡ byte_at (M.bytes memory.old) (start + (distance + 1)) + 256 * byte_at (M.bytes memory.old) (start + (distance + 2)) }
     ensures registers { registers.new ≡ record registers.old { sp = two_less registers.old.sp } }
     ensures memory { M.bytes memory.new
-        ≡ memory_pushed (wrap (pc.old + (distance + 2))) registers.old (M.bytes memory.old) }
+        ≡ memory_pushed (wrap (start + (distance + 3))) registers.old (M.bytes memory.old) }
 {
-    let address = word_after(*pc, distance, memory);
-    push(pc.wrapping_add(distance + 2), registers, memory);
-    *pc = address;
+    let address = word_after(start, distance, memory);
+    push(start.wrapping_add(distance + 3), registers, memory);
+    address
 }
