@@ -6,7 +6,13 @@ pub mod Planning
 pub mod CodeLaws
 pub mod Standing
 pub mod PlansStand
+pub mod DifferentNumbers
+pub mod Outlines
+pub mod FormLabels
+pub mod BoundLabels
+pub mod EntryLabels
 pub mod LoweredStand
+pub mod BoundModules
 pub mod Driving
 pub mod BodyParts
 pub mod ModuleParts

@@ -1,6 +1,15 @@
 -- The code of a module, from the code of its parts.
 use Rattle.codegen8080.proofs.Prelude.{◌≡◌, ℕ, zero, suc, ◌+◌, inl, inr, Bool, true, false, List, length-replicate, replicate, slice_index_or, [], ◌∷◌, ◌++◌, Option, Some, None, Result, Ok, Err, OnOk, slice_get, length, take, drop, ◌-◌, ◌<◌, arith, refl, sym, ap, subst, ◌∙◌, append_assoc, append-nil, add-one, option_map, none-some, Item, Routine, Content, TreeModule, ProcedureKind, TreeProcedure, Extends, entry, no_facts, label_after, Written, Writes, in_front, items_stay, writes_nothing, writes_then, has_routine, index_of_routine, module_routine_label, HasAll, IsEmpty, NotesCalled, has_itself, none_noted, notes_then, Generator, LabelledList, LabelledSteps, AreRoutines, IsCodeOfRoutine, IsCodeWritten, IsMainCode, IsMainLabelled, IsOwnCode, IsProcedureCode, IsProcedureLabelled, all_routines, content_items, contents_items, has_main, entry_labels, entry_steps, AddsCalled, AddsCodeOfMain, AddsMain, AddsOwnCode, AddsProcedure, AddsProcedures, AddsRoutineIf, AddsRoutines, LabelledCode, LabelledCodeOfMain, LabelledEnd, LabelledProcedure, LabelledProcedures, same_Some, nothing_there}
+use Rattle.std.proofs.Common.{◌==◌, ◌≤◌, ◌⊎◌}
+use Rattle.std.proofs.lemmas.Bool.{eqb-true}
+use Rattle.asm8080.specs.Items.{is_bound}
+use Rattle.steps8080.proofs.{Binding.{true_of}, Numbered.{false_by, not_both}}
+use Rattle.steps8080.specs.Writer.{AreWritable, is_marked, numbered}
+use Rattle.exprgen8080.specs.internal.Emission.{module_label_of_routine}
+use Rattle.codegen8080.specs.internal.Bodies.{AreFree, IsLabelOf}
+use Rattle.codegen8080.specs.internal.Sources.{IsOfModule}
 use Rattle.codegen8080.specs.internal.Standing.{AllStand}
+use Rattle.codegen8080.proofs.BoundModules.{contents_unbound, own_code_bound}
 use Rattle.asm8080.specs.declared.item.Item.TheVariants as items
 use Rattle.treecode.specs.declared.procedure.ProcedureKind.TheVariants as kinds
 use Rattle.codegen8080.proofs.BodyParts.{end_kept}
@@ -51,6 +60,20 @@ pub putting_ends :
     → Writes before now (contents_items whole)
 putting_ends before now whole putting =
     subst (Writes before now) (sym (append-nil putting.list) ∙ putting.left_is) putting.writes
+
+-- data, which bind no label
+pub data_items :
+    (before after : Written) (list : List Content)
+    → before.code.items ≡ []
+    → Writes before after (contents_items list)
+    → numbered after (contents_items list) ≡ Some after.code.items
+data_items before after list nothing writes =
+    let unbound = contents_unbound list in
+    writes.same (record {
+      once = unbound.once;
+      new = λ label bound. let low = unbound.bound label bound in absurd (omega (arith, low.1));
+    })
+    ∙ ap Some (sym (writes.added ∙ ap (λ made. made ++ writes.made) nothing))
 
 -- The code of a procedure with more routines called.
 module _ (tree : TreeModule) (called wider : List Bool) (more : HasAll called wider) where
@@ -377,11 +400,102 @@ record AddsOne (tree : TreeModule) (is_called : Bool) (routine : Routine)
     (before after : Written) : Type 0 where
   list : List Item
   added : after.code.items ≡ before.code.items ++ list
-  is : IsCodeOfRoutine tree after routine is_called list
+  is :
+      is_marked before.marked (module_label_of_routine tree routine).index ≡ false
+      → IsCodeOfRoutine tree after routine is_called list
+  marked :
+      (label : ℕ) → is_marked after.marked label ≡ true
+      → (is_marked before.marked label ≡ true) ⊎ (label ≡ (module_label_of_routine tree routine).index)
   labels : Extends before.labels after.labels
   externals : Extends before.externals after.externals
   no_names : Extends after.externals before.externals
   count : length after.externals ≡ length before.externals
+
+-- one label is new
+one_label : (label at : ℕ) → is_bound label (items.Mark at ∷ []) ≡ true → label ≡ at
+one_label label at bound = elim (true_of (label == at) false bound) [
+  | inl same ↦ eqb-true label at same
+  | inr never ↦ absurd (not_both false never refl)
+]
+
+one_label_writable : (before : Written) (at : ℕ)
+    → is_marked before.marked at ≡ false
+    → AreWritable before (items.Mark at ∷ [])
+one_label_writable before at free = record {
+  once = (λ label binds. refl, tt);
+  new = λ label bound. ap (λ (one : ℕ). is_marked before.marked one) (one_label label at bound) ∙ free;
+}
+
+-- routines whose labels have no place, after one is added
+free_after :
+    (tree : TreeModule) (before after : List Bool) (routines : List Routine) (label : ℕ)
+    → AreFree tree before routines
+    → ((one : ℕ) → is_marked after one ≡ true → (is_marked before one ≡ true) ⊎ (one ≡ label))
+    → (IsLabelOf tree routines label → ⊥)
+    → AreFree tree after routines
+free_after tree before after [] label free only apart = tt
+free_after tree before after (routine ∷ others) label free only apart = (
+  false_by (is_marked after (module_label_of_routine tree routine).index) (λ given.
+      elim (only (module_label_of_routine tree routine).index given) [
+        | inl old ↦ not_both (is_marked before (module_label_of_routine tree routine).index) old free.0
+        | inr same ↦ apart (inl (sym same))
+      ]),
+  free.1,
+  free_after tree before after others label free.2 only (λ is. apart (inr is)),
+)
+
+-- the first of them, and those after them
+label_first : (tree : TreeModule) (routines others : List Routine) (label : ℕ)
+    → IsLabelOf tree routines label → IsLabelOf tree (routines ++ others) label
+label_first tree [] others label is = absurd is
+label_first tree (routine ∷ routines) others label (inl same) = inl same
+label_first tree (routine ∷ routines) others label (inr is) = inr (label_first tree routines others label is)
+
+label_later : (tree : TreeModule) (routines others : List Routine) (label : ℕ)
+    → IsLabelOf tree others label → IsLabelOf tree (routines ++ others) label
+label_later tree [] others label is = is
+label_later tree (routine ∷ routines) others label is = inr (label_later tree routines others label is)
+
+free_first : (tree : TreeModule) (marked : List Bool) (routines others : List Routine)
+    → AreFree tree marked (routines ++ others) → AreFree tree marked routines
+free_first tree marked [] others free = tt
+free_first tree marked (routine ∷ routines) others free = (
+  free.0,
+  λ is. free.1 (label_first tree routines others (module_label_of_routine tree routine).index is),
+  free_first tree marked routines others free.2,
+)
+
+free_apart : (tree : TreeModule) (marked : List Bool) (routines others : List Routine) (label : ℕ)
+    → AreFree tree marked (routines ++ others)
+    → IsLabelOf tree routines label → IsLabelOf tree others label → ⊥
+free_apart tree marked [] others label free here later = here
+free_apart tree marked (routine ∷ routines) others label free (inl same) later =
+    free.1 (label_later tree routines others (module_label_of_routine tree routine).index
+    (subst (IsLabelOf tree others) same later))
+free_apart tree marked (routine ∷ routines) others label free (inr here) later =
+    free_apart tree marked routines others label free.2 here later
+
+free_later : (tree : TreeModule) (marked : List Bool) (routines others : List Routine)
+    → AreFree tree marked (routines ++ others) → AreFree tree marked others
+free_later tree marked [] others free = free
+free_later tree marked (routine ∷ routines) others free = free_later tree marked routines others free.2
+
+free_between :
+    (tree : TreeModule) (before after : List Bool) (routines others : List Routine)
+    → AreFree tree before others
+    → ((one : ℕ) → is_marked after one ≡ true → (is_marked before one ≡ true) ⊎ IsLabelOf tree routines one)
+    → ((one : ℕ) → IsLabelOf tree routines one → IsLabelOf tree others one → ⊥)
+    → AreFree tree after others
+free_between tree before after routines [] free only apart = tt
+free_between tree before after routines (routine ∷ others) free only apart = (
+  false_by (is_marked after (module_label_of_routine tree routine).index) (λ given.
+      elim (only (module_label_of_routine tree routine).index given) [
+        | inl old ↦ not_both (is_marked before (module_label_of_routine tree routine).index) old free.0
+        | inr is ↦ apart (module_label_of_routine tree routine).index is (inl refl)
+      ]),
+  free.1,
+  free_between tree before after routines others free.2 only (λ one here later. apart one here (inr later)),
+)
 
 one_added :
     (tree : TreeModule) (routine : Routine) (is_called : Bool) (before after : Written)
@@ -390,7 +504,8 @@ one_added :
 one_added tree routine false before after same = record {
   list = [];
   added = ap (λ (written : Written). written.code.items) same ∙ sym (append-nil before.code.items);
-  is = refl;
+  is = λ free. refl;
+  marked = λ label given. inl (ap (λ (written : Written). is_marked written.marked label) (sym same) ∙ given);
   labels = λ number found given. ap (λ (written : Written). entry written.labels number) same ∙ given;
   externals = λ number found given. ap (λ (written : Written). entry written.externals number) same ∙ given;
   no_names =
@@ -400,22 +515,29 @@ one_added tree routine false before after same = record {
 one_added tree routine true before after writes =
     let entered : Written = writes.entered in
     let at : ℕ = (module_routine_label tree (index_of_routine routine)).index in
-    let front = one_front writes.marked.made (entry entered.labels at) writes.marked.same in
     record {
-      list = items.Mark front.0 ∷ writes.added.items;
+      list = writes.marked.made ++ writes.added.items;
       added =
           writes.added.added
-          ∙ ap (λ list. list ++ writes.added.items)
-          (writes.marked.added ∙ ap (λ list. before.code.items ++ list) front.2)
-          ∙ append_assoc before.code.items (items.Mark front.0 ∷ []) writes.added.items;
-      is = record {
-        label = front.0;
-        known = ap (λ table. entry table at) writes.labels ∙ front.1;
-        listing = writes.added.items;
-        is_routine = writes.added.is_routine;
-        size = writes.added.size;
-        list_is = refl;
-      };
+          ∙ ap (λ list. list ++ writes.added.items) writes.marked.added
+          ∙ append_assoc before.code.items writes.marked.made writes.added.items;
+      is = λ free.
+          let front =
+          one_front writes.marked.made (entry entered.labels at)
+          (writes.marked.same (one_label_writable before at free)) in
+          record {
+            label = front.0;
+            known = ap (λ table. entry table at) writes.labels ∙ front.1;
+            listing = writes.added.items;
+            is_routine = writes.added.is_routine;
+            size = writes.added.size;
+            list_is = ap (λ list. list ++ writes.added.items) front.2;
+          };
+      marked = λ label given.
+          elim (writes.marked.marked label (ap (λ flags. is_marked flags label) (sym writes.places) ∙ given)) [
+            | inl old ↦ inl old
+            | inr bound ↦ inr (one_label label at bound)
+          ];
       labels = λ number found given.
           ap (λ table. entry table number) writes.labels ∙ writes.marked.labels number found given;
       externals = λ number found given.
@@ -435,7 +557,8 @@ pub no_routines : (tree : TreeModule) (called : List Bool) (written : Written)
 no_routines tree called written = record {
   list = [];
   added = sym (append-nil written.code.items);
-  are = refl;
+  are = λ free. refl;
+  marked = λ label given. inl given;
   labels = λ number found given. given;
   externals = λ number found given. given;
   no_names = λ number found given. given;
@@ -456,13 +579,19 @@ routine_then tree called routine others before between after first rest =
       added =
           rest.added ∙ ap (λ list. list ++ rest.list) one.added
           ∙ append_assoc before.code.items one.list rest.list;
-      are = (
+      are = λ free. (
         one.list,
         rest.list,
-        routine_kept tree between after routine (has_routine called routine) one.list rest.labels one.is,
-        rest.are,
+        routine_kept tree between after routine (has_routine called routine) one.list rest.labels (one.is free.0),
+        rest.are
+            (free_after tree before.marked between.marked others (module_label_of_routine tree routine).index free.2
+            one.marked free.1),
         refl,
       );
+      marked = λ label given. elim (rest.marked label given) [
+        | inl known ↦ elim (one.marked label known) [ inl old ↦ inl old | inr same ↦ inr (inl same) ]
+        | inr is ↦ inr (inr is)
+      ];
       labels = λ number found given. rest.labels number found (one.labels number found given);
       externals = λ number found given. rest.externals number found (one.externals number found given);
       no_names = λ number found given. one.no_names number found (rest.no_names number found given);
@@ -513,9 +642,21 @@ routines_then tree called routines others before between after first second = re
   added =
       second.added ∙ ap (λ list. list ++ second.list) first.added
       ∙ append_assoc before.code.items first.list second.list;
-  are =
+  are = λ free.
       are_then tree called after routines others first.list second.list
-      (are_kept tree called between after routines first.list second.labels first.are) second.are;
+      (are_kept tree called between after routines first.list second.labels
+      (first.are (free_first tree before.marked routines others free)))
+      (second.are
+      (free_between tree before.marked between.marked routines others
+      (free_later tree before.marked routines others free) first.marked
+      (λ one here later. free_apart tree before.marked routines others one free here later)));
+  marked = λ label given. elim (second.marked label given) [
+    | inl known ↦ elim (first.marked label known) [
+      | inl old ↦ inl old
+      | inr is ↦ inr (label_first tree routines others label is)
+    ]
+    | inr is ↦ inr (label_later tree routines others label is)
+  ];
   labels = λ number found given. second.labels number found (first.labels number found given);
   externals = λ number found given. second.externals number found (first.externals number found given);
   no_names = λ number found given. first.no_names number found (second.no_names number found given);
@@ -528,6 +669,81 @@ no_flag zero index given = let no : false ≡ true = given in cc
 no_flag (suc count) zero given = let no : false ≡ true = given in cc
 no_flag (suc count) (suc index) given = no_flag count index given
 
+-- the labels of routines that are numbered from an index on
+abbrev AreIndexed : (index : ℕ) → List Routine → Type 0
+AreIndexed index [] = Unit {0}
+AreIndexed index (routine ∷ others) = (index_of_routine routine ≡ index) × AreIndexed (suc index) others
+
+indexed_label :
+    (tree : TreeModule) (index : ℕ) (routines : List Routine) (label : ℕ)
+    → AreIndexed index routines
+    → IsLabelOf tree routines label
+    → length tree.procedures.items + index + length routines < 4294967295
+    → (length tree.procedures.items + index ≤ label) × (label < length tree.procedures.items + index + length routines)
+indexed_label tree index [] label are is few = absurd is
+indexed_label tree index (routine ∷ others) label are (inl same) few =
+    (omega (arith, same, are.0, few), omega (arith, same, are.0, few))
+indexed_label tree index (routine ∷ others) label are (inr is) few =
+    let rest = indexed_label tree (suc index) others label are.1 is (omega (arith, few)) in
+    (omega (arith, rest.0), omega (arith, rest.1))
+
+indexed_free :
+    (tree : TreeModule) (marked : List Bool) (index : ℕ) (routines : List Routine)
+    → AreIndexed index routines
+    → length tree.procedures.items + index + length routines < 4294967295
+    → ((label : ℕ) → length tree.procedures.items + index ≤ label
+    → label < length tree.procedures.items + index + length routines
+    → is_marked marked label ≡ false)
+    → AreFree tree marked routines
+indexed_free tree marked index [] are few free = tt
+indexed_free tree marked index (routine ∷ others) are few free =
+    let own : ℕ = (module_label_of_routine tree routine).index in
+    let is : own ≡ length tree.procedures.items + index = omega (arith, are.0, few) in (
+      free own (omega (arith, is)) (omega (arith, is)),
+      λ also.
+          let after = indexed_label tree (suc index) others own are.1 also (omega (arith, few)) in
+          omega (arith, after.0, is),
+      indexed_free tree marked (suc index) others are.1 (omega (arith, few))
+          (λ label low high. free label (omega (arith, low)) (omega (arith, high))),
+    )
+
+-- no flag is set
+no_marks : (label : ℕ) → is_marked [] label ≡ true → ⊥
+no_marks label given = not_both false given refl
+
+-- the own code of a module is writable where there is none yet
+own_writable :
+    (tree : TreeModule) (start : ℕ) (before between : Generator)
+    → IsOfModule tree
+    → IsEmpty tree before.emission
+    → (own : AddsOwnCode tree start before between)
+    → between.emission.steps.labels < 4294967295
+    → AreWritable before.emission.writer own.list
+    × AreFree tree between.emission.writer.marked all_routines
+own_writable tree start before between made none own few =
+    let bound =
+    own_code_bound tree made.typed made.storage made.jumps made.lowered between.emission.is_called.items start own.list
+    between.emission.steps.labels own.written.0 (own.written.1 none.labels) few in
+    let nothing : before.emission.writer.marked ≡ [] = ap (λ (written : Written). written.marked) none.items in
+    let unmarked : (label : ℕ) → is_marked before.emission.writer.marked label ≡ true → ⊥ =
+    λ label given. no_marks label (ap (λ flags. is_marked flags label) (sym nothing) ∙ given) in (
+      record {
+        once = bound.0;
+        new = λ label is. false_by (is_marked before.emission.writer.marked label) (unmarked label);
+      },
+      indexed_free tree between.emission.writer.marked 0 all_routines
+          (refl, (refl, (refl, (refl, (refl, (refl, (refl, (refl, (refl, tt)))))))))
+          (omega (arith, bound.2))
+          (λ label low high. false_by (is_marked between.emission.writer.marked label) (λ given.
+          elim (own.writes.marked label given) [
+            | inl old ↦ unmarked label old
+            | inr is ↦ elim (bound.1 label is) [
+              | inl entry ↦ omega (arith, entry, low)
+              | inr after ↦ omega (arith, after, high)
+            ]
+          ])),
+    )
+
 -- the code of a module, from its own code and the routines
 pub code_written :
     (tree : TreeModule) (start : ℕ) (before between : Generator) (called : List Bool)
@@ -537,8 +753,11 @@ pub code_written :
     → called ≡ between.emission.is_called.items
     → written ≡ between.emission.writer
     → AddsRoutines tree called all_routines written after
+    → IsOfModule tree
+    → between.emission.steps.labels < 4294967295
     → IsCodeWritten tree start after
-code_written tree start before between called written after none own called_is written_is added =
+code_written tree start before between called written after none own called_is written_is added made few =
+    let writable = own_writable tree start before between made none own few in
     let routines : AddsRoutines tree between.emission.is_called.items all_routines
     between.emission.writer after =
     subst (λ (from : Written). AddsRoutines tree between.emission.is_called.items all_routines from after)
@@ -556,8 +775,8 @@ code_written tree start before between called written after none own called_is w
       labels = own.written.1 none.labels;
       same =
           items_stay between.emission.writer after own.list own.writes.made routines.labels routines.externals
-          own.writes.same;
-      listed_are = routines.are;
+          (own.writes.same writable.0);
+      listed_are = routines.are writable.1;
       items_are =
           routines.added
           ∙ ap (λ list. list ++ routines.list)

@@ -11,6 +11,8 @@ pub mod Marking
 pub mod Names
 pub mod Segments
 pub mod Standing
+pub mod Outlines
+pub mod Sources
 pub mod Carrying
 pub mod Bodies
 pub mod Listing

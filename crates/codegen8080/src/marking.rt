@@ -8,6 +8,7 @@ ghost use Rattle.codegen8080.specs.internal.Marking.{AreMarksOf, routine_mark};
 ghost use Rattle.codegen8080.specs.internal.Standing.{BodiesStand};
 ghost use Rattle.codegen8080.specs.internal.Refusals.{MayRefuse};
 ghost use Rattle.codegen8080.specs.internal.Marks.{PutsMark, marks_from};
+ghost use Rattle.codegen8080.specs.internal.Sources.{IsOfModule};
 
 use crate::fault::Fault;
 use crate::module::{ModuleCode, code_of, finish};
@@ -131,6 +132,7 @@ fn put_routines(
 pub fn code_marks(alloc: Global, tree: &TreeModule) -> Result<Vec<Mark>, Failure<Fault>>
     requires rise { NumbersRise (nodes_of tree.now) }
     requires stands { BodiesStand tree.now }
+    requires source { IsOfModule tree.now }
     ensures made { IfOk result (λ marks. AreMarksOf tree.now marks.items) }
     ensures refused { IfFault result (λ fault. MayRefuse tree.now fault) }
 {

@@ -1,6 +1,6 @@
 //! Generation of object modules from modules of tree code.
 
-ghost use Rattle.std.specs.Prelude.{◌≡◌, false, length, slice_index_or, Some, IfOk, OnOk};
+ghost use Rattle.std.specs.Prelude.{◌≡◌, ◌<◌, false, length, slice_index_or, Some, IfOk, OnOk};
 ghost use Rattle.failure.specs.Failure.{IfFault};
 ghost use Rattle.treecode.specs.Nodes.{nodes_of};
 ghost use Rattle.treecode.specs.Rising.{NumbersRise};
@@ -9,6 +9,7 @@ ghost use Rattle.codegen8080.specs.internal.Refusals.{IsNoSegment, MayRefuse};
 ghost use Rattle.codegen8080.specs.internal.Bodies.{AddsCalled, AddsCodeOfMain, AddsOwnCode, AddsProcedures, AddsRoutines, first_routines, last_routines, next_routines};
 ghost use Rattle.codegen8080.specs.internal.Standing.{AllStand, BodiesStand, BodyStands};
 ghost use Rattle.codegen8080.specs.internal.Segments.{KeepsFixes};
+ghost use Rattle.codegen8080.specs.internal.Sources.{IsOfModule};
 ghost use Rattle.codegen8080.specs.internal.Listing.{AreNamesOf, start_in};
 ghost use Rattle.codegen8080.specs.internal.Names.{IsLinkable};
 ghost use Rattle.steps8080.specs.Externals.{Extends};
@@ -199,14 +200,28 @@ fn put_own_code(
     Ok(start)
 }
 
+// Fails if as many labels are in use as 32 bits count.
+fn within_labels(generator: &Generator) -> Result<(), AllocError>
+    ensures { OnOk result (generator.now.emission.steps.labels < 4294967295) }
+{
+    if generator.emission.steps.labels < u32::MAX {
+        Ok(())
+    } else {
+        // A counter ends: the last label may be taken twice.
+        Err(AllocError)
+    }
+}
+
 /// The code segment of a module: its constants, its main program, its procedures and the routines that these call.
 pub(crate) fn code_of(alloc: Global, tree: &TreeModule) -> Result<ModuleCode, AllocError>
     requires rise { NumbersRise (nodes_of tree.now) }
     requires stands { BodiesStand tree.now }
+    requires source { IsOfModule tree.now }
     ensures { IfOk result (λ code. IsCodeWritten tree.now code.start.index code.writer) }
 {
     let mut generator = Generator::new(alloc, tree)?;
     let start = put_own_code(alloc, &mut generator, tree)?;
+    within_labels(&generator)?;
     let (emission, marks) = generator.into_parts();
     let (writer, is_called) = emission.into_code();
     let writer = with_routines(writer, tree, is_called.as_slice())?;
@@ -287,6 +302,7 @@ pub fn generate(alloc: Global, tree: &TreeModule) -> Result<ObjectModule, Failur
     requires rise { NumbersRise (nodes_of tree.now) }
     requires stands { BodiesStand tree.now }
     requires linkable { IsLinkable tree.now }
+    requires source { IsOfModule tree.now }
     ensures made { IfOk result (λ object. IsGenerated tree.now object) }
     ensures refused { IfFault result (λ fault. MayRefuse tree.now fault) }
 {

@@ -3,7 +3,7 @@
 ghost use Rattle.std.specs.Prelude.{◌≡◌, [], map, IfOk};
 ghost use Rattle.convert.specs.Assembly.{as_it_is, assembled, conditioned, controlled, blocks_put, file_put, included, line_of_source, line_put, lines_put, parts_of, parts_with, places_from, switched, switched_by, told_on, told_open, value_at, with_line, with_names, with_note, with_told, with_wanted};
 ghost use Rattle.convert.specs.Controls.{argument_of, kind_at};
-ghost use Rattle.convert.specs.Lines.{lines_of_file};
+ghost use Rattle.convert.specs.Lines.{lines_of, lines_of_file};
 ghost use Rattle.convert.specs.Blocks.{blocks_after};
 ghost use Rattle.convert.specs.Switches.{items_of};
 
@@ -481,6 +481,14 @@ fn places_of(alloc: Global, lines: &[&[u8]]) -> Result<Vec<Place>, AllocError>
     Ok(places)
 }
 
+// Where the lines of a source stand.
+fn places_of_source(alloc: Global, source: &[u8]) -> Result<Vec<Place>, AllocError>
+    ensures { IfOk result (λ places. places.items ≡ places_from 1 (lines_of source.now)) }
+{
+    let lines = lines_of(alloc, source)?;
+    places_of(alloc, lines.as_slice())
+}
+
 /// A source as it is, after what was told before.
 pub fn assemble_as_is<'a>(
     alloc: Global,
@@ -489,8 +497,7 @@ pub fn assemble_as_is<'a>(
 ) -> Result<Assembly<'a>, AllocError>
     ensures { IfOk result (λ assembly. parts_of assembly ≡ as_it_is before.now source.now) }
 {
-    let lines = lines_of(alloc, source)?;
-    let places = places_of(alloc, lines.as_slice())?;
+    let places = places_of_source(alloc, source)?;
     let text = Vec::from_slice(alloc, source)?;
     let notes = Vec::from_slice(alloc, before)?;
     Ok(Assembly {

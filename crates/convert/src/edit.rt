@@ -32,8 +32,7 @@ fn write_piece(last: u8, piece: &[u8], text: &mut Vec<u8>) -> Result<(), AllocEr
     {
         text.push(b' ')?;
     }
-    text.extend_from_slice(piece)?;
-    Ok(())
+    text.extend_from_slice(piece)
 }
 
 // The last byte of a piece, or the one before it.

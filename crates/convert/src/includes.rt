@@ -1,6 +1,6 @@
 //! The files that INCLUDE names.
 
-ghost use Rattle.std.specs.Prelude.{◌≡◌, ◌≤◌, ◌++◌, length, map, IfOk};
+ghost use Rattle.std.specs.Prelude.{◌≡◌, ◌≤◌, ◌∷◌, ◌++◌, [], length, map, IfOk};
 ghost use Rattle.std.specs.List.{flat_map};
 ghost use Rattle.convert.specs.Includes.{after_device, answer_of, answer_from, blank_at, candidates, file_name, folder_length, forms_in, name_of_file, opened_after, with_slash};
 ghost use Rattle.convert.specs.internal.Answers.{answer_view};
@@ -113,6 +113,20 @@ fn form(alloc: Global, folder: &[u8], name: &[u8]) -> Result<Vec<u8>, AllocError
     Ok(text)
 }
 
+// Adds the name of a file in a folder.
+fn add_form(
+    alloc: Global,
+    folder: &[u8],
+    name: &[u8],
+    names: &mut Vec<Vec<u8>>,
+) -> Result<(), AllocError>
+    ensures { IfOk result (λ _. map (λ one. one.items) names.new.items
+        ≡ map (λ one. one.items) names.old.items ++ (folder.now ++ name.now) ∷ []) }
+{
+    names.push(form(alloc, folder, name)?)?;
+    Ok(())
+}
+
 // Adds the names under which a file is looked for in a folder.
 fn add_forms(
     alloc: Global,
@@ -123,12 +137,11 @@ fn add_forms(
     ensures { IfOk result (λ _. map (λ one. one.items) names.new.items
         ≡ map (λ one. one.items) names.old.items ++ forms_in name.now folder.now) }
 {
+    add_form(alloc, folder, name, names)?;
     let capitals = name.to_ascii_uppercase(alloc)?;
+    add_form(alloc, folder, capitals.as_slice(), names)?;
     let small = name.to_ascii_lowercase(alloc)?;
-    names.push(form(alloc, folder, name)?)?;
-    names.push(form(alloc, folder, capitals.as_slice())?)?;
-    names.push(form(alloc, folder, small.as_slice())?)?;
-    Ok(())
+    add_form(alloc, folder, small.as_slice(), names)
 }
 
 // Adds the names under which a file is looked for in folders.

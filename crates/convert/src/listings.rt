@@ -53,8 +53,7 @@ fn add_listed(line: &[u8], text: &mut Vec<u8>) -> Result<(), AllocError>
     ensures { IfOk result (λ _. text.new.items ≡ text.old.items ++ listed line.now) }
 {
     text.extend_from_slice(listed_body(body(line)))?;
-    text.extend_from_slice(return_of(line))?;
-    Ok(())
+    text.extend_from_slice(return_of(line))
 }
 
 /// Adds what is told of the lines of a listing, of which the first is line 1.

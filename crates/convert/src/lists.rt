@@ -48,8 +48,7 @@ pub(crate) fn write_list(
         depth = depth_after(depth, seen.class);
     }
     text.extend_from_slice(between(source, place, end))?;
-    write_ending(source, attributes, value, number, values, text)?;
-    Ok(())
+    write_ending(source, attributes, value, number, values, text)
 }
 
 // Adds what stands after the item of a number.
@@ -89,15 +88,13 @@ fn write_value(
         Value::Item(_) => {
             text.extend_from_slice(b" (")?;
             text.extend_from_slice(text_of(source, &values[..item_length(values)]))?;
-            text.extend_from_slice(b")")?;
-            Ok(())
+            text.extend_from_slice(b")")
         }
         Value::Address(_, bytes) => {
             text.extend_from_slice(b" (")?;
             text.extend_from_slice(text_of(source, values))?;
             write_offset(number, bytes, text)?;
-            text.extend_from_slice(b")")?;
-            Ok(())
+            text.extend_from_slice(b")")
         }
     }
 }
@@ -113,8 +110,7 @@ fn write_offset(number: usize, bytes: u8, text: &mut Vec<u8>) -> Result<(), Allo
     let mut digits = Buffer::new();
     let offset = digits.format(number * bytes as usize);
     text.extend_from_slice(b" + ")?;
-    text.extend_from_slice(offset.as_bytes())?;
-    Ok(())
+    text.extend_from_slice(offset.as_bytes())
 }
 
 // The values of the items after one.

@@ -1,6 +1,7 @@
 //! What of a file is the source.
 
-ghost use Rattle.std.specs.Prelude.{◌≡◌, true, IfOk};
+ghost use Rattle.std.specs.Prelude.{◌≡◌, map, true, IfOk};
+ghost use Rattle.convert.specs.Listings.{listed_text, listing_notes_from};
 ghost use Rattle.convert.specs.Preparing.{from_listing, notes_of_listing, prepared, prepared_notes};
 
 use crate::advice::Advice;
@@ -61,8 +62,7 @@ fn from_listing(
     if is_one {
         unlist(alloc, advice, file)
     } else {
-        let mut text = Vec::new(alloc);
-        text.extend_from_slice(file)?;
+        let text = Vec::from_slice(alloc, file)?;
         Ok(Prepared {
             text,
             notes: Vec::new(alloc),
@@ -77,8 +77,17 @@ fn unlist(alloc: Global, advice: &Advice, file: &[u8]) -> Result<Prepared, Alloc
 {
     let plain = plain(alloc, file)?;
     let lines = lines_of(alloc, plain.as_slice())?;
-    let text = join_listed(alloc, lines.as_slice())?;
+    unlist_lines(alloc, advice, lines.as_slice())
+}
+
+// The source in the lines of a listing.
+fn unlist_lines(alloc: Global, advice: &Advice, lines: &[&[u8]]) -> Result<Prepared, AllocError>
+    ensures text { IfOk result (λ made. made.text.items ≡ listed_text (map (λ line. line.now) lines.now)) }
+    ensures notes { IfOk result (λ made. made.notes.items
+        ≡ listing_notes_from advice.now 1 (map (λ line. line.now) lines.now)) }
+{
+    let text = join_listed(alloc, lines)?;
     let mut notes = Vec::new(alloc);
-    note_listing(advice, lines.as_slice(), &mut notes)?;
+    note_listing(advice, lines, &mut notes)?;
     Ok(Prepared { text, notes })
 }

@@ -65,8 +65,7 @@ fn write_marked(
         ≡ text.old.items ++ (between source.now from to ++ mark.now)) }
 {
     text.extend_from_slice(between(source, from, to))?;
-    text.extend_from_slice(mark)?;
-    Ok(())
+    text.extend_from_slice(mark)
 }
 
 // A parenthesis, where there is to be one.

@@ -75,23 +75,17 @@ fn write_put(
     match put {
         Put::Copy(number) => {
             let part = words_of_part(parts, number, first, words);
-            text.extend_from_slice(text_of(source, part))?;
-            Ok(())
+            text.extend_from_slice(text_of(source, part))
         }
         Put::After(part, last) => {
             let from = end_of(words_of_part(parts, part, first, words));
             let to = end_of(words_of_part(parts, last, first, words));
-            text.extend_from_slice(between(source, from, to))?;
-            Ok(())
+            text.extend_from_slice(between(source, from, to))
         }
-        Put::Text(bytes) => {
-            text.extend_from_slice(bytes)?;
-            Ok(())
-        }
+        Put::Text(bytes) => text.extend_from_slice(bytes),
         Put::Inner(number) => {
             let part = words_of_part(parts, number, first, words);
-            text.extend_from_slice(text_of(source, inner(part)))?;
-            Ok(())
+            text.extend_from_slice(text_of(source, inner(part)))
         }
         Put::Wrapped(number) => {
             let part = words_of_part(parts, number, first, words);

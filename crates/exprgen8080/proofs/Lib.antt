@@ -2,5 +2,6 @@ mod Prelude
 pub mod Arguments
 pub mod PlansWithoutLabels
 pub mod Ranks
+pub mod Marked
 pub mod Emitting
 pub mod CodeLaws

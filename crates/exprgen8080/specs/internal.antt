@@ -15,3 +15,4 @@ pub mod Emission
 pub mod Labelled
 pub mod Emitted
 pub mod Code
+pub mod Marks

@@ -5,6 +5,7 @@ ghost use Rattle.std.specs.Prelude.{IfOk};
 ghost use Rattle.failure.specs.Failure.{IfFault};
 ghost use Rattle.treecode.specs.Nodes.{nodes_of};
 ghost use Rattle.treecode.specs.Rising.{NumbersRise};
+ghost use Rattle.codegen8080.specs.internal.Sources.{IsOfModule};
 ghost use Rattle.codegen8080.specs.internal.Standing.{BodiesStand};
 ghost use Rattle.codegen8080.specs.internal.Modules.{IsGenerated};
 ghost use Rattle.codegen8080.specs.internal.Names.{IsLinkable};
@@ -33,6 +34,7 @@ pub fn generate(alloc: Global, tree: &TreeModule) -> Result<ObjectModule, Failur
     requires rise { NumbersRise (nodes_of tree.now) }
     requires stands { BodiesStand tree.now }
     requires linkable { IsLinkable tree.now }
+    requires source { IsOfModule tree.now }
     ensures made { IfOk result (λ object. IsGenerated tree.now object) }
     ensures sound { IfOk result (OfItsModule tree.now IsSoundlyMade) }
     ensures does { IfOk result (OfItsModule tree.now DoesWhereItLies) }

@@ -1,5 +1,5 @@
 -- Labels of code with flags of their places, and the code that changes them.
-use Rattle.steps8080.proofs.Prelude.{◌≡◌, ◌==◌, ℕ, zero, suc, ◌+◌, ◌-◌, ◌<◌, ◌≤◌, Bool, true, false, not, List, [], ◌∷◌, ◌++◌, length, map, replicate, set, take, IsTrue, slice_index_or, Option, Some, None, if◌then◌else◌, unwrap_or, refl, sym, subst, ap, ◌∙◌, arith, ◌≢◌, ◌⊎◌, inl, inr, length-set, lt-ltb, list_any-append, Assembly, is_bound, marks, known_label, or_from, not_equal}
+use Rattle.steps8080.proofs.Prelude.{◌≡◌, ◌==◌, ℕ, zero, suc, ◌+◌, ◌-◌, ◌<◌, ◌≤◌, Bool, true, false, not, List, [], ◌∷◌, ◌++◌, length, map, replicate, set, take, IsTrue, slice_index_or, Option, Some, None, if◌then◌else◌, unwrap_or, refl, sym, subst, ap, ◌∙◌, arith, ◌≢◌, ◌⊎◌, inl, inr, length-set, lt-ltb, list_any-append, Assembly, KeepsMarks, is_bound, marks, known_label, or_from, not_equal}
 use Rattle.asm8080.specs.Items.{BindsSame, BindsSameBut}
 use Rattle.runtime8080.specs.{declared.routine.Routine.{Routine}, Routines.{AddsRoutine}}
 use Rattle.steps8080.specs.Externals.{Extends, entry}
@@ -59,6 +59,46 @@ cut_same [] (suc size) count number low = all_clear count number
 cut_same (flag ∷ others) (suc size) count zero low = refl
 cut_same (flag ∷ others) (suc size) count (suc number) low =
     cut_same others size count number (omega (arith, low))
+
+-- no flag is set by that
+all_off : (count number : ℕ) → slice_index_or (replicate count false) number false ≡ true → ⊥
+all_off count number given = let no : false ≡ true = sym (all_clear count number) ∙ given in cc
+
+cut_kept : (flags : List Bool) (size count number : ℕ)
+    → slice_index_or (take size flags ++ replicate count false) number false ≡ true
+    → slice_index_or flags number false ≡ true
+cut_kept flags zero count number given = absurd (all_off count number given)
+cut_kept [] (suc size) count number given = absurd (all_off count number given)
+cut_kept (flag ∷ others) (suc size) count zero given = given
+cut_kept (flag ∷ others) (suc size) count (suc number) given = cut_kept others size count number given
+
+pub flags_cut : (flags more : List Bool) (size count : ℕ)
+    → more ≡ take size flags ++ replicate count false
+    → KeepsMarks flags more
+flags_cut flags more size count same label given =
+    cut_kept flags size count label (ap (λ table. slice_index_or table label false) (sym same) ∙ given)
+
+-- a flag that is read and set
+pub flag_there : (flags : List Bool) (index : ℕ) (found : Bool)
+    → found ≡ slice_index_or flags index found
+    → found ≡ true
+    → index < length flags
+    → slice_index_or flags index false ≡ true
+flag_there [] index found same is low = absurd (omega (arith, low))
+flag_there (flag ∷ others) zero found same is low = sym same ∙ is
+flag_there (flag ∷ others) (suc index) found same is low =
+    flag_there others index found same is (omega (arith, low))
+
+-- the flag of one label is set
+pub one_flag_set : (flags : List Bool) (index other : ℕ)
+    → slice_index_or (set flags index true) other false ≡ true
+    → (slice_index_or flags other false ≡ true) ⊎ (other ≡ index)
+one_flag_set [] index other given = inl given
+one_flag_set (flag ∷ others) zero zero given = inr refl
+one_flag_set (flag ∷ others) zero (suc other) given = inl given
+one_flag_set (flag ∷ others) (suc index) zero given = inl given
+one_flag_set (flag ∷ others) (suc index) (suc other) given =
+    elim (one_flag_set others index other given) [ inl old ↦ inl old | inr same ↦ inr (ap suc same) ]
 
 pub flags_resized : (labels : List (Option ℕ)) (flags more : List Bool) (code : Assembly)
     (size count newsize : ℕ)

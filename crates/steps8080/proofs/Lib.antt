@@ -1,5 +1,6 @@
 mod Prelude
 pub mod Labels
 pub mod Numbered
+pub mod Binding
 pub mod Refused
 pub mod Kept

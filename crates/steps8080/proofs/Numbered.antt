@@ -1,5 +1,5 @@
 -- Items with the code's numbers for labels and names: numbers that were given before stay.
-use Rattle.steps8080.proofs.Prelude.{◌≡◌, ℕ, zero, suc, ◌+◌, ◌<◌, ◌==◌, ◌⊎◌, inl, inr, Bool, true, false, ◌||◌, List, [], ◌∷◌, ◌++◌, length, min, replicate, set, arith, refl, ap, sym, subst, ◌∙◌, append_assoc, append-nil, Option, Some, None, option_map, unwrap_or, eq-eqb, list_any-append, InSegment, External, Item, Plain, WithWord, Byte, Address, Gap, Mark, Reference, AtLabel, AtTarget, AtNumber, Assembly, NumbersNames, Written, Writes, in_front, numbered, numbered_item, numbered_reference, use_name, uses_name}
+use Rattle.steps8080.proofs.Prelude.{◌≡◌, ℕ, zero, suc, ◌+◌, ◌<◌, ◌==◌, ◌⊎◌, inl, inr, Bool, true, false, ◌||◌, List, [], ◌∷◌, ◌++◌, length, min, replicate, set, arith, refl, ap, sym, subst, ◌∙◌, append_assoc, append-nil, Option, Some, None, option_map, unwrap_or, eq-eqb, list_any-append, InSegment, External, Item, Plain, WithWord, Byte, Address, Gap, Mark, Reference, AtLabel, AtTarget, AtNumber, Assembly, BoundOnce, is_bound, marks, AreWritable, KeepsMarks, MarksOnly, NumbersNames, Written, Writes, in_front, is_marked, numbered, numbered_item, numbered_reference, use_name, uses_name}
 use Rattle.steps8080.specs.Externals.{AddsOnly, AreDifferent, Extends, IsNumbering, entries, entry}
 
 -- a value that is found stays found
@@ -287,13 +287,101 @@ name_used added before after items only used = λ name number given.
       | inr same ↦ inr (ap (λ (one : ℕ). use_name one items) same ∙ used)
     ]
 
+-- of two lists of items, the first binds a label, or the second does
+pub bind_either : (label : ℕ) (items later : List Item)
+    → (is_bound label items ≡ true) ⊎ (is_bound label later ≡ true)
+    → is_bound label (items ++ later) ≡ true
+bind_either label items later found =
+    list_any-append (marks label) items later
+    ∙ either_true (is_bound label items) (is_bound label later) found
+
+-- what is not true is false
+pub false_by : (test : Bool) → (test ≡ true → ⊥) → test ≡ false
+false_by true never = absurd (never refl)
+false_by false never = refl
+
+pub not_both : (test : Bool) → test ≡ true → test ≡ false → ⊥
+not_both test is never = let bad : true ≡ false = sym is ∙ never in cc
+
+-- labels that items bind once are bound once by the first of them, and by the others
+once_first : (items later : List Item) → BoundOnce (items ++ later) → BoundOnce items
+once_first [] later once = tt
+once_first (item ∷ others) later once = (
+  λ label binds. false_by (is_bound label others) (λ bound.
+      not_both (is_bound label (others ++ later))
+      (bind_either label others later (inl bound)) (once.0 label binds)),
+  once_first others later once.1,
+)
+
+once_later : (items later : List Item) → BoundOnce (items ++ later) → BoundOnce later
+once_later [] later once = once
+once_later (item ∷ others) later once = once_later others later once.1
+
+once_apart : (items later : List Item) (label : ℕ)
+    → BoundOnce (items ++ later)
+    → is_bound label items ≡ true
+    → is_bound label later ≡ true
+    → ⊥
+once_apart [] later label once first second = let bad : false ≡ true = first in cc
+once_apart (item ∷ others) later label once first second =
+    by (marks label item) refl (λ found. once_apart others later label once.1 found second)
+  where
+    by : (test : Bool) → marks label item ≡ test → (is_bound label others ≡ true → ⊥) → ⊥
+    by true binds rest =
+        not_both (is_bound label (others ++ later)) (bind_either label others later (inr second))
+        (once.0 label binds)
+    by false none rest = rest (sym (ap (λ (test : Bool). test || is_bound label others) none) ∙ first)
+
+-- items one after another that are writable
+writable_first : (before : Written) (items later : List Item)
+    → AreWritable before (items ++ later)
+    → AreWritable before items
+writable_first before items later are = record {
+  once = once_first items later are.once;
+  new = λ label bound. are.new label (bind_either label items later (inl bound));
+}
+
+writable_later : (before between : Written) (items later : List Item)
+    → AreWritable before (items ++ later)
+    → MarksOnly before.marked between.marked items
+    → AreWritable between later
+writable_later before between items later are only = record {
+  once = once_later items later are.once;
+  new = λ label bound. false_by (is_marked between.marked label) (λ marked.
+      elim (only label marked) [
+        | inl old ↦ not_both (is_marked before.marked label) old
+            (are.new label (bind_either label items later (inr bound)))
+        | inr new ↦ once_apart items later label are.once new bound
+      ]);
+}
+
+-- labels that get their places by items one after another
+marks_then : (before between after : List Bool) (items later : List Item)
+    → MarksOnly before between items
+    → MarksOnly between after later
+    → MarksOnly before after (items ++ later)
+marks_then before between after items later first second = λ label given.
+    elim (second label given) [
+      | inl known ↦ elim (first label known) [
+        | inl old ↦ inl old
+        | inr bound ↦ inr (bind_either label items later (inl bound))
+      ]
+      | inr bound ↦ inr (bind_either label items later (inr bound))
+    ]
+
+-- the same labels have their places
+marks_same : (before after : List Bool) (items : List Item) → after ≡ before → MarksOnly before after items
+marks_same before after items same =
+    λ label given. inl (ap (λ table. is_marked table label) (sym same) ∙ given)
+
 -- nothing is added
 pub writes_nothing : (written : Written) → Writes written written []
 writes_nothing written = record {
   made = [];
   added = sym (append-nil written.code.items);
-  same = refl;
+  same = λ are. refl;
   labels = λ number found given. given;
+  marked = λ label given. inl given;
   externals = λ number found given. given;
   names = λ name number given. inl given;
   count = refl;
@@ -311,11 +399,13 @@ writes_then before between after items later first second = record {
       second.added
       ∙ ap (λ list. list ++ second.made) first.added
       ∙ append_assoc before.code.items first.made second.made;
-  same =
+  same = λ are.
       items_followed after items later first.made second.made
-      (items_stay between after items first.made second.labels second.externals first.same)
-      second.same;
+      (items_stay between after items first.made second.labels second.externals
+      (first.same (writable_first before items later are)))
+      (second.same (writable_later before between items later are first.marked));
   labels = λ number found given. second.labels number found (first.labels number found given);
+  marked = marks_then before.marked between.marked after.marked items later first.marked second.marked;
   externals = λ number found given. second.externals number found (first.externals number found given);
   names =
       names_then before.externals between.externals after.externals items later first.names second.names;
@@ -328,17 +418,19 @@ pub writes_one :
     → inside ≡ before
     → after.code.items ≡ inside.code.items ++ made ∷ []
     → Extends inside.labels after.labels
+    → MarksOnly inside.marked after.marked (item ∷ [])
     → Extends inside.externals after.externals
     → NumbersNames inside.externals after.externals (item ∷ [])
     → length after.externals ≡ length inside.externals
     → numbered_item after item ≡ Some made
     → Writes before after (item ∷ [])
-writes_one inside before after item made same added labels externals names count named =
+writes_one inside before after item made same added labels marked externals names count named =
     subst (λ old. Writes old after (item ∷ [])) same (record {
       made = made ∷ [];
       added = added;
-      same = ap (λ front. in_front front (Some [])) named;
+      same = λ are. ap (λ front. in_front front (Some [])) named;
       labels = labels;
+      marked = marked;
       externals = externals;
       names = names;
       count = count;
@@ -350,13 +442,15 @@ pub writes_known :
     → inside ≡ before
     → after.code ≡ record (inside.code) { items = inside.code.items ++ made ∷ [] }
     → after.labels ≡ inside.labels
+    → after.marked ≡ inside.marked
     → after.externals ≡ inside.externals
     → numbered_item after item ≡ Some made
     → Writes before after (item ∷ [])
-writes_known inside before after item made same added labels externals named =
+writes_known inside before after item made same added labels marked externals named =
     writes_one inside before after item made same
     (ap (λ (code : Assembly). code.items) added)
     (λ number found given. ap (λ table. entry table number) labels ∙ given)
+    (marks_same inside.marked after.marked (item ∷ []) marked)
     (λ number found given. ap (λ table. entry table number) externals ∙ given)
     (names_same inside.externals after.externals (item ∷ []) externals)
     (ap (λ table. length table) externals)
@@ -368,17 +462,64 @@ pub writes_named :
     → inside ≡ before
     → after.code ≡ record (inside.code) { items = inside.code.items ++ made ∷ [] }
     → after.labels ≡ inside.labels
+    → after.marked ≡ inside.marked
     → Extends inside.externals after.externals
     → AddsOnly name inside.externals after.externals
     → length after.externals ≡ length inside.externals
     → use_name name (item ∷ []) ≡ true
     → numbered_item after item ≡ Some made
     → Writes before after (item ∷ [])
-writes_named inside before after item made name same added labels externals only count used named =
+writes_named inside before after item made name same added labels marked externals only count used named =
     writes_one inside before after item made same
     (ap (λ (code : Assembly). code.items) added)
     (λ number found given. ap (λ table. entry table number) labels ∙ given)
+    (marks_same inside.marked after.marked (item ∷ []) marked)
     externals
     (name_used name inside.externals after.externals (item ∷ []) only used)
     count
     named
+
+-- a label gets its place
+pub writes_mark :
+    (inside before after : Written) (number label : ℕ)
+    → inside ≡ before
+    → after.code.items ≡ inside.code.items ++ Mark label ∷ []
+    → Extends inside.labels after.labels
+    → ((other : ℕ) → is_marked after.marked other ≡ true
+    → (is_marked inside.marked other ≡ true) ⊎ (other ≡ number))
+    → after.externals ≡ inside.externals
+    → entry after.labels number ≡ Some label
+    → Writes before after (Mark number ∷ [])
+writes_mark inside before after number label same added labels marked externals found =
+    writes_one inside before after (Mark number) (Mark label) same added labels
+    (λ other given. elim (marked other given) [
+      | inl old ↦ inl old
+      | inr is ↦ inr (ap (λ (one : ℕ). is_bound one (Mark number ∷ [])) is ∙ is_itself number)
+    ])
+    (λ name found given. ap (λ table. entry table name) externals ∙ given)
+    (names_same inside.externals after.externals (Mark number ∷ []) externals)
+    (ap (λ table. length table) externals)
+    (ap (option_map Mark) found)
+
+-- a label that has its place gets none
+pub writes_no_mark :
+    (inside before after : Written) (number : ℕ)
+    → inside ≡ before
+    → after.code.items ≡ inside.code.items
+    → Extends inside.labels after.labels
+    → KeepsMarks inside.marked after.marked
+    → after.externals ≡ inside.externals
+    → is_marked after.marked number ≡ true
+    → Writes before after (Mark number ∷ [])
+writes_no_mark inside before after number same added labels marked externals has =
+    subst (λ old. Writes old after (Mark number ∷ [])) same (record {
+      made = [];
+      added = added ∙ sym (append-nil inside.code.items);
+      same = λ are. absurd (not_both (is_marked inside.marked number) (marked number has)
+          (are.new number (is_itself number)));
+      labels = labels;
+      marked = λ other given. inl (marked other given);
+      externals = λ name found given. ap (λ table. entry table name) externals ∙ given;
+      names = names_same inside.externals after.externals (Mark number ∷ []) externals;
+      count = ap (λ table. length table) externals;
+    })

@@ -1,6 +1,6 @@
 -- Code as it is written. Its items name labels and EXTERNAL names by their numbers in the module; the code
 -- numbers both in the order of their first use.
-use Rattle.std.specs.Prelude.{◌≡◌, ◌==◌, ◌⊎◌, ℕ, Bool, true, false, if◌then◌else◌, nat_lt, List, [], ◌∷◌, ◌++◌, length, map, Option, Some, None, option_map}
+use Rattle.std.specs.Prelude.{◌≡◌, ◌==◌, ◌⊎◌, ℕ, Bool, true, false, if◌then◌else◌, nat_lt, List, [], ◌∷◌, ◌++◌, length, map, slice_index_or, Option, Some, None, option_map}
 use Rattle.std.specs.List.{list_any}
 use Rattle.object_modules.specs.declared.segment.Segment.TheVariants as segments
 use Rattle.object_modules.specs.declared.segment.Target.TheVariants.{InSegment, External}
@@ -11,7 +11,7 @@ use Rattle.asm8080.specs.declared.item.Reference.TheVariants.{AtLabel, AtTarget,
 use Rattle.asm8080.specs.declared.item.WordForm.{WordForm}
 use Rattle.asm8080.specs.declared.item.WordForm.TheVariants.{CallTo}
 use Rattle.asm8080.specs.Assembled.{Assembled, Assembles, place_of}
-use Rattle.asm8080.specs.Items.{Assembly, IsAssembly}
+use Rattle.asm8080.specs.Items.{Assembly, BoundOnce, IsAssembly, is_bound}
 use Rattle.runtime8080.specs.declared.routine.Routine.{Routine}
 use Rattle.runtime8080.specs.Routines.{AddsRoutine}
 use Rattle.treecode.specs.declared.place.Place.{Place}
@@ -20,10 +20,11 @@ use Rattle.steps8080.specs.declared.step.LabelNumber.{LabelNumber}
 use Rattle.steps8080.specs.Instructions.{high, low}
 use Rattle.steps8080.specs.Externals.{Extends, entry}
 
--- code, and its numbers of the labels and the EXTERNAL names that it uses
+-- code, its numbers of the labels and the EXTERNAL names that it uses, and a flag for each label that has its place
 pub record Written : Type 0 where
   pub code : Assembly
   pub labels : List (Option ℕ)
+  pub marked : List Bool
   pub externals : List (Option ℕ)
 
 -- a reference, an item, items with these numbers
@@ -70,12 +71,34 @@ NumbersNames before after items =
     → entry after name ≡ Some number
     → (entry before name ≡ Some number) ⊎ (use_name name items ≡ true)
 
--- Items are appended to code. Numbers that were given before stay, and the table of names keeps its length.
+-- whether a label has its place, by its number in the module
+abbrev pub is_marked : (marked : List Bool) → (label : ℕ) → Bool
+is_marked marked label = slice_index_or marked label false
+
+-- a label gets its place only by items that bind it
+abbrev pub MarksOnly : (before after : List Bool) → List Item → Type 0
+MarksOnly before after items =
+    (label : ℕ)
+    → is_marked after label ≡ true
+    → (is_marked before label ≡ true) ⊎ (is_bound label items ≡ true)
+
+-- no label gets its place
+abbrev pub KeepsMarks : (before after : List Bool) → Type 0
+KeepsMarks before after = (label : ℕ) → is_marked after label ≡ true → is_marked before label ≡ true
+
+-- items that bind each label at most once, and none that has its place
+pub record AreWritable (before : Written) (items : List Item) : Type 0 where
+  pub once : BoundOnce items
+  pub new : (label : ℕ) → is_bound label items ≡ true → is_marked before.marked label ≡ false
+
+-- Items are appended to code, whole if they are writable. Numbers that were given before stay, and the table of
+-- names keeps its length.
 pub record Writes (before after : Written) (items : List Item) : Type 0 where
   pub made : List Item
   pub added : after.code.items ≡ before.code.items ++ made
-  pub same : numbered after items ≡ Some made
+  pub same : AreWritable before items → numbered after items ≡ Some made
   pub labels : Extends before.labels after.labels
+  pub marked : MarksOnly before.marked after.marked items
   pub externals : Extends before.externals after.externals
   pub names : NumbersNames before.externals after.externals items
   pub count : length after.externals ≡ length before.externals
@@ -88,6 +111,7 @@ pub record WritesRoutine
   pub marked : Writes before entered (Mark label.index ∷ [])
   pub added : AddsRoutine routine entered.code after.code
   pub labels : after.labels ≡ entered.labels
+  pub places : after.marked ≡ entered.marked
   pub externals : after.externals ≡ entered.externals
 
 -- the reference of a place

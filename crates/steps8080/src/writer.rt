@@ -10,7 +10,7 @@ ghost use Rattle.asm8080.specs.Assembled.{IsFinished};
 ghost use Rattle.asm8080.specs.Items.{size_of_items};
 ghost use Rattle.steps8080.specs.Externals.{Extends, entry};
 ghost use Rattle.steps8080.specs.Instructions.{high, low};
-ghost use Rattle.steps8080.specs.Writer.{Finishes, Writes, WritesRoutine, address_items, external_call_item, jump_item, place_of_known, stack_end_item, word_item};
+ghost use Rattle.steps8080.specs.Writer.{Finishes, KeepsMarks, Writes, WritesRoutine, address_items, external_call_item, jump_item, place_of_known, stack_end_item, word_item};
 
 use crate::externals::Externals;
 use crate::step::LabelNumber;
@@ -43,6 +43,7 @@ impl Model for Writer {
     ghost view = { λ writer. record {
       code = writer.code;
       labels = writer.labels.items;
+      marked = writer.is_marked.items;
       externals = writer.externals;
     } };
 
@@ -55,6 +56,7 @@ impl Writer {
         ensures { IfOk result (λ writer. writer ≡ record {
           code = record { items = []; labels = 0 };
           labels = [];
+          marked = [];
           externals = replicate external_count None;
         }) }
     {
@@ -67,6 +69,7 @@ impl Writer {
         ensures { result ≡ record {
           code = record { items = []; labels = 0 };
           labels = [];
+          marked = [];
           externals = externals;
         } }
     {
@@ -218,6 +221,7 @@ impl Writer {
         ensures reached { OnOk result (number.index < length self.new.labels) }
         ensures code { self.new.code ≡ self.old.code }
         ensures labels { Extends self.old.labels self.new.labels }
+        ensures marked { OnOk result (KeepsMarks self.old.marked self.new.marked) }
         ensures externals { self.new.externals ≡ self.old.externals }
     {
         let index = number.index as usize;
@@ -236,6 +240,7 @@ impl Writer {
         ensures found { IfOk result (λ label. entry self.new.labels number.index ≡ Some label) }
         ensures items { OnOk result (self.new.code.items ≡ self.old.code.items) }
         ensures labels { OnOk result (Extends self.old.labels self.new.labels) }
+        ensures marked { OnOk result (KeepsMarks self.old.marked self.new.marked) }
         ensures externals { OnOk result (self.new.externals ≡ self.old.externals) }
     {
         self.reach(number)?;
@@ -257,7 +262,7 @@ impl Writer {
         Ok(())
     }
 
-    /// Gives a label its place here. Fails if it has one: no label is placed twice.
+    /// Gives a label its place here, unless it has one.
     #[tactic(auto, using(crate::proofs::Labels::label_placed))]
     pub fn mark(&mut self, number: LabelNumber) -> Result<(), AllocError>
         ensures { OnOk result (Writes self.old self.new (Mark number.index ∷ [])) }
@@ -265,8 +270,7 @@ impl Writer {
         let label = self.label_of(number)?;
         let index = number.index as usize;
         if self.is_marked[index] {
-            // A plan marks each label once: no clause of a plan says so.
-            return Err(AllocError);
+            return Ok(());
         }
         self.code.bind(label)?;
         self.is_marked[index] = true;

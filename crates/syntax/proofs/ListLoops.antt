@@ -1,5 +1,5 @@
 -- How the loops of the parser go on.
-use Rattle.syntax.proofs.Prelude.{◌≡◌, ◌<◌, Bool, true, false, List, [], ◌∷◌, ◌++◌, drop, length, map, Option, Some, None, Result, Ok, Err, refl, sym, ◌∙◌, ap, arith, append_assoc, append-nil, map-append, map-id, Comma, Symbol, all_more_items, items, Keeps, Shrinks, after_items, Parser, Cause, Reading, ◌>>=◌, at_mark, constant, next_constant, IsErrAnd, Failure, Fault, FailsBy, Fails, Gives}
+use Rattle.syntax.proofs.Prelude.{◌≡◌, ◌≤◌, ◌<◌, Bool, true, false, List, [], ◌∷◌, ◌++◌, drop, length, map, Option, Some, None, Result, Ok, Err, refl, sym, ◌∙◌, ap, arith, append_assoc, append-nil, map-append, map-id, Comma, Symbol, all_more_items, items, Keeps, Shrinks, after_items, Parser, Cause, Reading, ◌>>=◌, at_mark, constant, next_constant, IsErrAnd, Failure, Fault, FailsBy, Fails, Gives}
 use Rattle.syntax.proofs.ReaderLemmas.{taken-ok}
 use Rattle.syntax.proofs.ListLaws.{all_more_items-step}
 
@@ -94,6 +94,107 @@ pub list_fails : {A X : Type 0} (item : Parser A)
 list_fails item keeps view whole found s after comma None is at true_is skipped e = tt
 list_fails item keeps view whole found s after comma (Some cause) is at true_is skipped e =
     is ∙ more-fails item keeps (map view found) s cause (sym at ∙ true_is) (ap item (sym skipped) ∙ e)
+
+-- what is read, if nothing was found before
+after_none : {A : Type 0} (found : Reading (List A)) → after_items [] found ≡ found
+after_none (Ok found) = refl
+after_none (Err cause) = refl
+
+-- what was found in two steps
+after_both : {A : Type 0} (before next : List A) (others : Reading (List A))
+    → after_items before (after_items next others) ≡ after_items (before ++ next) others
+after_both before next (Ok found) = ap (λ l. Ok (l, found.1)) (sym (append_assoc before next found.0))
+after_both before next (Err cause) = refl
+
+-- what comes after a comma, and where none is
+after_comma : {A : Type 0} (item : Parser A) → Keeps item → (s : List Symbol)
+    → at_mark Comma s ≡ true → all_more_items item s ≡ items item (drop 1 s)
+after_comma item keeps s comma = all_more_items-step item keeps s ∙ rw comma refl
+
+without_comma : {A : Type 0} (item : Parser A) → Keeps item → (s : List Symbol)
+    → at_mark Comma s ≡ false → all_more_items item s ≡ Ok ([], s)
+without_comma item keeps s other = all_more_items-step item keeps s ∙ rw other refl
+
+-- a list goes on after an item and a comma
+pub list_goes_on : {A X : Type 0} (item : Parser A)
+    → Keeps item
+    → (view : X → A) (whole : Reading (List A)) (found more : List X) (next : X) (s r after : List Symbol)
+    (comma : Bool)
+    → whole ≡ after_items (map view found) (items item s)
+    → item s ≡ Ok (view next, r)
+    → more ≡ found ++ next ∷ []
+    → comma ≡ at_mark Comma r
+    → comma ≡ true
+    → after ≡ drop 1 r
+    → whole ≡ after_items (map view more) (items item after)
+list_goes_on item keeps view whole found more next s r after comma is e pushed at true_is skipped =
+    is
+    ∙ ap (after_items (map view found)) (items-first item (view next) s r e)
+    ∙ after_both (map view found) (view next ∷ []) (all_more_items item r)
+    ∙ ap (λ l. after_items l (all_more_items item r))
+    (sym (ap (map view) pushed ∙ map-append view found (next ∷ [])))
+    ∙ ap (after_items (map view more))
+    (after_comma item keeps r (sym at ∙ true_is) ∙ ap (items item) (sym skipped))
+
+-- a list ends after an item without a comma
+pub list_done : {A X : Type 0} (item : Parser A)
+    → Keeps item
+    → (view : X → A) (whole : Reading (List A)) (found more : List X) (next : X) (s r : List Symbol)
+    (comma : Bool)
+    → whole ≡ after_items (map view found) (items item s)
+    → item s ≡ Ok (view next, r)
+    → more ≡ found ++ next ∷ []
+    → comma ≡ at_mark Comma r
+    → comma ≡ false
+    → whole ≡ Ok (map view more, r)
+list_done item keeps view whole found more next s r comma is e pushed at false_is =
+    is
+    ∙ ap (after_items (map view found))
+    (items-first item (view next) s r e
+    ∙ ap (after_items (view next ∷ [])) (without_comma item keeps r (sym at ∙ false_is)))
+    ∙ ap (λ l. Ok (l, r)) (sym (ap (map view) pushed ∙ map-append view found (next ∷ [])))
+
+-- a list fails where an item is not there
+pub list_stops : {A : Type 0} (item : Parser A) (whole : Reading (List A)) (found : List A) (s : List Symbol)
+    (cause : Option Cause)
+    → whole ≡ after_items found (items item s)
+    → FailsBy cause (item s)
+    → FailsBy cause whole
+list_stops item whole found s None is fails = tt
+list_stops item whole found s (Some cause) is fails = is ∙ rw fails refl
+
+-- an item and a comma are fewer symbols
+pub fewer_after : {A : Type 0} (item : Parser A)
+    → Keeps item
+    → (a : A) (s r after : List Symbol) (comma : Bool)
+    → item s ≡ Ok (a, r)
+    → comma ≡ at_mark Comma r
+    → comma ≡ true
+    → after ≡ drop 1 r
+    → length after < length s
+fewer_after item keeps a s [] after comma e at true_is skipped = absurd cc
+fewer_after item keeps a s (x ∷ r) after comma e at true_is skipped =
+    let kept : length (x ∷ r) ≤ length s = keeps s (x ∷ r) a e in
+    omega (arith, ap length skipped)
+
+-- the whole of a list, where nothing was found before
+pub whole_list : {A X : Type 0} (view : X → A) (read : Reading (List A)) (before found kept : List X)
+    (s : List Symbol)
+    → before ≡ []
+    → after_items (map view before) read ≡ Ok (map view found, s)
+    → kept ≡ found
+    → read ≡ Ok (map view kept, s)
+whole_list view read before found kept s none e same =
+    sym (after_none read) ∙ ap (λ l. after_items (map view l) read) (sym none) ∙ e
+    ∙ ap (λ l. Ok (map view l, s)) (sym same)
+
+pub no_list : {A X : Type 0} (view : X → A) (read : Reading (List A)) (before : List X) (cause : Option Cause)
+    → before ≡ []
+    → FailsBy cause (after_items (map view before) read)
+    → FailsBy cause read
+no_list view read before None none fails = tt
+no_list view read before (Some cause) none fails =
+    sym (after_none read) ∙ ap (λ l. after_items (map view l) read) (sym none) ∙ fails
 
 -- a fault is handed on as it is
 pub gives_exit : {X Y : Type 0} (view : X → Y) (result : Result X (Failure Fault)) (failure : Failure Fault)

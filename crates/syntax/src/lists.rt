@@ -3,7 +3,7 @@
 ghost use Rattle.std.specs.Prelude.{List, map};
 ghost use Rattle.grammar.specs.Symbols.{Symbol};
 ghost use Rattle.syntax.specs.internal.Results.{Gives};
-ghost use Rattle.syntax.specs.internal.Lists.{items, in_parentheses, Keeps};
+ghost use Rattle.syntax.specs.internal.Lists.{after_items, items, in_parentheses, Keeps};
 ghost use Rattle.syntax.specs.internal.Reader.{Reading};
 
 use crate::fault::Fault;
@@ -31,16 +31,26 @@ impl<'a> Reader<'a> {
         requires { Keeps T.reading }
         ensures { Gives (λ found. map T.tree_of found.items) result self.new (items T.reading self.old) }
     {
-        let first = T::take(self)?;
         let mut found = Vec::with_capacity(self.alloc, 1)?;
-        found.push(first)?;
-        'more: while self.at_mark(Mark::Comma) {
-            self.skip();
-            let next = T::take(self)?;
-            found.push(next)?;
-        }
+        self.add_items(&mut found)?;
         found.shrink_to_fit();
         Ok(found)
+    }
+
+    // Adds item {`,` item} to what was found before.
+    fn add_items<T: Listed>(&mut self, found: &mut Vec<T>) -> Result<(), Failure<Fault>>
+        requires { Keeps T.reading }
+        ensures { Gives (λ _. map T.tree_of found.new.items) result self.new
+            (after_items (map T.tree_of found.old.items) (items T.reading self.old)) }
+    {
+        'more: loop {
+            let next = T::take(self)?;
+            found.push(next)?;
+            if !self.at_mark(Mark::Comma) {
+                return Ok(());
+            }
+            self.skip();
+        }
     }
 
     /// `(` item {`,` item} `)`

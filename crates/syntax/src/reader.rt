@@ -86,7 +86,7 @@ impl<'a> Reader<'a> {
         ensures { result ≡ at_mark mark self.now }
     {
         match self.next() {
-            Some(word) => is_mark(word.kind, mark),
+            Some(word) => word.kind == Kind::Mark(mark),
             None => false,
         }
     }
@@ -97,7 +97,7 @@ impl<'a> Reader<'a> {
         ensures { result ≡ at_word wanted self.now }
     {
         match self.next() {
-            Some(word) => is_reserved(word.kind, wanted),
+            Some(word) => word.kind == Kind::Reserved(wanted),
             None => false,
         }
     }
@@ -119,7 +119,7 @@ impl<'a> Reader<'a> {
         ensures { result ≡ place_of_word wanted self.now }
     {
         match self.next() {
-            Some(word) if is_reserved(word.kind, wanted) => Some(place_of(word)),
+            Some(word) if word.kind == Kind::Reserved(wanted) => Some(place_of(word)),
             _ => None,
         }
     }
@@ -129,7 +129,7 @@ impl<'a> Reader<'a> {
         ensures { result ≡ next_semicolon self.now }
     {
         match self.next() {
-            Some(word) if is_mark(word.kind, Mark::Semicolon) => Some(place_of(word)),
+            Some(word) if word.kind == Kind::Mark(Mark::Semicolon) => Some(place_of(word)),
             _ => None,
         }
     }
@@ -413,25 +413,5 @@ fn operator_of_word(word: ReservedWord) -> Option<BinaryOperator>
         ReservedWord::And => Some(BinaryOperator::And),
         ReservedWord::Mod => Some(BinaryOperator::Modulo),
         _ => None,
-    }
-}
-
-/// Whether a kind is that of a mark.
-pub(crate) fn is_mark(kind: Kind, mark: Mark) -> bool
-    ensures { IsTrue result ↔ (kind ≡ Kind.Mark mark) }
-{
-    match kind {
-        Kind::Mark(found) => found == mark,
-        _ => false,
-    }
-}
-
-/// Whether a kind is that of a reserved word.
-pub(crate) fn is_reserved(kind: Kind, word: ReservedWord) -> bool
-    ensures { IsTrue result ↔ (kind ≡ Kind.Reserved word) }
-{
-    match kind {
-        Kind::Reserved(found) => found == word,
-        _ => false,
     }
 }

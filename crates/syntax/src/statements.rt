@@ -16,7 +16,7 @@ ghost use Rattle.syntax.specs.internal.Statements.{at_semicolon, beginning_at, n
 
 use crate::fault::Fault;
 use crate::measured::EXPRESSION_LEVEL;
-use crate::reader::{Reader, is_mark, is_reserved, or_memory, place_of};
+use crate::reader::{Reader, or_memory, place_of};
 use failure::Failure;
 use std::marker::Model;
 use trees::{
@@ -26,7 +26,7 @@ use trees::{
 use words::{Kind, Mark, ReservedWord, Word};
 
 // What a statement begins with, by its first word.
-#[derive(Clone, Copy, PartialEq, Eq)]
+#[derive(Clone, Copy)]
 pub(crate) enum Beginning {
     Semicolon(Place),
     Name,
@@ -94,8 +94,8 @@ impl<'a> Reader<'a> {
         match self.words() {
             [name, colon, word, ..] => {
                 is_name(name)
-                    && is_mark(colon.kind, Mark::Colon)
-                    && is_reserved(word.kind, ReservedWord::Procedure)
+                    && colon.kind == Kind::Mark(Mark::Colon)
+                    && word.kind == Kind::Reserved(ReservedWord::Procedure)
             }
             _ => false,
         }
@@ -331,7 +331,7 @@ impl<'a> Reader<'a> {
         ensures { result ≡ next_label self.now }
     {
         match self.words() {
-            [_, colon, ..] if is_mark(colon.kind, Mark::Colon) => self.next_name(),
+            [_, colon, ..] if colon.kind == Kind::Mark(Mark::Colon) => self.next_name(),
             _ => None,
         }
     }
@@ -373,10 +373,10 @@ impl<'a> Reader<'a> {
         ensures { Gives kind_tree result self.new (kind_inside room self.old) }
     {
         let beginning = self.beginning();
-        if beginning == Beginning::Other {
+        if matches!(beginning, Beginning::Other) {
             return Err(self.unexpected());
         }
-        if beginning == Beginning::Name {
+        if matches!(beginning, Beginning::Name) {
             return self.take_assignment(room);
         }
         self.skip();

@@ -391,9 +391,12 @@ fn any_parameter(block: Block<'_>, names: &[Identifier]) -> bool
         (λ (name : TheIdentifier).
         parameter_in (block_view block.entry) name.name) names.now }
 {
-    names
-        .iter()
-        .any(|name| declares_parameter(block, name.name))
+    for name in names {
+        if declares_parameter(block, name.name) {
+            return true;
+        }
+    }
+    false
 }
 
 // The place of the first name of an item.

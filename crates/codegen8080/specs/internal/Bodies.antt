@@ -1,5 +1,5 @@
 -- Relations for the parts of a module's code that are added.
-use Rattle.std.specs.Prelude.{◌≡◌, ℕ, Bool, true, false, List, [], ◌∷◌, ◌++◌, length, None, slice_index_or}
+use Rattle.std.specs.Prelude.{◌≡◌, ◌⊎◌, ℕ, Bool, true, false, List, [], ◌∷◌, ◌++◌, length, None, slice_index_or}
 use Rattle.asm8080.specs.declared.item.Item.{Item}
 use Rattle.runtime8080.specs.declared.routine.Routine.{Routine}
 use Rattle.runtime8080.specs.declared.routine.Routine.TheVariants as names
@@ -8,8 +8,8 @@ use Rattle.treecode.specs.declared.procedure.ProcedureKind.{ProcedureKind}
 use Rattle.treecode.specs.declared.procedure.TreeProcedure.{TreeProcedure}
 use Rattle.steps8080.specs.Externals.{Extends}
 use Rattle.steps8080.specs.Step.{label_after}
-use Rattle.steps8080.specs.Writer.{Written, WritesRoutine}
-use Rattle.exprgen8080.specs.internal.Emission.{first_label, module_routine_label}
+use Rattle.steps8080.specs.Writer.{Written, WritesRoutine, is_marked}
+use Rattle.exprgen8080.specs.internal.Emission.{first_label, module_label_of_routine, module_routine_label}
 use Rattle.statements8080.specs.declared.body.Body.{Body}
 use Rattle.codegen8080.specs.declared.generator.Generator.{Generator}
 use Rattle.codegen8080.specs.declared.meeting.Here.{Here}
@@ -128,12 +128,29 @@ abbrev pub AddsCalled :
 AddsCalled tree called index routine before after =
     AddsRoutineIf tree index routine before after (slice_index_or called index false)
 
+-- a label is that of one of these routines
+abbrev pub IsLabelOf : TreeModule → List Routine → (label : ℕ) → Type 0
+IsLabelOf tree [] label = ⊥
+IsLabelOf tree (routine ∷ others) label =
+    (label ≡ (module_label_of_routine tree routine).index) ⊎ IsLabelOf tree others label
+
+-- none of these routines has its place, and no two have the same label
+abbrev pub AreFree : TreeModule → (marked : List Bool) → List Routine → Type 0
+AreFree tree marked [] = Unit {0}
+AreFree tree marked (routine ∷ others) =
+    (is_marked marked (module_label_of_routine tree routine).index ≡ false)
+    × (IsLabelOf tree others (module_label_of_routine tree routine).index → ⊥)
+    × AreFree tree marked others
+
 -- those of these routines that are called are added
 pub record AddsRoutines
     (tree : TreeModule) (called : List Bool) (routines : List Routine) (before after : Written) : Type 0 where
   pub list : List Item
   pub added : after.code.items ≡ before.code.items ++ list
-  pub are : AreRoutines tree called after routines list
+  pub are : AreFree tree before.marked routines → AreRoutines tree called after routines list
+  pub marked :
+      (label : ℕ) → is_marked after.marked label ≡ true
+      → (is_marked before.marked label ≡ true) ⊎ IsLabelOf tree routines label
   pub labels : Extends before.labels after.labels
   pub externals : Extends before.externals after.externals
   pub no_names : Extends after.externals before.externals

@@ -1,5 +1,5 @@
 -- Steps with parts that rank below a limit: one after another, repeated, and by an optional value.
-use Rattle.exprgen8080.proofs.Prelude.{◌≡◌, ◌+◌, ◌*◌, ◌<◌, ◌∷◌, ◌++◌, [], if◌then◌else◌, AreBelow, Bool, ExpressionNumber, IfSome, Instr, List, None, NumbersRise, Option, Part, Reference, ScalarType, Site, Some, Step, Target, Task, TreeModule, arith, false, nodes_of, rank, rank_of_byte, rank_of_word, reference_bound, refl, repeat_steps, subst, suc, target_bound, true, type_in, zero, ℕ}
+use Rattle.exprgen8080.proofs.Prelude.{◌≡◌, ◌+◌, ◌*◌, ◌<◌, ◌∷◌, [], if◌then◌else◌, AreBelow, ap, Bool, ExpressionNumber, IfSome, Instr, List, None, NumbersRise, Option, Part, Reference, ScalarType, Site, Some, Step, Target, Task, TreeModule, arith, false, labels_from, marks_of, nodes_of, rank, rank_of_byte, rank_of_word, reference_bound, refl, repeat_steps, subst, suc, target_bound, true, type_in, zero, ℕ, ◌∙◌, ◌++◌}
 use Rattle.trees.specs.declared.declaration.ScalarType.TheVariants as scalars
 use Rattle.steps8080.specs.declared.step.Step.TheVariants as steps
 use Rattle.steps8080.specs.declared.step.Task.TheVariants as tasks
@@ -40,11 +40,24 @@ IsLow tree limit (tasks.Call procedure arguments) = ⊥
 abbrev pub AreLow : (tree : TreeModule) → (limit : ℕ) → List Step → Type 0
 AreLow tree limit [] = Unit {0}
 AreLow tree limit (steps.Part part ∷ others) = IsLow tree limit part.task × AreLow tree limit others
+AreLow tree limit (steps.Mark label ∷ others) = ⊥
 AreLow tree limit (step ∷ others) = AreLow tree limit others
 
--- the parts of steps rank below a limit
+-- the parts of steps rank below a limit, and the steps mark no label
 pub record Falls (site : Site) (limit : ℕ) (planned : List Step) : Type 0 where
   pub below : AreBelow site.tree.now limit planned
+  pub unmarked : marks_of planned ≡ []
+
+-- the same for steps that mark each of the labels that they take
+pub record FallsMarking (site : Site) (limit first count : ℕ) (planned : List Step) : Type 0 where
+  pub below : AreBelow site.tree.now limit planned
+  pub marked : marks_of planned ≡ labels_from first count
+
+pub taking_none :
+    {site : Site} {limit first : ℕ} {planned : List Step}
+    → Falls site limit planned
+    → FallsMarking site limit first 0 planned
+taking_none falls = record { below = falls.below; marked = falls.unmarked }
 
 byte_rank : (bound : ℕ) (scalar : ScalarType) (limit : ℕ) → bound * 16 + 4 < limit
     → rank_of_byte bound scalar < limit
@@ -73,17 +86,33 @@ low_ranks tree limit (steps.Part part ∷ others) are =
 low_ranks tree limit (steps.Plain i ∷ others) are = low_ranks tree limit others are
 low_ranks tree limit (steps.Word form place ∷ others) are = low_ranks tree limit others are
 low_ranks tree limit (steps.Jump form label ∷ others) are = low_ranks tree limit others are
-low_ranks tree limit (steps.Mark label ∷ others) are = low_ranks tree limit others are
+low_ranks tree limit (steps.Mark label ∷ others) are = absurd are
 low_ranks tree limit (steps.CallRoutine routine ∷ others) are = low_ranks tree limit others are
 low_ranks tree limit (steps.CallProcedure procedure ∷ others) are = low_ranks tree limit others are
 low_ranks tree limit (steps.TestA ∷ others) are = low_ranks tree limit others are
 low_ranks tree limit (steps.Holds held ∷ others) are = low_ranks tree limit others are
 low_ranks tree limit (steps.MemoryChanged ∷ others) are = low_ranks tree limit others are
 
+low_unmarked : (tree : TreeModule) (limit : ℕ) (planned : List Step) → AreLow tree limit planned
+    → marks_of planned ≡ []
+low_unmarked tree limit [] are = refl
+low_unmarked tree limit (steps.Part part ∷ others) are = low_unmarked tree limit others are.1
+low_unmarked tree limit (steps.Plain i ∷ others) are = low_unmarked tree limit others are
+low_unmarked tree limit (steps.Word form place ∷ others) are = low_unmarked tree limit others are
+low_unmarked tree limit (steps.Jump form label ∷ others) are = low_unmarked tree limit others are
+low_unmarked tree limit (steps.Mark label ∷ others) are = absurd are
+low_unmarked tree limit (steps.CallRoutine routine ∷ others) are = low_unmarked tree limit others are
+low_unmarked tree limit (steps.CallProcedure procedure ∷ others) are = low_unmarked tree limit others are
+low_unmarked tree limit (steps.TestA ∷ others) are = low_unmarked tree limit others are
+low_unmarked tree limit (steps.Holds held ∷ others) are = low_unmarked tree limit others are
+low_unmarked tree limit (steps.MemoryChanged ∷ others) are = low_unmarked tree limit others are
+
 pub falls : {site : Site} {limit : ℕ} {planned : List Step} → AreLow site.tree.now limit planned
     → Falls site limit planned
-falls {site = site} {limit = limit} {planned = planned} are =
-    record { below = low_ranks site.tree.now limit planned are }
+falls {site = site} {limit = limit} {planned = planned} are = record {
+  below = low_ranks site.tree.now limit planned are;
+  unmarked = low_unmarked site.tree.now limit planned are;
+}
 
 both_below : (tree : TreeModule) (limit : ℕ) (first others : List Step)
     → AreBelow tree limit first → AreBelow tree limit others → AreBelow tree limit (first ++ others)
@@ -105,25 +134,54 @@ both_below tree limit (steps.Holds held ∷ first) others one two = both_below t
 both_below tree limit (steps.MemoryChanged ∷ first) others one two =
     both_below tree limit first others one two
 
+both_marked : (first others : List Step) → marks_of (first ++ others) ≡ marks_of first ++ marks_of others
+both_marked [] others = refl
+both_marked (steps.Part part ∷ first) others = both_marked first others
+both_marked (steps.Plain i ∷ first) others = both_marked first others
+both_marked (steps.Word form place ∷ first) others = both_marked first others
+both_marked (steps.Jump form label ∷ first) others = both_marked first others
+both_marked (steps.Mark label ∷ first) others = ap (λ list. label.index ∷ list) (both_marked first others)
+both_marked (steps.CallRoutine routine ∷ first) others = both_marked first others
+both_marked (steps.CallProcedure procedure ∷ first) others = both_marked first others
+both_marked (steps.TestA ∷ first) others = both_marked first others
+both_marked (steps.Holds held ∷ first) others = both_marked first others
+both_marked (steps.MemoryChanged ∷ first) others = both_marked first others
+
+-- the first steps mark no label
+others_marked : (first others : List Step) → marks_of first ≡ []
+    → marks_of (first ++ others) ≡ marks_of others
+others_marked first others none =
+    both_marked first others ∙ ap (λ list. list ++ marks_of others) none
+
 pub joined : {site : Site} {limit : ℕ} {first others : List Step}
     → Falls site limit first → Falls site limit others → Falls site limit (first ++ others)
-joined {site = site} {limit = limit} {first = first} {others = others} one two =
-    record { below = both_below site.tree.now limit first others one.below two.below }
+joined {site = site} {limit = limit} {first = first} {others = others} one two = record {
+  below = both_below site.tree.now limit first others one.below two.below;
+  unmarked = others_marked first others one.unmarked ∙ two.unmarked;
+}
+
+pub joined_marking : {site : Site} {limit at count : ℕ} {first others : List Step}
+    → Falls site limit first → FallsMarking site limit at count others
+    → FallsMarking site limit at count (first ++ others)
+joined_marking {site = site} {limit = limit} {first = first} {others = others} one two = record {
+  below = both_below site.tree.now limit first others one.below two.below;
+  marked = others_marked first others one.unmarked ∙ two.marked;
+}
 
 -- steps after a part, and after an instruction
 pub after_part : {site : Site} {limit : ℕ} {part : Part} {others : List Step}
     → IsLow site.tree.now limit part.task → Falls site limit others
     → Falls site limit (steps.Part part ∷ others)
 after_part {site = site} {limit = limit} {part = part} is two =
-    record { below = (low_rank site.tree.now limit part.task is, two.below) }
+    record { below = (low_rank site.tree.now limit part.task is, two.below); unmarked = two.unmarked }
 
 pub after_plain : {site : Site} {limit : ℕ} {i : Instr} {others : List Step}
     → Falls site limit others → Falls site limit (steps.Plain i ∷ others)
-after_plain two = record { below = two.below }
+after_plain two = record { below = two.below; unmarked = two.unmarked }
 
 -- an instruction `count` times
 pub repeated : {site : Site} {limit : ℕ} (i : Instr) (count : ℕ) → Falls site limit (repeat_steps i count)
-repeated i zero = record { below = tt }
+repeated i zero = record { below = tt; unmarked = refl }
 repeated i (suc count) = after_plain (repeated i count)
 
 -- both branches of a test

@@ -1,5 +1,5 @@
 -- Relations as values and as jumps, and jumps on conditions.
-use Rattle.exprgen8080.proofs.Prelude.{◌≡◌, ◌<◌, ◌&&◌, ◌∷◌, ◌++◌, if◌then◌else◌, Between, BinaryOperator, Bool, Comparison, Condition, DeAndHl, Double, Equal, Expression, ExpressionForm, ExpressionNumber, IfSome, Inquiry, Joined, Junction, Known, LabelNumber, LeftBelow, Low, Negate, None, Not, Opposite, Option, Other, Outcome, PlaceAndHl, Question, Relation, RightBelow, SameAs, ScalarType, Setting, Shape, Site, Some, TreeModule, Whatever, WithNumber, Words, agree, branch_setting, branch_steps, byte_relation_steps, carry_steps, equality_of_words, equality_steps, expression, false, fits_byte, high_difference_steps, inquiry_steps, is_odd, is_quiet, joined_steps, known_branch_steps, label_of, low_difference_steps, mirrored, option_and_then, option_map, other_steps, outcome_branch_steps, outcome_value_steps, question_of, rank, refl, relation_between, relation_branch_steps, relation_by, relation_of, relation_of_form, relation_outcome, relation_steps, relation_value_steps, relation_with_number, scalar, shape_of, shape_of_binary, shape_of_form, shape_of_junction, shape_steps, shape_with_number, true, value_setting, word_relation_steps, words_asked, words_compared, words_of, ℕ}
+use Rattle.exprgen8080.proofs.Prelude.{◌≡◌, ◌<◌, ◌&&◌, ◌∷◌, ◌++◌, if◌then◌else◌, Between, BinaryOperator, Bool, Comparison, Condition, DeAndHl, Double, Equal, Expression, ExpressionForm, ExpressionNumber, IfSome, Inquiry, Joined, Junction, Known, LabelNumber, LeftBelow, Low, Negate, None, Not, Opposite, Option, Other, Outcome, PlaceAndHl, Question, Relation, RightBelow, SameAs, ScalarType, Setting, Shape, Site, Some, Step, List, [], TreeModule, Whatever, WithNumber, Words, agree, branch_labels, branch_part, branch_setting, branch_steps, byte_relation_steps, carry_steps, equality_labels, equality_of_words, equality_steps, expression, false, fits_byte, high_difference_steps, inquiry_steps, is_odd, is_quiet, joined_labels, joined_steps, known_branch_steps, label_of, low_difference_steps, mirrored, option_and_then, option_map, other_labels, other_steps, outcome_branch_steps, outcome_value_steps, question_of, rank, refl, relation_between, relation_branch_labels, relation_branch_steps, relation_by, relation_of, relation_of_form, relation_outcome, relation_steps, relation_value_steps, relation_with_number, scalar, shape_of, shape_of_binary, shape_of_form, shape_labels, shape_of_junction, shape_steps, shape_with_number, true, value_setting, word_relation_steps, words_asked, words_compared, words_of, ℕ}
 use Rattle.trees.specs.declared.declaration.ScalarType.TheVariants as scalars
 use Rattle.trees.specs.declared.expression.BinaryOperator.TheVariants as operators
 use Rattle.treecode.specs.declared.expression.ExpressionForm.TheVariants as forms
@@ -10,7 +10,7 @@ use Rattle.steps8080.specs.Queries as queries
 use Rattle.operands8080.specs.declared.branches.Branch.{Branch}
 use Rattle.operands8080.specs.declared.relations.Outcome.TheVariants as outcomes
 use Rattle.steps8080.specs.declared.step.Task.TheVariants as tasks
-use Rattle.exprgen8080.proofs.Ranks.{Joining.{Falls, HasLowParts, IsUnder, after_part, by_finding, by_test, falls, joined, of_found}, Trees.{HasParts, has_parts}, ByteRelations.{byte_number_fall, byte_relation_fall}, WordRelations.{word_number_fall, word_relation_fall, words_fall}}
+use Rattle.exprgen8080.proofs.Ranks.{Joining.{Falls, FallsMarking, HasLowParts, IsUnder, after_part, by_finding, by_test, falls, joined, joined_marking, of_found, taking_none}, Trees.{HasParts, has_parts}, ByteRelations.{byte_number_fall, byte_relation_fall}, WordRelations.{word_number_fall, word_relation_fall, words_fall}}
 
 -- a question about operands that allow a pushed word before them
 abbrev pub IsAsked : (tree : TreeModule) → (limit : ℕ) → Inquiry → Type 0
@@ -250,22 +250,28 @@ high_difference_fall :
 high_difference_fall (PlaceAndHl place) = falls tt
 high_difference_fall DeAndHl = falls tt
 
+jump_fall :
+    {site : Site} {limit : ℕ} (label : LabelNumber) (words : Words)
+    → Falls site limit
+    (steps.Jump (word_forms.JumpWhere conditions.NotZero) label ∷ high_difference_steps words)
+jump_fall label (PlaceAndHl place) = falls tt
+jump_fall label DeAndHl = falls tt
+
 equality_fall :
     {site : Site} {limit : ℕ} (comparison : Comparison) (is_equal : Bool)
     (branch : Branch) (first : ℕ)
     → IsUnder site.tree.now limit comparison.left → IsUnder site.tree.now limit comparison.right
-    → Falls site limit (equality_steps site comparison is_equal branch first)
-equality_fall {site = site} {limit = limit} comparison is_equal branch first one two =
-    joined (joined (words_fall comparison branch.pushed one two)
-    (low_difference_fall (words_of site comparison))) (by_test is_equal
-    (joined (jump_fall (label_of first) (words_of site comparison)) (falls tt))
-    (joined (jump_fall branch.label (words_of site comparison)) (falls tt)))
-  where
-    jump_fall : (label : LabelNumber) (words : Words)
-        → Falls site limit
-        (steps.Jump (word_forms.JumpWhere conditions.NotZero) label ∷ high_difference_steps words)
-    jump_fall label (PlaceAndHl place) = falls tt
-    jump_fall label DeAndHl = falls tt
+    → FallsMarking site limit first (equality_labels is_equal)
+    (equality_steps site comparison is_equal branch first)
+equality_fall {site = site} comparison true branch first one two =
+    joined_marking
+    (joined (words_fall comparison branch.pushed one two) (low_difference_fall (words_of site comparison)))
+    (joined_marking (jump_fall (label_of first) (words_of site comparison))
+    (record { below = tt; marked = refl }))
+equality_fall {site = site} comparison false branch first one two =
+    joined_marking
+    (joined (words_fall comparison branch.pushed one two) (low_difference_fall (words_of site comparison)))
+    (taking_none (joined (jump_fall branch.label (words_of site comparison)) (falls tt)))
 
 -- two ADDRESSes that are tested for equality are those that are compared
 equality_is :
@@ -303,20 +309,31 @@ words_are :
 unfolding equality_of_words
 words_are site limit relation is = equality_is site limit relation.inquiry is
 
+-- whether a value is found or not, with the number of labels
+finding_marking : {A : Type 0} {site : Site} {limit first : ℕ} {some : A → List Step} {labels : A → ℕ}
+    {none : List Step} (found : Option A)
+    → ((x : A) → found ≡ Some x → FallsMarking site limit first (labels x) (some x))
+    → (found ≡ None → FallsMarking site limit first 0 none)
+    → FallsMarking site limit first (elim found [ Some x ↦ labels x | None ↦ 0 ])
+    (elim found [ Some x ↦ some x | None ↦ none ])
+finding_marking (Some x) one two = one x refl
+finding_marking None one two = two refl
+
 relation_branch_fall :
     {site : Site} {limit : ℕ} (relation : Relation) (branch : Branch) (first : ℕ)
     → IsRelation site.tree.now limit relation
-    → Falls site limit (relation_branch_steps site relation branch first)
+    → FallsMarking site limit first (relation_branch_labels site relation branch)
+    (relation_branch_steps site relation branch first)
 relation_branch_fall {site = site} {limit = limit} relation branch first is =
-    by_finding (equality_of_words site relation)
+    finding_marking (equality_of_words site relation)
     (λ comparison there. equal comparison
     (of_found (λ comparison. IsAsked site.tree.now limit (Between comparison))
     (words_are site limit relation is) there))
-    (λ none. joined (inquiry_fall relation.inquiry (branch_setting branch.pushed) is)
-    (outcome_branch_fall branch (relation_outcome site relation)))
+    (λ none. taking_none (joined (inquiry_fall relation.inquiry (branch_setting branch.pushed) is)
+    (outcome_branch_fall branch (relation_outcome site relation))))
   where
     equal : (comparison : Comparison) → IsAsked site.tree.now limit (Between comparison)
-        → Falls site limit
+        → FallsMarking site limit first (equality_labels (agree branch.sense relation.holds_if))
         (equality_steps site comparison (agree branch.sense relation.holds_if) branch first)
     equal comparison has =
         equality_fall comparison (agree branch.sense relation.holds_if) branch first has.0 has.1
@@ -326,26 +343,46 @@ other_fall :
     (branch : Branch) (first : ℕ)
     → HasLowParts site.tree.now limit condition
     → rank site.tree.now (tasks.Byte condition) < limit
-    → Falls site limit (other_steps site condition branch first)
+    → FallsMarking site limit first (other_labels site condition branch)
+    (other_steps site condition branch first)
 other_fall {site = site} {limit = limit} condition branch first is own =
-    by_finding (relation_of site condition)
+    finding_marking (relation_of site condition)
     (λ relation there. related relation
     (of_found (IsRelation site.tree.now limit) (relation_is site limit condition is) there))
-    (λ none. record { below = (own, tt) })
+    (λ none. record { below = (own, tt); marked = refl })
   where
     related : (relation : Relation) → IsRelation site.tree.now limit relation
-        → Falls site limit (relation_branch_steps site relation branch first)
+        → FallsMarking site limit first (relation_branch_labels site relation branch)
+        (relation_branch_steps site relation branch first)
     related relation has =
         relation_branch_fall relation branch first has
+
+-- by two operands: the right one may be skipped
+skipping_fall :
+    {site : Site} {limit : ℕ} (junction : Junction) (branch : Branch) (first : ℕ) (same : Bool)
+    → IsUnder site.tree.now limit junction.left → IsUnder site.tree.now limit junction.right
+    → FallsMarking site limit first (if same then 0 else 1)
+    (if same
+    then branch_part branch junction.left ∷ branch_part branch junction.right ∷ []
+    else
+    branch_part (record branch { label = label_of first; sense = junction.deciding }) junction.left
+    ∷ branch_part branch junction.right
+    ∷ steps.Mark (label_of first)
+    ∷ [])
+skipping_fall junction branch first true one two = taking_none (falls (one, (two, tt)))
+skipping_fall {site = site} {limit = limit} junction branch first false one two =
+    let before : Falls site limit
+    (branch_part (record branch { label = label_of first; sense = junction.deciding }) junction.left
+    ∷ branch_part branch junction.right
+    ∷ []) = falls (one, (two, tt)) in
+    record { below = before.below; marked = refl }
 
 joined_fall :
     {site : Site} {limit : ℕ} (junction : Junction) (branch : Branch) (first : ℕ)
     → IsUnder site.tree.now limit junction.left → IsUnder site.tree.now limit junction.right
-    → Falls site limit (joined_steps junction branch first)
+    → FallsMarking site limit first (joined_labels junction branch) (joined_steps junction branch first)
 joined_fall junction branch first one two =
-    by_test (agree branch.sense junction.deciding)
-    (falls (one, (two, tt)))
-    (falls (one, (two, tt)))
+    skipping_fall junction branch first (agree branch.sense junction.deciding) one two
 
 shape_fall :
     {site : Site} {limit : ℕ} (shape : Shape) (condition : ExpressionNumber)
@@ -353,12 +390,13 @@ shape_fall :
     → HasLowParts site.tree.now limit condition
     → rank site.tree.now (tasks.Byte condition) < limit
     → IsShape site.tree.now limit shape
-    → Falls site limit (shape_steps site shape condition branch first)
-shape_fall (Known answer) condition branch first is own has = known_branch_fall branch answer
-shape_fall (SameAs inner) condition branch first is own has = falls (has, tt)
-shape_fall (Opposite inner) condition branch first is own has = falls (has, tt)
+    → FallsMarking site limit first (shape_labels site shape condition branch)
+    (shape_steps site shape condition branch first)
+shape_fall (Known answer) condition branch first is own has = taking_none (known_branch_fall branch answer)
+shape_fall (SameAs inner) condition branch first is own has = taking_none (falls (has, tt))
+shape_fall (Opposite inner) condition branch first is own has = taking_none (falls (has, tt))
 shape_fall (Whatever operand answer) condition branch first is own has =
-    after_part has (known_branch_fall branch answer)
+    taking_none (after_part has (known_branch_fall branch answer))
 shape_fall {site = site} (Joined junction) condition branch first is own has =
     joined_fall junction branch first has.0 has.1
 shape_fall Other condition branch first is own has = other_fall condition branch first is own
@@ -370,7 +408,8 @@ pub branch_fall :
     (pushed first : ℕ)
     → HasLowParts site.tree.now limit condition
     → rank site.tree.now (tasks.Byte condition) < limit
-    → Falls site limit (branch_steps site condition label sense pushed first)
+    → FallsMarking site limit first (branch_labels site condition label sense pushed)
+    (branch_steps site condition label sense pushed first)
 branch_fall {site = site} {limit = limit} condition label sense pushed first is own =
     shape_fall (shape_of site condition) condition
     (record { label = label; sense = sense; pushed = pushed }) first is own

@@ -1,11 +1,11 @@
 -- The parts of a task rank below it.
-use Rattle.exprgen8080.proofs.Prelude.{◌≡◌, ◌+◌, ◌*◌, ◌<◌, ◌≤◌, ◌∷◌, [], AreBelow, Bool, ExpressionNumber, List, None, NumbersRise, Option, Part, ScalarType, Site, Some, Step, Target, Task, TreeModule, ap, arguments_bound, arith, drop, drop_found, entry_of, expression, nodes_of, none-some, option_and_then, part_measure, rank, rank_of_byte, rank_of_word, same_Some, scalar, slice_get, step_measure, subst, suc, task_steps, type_in, zero, ℕ}
+use Rattle.exprgen8080.proofs.Prelude.{◌≡◌, ◌+◌, ◌*◌, ◌<◌, ◌≤◌, ◌∷◌, [], AreBelow, Bool, ExpressionNumber, List, None, NumbersRise, Option, Part, ScalarType, Site, Some, Step, Target, Task, TreeModule, ap, arguments_bound, arith, drop, drop_found, entry_of, expression, labels_from, marks_of, nodes_of, none-some, option_and_then, part_measure, rank, rank_of_byte, rank_of_word, same_Some, scalar, slice_get, step_measure, subst, suc, task_labels, task_steps, type_in, zero, ℕ}
 use Rattle.trees.specs.declared.declaration.ScalarType.TheVariants as scalars
 use Rattle.treecode.specs.declared.reference.Target.TheVariants as targets
 use Rattle.steps8080.specs.declared.step.Step.TheVariants as steps
 use Rattle.steps8080.specs.declared.step.Task.TheVariants as tasks
-use Rattle.exprgen8080.specs.internal.Forms.{steps_of}
-use Rattle.exprgen8080.proofs.Ranks.{Joining.{Falls}, Addresses.{address_fall}, Stores.{IsGoal, store_fall}, Relations.{branch_fall}, Calls.{call_fall, effects_fall}, Values.{byte_fall, word_fall}}
+use Rattle.exprgen8080.specs.internal.Forms.{labels_of, steps_of}
+use Rattle.exprgen8080.proofs.Ranks.{Joining.{FallsMarking, taking_none}, Addresses.{address_fall}, Stores.{IsGoal, store_fall}, Relations.{branch_fall}, Calls.{call_fall, effects_fall}, Values.{byte_fall, word_fall}}
 
 low_in_byte : (number : ExpressionNumber) (scalar : ScalarType)
     → number.index * 16 + 6 < rank_of_byte (suc number.index) scalar
@@ -53,37 +53,50 @@ goal_is site (targets.Stored from to reference) is_wanted rises =
 goal_is site (targets.Sent from port) is_wanted rises = tt
 
 steps_fall : (site : Site) (task : Task) (pushed first : ℕ) → NumbersRise (nodes_of site.tree.now)
-    → Falls site (rank site.tree.now task) (steps_of site task pushed first)
-unfolding steps_of scalar expression
+    → FallsMarking site (rank site.tree.now task) first (labels_of site task pushed)
+    (steps_of site task pushed first)
+unfolding steps_of labels_of scalar expression
 steps_fall site (tasks.Byte number) pushed first rises =
-    byte_fall number pushed
+    taking_none {limit = rank site.tree.now (tasks.Byte number)}
+    (byte_fall number pushed
     (record { rises = rises; small = low_in_byte number (type_in site.tree.now number) })
-    (word_in_byte (suc number.index) (type_in site.tree.now number))
+    (word_in_byte (suc number.index) (type_in site.tree.now number)))
 steps_fall site (tasks.Word number) pushed first rises =
-    word_fall number pushed
+    taking_none {limit = rank site.tree.now (tasks.Word number)}
+    (word_fall number pushed
     (record { rises = rises; small = low_in_word number (type_in site.tree.now number) })
-    (byte_in_word (suc number.index) (type_in site.tree.now number))
+    (byte_in_word (suc number.index) (type_in site.tree.now number)))
 steps_fall site (tasks.Effects number) pushed first rises =
-    effects_fall number pushed (record { rises = rises; small = omega arith })
+    taking_none {limit = rank site.tree.now (tasks.Effects number)}
+    (effects_fall number pushed (record { rises = rises; small = omega arith }))
 steps_fall site (tasks.Address reference) pushed first rises =
-    address_fall reference pushed rises (omega arith)
+    taking_none {limit = rank site.tree.now (tasks.Address reference)}
+    (address_fall reference pushed rises (omega arith))
 steps_fall site (tasks.Branch condition label sense) pushed first rises =
     branch_fall condition label sense pushed first (record { rises = rises; small = omega arith })
     (byte_in_branch (suc condition.index) (type_in site.tree.now condition))
 steps_fall site (tasks.Store target is_wanted) pushed first rises =
-    store_fall target is_wanted pushed (goal_is site target is_wanted rises)
+    taking_none {limit = rank site.tree.now (tasks.Store target is_wanted)}
+    (store_fall target is_wanted pushed (goal_is site target is_wanted rises))
 steps_fall site (tasks.Call procedure arguments) pushed first rises =
-    call_fall procedure arguments pushed
+    taking_none {limit = rank site.tree.now (tasks.Call procedure arguments)}
+    (call_fall procedure arguments pushed
     (λ index number found. record {
       rises = rises;
       small = omega (arith, in_range site.tree.now.arguments.items (entry_of arguments index) number found);
-    })
+    }))
 
 -- the parts of the steps of a part
 pub parts_below : (site : Site) (part : Part) (first : ℕ) → NumbersRise (nodes_of site.tree.now)
     → AreBelow site.tree.now (rank site.tree.now part.task) (task_steps site part first)
 unfolding task_steps
 parts_below site part first rises = (steps_fall site part.task part.pushed first rises).below
+
+-- the steps of a part mark each of the labels that they take
+pub part_marks : (site : Site) (part : Part) (first : ℕ) → NumbersRise (nodes_of site.tree.now)
+    → marks_of (task_steps site part first) ≡ labels_from first (task_labels site part)
+unfolding task_steps task_labels
+part_marks site part first rises = (steps_fall site part.task part.pushed first rises).marked
 
 -- a step of these that is found
 found_below : (tree : TreeModule) (limit : ℕ) (list : List Step) (index : ℕ) (step : Step)

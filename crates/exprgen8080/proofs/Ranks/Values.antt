@@ -92,7 +92,7 @@ extended_fall {site = site} {limit = limit} number pushed is own =
     by_finding (memory site number)
     (λ reference there. in_memory reference
     (of_found (IsPlaced site.tree.now limit) (is_in_memory site limit number is) there))
-    (λ none. record { below = (own, tt) })
+    (λ none. record { below = (own, tt); unmarked = refl })
   where
     in_memory : (reference : Reference) → IsPlaced site.tree.now limit reference
         → Falls site limit (extended_byte_in_memory_steps site reference pushed)

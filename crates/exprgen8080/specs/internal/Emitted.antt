@@ -104,6 +104,7 @@ pub record IsEmpty (tree : TreeModule) (emission : Emission) : Type 0 where
   pub items : emission.writer ≡ record {
     code = record { items = []; labels = 0 };
     labels = [];
+    marked = [];
     externals = replicate (length tree.externals.items) None;
   }
   pub steps : emission.steps.list.items ≡ []

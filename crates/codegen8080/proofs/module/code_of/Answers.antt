@@ -13,4 +13,4 @@ returns c =
     c.into_parts-emission.ensures))
     (c.into_code-writer.ensures.writer ∙ ap (λ (emission : Emission). emission.writer)
     c.into_parts-emission.ensures)
-    c.in_ok-writer.ensures
+    c.in_ok-writer.ensures c.requires.source c.in_ok-within_labels.ensures

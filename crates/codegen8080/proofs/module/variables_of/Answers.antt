@@ -1,5 +1,13 @@
-use Rattle.codegen8080.proofs.Prelude.{ap, length, subst, ◌∙◌, entry, NumbersNames, Written, contents_items}
+use Rattle.codegen8080.proofs.Prelude.{ap, length, subst, ◌∙◌, entry, NumbersNames, Writes, Written, contents_items}
+use Rattle.codegen8080.proofs.ModuleParts.{data_items}
 use Rattle.codegen8080.proofs.module.variables_of.Goals as goal
+
+pub returns-clause-items : goal.returns-clause-items
+returns-clause-items c =
+    data_items c.sharing-writer.result c.put_contents.new.writer c.args.tree.now.variables.items
+    (ap (λ (written : Written). written.code.items) c.sharing-writer.ensures)
+    (subst (λ contents. Writes c.sharing-writer.result c.put_contents.new.writer (contents_items contents))
+    c.as_slice.ensures.value c.in_ok-put_contents.ensures)
 
 pub returns-clause-externals : goal.returns-clause-externals
 returns-clause-externals c = λ number found given.

@@ -7,7 +7,7 @@ returns c =
     writes_named _ _ _
     (Address (AtTarget (External c.args.name) c.args.offset))
     (Address (AtTarget (External c.in_ok-number.number) c.args.offset))
-    c.args.name c.self.view_is c.in_ok-emit_address.ensures.ok refl c.number.ensures.kept
+    c.args.name c.self.view_is c.in_ok-emit_address.ensures.ok refl refl c.number.ensures.kept
     c.number.ensures.only
     c.number.ensures.count
     (is_itself c.args.name)

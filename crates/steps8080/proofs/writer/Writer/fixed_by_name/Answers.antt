@@ -7,7 +7,7 @@ returns c =
     writes_named _ _ _
     (WithWord c.args.form (AtTarget (External c.args.name) c.args.offset))
     (WithWord c.args.form (AtTarget (External c.in_ok-number.number) c.args.offset))
-    c.args.name c.self.view_is c.in_ok-emit_fixed.ensures.ok refl c.number.ensures.kept c.number.ensures.only
+    c.args.name c.self.view_is c.in_ok-emit_fixed.ensures.ok refl refl c.number.ensures.kept c.number.ensures.only
     c.number.ensures.count
     (is_itself c.args.name)
     (ap

@@ -1,0 +1,13 @@
+-- The module that tree code is lowered from.
+use Rattle.layout.specs.Storage.{Storage}
+use Rattle.typed_trees.specs.Jumps.{JumpsAreSound}
+use Rattle.typed_trees.specs.TypedTrees.{TypedModule}
+use Rattle.treecode.specs.declared.module.TreeModule.{TreeModule}
+use Rattle.treecode.specs.Lowered.{IsLowered}
+
+-- Tree code of a module with sound jumps: each label of the source stands once.
+pub record IsOfModule (tree : TreeModule) : Type 0 where
+  pub typed : TypedModule
+  pub storage : Storage
+  pub jumps : JumpsAreSound typed
+  pub lowered : IsLowered typed storage tree
